@@ -1,0 +1,73 @@
+-- Bits of words, read and written.
+use Rattle.std.proofs.Common.{◌≡◌, ◌≢◌, ℕ, ◌*◌, ◌/◌, ◌%◌, ◌<◌, ◌==◌, Bool, false, List, length, get_or, sym, ap, ◌∙◌, arith, replicate, inl, inr}
+use Rattle.std.proofs.Math.ListN.{set, length-set}
+use Rattle.std.specs.Int.{bit_at}
+use Rattle.std.proofs.lemmas.Bool.{cases_lt, cases_eq}
+use Rattle.std.proofs.lemmas.List.{same_lists, length-replicate, get_or-replicate, get_or-set_same, get_or-set_other}
+use Rattle.std.proofs.lemmas.List.FromFn.{length-map-range_with_len, get_or-map-range_with_len}
+use Rattle.std.proofs.lemmas.Nat.Bits.{bit_at-zero}
+use Rattle.std.proofs.Math.ListN.{get_or-eq_default}
+use Rattle.tm_bits.specs.Words.{is_bit, is_bit_in, bits_of}
+
+pub length-bits_of : (len : ℕ) (words : List ℕ) → length (bits_of len words) ≡ len
+unfolding bits_of
+length-bits_of len words = length-map-range_with_len (is_bit_in words) 0 len
+
+pub get_or-bits_of : (len : ℕ) (words : List ℕ) (i : ℕ) (d : Bool) → i < len → get_or (bits_of len words) i d ≡ is_bit_in words i
+unfolding bits_of
+get_or-bits_of len words i d within = get_or-map-range_with_len (is_bit_in words) 0 len i i d within (omega arith)
+
+abbrev zeros : ℕ → List ℕ
+zeros count = replicate count 0
+
+zero_word : (count i : ℕ) → get_or (zeros count) i 0 ≡ 0
+zero_word count i =
+    elim (cases_lt i count) [
+      | inl lt ↦ get_or-replicate count i 0 0 lt
+      | inr le ↦ get_or-eq_default (zeros count) 0 (omega (arith, length-replicate {A = ℕ} count 0))
+    ]
+
+pub no_bits : (len count : ℕ) → bits_of len (zeros count) ≡ replicate len false
+no_bits len count =
+    same_lists (bits_of len (zeros count)) (replicate len false)
+    (length-bits_of len (zeros count) ∙ sym (length-replicate len false))
+    (λ k d lt.
+    let within : k < len = omega (arith, length-bits_of len (zeros count)) in
+    get_or-bits_of len (zeros count) k d within
+    ∙ ap (λ w. bit_at w (k % 64) == 1) (zero_word count (k / 64))
+    ∙ ap (λ b. b == 1) (bit_at-zero (k % 64))
+    ∙ sym (get_or-replicate len k false d within))
+
+-- one word takes the place of another, from which it differs at one bit at most
+module _ (words : List ℕ) (i word : ℕ) (bit : Bool) (len : ℕ) (inside : i < 64 * length words) (this : is_bit word (i % 64) ≡ bit) (others : (k : ℕ) → k < 64 → k ≢ i % 64 → is_bit word k ≡ is_bit (get_or words (i / 64) 0) k) where
+  row : i / 64 < length words
+  row = omega arith
+
+  same_bit : is_bit_in (set words (i / 64) word) i ≡ bit
+  same_bit = ap (λ w. is_bit w (i % 64)) (get_or-set_same words (i / 64) word 0 row) ∙ this
+
+  other_bit : (k : ℕ) → k ≢ i → is_bit_in (set words (i / 64) word) k ≡ is_bit_in words k
+  other_bit k differ =
+      elim (cases_eq (k / 64) (i / 64)) [
+        | inl one ↦
+            let place : k % 64 ≢ i % 64 = λ e. differ (omega (arith, e, one)) in
+            ap (λ r. is_bit (get_or (set words (i / 64) word) r 0) (k % 64)) one
+            ∙ ap (λ w. is_bit w (k % 64)) (get_or-set_same words (i / 64) word 0 row)
+            ∙ others (k % 64) (omega arith) place
+            ∙ ap (λ r. is_bit (get_or words r 0) (k % 64)) (sym one)
+        | inr apart ↦ ap (λ w. is_bit w (k % 64)) (get_or-set_other words (i / 64) (k / 64) word 0 apart)
+      ]
+
+  pub bits_of-set : bits_of len (set words (i / 64) word) ≡ set (bits_of len words) i bit
+  bits_of-set =
+      same_lists (bits_of len (set words (i / 64) word)) (set (bits_of len words) i bit)
+      (length-bits_of len (set words (i / 64) word) ∙ sym (length-set (bits_of len words) i bit ∙ length-bits_of len words))
+      (λ k d lt.
+      let within : k < len = omega (arith, length-bits_of len (set words (i / 64) word)) in
+      get_or-bits_of len (set words (i / 64) word) k d within
+      ∙ elim (cases_eq k i) [
+        | inl e ↦
+            ap (is_bit_in (set words (i / 64) word)) e ∙ same_bit
+            ∙ sym (ap (λ j. get_or (set (bits_of len words) i bit) j d) e ∙ get_or-set_same (bits_of len words) i bit d (omega (arith, length-bits_of len words)))
+        | inr differ ↦ other_bit k differ ∙ sym (get_or-set_other (bits_of len words) i k bit d differ ∙ get_or-bits_of len words k d within)
+      ])

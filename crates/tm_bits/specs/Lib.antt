@@ -1,0 +1,4 @@
+pub mod Changes
+pub mod Numbers
+pub mod Pairs
+pub mod Words

@@ -1,0 +1,11 @@
+//! Sets of numbers and sets of unordered pairs of numbers, one bit for each number or pair.
+#![tactic(auto)]
+
+mod bit_set;
+mod bits;
+mod pair_set;
+#[cfg(test)]
+mod tests;
+
+pub use bit_set::{BitSet, sets_hold_what_was_put_in};
+pub use pair_set::{PairSet, pairs_have_no_order};

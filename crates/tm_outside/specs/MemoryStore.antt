@@ -1,0 +1,35 @@
+-- Files in memory.
+use Rattle.std.specs.Prelude.{ℕ, List, Option, None, Some, find, min, option_map, string_bytes, bytes_eq}
+use Rattle.tm_outside.specs.Store.{Place, StoreState}
+use Rattle.tm_outside.specs.declared.memory_store.File.{File}
+
+-- what a store in memory means
+pub record MemoryFiles : Type 0 where
+  pub files : List File
+  -- the numbers of the calls that fail
+  pub fails : List ℕ
+  -- how many bytes a read gives at most, where there is a limit beside the room
+  pub most : Option ℕ
+  -- how many calls there were
+  pub calls : ℕ
+  pub asked : List (List ℕ)
+  pub current : Option Place
+  pub faults : ℕ
+
+-- the bytes of the first file of this name
+abbrev pub bytes_named : List File → List ℕ → Option (List ℕ)
+bytes_named files name = option_map (λ f. f.bytes.items) (find (λ f. bytes_eq (string_bytes f.name) name) files)
+
+-- what it means as a store: its contents are told
+abbrev pub memory_store_state : MemoryFiles → StoreState
+memory_store_state s = record {
+  contents = bytes_named s.files;
+  asked = s.asked;
+  current = s.current;
+  faults = s.faults;
+}
+
+-- how many bytes one read has room for
+abbrev pub room_of : Option ℕ → ℕ → ℕ
+room_of None room = room
+room_of (Some most) room = min most room

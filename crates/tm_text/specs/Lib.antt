@@ -1,0 +1,5 @@
+pub mod Bytes
+pub mod Faults
+pub mod Lines
+pub mod Number
+pub mod Written

@@ -1,0 +1,16 @@
+//! The logical lines of a text, their words, and numerals.
+//!
+//! A physical line ends at a line feed or at the end of the text, and `#` begins a comment that reaches to its end.
+//! A logical line is a physical line, or, where lines are joined, several: one whose last byte before blanks and
+//! comment is a backslash goes on in the next. Words stand between blanks: space, tab and carriage return.
+#![tactic(auto)]
+
+mod bytes;
+mod lines;
+mod number;
+#[cfg(test)]
+mod tests;
+
+pub use bytes::place_of;
+pub use lines::{Line, LineFault, Lines, written_lines_are_read};
+pub use number::{put_number, read_number};
