@@ -1,0 +1,103 @@
+-- Configurations after a change.
+use Rattle.std.proofs.Common.{◌≡◌, ℕ, ◌<◌, Bool, true, false, not, ◌||◌, ◌&&◌, Option, refl, sym, ap, ◌∙◌, subst, arith}
+use Rattle.std.specs.Ordering.{nat_cmp, eq_by_cmp}
+use Rattle.std.specs.Prelude.{◌==◌, if◌then◌else◌}
+use Rattle.std.specs.Cmp.{nat_cmp_total, unsigned_tied, Equal-is}
+use Rattle.std.specs.FinSet as set_
+use Rattle.std.specs.FinSet.{contains-insert, contains-remove, contains-empty, same_set, nat_cmp-IsAntisymmetric}
+use Rattle.std.proofs.lemmas.Bool.{false≢true}
+use Rattle.std.proofs.lemmas.List.{length-set, length-replicate}
+use Rattle.hierarchy.specs.declared.Shape.{Shape}
+use Rattle.hierarchy.specs.Shape.{crosses_of}
+use Rattle.config_set.specs.declared.Setting.{Setting}
+use Rattle.config_set.specs.Configuration.{Configuration, IsConfiguration, is_closed, cleared, with_closed, with_open, with_setting}
+
+pub same_number : (a b : ℕ) → eq_by_cmp nat_cmp a b ≡ true → a ≡ b
+same_number a b e = nat_cmp-IsAntisymmetric a b ((Equal-is _).0 e)
+
+insert_known : (s : set_.FinSet nat_cmp) (y : ℕ) → set_.contains s y ≡ true → set_.insert s y ≡ s
+insert_known s y is = same_set nat_cmp_total nat_cmp-IsAntisymmetric _ _ (λ q. contains-insert nat_cmp_total s y q ∙ found (eq_by_cmp nat_cmp q y) (set_.contains s q) (λ e. ap (set_.contains s) (same_number q y e) ∙ is))
+  where
+    found : (a b : Bool) → (a ≡ true → b ≡ true) → (a || b) ≡ b
+    found true b h = sym (h refl)
+    found false b h = refl
+
+remove_unknown : (s : set_.FinSet nat_cmp) (y : ℕ) → set_.contains s y ≡ false → set_.remove s y ≡ s
+remove_unknown s y is = same_set nat_cmp_total nat_cmp-IsAntisymmetric _ _ (λ q. contains-remove nat_cmp_total s y q ∙ kept (eq_by_cmp nat_cmp q y) (set_.contains s q) (λ e. ap (set_.contains s) (same_number q y e) ∙ is))
+  where
+    kept : (a b : Bool) → (a ≡ true → b ≡ false) → (not a && b) ≡ b
+    kept true b h = sym (h refl)
+    kept false b h = refl
+
+insert-remove : (s : set_.FinSet nat_cmp) (y : ℕ) → set_.contains s y ≡ true → set_.insert (set_.remove s y) y ≡ s
+insert-remove s y is = same_set nat_cmp_total nat_cmp-IsAntisymmetric _ _ (λ q.
+    contains-insert nat_cmp_total (set_.remove s y) y q ∙ ap (λ b. eq_by_cmp nat_cmp q y || b) (contains-remove nat_cmp_total s y q)
+    ∙ back_in (eq_by_cmp nat_cmp q y) (set_.contains s q) (λ e. ap (set_.contains s) (same_number q y e) ∙ is))
+  where
+    back_in : (a b : Bool) → (a ≡ true → b ≡ true) → (a || (not a && b)) ≡ b
+    back_in true b h = sym (h refl)
+    back_in false b h = refl
+
+remove-insert : (s : set_.FinSet nat_cmp) (y : ℕ) → set_.contains s y ≡ false → set_.remove (set_.insert s y) y ≡ s
+remove-insert s y is = same_set nat_cmp_total nat_cmp-IsAntisymmetric _ _ (λ q.
+    contains-remove nat_cmp_total (set_.insert s y) y q ∙ ap (λ b. not (eq_by_cmp nat_cmp q y) && b) (contains-insert nat_cmp_total s y q)
+    ∙ out_again (eq_by_cmp nat_cmp q y) (set_.contains s q) (λ e. ap (set_.contains s) (same_number q y e) ∙ is))
+  where
+    out_again : (a b : Bool) → (a ≡ true → b ≡ false) → (not a && (a || b)) ≡ b
+    out_again true b h = sym (h refl)
+    out_again false b h = refl
+
+module _ (g : Configuration) (x : ℕ) where
+  pub closed_already : is_closed g x ≡ true → with_closed g x ≡ g
+  closed_already is = ap (λ s. record g { closed = s }) (insert_known g.closed x is)
+
+  pub open_already : is_closed g x ≡ false → with_open g x ≡ g
+  open_already is = ap (λ s. record g { closed = s }) (remove_unknown g.closed x is)
+
+  pub opened_again : is_closed g x ≡ false → with_open (with_closed g x) x ≡ g
+  opened_again is = ap (λ s. record g { closed = s }) (remove-insert g.closed x is)
+
+  pub closed_again : is_closed g x ≡ true → with_closed (with_open g x) x ≡ g
+  closed_again is = ap (λ s. record g { closed = s }) (insert-remove g.closed x is)
+
+-- closed crosspoints stay those of the machine
+pub insert_within : (s : set_.FinSet nat_cmp) (c n : ℕ) → ((x : ℕ) → set_.contains s x ≡ true → x < n) → c < n → (x : ℕ) → set_.contains (set_.insert s c) x ≡ true → x < n
+insert_within s c n within h x is = by_test (eq_by_cmp nat_cmp x c) refl (sym (contains-insert nat_cmp_total s c x) ∙ is)
+  where
+    by_test : (t : Bool) → eq_by_cmp nat_cmp x c ≡ t → (t || set_.contains s x) ≡ true → x < n
+    by_test true e i = subst (λ k. k < n) (sym (same_number x c e)) h
+    by_test false e i = within x i
+
+pub remove_within : (s : set_.FinSet nat_cmp) (c n : ℕ) → ((x : ℕ) → set_.contains s x ≡ true → x < n) → (x : ℕ) → set_.contains (set_.remove s c) x ≡ true → x < n
+remove_within s c n within x is = by_test (eq_by_cmp nat_cmp x c) (sym (contains-remove nat_cmp_total s c x) ∙ is)
+  where
+    by_test : (t : Bool) → (not t && set_.contains s x) ≡ true → x < n
+    by_test true i = absurd (false≢true i)
+    by_test false i = within x i
+
+pub IsConfiguration-closed : (g : Configuration) (c : ℕ) → IsConfiguration g → c < crosses_of g.shape → IsConfiguration (with_closed g c)
+IsConfiguration-closed g c is h = record { crosses = insert_within g.closed c (crosses_of g.shape) is.crosses h; tables = is.tables; some_ticks = is.some_ticks; few_ticks = is.few_ticks }
+
+pub IsConfiguration-open : (g : Configuration) (c : ℕ) → IsConfiguration g → IsConfiguration (with_open g c)
+IsConfiguration-open g c is = record { crosses = remove_within g.closed c (crosses_of g.shape) is.crosses; tables = is.tables; some_ticks = is.some_ticks; few_ticks = is.few_ticks }
+
+pub IsConfiguration-setting : (g : Configuration) (t : ℕ) (s : Option Setting) → IsConfiguration g → IsConfiguration (with_setting g t s)
+IsConfiguration-setting g t s is = record { crosses = is.crosses; tables = length-set g.tables t s ∙ is.tables; some_ticks = is.some_ticks; few_ticks = is.few_ticks }
+
+pub IsConfiguration-cleared : (m : Shape) → IsConfiguration (cleared m)
+IsConfiguration-cleared m = record { crosses = λ x is. absurd (false≢true (sym (contains-empty nat_cmp x) ∙ is)); tables = length-replicate _ _; some_ticks = omega arith; few_ticks = omega arith }
+
+-- what is closed after a change
+pub is_closed-closed : (g : Configuration) (x y : ℕ) → is_closed (with_closed g x) y ≡ (if y == x then true else is_closed g y)
+is_closed-closed g x y = contains-insert nat_cmp_total g.closed x y ∙ ap (λ t. t || is_closed g y) (unsigned_tied y x) ∙ or_if (y == x) (is_closed g y)
+  where
+    or_if : (t b : Bool) → (t || b) ≡ (if t then true else b)
+    or_if true b = refl
+    or_if false b = refl
+
+pub is_closed-open : (g : Configuration) (x y : ℕ) → is_closed (with_open g x) y ≡ (if y == x then false else is_closed g y)
+is_closed-open g x y = contains-remove nat_cmp_total g.closed x y ∙ ap (λ t. not t && is_closed g y) (unsigned_tied y x) ∙ and_if (y == x) (is_closed g y)
+  where
+    and_if : (t b : Bool) → (not t && b) ≡ (if t then false else b)
+    and_if true b = refl
+    and_if false b = refl

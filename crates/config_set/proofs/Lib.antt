@@ -1,0 +1,13 @@
+pub mod Marks
+pub mod Members
+pub mod Changes
+pub mod Runs
+pub mod Finite
+pub mod Registers
+pub mod Toggles
+pub mod Readings
+pub mod Grouped
+pub mod Parts
+pub mod Passing
+pub mod Loops
+pub mod Cells

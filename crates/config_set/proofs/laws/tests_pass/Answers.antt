@@ -1,0 +1,12 @@
+use Rattle.config_set.proofs.Passing.{apart_passes, swing_passes}
+use Rattle.config_set.proofs.Loops.{loop_toggles}
+use Rattle.config_set.proofs.Cells.{cell_reads}
+use Rattle.config_set.proofs.laws.tests_pass.Goals as goal
+
+pub returns : goal.returns
+returns c = record {
+  apart = apart_passes;
+  swing = swing_passes;
+  toggle = loop_toggles;
+  cell = λ f g t a k l s left right bits drive r p driven h run. cell_reads f g t a k l s left right bits drive p driven r h run;
+}

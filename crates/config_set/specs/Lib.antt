@@ -1,0 +1,7 @@
+pub mod Configuration
+pub mod Run
+pub mod Faulty
+pub mod Kept
+pub mod Route
+pub mod Groups
+pub mod Tests

@@ -1,0 +1,16 @@
+pub mod Walk
+pub mod Counts
+pub mod Shape
+pub mod Kinds
+pub mod Bars
+pub mod Limits
+pub mod Names
+pub mod Numerals
+pub mod Reading
+pub mod Laws
+pub mod Faults
+pub mod Joined
+pub mod Circuit
+pub mod Value
+pub mod Sound
+pub mod Defects

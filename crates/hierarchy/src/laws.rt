@@ -1,0 +1,28 @@
+//! What later crates rest on, of the numbering.
+ghost use Rattle.std.specs.Prelude.{◌≡◌};
+ghost use Rattle.hierarchy.specs.Laws.{IsNumbered, IsTree, HasMeanings, HasTaps, HasCrosses, HasParents, HasNames, IsNumberedAsTiny, tiny};
+ghost use Rattle.hierarchy.specs.declared.Shape.{Shape};
+
+/// Each wire has one meaning, and the nodes are a tree.
+pub fn the_numbering_is_sound()
+    ensures numbered { (m : Shape) → IsNumbered m }
+    ensures tree { (m : Shape) → IsTree m }
+    ensures meanings { (m : Shape) → HasMeanings m }
+    ensures parents { (m : Shape) → HasParents m }
+{}
+
+/// The numbers of a small machine, as its page shows them.
+pub fn a_small_machine_is_numbered_so()
+    ensures { (m : Shape) → m.counts ≡ tiny → IsNumberedAsTiny m }
+{}
+
+/// Taps and lines of one crossbar, by their positions, are one to one with crosspoints.
+pub fn the_crosspoints_are_sound()
+    ensures taps { (m : Shape) → HasTaps m }
+    ensures crosses { (m : Shape) → HasCrosses m }
+{}
+
+/// What wires are called, and that no two wires, tables or nodes have one name.
+pub fn names_are_one_to_one()
+    ensures { (m : Shape) → HasNames m }
+{}

@@ -1,0 +1,115 @@
+//! The shape of a machine: its wires, nodes, tables and crosspoints, their numbers and their names.
+//!
+//! A machine is a tree: one root, modules below it, chips in each module, hextants in each chip, and tables
+//! in each hextant. Each node has one crossbar, with one crosspoint for each pair of a tap and a line. All
+//! are numbered by one walk over the tree, a node before its children.
+#![tactic(auto)]
+
+ghost use Rattle.std.specs.Prelude.{◌≤◌, ℕ};
+ghost use Rattle.hierarchy.specs.Counts.{levels_from, IsFull};
+ghost use Rattle.hierarchy.specs.Walk.{size, wires_in, nodes_in, crosses_in, tables_in};
+
+mod bars;
+mod ends;
+mod joining;
+mod laws;
+mod limits;
+mod names;
+mod numbers;
+mod numerals;
+mod part;
+mod places;
+mod reads;
+#[cfg(test)]
+mod tests;
+mod tree;
+mod way;
+
+pub use joining::{
+    covered_wires_are_as_without_faults, every_list_covers_no_faults, joined_grows,
+    joined_is_a_list, joined_is_an_equivalence, listed_is_what_is_faulty, sound_wires_are_clear,
+    sound_wires_stay_apart, values_are_unique, values_exist, without_faults_all_is_sound,
+};
+pub use laws::{
+    a_small_machine_is_numbered_so, names_are_one_to_one, the_crosspoints_are_sound,
+    the_numbering_is_sound,
+};
+pub use part::PartName;
+
+/// How many of each there are. Ports are per module, chip and hextant, lines per root, module, chip and hextant.
+#[derive(Clone, Copy, Debug, PartialEq, Eq)]
+pub struct Counts {
+    pub modules: u16,
+    pub chips: u16,
+    pub hextants: u16,
+    pub tables: u16,
+    pub ports: [u16; 3],
+    pub lines: [u16; 4],
+    pub pins: u16,
+}
+
+/// What the nodes of one depth have each: ports, lines, and children, which are the tables at the last.
+#[derive(Clone, Copy, Debug)]
+pub struct Level {
+    pub ports: u32,
+    pub lines: u32,
+    pub children: u32,
+}
+
+/// The shape of a machine: twelve counts, each at least 1, which keep within the limits on tables, wires and
+/// crosspoints.
+#[derive(Clone, Copy, Debug)]
+pub struct Shape {
+    pub counts: Counts,
+    pub ghost full: { IsFull counts },
+    pub ghost few_tables: { size tables_in (levels_from counts) ≤ 4096 },
+    pub ghost few_wires: { size wires_in (levels_from counts) ≤ 16384 },
+    pub ghost few_crosses: { size crosses_in (levels_from counts) ≤ 4194304 },
+    pub ghost few_nodes: { size nodes_in (levels_from counts) ≤ 16384 },
+}
+
+/// The number of a wire.
+#[derive(Clone, Copy, Debug, PartialEq, Eq, PartialOrd, Ord)]
+pub struct Wire(pub u32);
+
+/// The number of a node: the root is 0.
+#[derive(Clone, Copy, Debug, PartialEq, Eq, PartialOrd, Ord)]
+pub struct Node(pub u32);
+
+/// The number of a table.
+#[derive(Clone, Copy, Debug, PartialEq, Eq, PartialOrd, Ord)]
+pub struct Table(pub u32);
+
+/// The number of a crosspoint.
+#[derive(Clone, Copy, Debug, PartialEq, Eq, PartialOrd, Ord)]
+pub struct Cross(pub u32);
+
+/// A line of a machine's text that gives counts.
+#[derive(Clone, Copy, Debug, PartialEq, Eq)]
+pub enum Field {
+    Modules,
+    Chips,
+    Hextants,
+    Tables,
+    Ports,
+    Lines,
+    Pins,
+}
+
+/// What a machine may have only so many of.
+#[derive(Clone, Copy, Debug, PartialEq, Eq)]
+pub enum Which {
+    Tables,
+    Wires,
+    Crosspoints,
+}
+
+/// Why counts make no shape.
+#[derive(Clone, Copy, Debug, PartialEq, Eq)]
+pub enum ShapeFault {
+    /// A count is 0; this is the first such field.
+    Zero { field: Field },
+    /// No count is 0, and this is the first limit that is passed: 4,096 tables, 16,384 wires, or 4,194,304
+    /// crosspoints. The value is how many there would be.
+    Limit { which: Which, value: u128 },
+}

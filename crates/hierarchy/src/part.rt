@@ -1,0 +1,75 @@
+//! A fixed text: the name of a part of the machine.
+ghost use Rattle.std.specs.Prelude.{◌≡◌, ◌<◌, ◌≤◌, ◌+◌, ◌++◌, ◌∷◌, [], length};
+ghost use Rattle.std.specs.Fmt.{decimal};
+
+use std::marker::Model;
+
+/// The name of a node, a table or a wire: at most 48 bytes.
+#[derive(Drop)]
+pub struct PartName {
+    bytes: [u8; 48],
+    len: usize,
+}
+
+impl Model for PartName {
+    ghost use Rattle.std.specs.Prelude.{ℕ, List, take, ◌≤◌};
+
+    ghost Value = { List ℕ };
+
+    ghost view = { λ a. take a.len a.bytes };
+
+    ghost invariant = { λ a. a.len ≤ 48 };
+}
+
+impl PartName {
+    /// The bytes of the name.
+    pub fn as_bytes(&self) -> &[u8]
+        ensures bytes { result.now ≡ self.now }
+        ensures short { length self.now ≤ 48 }
+    {
+        &self.bytes[..self.len]
+    }
+
+    /// A text of no bytes.
+    pub(crate) fn empty() -> PartName
+        ensures { result ≡ [] }
+    {
+        PartName {
+            bytes: [0; 48],
+            len: 0,
+        }
+    }
+
+    /// Appends a byte.
+    pub(crate) fn push(&mut self, byte: u8)
+        requires { length self.old < 48 }
+        ensures { self.new ≡ self.old ++ byte ∷ [] }
+    {
+        self.bytes[self.len] = byte;
+        self.len += 1;
+    }
+
+    /// Appends a numeral.
+    fn push_number(&mut self, n: u32)
+        requires { length self.old + length (decimal n) ≤ 48 }
+        ensures { self.new ≡ self.old ++ decimal n }
+    {
+        if n >= 10 {
+            self.push_number(n / 10);
+            self.push(b'0' + (n % 10) as u8);
+        } else {
+            self.push(b'0' + n as u8);
+        }
+    }
+
+    /// Appends a letter and a number of at most five digits.
+    pub(crate) fn push_numbered(&mut self, letter: u8, n: u32)
+        requires room { length self.old ≤ 42 }
+        requires short { n < 100000 }
+        ensures text { self.new ≡ self.old ++ letter ∷ decimal n }
+        ensures room { length self.new ≤ length self.old + 6 }
+    {
+        self.push(letter);
+        self.push_number(n);
+    }
+}

@@ -1,0 +1,29 @@
+//! The text of a machine: nine lines that give its counts.
+//!
+//! ```text
+//! teramac 1
+//! modules 1
+//! chips 1
+//! hextants 1
+//! tables 2
+//! ports 4 4 4
+//! lines 4 4 4 4
+//! pins 4
+//! end
+//! ```
+//!
+//! Ports are those of each module, chip and hextant, lines those of the root and of each module, chip and hextant.
+//! A text is read as logical lines, none joined to the next; blank lines and comments may stand between.
+#![tactic(auto)]
+
+mod head;
+mod kind;
+mod read;
+mod reader;
+#[cfg(test)]
+mod tests;
+mod text;
+
+pub use kind::{MachineFault, MachineKind};
+pub use read::read_machine;
+pub use text::machine_text;
