@@ -1,0 +1,27 @@
+-- What models are refused as is the first fault of their text, and a text has one design.
+use Rattle.std.proofs.Common.{ℕ, ◌≡◌, ◌∙◌, ◌≤◌, List, Result, Ok, Err, length, sym, subst}
+use Rattle.std.specs.Prelude.{IfErr}
+use Rattle.netlist.specs.declared.draft.Draft.{Draft}
+use Rattle.netlist.specs.declared.fault.DesignFault.{DesignFault}
+use Rattle.netlist.specs.declared.fault.DesignFault.TheVariants as fault
+use Rattle.flatten.specs.declared.model.Model.{Model}
+use Rattle.flatten.specs.Netlists.{IsNetlistOf}
+use Rattle.flatten.specs.Faults.{IsRefusalOfModels}
+use Rattle.flatten.proofs.SubstitutionLemmas.{one_netlist}
+use Rattle.blif_read.specs.Grammar.{AreModels}
+use Rattle.blif_read.specs.Designs.{IsDesign, InModels, IsRefusalOfBytes}
+
+module _ (bytes : List ℕ) (few : length bytes ≤ 16777216) (ms : List Model) (text : AreModels bytes ms) where
+  in_models : (e : DesignFault) → IsRefusalOfModels ms e → IsRefusalOfBytes bytes e
+  in_models fault.Memory h = tt
+  in_models (fault.At n k) h = InModels few ms text h
+
+  pub design_refused : (r : Result Draft DesignFault) → IfErr r (IsRefusalOfModels ms) → IfErr r (IsRefusalOfBytes bytes)
+  design_refused (Ok n) h = tt
+  design_refused (Err e) h = in_models e h
+
+-- the text of a design is the text of no other
+pub one_design : (bytes : List ℕ) (a b : Draft) → IsDesign bytes a → IsDesign bytes b → a ≡ b
+one_design bytes a b one other =
+    let same : other.models ≡ one.models = other.text.models_are ∙ sym one.text.models_are in
+    one_netlist one.models a b one.netlist (subst (λ x. IsNetlistOf x b) same other.netlist)

@@ -1,0 +1,11 @@
+pub mod Heads
+pub mod Names
+pub mod Refusals
+pub mod States
+pub mod Parts
+pub mod Faults
+pub mod Steps
+pub mod Runs
+pub mod Texts
+pub mod Grammar
+pub mod Designs

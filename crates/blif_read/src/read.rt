@@ -1,0 +1,117 @@
+//! Reads the text of a design.
+
+ghost use Rattle.flatten.specs.declared.model.Model.{Model};
+ghost use Rattle.flatten.specs.Lines.{HaveRightRows};
+ghost use Rattle.std.specs.Prelude.{◌≡◌, ◌∷◌, [], Bool, true, false, ℕ, List, map, None, Some, Ok, Err, IfOk, IfErr, MatchResult, length, ◌≤◌};
+ghost use Rattle.tm_text.specs.Lines.{lines_of};
+ghost use Rattle.blif_read.specs.Texts.{text_of};
+ghost use Rattle.blif_read.specs.Runs.{run, text_start, whole, Gives};
+ghost use Rattle.blif_read.specs.Grammar.{AreModels, reading};
+ghost use Rattle.blif_read.specs.Designs.{IsDesign, IsBuiltDesign, IsRefusalOfBytes};
+ghost use Rattle.netlist.specs.declared.draft.Draft.{Draft};
+ghost use Rattle.netlist.specs.declared.fault.DesignFault.TheVariants.{Memory};
+
+use crate::names::ModelNames;
+use crate::text::{TextReader, keep, new_reader, take_line};
+use flatten::{Model, flatten};
+use netlist::{DesignFault, DesignKind, Netlist};
+use std::alloc::Global;
+use tm_text::{LineFault, Lines};
+
+fn new_text<'a>(alloc: Global) -> TextReader<'a>
+    ensures { text_of result ≡ text_start }
+{
+    TextReader {
+        done: Vec::new(alloc),
+        models: ModelNames::new(alloc),
+        name: b"",
+        this: new_reader(alloc),
+    }
+}
+
+/// Reads the lines of a text.
+#[tactic(auto, unfolding(crate::specs::Runs::run))]
+fn read_lines<'a>(alloc: Global, bytes: &'a [u8]) -> Result<TextReader<'a>, DesignFault>
+    ensures { Gives text_of result (run text_start (lines_of true bytes.now)) }
+{
+    let mut lines = Lines::new(alloc, bytes, true);
+    let mut text = new_text(alloc);
+    'lines: loop {
+        match lines.next_line() {
+            Ok(None) => return Ok(text),
+            Ok(Some(line)) => {
+                if let Err(refusal) = take_line(alloc, &mut text, &line) {
+                    return Err(refusal.at(line.number()));
+                }
+            }
+            Err(LineFault::Memory) => return Err(DesignFault::Memory),
+            Err(LineFault::BadByte { line }) => {
+                return Err(DesignFault::At {
+                    line,
+                    kind: DesignKind::Byte,
+                });
+            }
+        }
+    }
+}
+
+fn read_whole(alloc: Global, bytes: &[u8]) -> Result<Vec<Model>, DesignFault>
+    ensures { Gives (λ v. v.items) result (whole (lines_of true bytes.now)) }
+{
+    let TextReader {
+        mut done,
+        models: _,
+        name,
+        this,
+    } = read_lines(alloc, bytes)?;
+    if !this.begun {
+        return Err(DesignFault::At {
+            line: 0,
+            kind: DesignKind::NoModel,
+        });
+    }
+    keep(alloc, &mut done, name, this)?;
+    Ok(done)
+}
+
+/// The most bytes of a design's text.
+const MOST_BYTES: usize = 16_777_216;
+
+/// Reads the models of a text, unless a line is faulty or memory runs out.
+fn read_models(alloc: Global, bytes: &[u8]) -> Result<Vec<Model>, DesignFault>
+    // What is read is the text of the models.
+    ensures found { IfOk result (λ v. AreModels bytes.now (v.items)) }
+    // The text of models is read, unless memory runs out.
+    ensures only { (models : List Model) → AreModels bytes.now models → Gives (λ v. v.items) result (Ok models) }
+    // Which fault it is: that of the first faulty line, and on it the first.
+    ensures exact { Gives (λ v. v.items) result (reading (lines_of true bytes.now)) }
+    // Rows are as long as their cover's inputs.
+    ensures rows { IfOk result (λ v. HaveRightRows v.items) }
+{
+    read_whole(alloc, bytes)
+}
+
+/// Reads a design from its text in BLIF: the models, and the netlist of the first with those that it uses.
+///
+/// Lines that use a model, and texts of several models, are not read yet: `NotBuilt` at line 0.
+///
+/// # Errors
+///
+/// `Limit` at line 0 for more than 16,777,216 bytes, before anything else is looked at. Then the first line that has
+/// a fault, and on it the first in the order of the kinds of line; `NoModel` at line 0 for a text without lines.
+/// Then what is wrong with the models as a whole. `Memory` where memory is wanting.
+pub fn read_blif(alloc: Global, bytes: &[u8]) -> Result<Netlist, DesignFault>
+    ensures found { IfOk result (λ n. IsDesign bytes.now n × (length bytes.now ≤ 16777216)) }
+    ensures refused { IfErr result (IsRefusalOfBytes bytes.now) }
+    // Designs of one model that are within the limit are read.
+    ensures only { (d : Draft) → IsBuiltDesign bytes.now d → length bytes.now ≤ 16777216 → MatchResult result (λ n. n ≡ d) (λ e. e ≡ Memory) }
+{
+    if bytes.len() > MOST_BYTES {
+        return Err(DesignFault::At {
+            line: 0,
+            kind: DesignKind::Limit,
+        });
+    }
+    let models = read_models(alloc, bytes)?;
+    flatten(alloc, models)
+}

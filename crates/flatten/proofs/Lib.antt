@@ -1,0 +1,4 @@
+pub mod OrderLemmas
+pub mod SignalsLemmas
+pub mod SubstitutionLemmas
+pub mod FirstLemmas

@@ -1,0 +1,50 @@
+-- Which fault of a list of models comes first.
+use Rattle.std.specs.Prelude.{ℕ, ◌≡◌, ◌<◌, ◌≤◌, true, List, length, Option, Some, None, slice_index_or, false}
+use Rattle.netlist.specs.declared.draft.Draft.{Draft}
+use Rattle.netlist.specs.declared.fault.DesignKind.{DesignKind}
+use Rattle.netlist.specs.declared.fault.DesignKind.TheVariants as kind
+use Rattle.netlist.specs.declared.fault.DesignFault.{DesignFault}
+use Rattle.netlist.specs.declared.fault.DesignFault.TheVariants as fault
+use Rattle.netlist.specs.Orders.{IsBefore, IsFirst}
+use Rattle.netlist.specs.Checks.{IsFaultOf}
+use Rattle.flatten.specs.declared.model.Model.{Model}
+use Rattle.flatten.specs.declared.model.Signal.{Signal}
+use Rattle.flatten.specs.Lines.{Line}
+use Rattle.flatten.specs.Substitution.{IsSubstituted}
+use Rattle.flatten.specs.Signals.{is_over}
+use Rattle.flatten.specs.Uses.{use_at, IsUnknown, wrong_formal, IsWronglyGiven, IsRecursive, IsFirstUse, KeepsRules}
+use Rattle.flatten.specs.Built.{is_built}
+use Rattle.flatten.specs.Netlists.{Clocked, no_control, control_at, controls_of, IsWithin, IsNetlistOf}
+
+-- the control is another than an earlier one
+abbrev pub IsOtherControl : List Clocked → ℕ → Type 0
+IsOtherControl controls k = (j : ℕ) × (j < length controls) × IsBefore (λ i. (slice_index_or controls i no_control).number) j k × (control_at controls j ≡ control_at controls k → ⊥)
+
+abbrev pub IsFirstOther : List Clocked → Option ℕ → Type 0
+IsFirstOther controls found = IsFirst (λ i. (slice_index_or controls i no_control).number) (length controls) (IsOtherControl controls) found
+
+-- no substituted design is within the limits
+abbrev pub IsTooMuch : List Model → Type 0
+IsTooMuch models = (k : ℕ) (lines : List (Line Signal)) → k ≤ 65535 → IsSubstituted models k lines → is_over lines ≡ true
+
+-- the netlist that is read from the substituted design has the fault
+abbrev pub IsNetlistFault : List Model → ℕ → DesignKind → Type 0
+IsNetlistFault models line kind = (draft : Draft) × IsNetlistOf models draft × IsFaultOf draft line kind
+
+-- the fault that comes first: of all kinds by the order of these lines, of one kind by line number, and for one number by the order of the substituted design
+abbrev pub IsModelsFault : List Model → ℕ → DesignKind → Type 0
+IsModelsFault models line (kind.NoSuchModel name) = (k : ℕ) × IsFirstUse models (IsUnknown models) (Some k) × (line ≡ (use_at models k).number) × (name ≡ (use_at models k).model)
+IsModelsFault models line (kind.Formal name) = IsFirstUse models (IsUnknown models) None × ((k : ℕ) × IsFirstUse models (IsWronglyGiven models) (Some k) × (line ≡ (use_at models k).number) × (wrong_formal models k ≡ Some name))
+IsModelsFault models line (kind.Recursive name) = IsFirstUse models (IsUnknown models) None × IsFirstUse models (IsWronglyGiven models) None × ((k : ℕ) × IsFirstUse models (IsRecursive models) (Some k) × (line ≡ (use_at models k).number) × (name ≡ (use_at models k).model))
+IsModelsFault models line kind.Limit = KeepsRules models × (line ≡ 0) × IsTooMuch models
+IsModelsFault models line kind.Control = KeepsRules models × ((lines : List (Line Signal)) × IsWithin models lines × ((k : ℕ) × IsFirstOther (controls_of models lines) (Some k) × (line ≡ (slice_index_or (controls_of models lines) k no_control).number)))
+IsModelsFault models line (kind.Doubled name) = IsNetlistFault models line (kind.Doubled name)
+IsModelsFault models line (kind.Undriven name) = IsNetlistFault models line (kind.Undriven name)
+IsModelsFault models line (kind.Cyclic name) = IsNetlistFault models line (kind.Cyclic name)
+IsModelsFault models line kind.NotBuilt = (line ≡ 0) × (is_built models ≡ false)
+IsModelsFault models line _ = ⊥
+
+-- what a refusal says of the models. Want of memory says nothing
+abbrev pub IsRefusalOfModels : List Model → DesignFault → Type 0
+IsRefusalOfModels models (fault.At line kind) = IsModelsFault models line kind
+IsRefusalOfModels models fault.Memory = Unit {0}

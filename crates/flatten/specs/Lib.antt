@@ -1,0 +1,16 @@
+pub mod InOrder
+pub mod Lines
+pub mod Substitution
+pub mod Signals
+pub mod Uses
+pub mod Netlists
+pub mod Built
+pub mod Faults
+pub mod Ordered
+pub mod Given
+pub mod Placed
+pub mod Refusals
+pub mod Sinks
+pub mod Lists
+pub mod Controls
+pub mod Firsts

@@ -1,0 +1,12 @@
+pub mod OrderLemmas
+pub mod ListLemmas
+pub mod SearchLemmas
+pub mod StepLemmas
+pub mod CycleLemmas
+pub mod WalkLemmas
+pub mod ValuationLemmas
+pub mod EvalLemmas
+pub mod WordLemmas
+pub mod CheckLemmas
+pub mod RightLemmas
+pub mod MadeLemmas

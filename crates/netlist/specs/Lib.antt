@@ -1,0 +1,11 @@
+pub mod Orders
+pub mod Covers
+pub mod Drivers
+pub mod Drafts
+pub mod Valuations
+pub mod Checks
+pub mod Rows
+pub mod Searches
+pub mod States
+pub mod Sorts
+pub mod Words

@@ -1,0 +1,10 @@
+pub mod TextLemmas
+pub mod LineLemmas
+pub mod InsideLemmas
+pub mod StepLemmas
+pub mod FeedLemmas
+pub mod ReadLemmas
+pub mod RowLemmas
+pub mod BitLemmas
+pub mod RunLemmas
+pub mod TableLemmas

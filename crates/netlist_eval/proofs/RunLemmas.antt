@@ -1,0 +1,146 @@
+-- A vector and a state, written and settled, give a right valuation.
+use Rattle.std.proofs.Common.{◌≡◌, ℕ, ◌+◌, ◌<◌, Bool, false, List, ◌++◌, length, get_or, map, sym, ap, subst, ◌∙◌, arith}
+use Rattle.std.specs.List.{flat_map}
+use Rattle.std.proofs.lemmas.List.{length-append, length-map, map-append, get_or-map, get_or_append_left, get_or-append-add}
+use Rattle.std.proofs.lemmas.Simd.{map-map}
+use Rattle.netlist.specs.declared.draft.Cover.{Cover}
+use Rattle.netlist.specs.declared.draft.Draft.{Draft}
+use Rattle.netlist.specs.declared.draft.LatchDef.{LatchDef}
+use Rattle.netlist.specs.declared.draft.PortDef.{PortDef}
+use Rattle.netlist.specs.Covers.{cover_at, IsCoverOver}
+use Rattle.netlist.specs.Drafts.{word, signal_at, cover_drive, latch_drive, cover_reads, latch_read, drives_of, reads_of, IsDriven}
+use Rattle.netlist.specs.Valuations.{bit_at, IsSettled}
+use Rattle.netlist.specs.Checks.{IsChecked}
+use Rattle.netlist.specs.Rows.{IsRight}
+use Rattle.netlist.proofs.RightLemmas.{settled_is_right}
+use Rattle.netlist.proofs.ValuationLemmas.{map_same}
+use Rattle.netlist_eval.specs.Bits.{bits_put, AreBelow, AreReady}
+use Rattle.netlist_eval.specs.Evals.{IsStep}
+use Rattle.netlist_eval.proofs.BitLemmas.{AreApart, length-put, put-other, put-read, apart-left, apart-right, apart-both, below-left, below-right}
+
+abbrev pub signals : List PortDef → List ℕ
+signals words = map (λ (w : PortDef). w.signal) words
+
+abbrev pub outs : List LatchDef → List ℕ
+outs latches = map (λ (l : LatchDef). l.out) latches
+
+abbrev pub froms : List LatchDef → List ℕ
+froms latches = map (λ (l : LatchDef). l.from) latches
+
+abbrev front : Draft → List ℕ
+front d = signals d.inputs ++ map (λ (c : Cover). c.out) d.covers
+
+drive-signals : (d : Draft) → signals (drives_of d) ≡ front d ++ outs d.latches
+drive-signals d =
+    map-append (λ (w : PortDef). w.signal) (d.inputs ++ map cover_drive d.covers) (map latch_drive d.latches) ∙
+    ap (λ (xs : List ℕ). xs ++ signals (map latch_drive d.latches)) (map-append (λ (w : PortDef). w.signal) d.inputs (map cover_drive d.covers) ∙ ap (λ (xs : List ℕ). signals d.inputs ++ xs) (map-map (λ (w : PortDef). w.signal) cover_drive d.covers)) ∙
+    ap (λ (xs : List ℕ). front d ++ xs) (map-map (λ (w : PortDef). w.signal) latch_drive d.latches)
+
+read-signals : (d : Draft) → signals (reads_of d) ≡ (signals d.outputs ++ signals (flat_map cover_reads d.covers)) ++ froms d.latches
+read-signals d =
+    map-append (λ (w : PortDef). w.signal) (d.outputs ++ flat_map cover_reads d.covers) (map latch_read d.latches) ∙
+    ap (λ (xs : List ℕ). xs ++ signals (map latch_read d.latches)) (map-append (λ (w : PortDef). w.signal) d.outputs (flat_map cover_reads d.covers)) ∙
+    ap (λ (xs : List ℕ). (signals d.outputs ++ signals (flat_map cover_reads d.covers)) ++ xs) (map-map (λ (w : PortDef). w.signal) latch_read d.latches)
+
+module _ (d : Draft) (is : IsChecked d) where
+  drive-at : (k : ℕ) → k < length (signals (drives_of d)) → get_or (signals (drives_of d)) k 0 ≡ signal_at (drives_of d) k
+  drive-at k lk = get_or-map (λ (w : PortDef). w.signal) (drives_of d) k (word 0 0) 0 (omega (arith, length-map (drives_of d) (λ (w : PortDef). w.signal)))
+
+  drives-apart : AreApart (front d ++ outs d.latches)
+  drives-apart = subst AreApart (drive-signals d) (λ j k jk lk e. is.once j k jk (omega (arith, length-map (drives_of d) (λ (w : PortDef). w.signal))) (sym (drive-at j (omega arith)) ∙ e ∙ drive-at k lk))
+
+  drives-below : AreBelow (length d.names) (front d ++ outs d.latches)
+  drives-below = subst (AreBelow (length d.names)) (drive-signals d) (λ k lk. omega (arith, drive-at k lk, is.made.drives k (omega (arith, length-map (drives_of d) (λ (w : PortDef). w.signal)))))
+
+  reads-below : AreBelow (length d.names) ((signals d.outputs ++ signals (flat_map cover_reads d.covers)) ++ froms d.latches)
+  reads-below = subst (AreBelow (length d.names)) (read-signals d) (λ k lk. (let n = length-map (reads_of d) (λ (w : PortDef). w.signal) in omega (arith, get_or-map (λ (w : PortDef). w.signal) (reads_of d) k (word 0 0) 0 (omega (arith, n)), is.made.reads k (omega (arith, n)))))
+
+  pub inputs-below : AreBelow (length d.names) (signals d.inputs)
+  inputs-below = below-left (length d.names) (signals d.inputs) (map (λ (c : Cover). c.out) d.covers) (below-left (length d.names) (front d) (outs d.latches) drives-below)
+
+  pub latches-below : AreBelow (length d.names) (outs d.latches)
+  latches-below = below-right (length d.names) (front d) (outs d.latches) drives-below
+
+  pub outputs-below : AreBelow (length d.names) (signals d.outputs)
+  outputs-below = below-left (length d.names) (signals d.outputs) (signals (flat_map cover_reads d.covers)) (below-left (length d.names) (signals d.outputs ++ signals (flat_map cover_reads d.covers)) (froms d.latches) reads-below)
+
+  pub froms-below : AreBelow (length d.names) (froms d.latches)
+  froms-below = below-right (length d.names) (signals d.outputs ++ signals (flat_map cover_reads d.covers)) (froms d.latches) reads-below
+
+  -- a signal of these lists is driven
+  driven : (s k : ℕ) → k < length (front d ++ outs d.latches) → get_or (front d ++ outs d.latches) k 0 ≡ s → IsDriven d s
+  driven s k lk e =
+      let size = ap (λ (xs : List ℕ). length xs) (drive-signals d) in
+      let lk' : k < length (signals (drives_of d)) = omega (arith, size) in
+      (k, omega (arith, size, length-map (drives_of d) (λ (w : PortDef). w.signal)), sym (drive-at k lk') ∙ ap (λ (xs : List ℕ). get_or xs k 0) (drive-signals d) ∙ e)
+
+  input-driven : (s k : ℕ) → k < length (signals d.inputs) → get_or (signals d.inputs) k 0 ≡ s → IsDriven d s
+  input-driven s k lk e =
+      driven s k (omega (arith, length-append (front d) (outs d.latches), length-append (signals d.inputs) (map (λ (c : Cover). c.out) d.covers)))
+      (get_or_append_left (front d) (outs d.latches) 0 k (omega (arith, length-append (signals d.inputs) (map (λ (c : Cover). c.out) d.covers))) ∙ get_or_append_left (signals d.inputs) (map (λ (c : Cover). c.out) d.covers) 0 k lk ∙ e)
+
+  latch-driven : (s k : ℕ) → k < length (outs d.latches) → get_or (outs d.latches) k 0 ≡ s → IsDriven d s
+  latch-driven s k lk e = driven s (length (front d) + k) (omega (arith, length-append (front d) (outs d.latches))) (get_or-append-add (front d) (outs d.latches) k 0 ∙ e)
+
+  module _ (values state vector : List Bool) (ready : AreReady d values state) (size : length vector ≡ length d.inputs) where
+    abbrev pub given_inputs : List Bool
+    given_inputs = bits_put values (signals d.inputs) vector
+
+    abbrev pub given_all : List Bool
+    given_all = bits_put given_inputs (outs d.latches) state
+
+    pub all-size : length given_all ≡ length d.names
+    all-size = length-put given_inputs (outs d.latches) state ∙ length-put values (signals d.inputs) vector ∙ ready.signals
+
+    inputs-given : map (λ (p : PortDef). bit_at given_all p.signal) d.inputs ≡ vector
+    inputs-given =
+        sym (map-map (bit_at given_all) (λ (p : PortDef). p.signal) d.inputs) ∙
+        map_same (bit_at given_all) (bit_at given_inputs) (signals d.inputs) (λ k lk. put-other given_inputs (outs d.latches) state (get_or (signals d.inputs) k 0)
+        (λ j lj e. apart-both (front d) (outs d.latches) drives-apart k j (omega (arith, length-append (signals d.inputs) (map (λ (c : Cover). c.out) d.covers))) lj
+        (get_or_append_left (signals d.inputs) (map (λ (c : Cover). c.out) d.covers) 0 k lk ∙ sym e))) ∙
+        put-read values (signals d.inputs) vector (apart-left (signals d.inputs) (map (λ (c : Cover). c.out) d.covers) (apart-left (front d) (outs d.latches) drives-apart))
+        (λ k lk. omega (arith, inputs-below k lk, ready.signals)) (omega (arith, size, length-map d.inputs (λ (p : PortDef). p.signal)))
+
+    latches-given : map (λ (l : LatchDef). bit_at given_all l.out) d.latches ≡ state
+    latches-given =
+        sym (map-map (bit_at given_all) (λ (l : LatchDef). l.out) d.latches) ∙
+        put-read given_inputs (outs d.latches) state (apart-right (front d) (outs d.latches) drives-apart)
+        (λ k lk. omega (arith, latches-below k lk, ready.signals, length-put values (signals d.inputs) vector)) (omega (arith, ready.latches, length-map d.latches (λ (l : LatchDef). l.out)))
+
+    others-given : (s : ℕ) → (IsDriven d s → ⊥) → bit_at given_all s ≡ false
+    others-given s none =
+        put-other given_inputs (outs d.latches) state s (λ k lk e. none (latch-driven s k lk e)) ∙
+        put-other values (signals d.inputs) vector s (λ k lk e. none (input-driven s k lk e)) ∙
+        ready.others s none
+
+    -- covers that are settled over what was written are settled over the vector and the state
+    pub settled-as : (ins drives : List ℕ) (first second new : List Bool) (covers : List Cover) → ins ≡ signals d.inputs → drives ≡ outs d.latches → first ≡ bits_put values ins vector → second ≡ bits_put first drives state → covers ≡ d.covers → IsSettled covers (bit_at second) (bit_at new) → IsSettled d.covers (bit_at given_all) (bit_at new)
+    settled-as ins drives first second new covers i o a b e h =
+        let at : second ≡ given_all = b ∙ ap (λ (ss : List ℕ). bits_put first ss state) o ∙ ap (λ (vs : List Bool). bits_put vs (outs d.latches) state) (a ∙ ap (λ (ss : List ℕ). bits_put values ss vector) i) in
+        subst (λ (vs : List Bool). IsSettled d.covers (bit_at vs) (bit_at new)) at (subst (λ (cs : List Cover). IsSettled cs (bit_at second) (bit_at new)) e h)
+
+    module _ (settled : List Bool) (s : IsSettled d.covers (bit_at given_all) (bit_at settled)) where
+      right : IsRight d state vector (bit_at settled)
+      right = settled_is_right d is state vector (bit_at given_all) (bit_at settled) inputs-given latches-given others-given s
+
+      pub step-is : (row next : List Bool) → row ≡ map (bit_at settled) (signals d.outputs) → next ≡ map (bit_at settled) (froms d.latches) → IsStep (record { netlist = d; state = state }) vector row (record { netlist = d; state = next })
+      step-is row next r n = record {
+        given = bit_at settled;
+        right = right;
+        outputs = r ∙ map-map (bit_at settled) (λ (p : PortDef). p.signal) d.outputs;
+        next = ap (λ (t : List Bool). record { netlist = d; state = t }) (n ∙ map-map (bit_at settled) (λ (l : LatchDef). l.from) d.latches);
+      }
+
+      pub ready-is : (next : List Bool) → length settled ≡ length d.names → next ≡ map (bit_at settled) (froms d.latches) → AreReady d settled next
+      ready-is next size n = record {
+        signals = size;
+        latches = ap (λ (t : List Bool). length t) n ∙ length-map (froms d.latches) (bit_at settled) ∙ length-map d.latches (λ (l : LatchDef). l.from);
+        others = right.others;
+      }
+
+-- the same at an equal list and an equal number
+pub below-at : (m n : ℕ) (xs ys : List ℕ) → xs ≡ ys → m ≡ n → AreBelow n ys → AreBelow m xs
+below-at m n xs ys e f h = rw (e, f) h
+
+pub covers-made : (d : Draft) (covers : List Cover) (n : ℕ) → IsChecked d → covers ≡ d.covers → n ≡ length d.names → (i : ℕ) → i < length covers → IsCoverOver (cover_at covers i) n
+covers-made d covers n is e f = rw (e, f) is.made.covers

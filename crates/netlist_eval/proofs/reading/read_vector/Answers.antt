@@ -1,0 +1,24 @@
+use Rattle.std.proofs.Common.{Bool, Result, subst, sym, ◌∙◌, ap}
+use Rattle.netlist_eval.specs.declared.vectors.VectorsFail.{VectorsFail}
+use Rattle.netlist_eval.specs.Steps.{IsRefilled, HasAnswered, answer_of}
+use Rattle.netlist_eval.proofs.ReadLemmas.{goes-start, goes-on, answers-read}
+use Rattle.netlist_eval.proofs.reading.read_vector.Goals as goal
+
+pub pieces-init : goal.pieces-init
+pieces-init g c = goes-start _ _ (g.S.Store.store_state c.args.store.now) c.requires.current
+
+pub pieces-preserved : goal.pieces-preserved
+pieces-preserved g c =
+    let state = g.S.Store.store_state in
+    let e = c.in_ok-refill.ensures in
+    let r = subst (λ (more : Bool). IsRefilled more c.pieces.feed c.refill.new.feed (state c.pieces.store) (state c.refill.new.store)) c.if-not-branch.false e.gives in
+    goes-on c.args.line.now c.pieces.line c.args.feed.now c.pieces.feed c.refill.new.feed (state c.args.store.now) (state c.pieces.store) (state c.refill.new.store) c.pieces.invariant e.contents e.asked e.later c.read_unread.new.line c.read_unread.new.feed r c.in-Onward.ensures.read
+
+pub returns-in_default-clause-answered : goal.returns-in_default-clause-answered
+returns-in_default-clause-answered g c =
+    let state = g.S.Store.store_state in
+    let e = c.in_ok-refill.ensures in
+    let r = subst (λ (more : Bool). IsRefilled more c.pieces.feed c.refill.new.feed (state c.pieces.store) (state c.refill.new.store)) c.if-not-branch.false e.gives in
+    let is = c.answer-in_default.ensures ∙ ap (answer_of c.read_unread.result) c.number-in_default.ensures in
+    subst (λ (r : Result Bool VectorsFail). HasAnswered r c.args.line.now c.args.feed.now c.read_unread.new.line c.read_unread.new.feed (state c.args.store.now) (state c.refill.new.store)) (sym is)
+    (answers-read c.args.line.now c.pieces.line c.args.feed.now c.pieces.feed c.refill.new.feed (state c.args.store.now) (state c.pieces.store) (state c.refill.new.store) c.pieces.invariant e.contents e.asked e.later c.read_unread.result c.read_unread.new.line c.read_unread.new.feed c.in_default.not-Onward r c.read_unread.ensures.read)

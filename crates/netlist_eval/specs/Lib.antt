@@ -1,0 +1,10 @@
+pub mod Vectors
+pub mod Readings
+pub mod Lines
+pub mod Inside
+pub mod Rows
+pub mod Evals
+pub mod Steps
+pub mod Kept
+pub mod Bits
+pub mod Tables

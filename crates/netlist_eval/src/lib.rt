@@ -1,0 +1,21 @@
+//! The rows of a netlist, the texts of vectors, and the lines of rows.
+#![tactic(auto)]
+
+mod bits;
+mod eval;
+#[cfg(test)]
+mod eval_tests;
+mod feed;
+mod line;
+mod reading;
+mod row_text;
+mod tables;
+#[cfg(test)]
+mod vector_tests;
+mod vectors;
+mod wiring;
+
+pub use eval::Eval;
+pub use reading::VectorText;
+pub use row_text::RowText;
+pub use vectors::{VectorKind, VectorsFail};

@@ -1,0 +1,186 @@
+//! Covers as tables, and covers given their truths in order.
+
+ghost use Rattle.std.specs.Prelude.{◌≡◌, ◌+◌, ◌<◌, ◌≤◌, ℕ, [], map, length, slice_index_or, IfOk};
+ghost use Rattle.netlist.specs.Covers.{cover_at, fits, matches, truth, IsCoverOver};
+ghost use Rattle.netlist.specs.Valuations.{bit_at, IsOrder, IsSettled};
+ghost use Rattle.netlist_eval.specs.Bits.{AreBelow};
+ghost use Rattle.netlist_eval.specs.Tables.{address, cover_of, six_bits, AreCells, AreWires, IsTableOf, AreTables};
+
+use netlist::{Cover, Cube, Lit};
+use std::alloc::{AllocError, Global};
+
+/// The most inputs of a cover that gets a table.
+const MOST_INPUTS: usize = 6;
+
+/// The places of the bits of an address.
+const PLACES: [u32; 6] = [0, 1, 2, 3, 4, 5];
+
+/// A cover of at most six inputs: a cell for each bits of its inputs.
+#[derive(Clone, Copy)]
+pub struct Table {
+    /// The inputs, and the cover's output in the places that are left.
+    pub wires: [u32; 6],
+    /// The cover's truths: bit j of a cell's place is the bit of input j.
+    pub cells: [bool; 64],
+}
+
+// Whether a row matches the bits of its inputs.
+fn row_matches(row: &[Lit], ins: &[u32], values: &[bool]) -> bool
+    requires len { length row.now ≡ length ins.now }
+    requires within { AreBelow (length values.now) ins.now }
+    ensures { result ≡ matches row.now (map (bit_at values.now) ins.now) }
+{
+    'places: for k in 0..row.len() {
+        let bit = values[ins[k] as usize];
+        if !fits(row[k], bit) {
+            return false;
+        }
+    }
+    true
+}
+
+// Whether the bit is what the row wants.
+fn fits(lit: Lit, bit: bool) -> bool
+    ensures { result ≡ fits lit bit }
+{
+    match lit {
+        Lit::Zero => !bit,
+        Lit::One => bit,
+        Lit::Any => true,
+    }
+}
+
+// The truth of a cover of these rows over these signals.
+fn truth_of(rows: &[Cube], off: bool, ins: &[u32], values: &[bool]) -> bool
+    requires within { AreBelow (length values.now) ins.now }
+    requires rows { (k : ℕ) → k < length rows.now → length (slice_index_or rows.now k []) ≡ length ins.now }
+    ensures { result ≡ truth (bit_at values.now) (cover_of rows.now off ins.now) }
+{
+    'rows: for k in 0..rows.len() {
+        if row_matches(rows[k].as_slice(), ins, values) {
+            return !off;
+        }
+    }
+    off
+}
+
+// The lowest six bits of a number.
+fn six_bits(n: usize) -> [bool; 6]
+    ensures { result ≡ six_bits n }
+{
+    let a = n / 2;
+    let b = a / 2;
+    let c = b / 2;
+    let d = c / 2;
+    let e = d / 2;
+    [
+        n % 2 == 1,
+        a % 2 == 1,
+        b % 2 == 1,
+        c % 2 == 1,
+        d % 2 == 1,
+        e % 2 == 1,
+    ]
+}
+
+// The truths of a cover of at most six inputs, by the bits of these.
+fn cells_of(cover: &Cover, count: usize) -> [bool; 64]
+    requires count { count ≡ length cover.now.ins }
+    requires few { count ≤ 6 }
+    requires rows { (k : ℕ) → k < length cover.now.rows → length (slice_index_or cover.now.rows k []) ≡ length cover.now.ins }
+    ensures { AreCells cover.now result }
+{
+    let mut cells = [false; 64];
+    'cells: for a in 0..64 {
+        cells[a] = truth_of(
+            cover.rows.as_slice(),
+            cover.off,
+            &PLACES[..count],
+            &six_bits(a),
+        );
+    }
+    cells
+}
+
+// The inputs of a cover, and its output in the places that are left.
+fn wires_of(cover: &Cover) -> [u32; 6]
+    requires few { length cover.now.ins ≤ 6 }
+    ensures { AreWires cover.now result }
+{
+    let mut wires = [cover.out; 6];
+    let ins = cover.ins.as_slice();
+    'ins: for k in 0..ins.len() {
+        wires[k] = ins[k];
+    }
+    wires
+}
+
+/// The table of a cover, if it has at most six inputs.
+fn table_of(cover: &Cover) -> Option<Table>
+    requires { (k : ℕ) → k < length cover.now.rows → length (slice_index_or cover.now.rows k []) ≡ length cover.now.ins }
+    ensures { IsTableOf result cover.now }
+{
+    let count = cover.ins.as_slice().len();
+    if count > MOST_INPUTS {
+        return None;
+    }
+    let wires = wires_of(cover);
+    let cells = cells_of(cover, count);
+    Some(Table { wires, cells })
+}
+
+/// The tables of all covers that have at most six inputs, by the covers' places.
+pub fn tables_of(alloc: Global, covers: &[Cover]) -> Result<Vec<Option<Table>>, AllocError>
+    requires { (i : ℕ) → i < length covers.now → (n : ℕ) × IsCoverOver (cover_at covers.now i) n }
+    ensures { IfOk result (λ tables. AreTables covers.now tables.items) }
+{
+    let mut tables = Vec::with_capacity(alloc, covers.len())?;
+    'covers: for i in 0..covers.len() {
+        tables.push(table_of(&covers[i]))?;
+    }
+    Ok(tables)
+}
+
+// The place of a cell by the bits of the inputs.
+fn address_of(wires: &[u32; 6], values: &[bool]) -> usize
+    requires { AreBelow (length values.now) wires.now }
+    ensures { result ≡ address (bit_at values.now) wires.now }
+{
+    let mut place = 0;
+    'wires: for k in 0..6 {
+        place = 2 * place + usize::from(values[wires[5 - k] as usize]);
+    }
+    place
+}
+
+// The truth of a cover, by its table where it has one.
+fn value_of(table: &Option<Table>, cover: &Cover, values: &[bool]) -> bool
+    requires table { IsTableOf table.now cover.now }
+    requires made { IsCoverOver cover.now (length values.now) }
+    ensures { result ≡ truth (bit_at values.now) cover.now }
+{
+    match table {
+        Some(table) => table.cells[address_of(&table.wires, values)],
+        None => truth_of(
+            cover.rows.as_slice(),
+            cover.off,
+            cover.ins.as_slice(),
+            values,
+        ),
+    }
+}
+
+/// Gives each cover's output its truth. The covers stand in an order in which each reads only earlier ones. Takes no
+/// memory.
+pub fn settle(tables: &[Option<Table>], covers: &[Cover], order: &[u32], values: &mut [bool])
+    requires tables { AreTables covers.now tables.now }
+    requires order { IsOrder covers.now order.now }
+    requires made { (i : ℕ) → i < length covers.now → IsCoverOver (cover_at covers.now i) (length values.old) }
+    ensures { IsSettled covers.now (bit_at values.old) (bit_at values.new) }
+{
+    'order: for k in 0..order.len() {
+        let place = order[k] as usize;
+        let cover = &covers[place];
+        values[cover.out as usize] = value_of(&tables[place], cover, values);
+    }
+}
