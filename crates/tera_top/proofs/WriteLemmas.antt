@@ -1,0 +1,22 @@
+-- One write after another.
+use Rattle.std.proofs.Common.{◌≡◌, ℕ, ◌≤◌, List, [], ◌∷◌, ◌++◌, Bool, flat_map, Option, None, Some, append-nil, option_map, refl, sym, ap, ◌∙◌, append_assoc}
+use Rattle.std.proofs.lemmas.Grind.{flat_map-append}
+use Rattle.tm_outside.specs.Sink.{Wrote}
+use Rattle.netlist_eval.specs.Rows.{row_line}
+
+append_twice : (told : Option (List ℕ)) (s t : List ℕ) → option_map (λ w. w ++ t) (option_map (λ w. w ++ s) told) ≡ option_map (λ w. w ++ (s ++ t)) told
+append_twice None s t = refl
+append_twice (Some w) s t = ap Some (append_assoc w s t)
+
+-- a write of nothing
+pub Wrote-none : (a : Option (List ℕ)) → Wrote a a []
+Wrote-none None = refl
+Wrote-none (Some w) = ap Some (sym (append-nil w))
+
+-- two writes are one of both texts
+pub Wrote-then : (a b c : Option (List ℕ)) (s t : List ℕ) → Wrote a b s → Wrote b c t → Wrote a c (s ++ t)
+Wrote-then a b c s t first second = second ∙ (ap (option_map (λ w. w ++ t)) first ∙ append_twice a s t)
+
+-- the lines of one more row
+pub row_lines-more : (rows : List (List Bool)) (row : List Bool) → flat_map row_line (rows ++ row ∷ []) ≡ flat_map row_line rows ++ row_line row
+row_lines-more rows row = rw (flat_map-append row_line rows (row ∷ [])) (ap (λ t. flat_map row_line rows ++ t) (append-nil (row_line row)))

@@ -1,0 +1,121 @@
+//! Why a command ends early.
+ghost use Rattle.std.specs.Prelude.{◌≡◌, IfOk};
+ghost use Rattle.tera_top.specs.Lines.{design_line};
+
+use crate::line::design_text;
+use netlist::DesignKind;
+use netlist_eval::{VectorKind, VectorsFail};
+use std::alloc::{AllocError, Global};
+use std::marker::Model;
+use tm_outside::{SinkFail, StoreFail};
+
+/// What is wrong with a design, and on which line. It holds the line that refuses it, so that
+/// writing this takes no memory.
+#[derive(Debug, Drop)]
+pub struct RefusedDesign {
+    line: u64,
+    kind: DesignKind,
+    text: Vec<u8>,
+}
+
+impl Model for RefusedDesign {
+    ghost use Rattle.std.specs.Prelude.{◌≡◌};
+    ghost use Rattle.tera_top.specs.Faults.{DesignPlace};
+    ghost use Rattle.tera_top.specs.Lines.{design_line};
+
+    ghost Value = { DesignPlace };
+
+    ghost view = { λ d. record { line = d.line; kind = d.kind } };
+
+    ghost invariant = { λ d. d.text.items ≡ design_line d.line d.kind };
+}
+
+impl RefusedDesign {
+    /// A fault of a design: line 0 stands for its file as a whole.
+    pub fn new(alloc: Global, line: u64, kind: DesignKind) -> Result<Self, AllocError>
+        ensures { IfOk result (λ d. d ≡ record { line = line; kind = kind }) }
+    {
+        let text = design_text(alloc, line, &kind)?;
+        Ok(RefusedDesign { line, kind, text })
+    }
+
+    /// The line that refuses it.
+    pub fn text(&self) -> &[u8]
+        ensures { result.now ≡ design_line self.now.line self.now.kind }
+    {
+        &self.text
+    }
+}
+
+/// Why a command is refused.
+#[derive(Debug, Drop)]
+pub enum Refusal {
+    /// The words aren't right.
+    Words,
+    /// The design isn't in its grammar, or is beyond its limit.
+    Design(RefusedDesign),
+    /// The vectors aren't in their grammar, or are beyond their limit.
+    Vectors { line: u64, kind: VectorKind },
+    /// The store failed.
+    Store,
+    /// Memory was wanting.
+    Memory,
+}
+
+/// Why a command ends early: it is refused, or the sink takes nothing more.
+#[derive(Debug, Drop)]
+pub enum Stop {
+    Refused(Refusal),
+    Sink(SinkFail),
+}
+
+impl From<StoreFail> for Stop {
+    ghost use Rattle.std.specs.Prelude.{◌≡◌};
+    ghost use Rattle.tera_top.specs.Stops.{stop_of_store};
+
+    ghost from_gives = { λ fail stop. stop ≡ stop_of_store fail };
+
+    fn from(fail: StoreFail) -> Stop {
+        match fail {
+            StoreFail::Failed => Stop::Refused(Refusal::Store),
+            StoreFail::Memory => Stop::Refused(Refusal::Memory),
+        }
+    }
+}
+
+impl From<VectorsFail> for Stop {
+    ghost use Rattle.std.specs.Prelude.{◌≡◌};
+    ghost use Rattle.tera_top.specs.Stops.{stop_of_vectors};
+
+    ghost from_gives = { λ fail stop. stop ≡ stop_of_vectors fail };
+
+    fn from(fail: VectorsFail) -> Stop {
+        match fail {
+            VectorsFail::Text { line, kind } => Stop::Refused(Refusal::Vectors { line, kind }),
+            VectorsFail::Failed => Stop::Refused(Refusal::Store),
+        }
+    }
+}
+
+impl From<SinkFail> for Stop {
+    ghost use Rattle.std.specs.Prelude.{◌≡◌};
+    ghost use Rattle.tera_top.specs.declared.refusal.Stop.TheVariants.{Sink};
+
+    ghost from_gives = { λ fail stop. stop ≡ Sink fail };
+
+    fn from(fail: SinkFail) -> Stop {
+        Stop::Sink(fail)
+    }
+}
+
+impl From<AllocError> for Stop {
+    ghost use Rattle.std.specs.Prelude.{◌≡◌};
+    ghost use Rattle.tera_top.specs.declared.refusal.Stop.TheVariants.{Refused};
+    ghost use Rattle.tera_top.specs.declared.refusal.Refusal.TheVariants.{Memory};
+
+    ghost from_gives = { λ fail stop. stop ≡ Refused Memory };
+
+    fn from(_: AllocError) -> Stop {
+        Stop::Refused(Refusal::Memory)
+    }
+}
