@@ -66,7 +66,7 @@ module _ (f : Faults) (g : Configuration) (t a k l : ℕ) (s : Setting) (left ri
   unpulled outputs w quiet apart h = by_pull h.place h.joined h.pulls
     where
       by_pull : (v : ℕ) → J w v → Pulls c drive outputs v → ⊥
-      by_pull v j (by_pin i low at) = apart (subst (λ n. J w (pin_wire g.shape n)) (driven.alone i low) (subst (J w) (sym at) j))
+      by_pull v j (by_pin i h low at) = apart (subst (λ n. J w (pin_wire g.shape n)) (driven.alone i low) (subst (J w) (sym at) j))
       by_pull v j (by_table u low at) = false≢true (sym low ∙ quiet u)
 
   -- a loose wire
@@ -97,7 +97,7 @@ module _ (f : Faults) (g : Configuration) (t a k l : ℕ) (s : Setting) (left ri
     where
       by_bit : ((bits j ≡ false) × (left (table_wire g.shape t j) ≡ true) × J (table_wire g.shape t j) (pin_wire g.shape k)) ⊎ ((bits j ≡ true) × IsSoundWire g.shape f (table_wire g.shape t j) × (left (table_wire g.shape t j) ≡ false) × (right (table_wire g.shape t j) ≡ false)) →
           value (table_wire g.shape t j) ≡ bits j
-      by_bit (inl q) = IsValue-unique (are (table_wire g.shape t j)) (low_value (λ v i. left_unstuck p.groups q.1 i) (record { place = pin_wire g.shape k; joined = q.2; pulls = by_pin k driven.low refl })) ∙ sym q.0
+      by_bit (inl q) = IsValue-unique (are (table_wire g.shape t j)) (low_value (λ v i. left_unstuck p.groups q.1 i) (record { place = pin_wire g.shape k; joined = q.2; pulls = by_pin k p.k_pin driven.low refl })) ∙ sym q.0
       by_bit (inr q) =
           let gs = loose_groups (table_wire g.shape t j) q.1 q.2 q.3 in
           IsValue-unique (are (table_wire g.shape t j)) (high_value (λ v i. left_unstuck gs (itself_in _) i) (unpulled (at_load c) _ at_first (left_apart gs (itself_in _) pin_in_both))) ∙ sym q.0

@@ -107,7 +107,7 @@ toggle_passes f g x t s left right drive r q k l xs ws ys vs off closed free at 
     around = Joined-trans (then (mono (led_joined led_r)) (crossed x (conducting f g (stuck_cross f x) (is_closed g x) closed free) (Ends-swap at))) (Joined-sym (mono (led_joined led_l)))
 
     by_closed : {end : Outputs} → Cycles (circuit_of f g) (at_load (circuit_of f g)) (drive ∷ []) (r ∷ []) end → get_or r l true ≡ false
-    by_closed (cycle c none) = reads_low f g off (quiet_load f g off) c l k hl (λ v j. left_unstuck (one_group f g x t s left right groups at is_t on_s) (or_right (left (pin_wire g.shape l)) (right (pin_wire g.shape l)) on_l) j) driven.low around
+    by_closed (cycle c none) = reads_low f g off (quiet_load f g off) c l k hl hk (λ v j. left_unstuck (one_group f g x t s left right groups at is_t on_s) (or_right (left (pin_wire g.shape l)) (right (pin_wire g.shape l)) on_l) j) driven.low around
 
     by_open : {end : Outputs} → Cycles (circuit_of f (with_open g x)) (at_load (circuit_of f (with_open g x))) (drive ∷ []) (q ∷ []) end → get_or q l true ≡ true
     by_open (cycle c none) = right_high f (with_open g x) off groups (quiet_load f (with_open g x) off) c k l hl is_k on_l driven

@@ -56,15 +56,15 @@ module _ (f : Faults) (g : Configuration) (off : AreOff g) where
     quiet_now = quiet_ticks quiet s.ticks
 
     -- a pin that is joined to no stuck wire reads 0 where a pin that it is joined to is driven 0
-    pub reads_low : (k j : ℕ) → k < pins_of g.shape → ((v : ℕ) → Joined (net_of g.shape f (is_closed g)) (pin_wire g.shape k) v → stuck_wire f v ≡ None) →
+    pub reads_low : (k j : ℕ) → k < pins_of g.shape → j < pins_of g.shape → ((v : ℕ) → Joined (net_of g.shape f (is_closed g)) (pin_wire g.shape k) v → stuck_wire f v ≡ None) →
         get_or drive j true ≡ false → Joined (net_of g.shape f (is_closed g)) (pin_wire g.shape k) (pin_wire g.shape j) → get_or read k true ≡ false
-    reads_low k j h unstuck low joined = IsValue-unique (pin_value s k h refl) (low_value unstuck (record { place = pin_wire g.shape j; joined = joined; pulls = by_pin j low refl }))
+    reads_low k j h i unstuck low joined = IsValue-unique (pin_value s k h refl) (low_value unstuck (record { place = pin_wire g.shape j; joined = joined; pulls = by_pin j i low refl }))
 
     unpulled : (w : ℕ) → ((j : ℕ) → get_or drive j true ≡ false → ¬ Joined (net_of g.shape f (is_closed g)) w (pin_wire g.shape j)) → ¬ IsPulled (circuit_of f g) drive s.outputs w
     unpulled w free h = by_place h.place h.joined h.pulls
       where
         by_place : (v : ℕ) → Joined (net_of g.shape f (is_closed g)) w v → Pulls (circuit_of f g) drive s.outputs v → ⊥
-        by_place v j (by_pin i low at) = free i low (subst (Joined (net_of g.shape f (is_closed g)) w) (sym at) j)
+        by_place v j (by_pin i h low at) = free i low (subst (Joined (net_of g.shape f (is_closed g)) w) (sym at) j)
         by_place v j (by_table t low at) = false≢true (sym low ∙ quiet_now t)
 
     -- and 1 where none is
@@ -75,7 +75,7 @@ module _ (f : Faults) (g : Configuration) (off : AreOff g) where
 -- the pins of two groups, of which the left one is driven 0
 module _ (f : Faults) (g : Configuration) (off : AreOff g) {left right : ℕ → Bool} (groups : AreGroups g.shape f (is_closed g) left right) {before after : Outputs} {drive read : Pins} (quiet : (t : ℕ) → before t ≡ true) (s : Cycle (circuit_of f g) before drive read after) where
   pub left_low : (k : ℕ) → k < pins_of g.shape → left (pin_wire g.shape k) ≡ true → get_or drive k true ≡ false → get_or read k true ≡ false
-  left_low k h is low = reads_low f g off quiet s k k h (λ v j. left_unstuck groups is j) low here
+  left_low k h is low = reads_low f g off quiet s k k h h (λ v j. left_unstuck groups is j) low here
 
   pub left_high : (k : ℕ) → k < pins_of g.shape → left (pin_wire g.shape k) ≡ true → AreReleased drive → get_or read k true ≡ true
   left_high k h is free = reads_high f g off quiet s k h (λ v j. left_unstuck groups is j) (λ i low j. false≢true (sym low ∙ free i))

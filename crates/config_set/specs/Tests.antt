@@ -62,6 +62,7 @@ pub record IsCellTest (f : Faults) (g : Configuration) (t a : ℕ) (s : Setting)
   pub comb : s.latched ≡ false
   pub init : s.init ≡ true
   pub one : g.ticks ≡ 1
+  pub k_pin : k < pins_of g.shape
   pub not_wrong : wrong_cell f t a ≡ None
   pub groups : AreGroups g.shape f (is_closed g) left right
   pub k_left : left (pin_wire g.shape k) ≡ true

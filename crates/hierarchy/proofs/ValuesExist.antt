@@ -3,7 +3,7 @@ use Rattle.std.proofs.Common.{◌≡◌, ◌⊎◌, ℕ, zero, suc, ◌<◌, ◌
 use Rattle.std.proofs.lemmas.List.{get_or_past}
 use Rattle.std.proofs.lemmas.Bool.{false≢true}
 use native.Mathlib.Decide.{ℕ_discrete, dec_lt}
-use Rattle.hierarchy.specs.Shape.{Ends, in_order, turned, ends_of, pin_wire, table_wire, wires_of, crosses_of, tables_of}
+use Rattle.hierarchy.specs.Shape.{Ends, in_order, turned, ends_of, pin_wire, table_wire, pins_of, wires_of, crosses_of, tables_of}
 use Rattle.hierarchy.specs.Joined.{Net, Linked, crossed, bridged, Joined, here, then}
 use Rattle.hierarchy.specs.Circuit.{Circuit, Outputs, Pins}
 use Rattle.hierarchy.specs.Value.{Pulls, by_pin, by_table, IsHeld, IsPulled, IsValue, held_0, held_1, pulled, released, AreValues, IsFinite}
@@ -160,23 +160,19 @@ module _ (c : Circuit) (finite : IsFinite c) where
 
   dec_pulls : (drive : Pins) (outputs : Outputs) → AreWithin c outputs → (w : ℕ) → Dec (Pulls c drive outputs w)
   dec_pulls drive outputs within w = dec_map there back (dec_or
-      (dec_below (λ k. (get_or drive k true ≡ false) × (pin_wire c.net.shape k ≡ w)) (λ k. dec_and (dec_bool _ _) (ℕ_discrete _ _)) (length drive))
+      (dec_below (λ k. (get_or drive k true ≡ false) × (pin_wire c.net.shape k ≡ w)) (λ k. dec_and (dec_bool _ _) (ℕ_discrete _ _)) (pins_of c.net.shape))
       (dec_below (λ t. (outputs t ≡ false) × (table_wire c.net.shape t 6 ≡ w)) (λ t. dec_and (dec_bool _ _) (ℕ_discrete _ _)) (tables_of c.net.shape)))
     where
-      there : ((k : ℕ) × (k < length drive) × ((get_or drive k true ≡ false) × (pin_wire c.net.shape k ≡ w))) ⊎ ((t : ℕ) × (t < tables_of c.net.shape) × ((outputs t ≡ false) × (table_wire c.net.shape t 6 ≡ w))) → Pulls c drive outputs w
-      there (inl s) = by_pin s.0 s.2.0 s.2.1
+      there : ((k : ℕ) × (k < pins_of c.net.shape) × ((get_or drive k true ≡ false) × (pin_wire c.net.shape k ≡ w))) ⊎ ((t : ℕ) × (t < tables_of c.net.shape) × ((outputs t ≡ false) × (table_wire c.net.shape t 6 ≡ w))) → Pulls c drive outputs w
+      there (inl s) = by_pin s.0 s.1 s.2.0 s.2.1
       there (inr s) = by_table s.0 s.2.0 s.2.1
-
-      short : (k : ℕ) → get_or drive k true ≡ false → Dec (k < length drive) → k < length drive
-      short k e (yes h) = h
-      short k e (no m) = absurd (false≢true (sym e ∙ get_or_past drive k true (omega arith)))
 
       low : (t : ℕ) → outputs t ≡ false → Dec (t < tables_of c.net.shape) → t < tables_of c.net.shape
       low t e (yes h) = h
       low t e (no m) = absurd (false≢true (sym e ∙ within t (omega arith)))
 
-      back : Pulls c drive outputs w → ((k : ℕ) × (k < length drive) × ((get_or drive k true ≡ false) × (pin_wire c.net.shape k ≡ w))) ⊎ ((t : ℕ) × (t < tables_of c.net.shape) × ((outputs t ≡ false) × (table_wire c.net.shape t 6 ≡ w)))
-      back (by_pin k e at) = inl (k, short k e (dec_lt k (length drive)), (e, at))
+      back : Pulls c drive outputs w → ((k : ℕ) × (k < pins_of c.net.shape) × ((get_or drive k true ≡ false) × (pin_wire c.net.shape k ≡ w))) ⊎ ((t : ℕ) × (t < tables_of c.net.shape) × ((outputs t ≡ false) × (table_wire c.net.shape t 6 ≡ w)))
+      back (by_pin k h e at) = inl (k, h, (e, at))
       back (by_table t e at) = inr (t, low t e (dec_lt t (tables_of c.net.shape)), (e, at))
 
   dec_pulled : (drive : Pins) (outputs : Outputs) → AreWithin c outputs → (w : ℕ) → Dec (IsPulled c drive outputs w)

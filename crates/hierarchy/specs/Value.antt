@@ -1,12 +1,12 @@
 -- The value of a wire.
 use Rattle.std.specs.Prelude.{◌≡◌, ℕ, ◌<◌, ◌≤◌, Bool, true, false, Some, None, slice_index_or}
-use Rattle.hierarchy.specs.Shape.{pin_wire, table_wire, wires_of, crosses_of, tables_of}
+use Rattle.hierarchy.specs.Shape.{pin_wire, table_wire, pins_of, wires_of, crosses_of, tables_of}
 use Rattle.hierarchy.specs.Joined.{Linked, Joined}
 use Rattle.hierarchy.specs.Circuit.{Circuit, Outputs, Pins}
 
--- a pin that is driven 0, or the output pin of a table that gives 0
+-- a pin of the machine that is driven 0, or the output pin of a table that gives 0
 pub data Pulls (c : Circuit) (drive : Pins) (outputs : Outputs) (w : ℕ) : Type 0 where
-  by_pin : (k : ℕ) → slice_index_or drive k true ≡ false → pin_wire c.net.shape k ≡ w → Pulls c drive outputs w
+  by_pin : (k : ℕ) → k < pins_of c.net.shape → slice_index_or drive k true ≡ false → pin_wire c.net.shape k ≡ w → Pulls c drive outputs w
   by_table : (t : ℕ) → outputs t ≡ false → table_wire c.net.shape t 6 ≡ w → Pulls c drive outputs w
 
 -- a wire that is joined to w is stuck at the value
