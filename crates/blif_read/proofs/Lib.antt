@@ -5,3 +5,4 @@ pub mod ModelsLemmas
 pub mod RunLemmas
 pub mod DesignLemmas
 pub mod RowLemmas
+pub mod SizeLemmas

@@ -9,7 +9,6 @@ use Rattle.netlist.specs.declared.fault.DesignFault.TheVariants.{At, Memory}
 use Rattle.netlist.specs.Checks.{IsChecked}
 use Rattle.flatten.specs.declared.model.Model.{Model}
 use Rattle.flatten.specs.Netlists.{IsNetlistOf}
-use Rattle.flatten.specs.Built.{is_built}
 use Rattle.flatten.specs.Faults.{IsModelsFault}
 use Rattle.blif_read.specs.Grammar.{AreModels, reading}
 
@@ -19,11 +18,6 @@ pub record IsDesign (bytes : List ℕ) (draft : Draft) : Type 0 where
   pub text : AreModels bytes models
   pub netlist : IsNetlistOf models draft
   pub checked : IsChecked draft
-
--- a design that is read so far: its text is that of one model that uses no other
-pub record IsBuiltDesign (bytes : List ℕ) (draft : Draft) : Type 0 where
-  pub design : IsDesign bytes draft
-  pub built : is_built design.models ≡ true
 
 -- the fault that comes first: there are too many bytes; or a line is faulty, or none begins a model; or the models don't make a sound netlist
 pub data IsDesignFault (bytes : List ℕ) (line : ℕ) (kind : DesignKind) : Type 0 where

@@ -2,12 +2,13 @@
 
 ghost use Rattle.flatten.specs.declared.model.Model.{Model};
 ghost use Rattle.flatten.specs.Lines.{HaveRightRows};
+ghost use Rattle.flatten.specs.Substitution.{first_model};
 ghost use Rattle.std.specs.Prelude.{◌≡◌, ◌∷◌, [], Bool, true, false, ℕ, List, map, None, Some, Ok, Err, IfOk, IfErr, MatchResult, length, ◌≤◌};
 ghost use Rattle.tm_text.specs.Lines.{lines_of};
 ghost use Rattle.blif_read.specs.Texts.{text_of};
 ghost use Rattle.blif_read.specs.Runs.{run, text_start, whole, Gives};
 ghost use Rattle.blif_read.specs.Grammar.{AreModels, reading};
-ghost use Rattle.blif_read.specs.Designs.{IsDesign, IsBuiltDesign, IsRefusalOfBytes};
+ghost use Rattle.blif_read.specs.Designs.{IsDesign, IsRefusalOfBytes};
 ghost use Rattle.netlist.specs.declared.draft.Draft.{Draft};
 ghost use Rattle.netlist.specs.declared.fault.DesignFault.TheVariants.{Memory};
 
@@ -87,13 +88,13 @@ fn read_models(alloc: Global, bytes: &[u8]) -> Result<Vec<Model>, DesignFault>
     ensures exact { Gives (λ v. v.items) result (reading (lines_of true bytes.now)) }
     // Rows are as long as their cover's inputs.
     ensures rows { IfOk result (λ v. HaveRightRows v.items) }
+    // Each output stands in the text.
+    ensures outputs { IfOk result (λ v. length (first_model v.items).outputs ≤ length bytes.now) }
 {
     read_whole(alloc, bytes)
 }
 
 /// Reads a design from its text in BLIF: the models, and the netlist of the first with those that it uses.
-///
-/// Lines that use a model, and texts of several models, are not read yet: `NotBuilt` at line 0.
 ///
 /// # Errors
 ///
@@ -103,8 +104,8 @@ fn read_models(alloc: Global, bytes: &[u8]) -> Result<Vec<Model>, DesignFault>
 pub fn read_blif(alloc: Global, bytes: &[u8]) -> Result<Netlist, DesignFault>
     ensures found { IfOk result (λ n. IsDesign bytes.now n × (length bytes.now ≤ 16777216)) }
     ensures refused { IfErr result (IsRefusalOfBytes bytes.now) }
-    // Designs of one model that are within the limit are read.
-    ensures only { (d : Draft) → IsBuiltDesign bytes.now d → length bytes.now ≤ 16777216 → MatchResult result (λ n. n ≡ d) (λ e. e ≡ Memory) }
+    // Designs that are within the limit are read.
+    ensures only { (d : Draft) → IsDesign bytes.now d → length bytes.now ≤ 16777216 → MatchResult result (λ n. n ≡ d) (λ e. e ≡ Memory) }
 {
     if bytes.len() > MOST_BYTES {
         return Err(DesignFault::At {

@@ -20,10 +20,11 @@ fn name_of(kind: &DesignKind) -> &'static [u8] {
         DesignKind::Control => b"control",
         DesignKind::Limit => b"limit",
         DesignKind::LeftOut => b"leftout",
+        DesignKind::NoSuchModel { .. } => b"nosuchmodel",
+        DesignKind::Recursive { .. } => b"recursive",
         DesignKind::Doubled { .. } => b"doubled",
         DesignKind::Undriven { .. } => b"undriven",
         DesignKind::Cyclic { .. } => b"cyclic",
-        DesignKind::NotBuilt => b"notbuilt",
         _ => b"other",
     }
 }
@@ -93,8 +94,8 @@ const FAULTS: [(&[u8], u64, &[u8]); 50] = [
     (b".model a\n.names y\n.inputs y\n", 3, b"doubled"),
     (b".model a\n.names y \\\n  x\n.names x y\n", 2, b"cyclic"),
     (b".model\n.outputs \\\ny # z\n", 2, b"undriven"),
-    (b".model a\n.model b\n", 0, b"notbuilt"),
-    (b".model a\n.subckt a\n", 0, b"notbuilt"),
+    (b".model a\n.subckt b\n", 2, b"nosuchmodel"),
+    (b".model a\n.subckt a\n", 2, b"recursive"),
 ];
 
 #[test]

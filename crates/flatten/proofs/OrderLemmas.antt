@@ -57,11 +57,11 @@ module _ {X : Type 0} (n : X → ℕ) where
   filter-in_order x [] = refl
   filter-in_order x (c ∷ cs) = filter-put x c (in_order n cs) ∙ ap (λ l. cond (same x c) (c ∷ l) l) (filter-in_order x cs)
 
-  abbrev AreAtLeast : ℕ → List X → Type 0
+  abbrev pub AreAtLeast : ℕ → List X → Type 0
   AreAtLeast k [] = Unit {0}
   AreAtLeast k (y ∷ ys) = (k ≤ n y) × AreAtLeast k ys
 
-  abbrev Rises : List X → Type 0
+  abbrev pub Rises : List X → Type 0
   Rises [] = Unit {0}
   Rises (y ∷ ys) = AreAtLeast (n y) ys × Rises ys
 
@@ -96,7 +96,7 @@ module _ {X : Type 0} (n : X → ℕ) where
       by true e later = let lt = ltb-true _ _ e in (AreAtLeast-put (n y) x ys (omega arith) h.0, later)
       by false e later = let le = ltb-false _ _ e in ((omega arith, AreAtLeast-le (n x) (n y) ys (omega arith) h.0), h)
 
-  Rises-in_order : (xs : List X) → Rises (in_order n xs)
+  pub Rises-in_order : (xs : List X) → Rises (in_order n xs)
   Rises-in_order [] = tt
   Rises-in_order (x ∷ xs) = Rises-put x (in_order n xs) (Rises-in_order xs)
 

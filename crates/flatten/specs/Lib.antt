@@ -4,7 +4,7 @@ pub mod Substitution
 pub mod Signals
 pub mod Uses
 pub mod Netlists
-pub mod Built
+pub mod Words
 pub mod Faults
 pub mod Ordered
 pub mod Given
@@ -12,5 +12,11 @@ pub mod Placed
 pub mod Refusals
 pub mod Sinks
 pub mod Lists
-pub mod Controls
-pub mod Firsts
+pub mod NameSets
+pub mod UseLines
+pub mod Levels
+pub mod Frames
+pub mod Origins
+pub mod Clocks
+pub mod Wrongs
+pub mod Readings

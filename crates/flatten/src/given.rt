@@ -49,6 +49,15 @@ impl<'a> Given<'a> {
         self.map.get(name).copied()
     }
 
+    /// Gives a formal.
+    pub fn give(&mut self, formal: &'a [u8], actual: Signal) -> Result<(), AllocError>
+        ensures used { self.new.used ≡ self.old.used }
+        ensures given { OnOk result ((w : List ℕ) → looked_up self.new w ≡ (if bytes_eq formal.now w then Some actual else looked_up self.old w)) }
+    {
+        self.map.insert(formal, actual)?;
+        Ok(())
+    }
+
     /// What a signal becomes.
     pub fn signal(&self, names: &[Name], signal: u32) -> Signal
         ensures { result ≡ becomes (place_of self.now []) names.now signal }

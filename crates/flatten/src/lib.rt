@@ -3,20 +3,32 @@
 //! The lines that use a model are replaced by that model's lines until none is left; the netlist is read from what then stands there.
 #![tactic(auto)]
 
-mod controls;
+mod catalog;
+mod clocks;
 mod design;
-mod first;
+mod formals;
+mod frames;
 mod given;
+mod levels;
 mod lists;
 mod model;
+mod name_set;
 mod ordered;
 mod placed;
+mod printed;
+mod read;
+mod recursion;
 mod refusal;
 mod signals;
 mod sink;
+mod uses;
+mod words;
+mod work;
 
 pub use design::flatten;
 pub use model::{Model, PairDef, Piece, Signal};
 
 #[cfg(test)]
 mod tests;
+#[cfg(test)]
+mod uses_tests;

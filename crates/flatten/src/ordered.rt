@@ -1,7 +1,8 @@
 //! The lines of a model, by line number.
 
 ghost use Rattle.std.specs.Prelude.{◌≡◌, ◌++◌, map, IfOk, OnOk};
-ghost use Rattle.flatten.specs.Lines.{input_line, output_line, piece_line, ordered_lines};
+ghost use Rattle.flatten.specs.Lines.{input_line, output_line, piece_line, ordered_lines, number_of_line};
+ghost use Rattle.flatten.specs.InOrder.{in_order};
 ghost use Rattle.flatten.specs.Ordered.{line_in};
 
 use crate::model::{Model, Piece};
@@ -72,6 +73,16 @@ fn push_pieces<'a>(lines: &mut Vec<Ordered<'a>>, pieces: &'a [Piece]) -> Result<
         })?;
     }
     Ok(())
+}
+
+/// The pieces of a model by line number, and for one number as they stand.
+pub fn pieces_in_order(alloc: Global, model: &Model) -> Result<Vec<Ordered<'_>>, AllocError>
+    ensures { IfOk result (λ v. map line_in v.items ≡ in_order number_of_line (map piece_line model.now.pieces)) }
+{
+    let mut lines = Vec::new(alloc);
+    push_pieces(&mut lines, model.pieces.as_slice())?;
+    lines.sort_by_key(|line| line.number)?;
+    Ok(lines)
 }
 
 /// The lines of a model by line number; of one number inputs come first, then outputs and pieces.

@@ -46,8 +46,6 @@ pub enum DesignKind {
     Undriven { name: Name },
     /// The signal is the output of a cover that is on a cycle of covers.
     Cyclic { name: Name },
-    /// The design is of a form that is not read yet: it has several models, or a line that uses one.
-    NotBuilt,
 }
 
 /// Why a design is refused.

@@ -17,6 +17,7 @@ mod well_made;
 
 pub use checks::check;
 pub use draft::{Cover, Cube, Draft, LatchDef, Lit, Name, PortDef};
+pub use drives::{first_doubled, first_words};
 pub use eval::settle;
 pub use fault::{DesignFault, DesignKind};
 pub use netlist::Netlist;

@@ -144,7 +144,7 @@ eval-right (Some bytes) None refusal text right = right
 eval-right (Some bytes) (Some told) Words text right = text
 eval-right (Some bytes) (Some told) (Design fault) text right = text.1 right.0 right.1 right.2
 eval-right (Some bytes) (Some told) (Vectors line kind) text right =
-    let same : right.0 ≡ text.0 = text.1.only right.0 right.1.design in
+    let same : right.0 ≡ text.0 = text.1.only right.0 right.1 in
     let none : (says_to text.0 told).fault ≡ None = subst (λ d. (says_to d told).fault ≡ None) same right.3 in
     let some = text.2 in
     absurd (cc)

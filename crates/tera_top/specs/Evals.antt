@@ -4,7 +4,7 @@ use Rattle.tm_outside.specs.Store.{StoreState, Place}
 use Rattle.tm_outside.specs.Counts.{Rose}
 use Rattle.netlist.specs.declared.draft.Draft.{Draft}
 use Rattle.netlist.specs.Rows.{AreRows}
-use Rattle.blif_read.specs.Designs.{IsDesign, IsBuiltDesign, IsDesignFault}
+use Rattle.blif_read.specs.Designs.{IsDesign, IsDesignFault}
 use Rattle.netlist_eval.specs.Vectors.{SaidVectors, VectorLine, VectorFault, file_says}
 use Rattle.netlist_eval.specs.declared.vectors.VectorKind.{VectorKind}
 use Rattle.netlist_eval.specs.Rows.{row_line}
@@ -35,9 +35,9 @@ pub record IsDesignText (bytes : List ℕ) (draft : Draft) : Type 0 where
 abbrev pub IsDesignOf : Option (List ℕ) → Draft → Type 0
 IsDesignOf told draft = IfSome told (λ bytes. IsDesignText bytes draft)
 
--- the bytes are the text of no design that is read so far
+-- the bytes are the text of no design
 abbrev pub IsNoDesign : List ℕ → Type 0
-IsNoDesign bytes = (draft : Draft) → IsBuiltDesign bytes draft → length bytes ≤ most_bytes → ⊥
+IsNoDesign bytes = (draft : Draft) → IsDesign bytes draft → length bytes ≤ most_bytes → ⊥
 
 -- what a file of vectors says to a design
 abbrev pub says_to : Draft → List ℕ → SaidVectors
@@ -115,6 +115,6 @@ EvalPart design vectors place text line =
 
 -- both texts are told and right
 abbrev pub EvalRight : (design vectors : Option (List ℕ)) → Type 0
-EvalRight (Some bytes) (Some text) = (draft : Draft) × IsBuiltDesign bytes draft × (length bytes ≤ most_bytes) × ((says_to draft text).fault ≡ None)
+EvalRight (Some bytes) (Some text) = (draft : Draft) × IsDesign bytes draft × (length bytes ≤ most_bytes) × ((says_to draft text).fault ≡ None)
 EvalRight (Some bytes) None = ⊥
 EvalRight None vectors = ⊥

@@ -2,7 +2,7 @@
 use Rattle.std.specs.Prelude.{ℕ, Bool, List, [], ◌∷◌, ◌++◌, flat_map, codes}
 use Rattle.std.specs.Fmt.{decimal}
 use Rattle.netlist.specs.declared.fault.DesignKind.{DesignKind}
-use Rattle.netlist.specs.declared.fault.DesignKind.TheVariants.{Byte, Word, Unknown, NoModel, SameModel, Row, RowMixed, LatchType, LatchInit, Control, Limit, LeftOut, NoSuchModel, Formal, Recursive, Doubled, Undriven, Cyclic, NotBuilt}
+use Rattle.netlist.specs.declared.fault.DesignKind.TheVariants.{Byte, Word, Unknown, NoModel, SameModel, Row, RowMixed, LatchType, LatchInit, Control, Limit, LeftOut, NoSuchModel, Formal, Recursive, Doubled, Undriven, Cyclic}
 use Rattle.netlist_eval.specs.declared.vectors.VectorKind.{VectorKind}
 use Rattle.netlist_eval.specs.declared.vectors.VectorKind.TheVariants.{Char, Width, Limit as VectorLimit}
 use Rattle.netlist_eval.specs.Rows.{row_line}
@@ -39,7 +39,6 @@ design_word (Recursive name) = codes "recursive"
 design_word (Doubled name) = codes "doubled"
 design_word (Undriven name) = codes "undriven"
 design_word (Cyclic name) = codes "cyclic"
-design_word NotBuilt = codes "notbuilt"
 
 -- a blank and the name, for the kinds that have one
 abbrev pub design_name : DesignKind → List ℕ

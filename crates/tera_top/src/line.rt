@@ -31,7 +31,6 @@ fn word_of_design(kind: &DesignKind) -> &'static str
         DesignKind::Doubled { .. } => "doubled",
         DesignKind::Undriven { .. } => "undriven",
         DesignKind::Cyclic { .. } => "cyclic",
-        DesignKind::NotBuilt => "notbuilt",
     }
 }
 

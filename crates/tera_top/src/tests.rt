@@ -51,44 +51,112 @@ fn outcome(
     Ok((status, sink))
 }
 
+const TOOL: &[u8] =
+    b"# made by a tool\n.model top\n.inputs clk d \\\n en\n.outputs q\n.latch n1 q re clk 2\n.names d en q n1\n11- 1\n-01 1\n.end\n";
+
+const TOGGLE: &[u8] = b".model t\n.outputs q\n.names q d\n0 1\n.latch d q\n.end\n";
+
+// Whether `eval` of a design from a store in pieces writes this text and ends with this status.
+fn is_evaluated(
+    rt: &HostRuntime,
+    design: &[u8],
+    vectors: &[u8],
+    text: &[u8],
+    want: u8,
+    most: usize,
+) -> Result<bool, Fail>
+    requires { 0 < most }
+{
+    let (status, sink) = outcome(rt.alloc(), design, vectors, most)?;
+    Ok(status == want && sink.bytes() == text)
+}
+
 #[test]
-fn eval_and(rt: HostRuntime) -> Result<(), Fail> {
-    let alloc = rt.alloc();
-    for (vectors, text) in [
-        (V4, b"outputs\n0\n0\n0\n1\n".as_slice()),
-        (b"".as_slice(), b"outputs\n".as_slice()),
+fn evaluated_designs(rt: HostRuntime) -> Result<(), Fail> {
+    for (row, design, vectors, text) in [
+        ("eval_and", AND, V4, b"outputs\n0\n0\n0\n1\n".as_slice()),
+        ("eval_and", AND, b"".as_slice(), b"outputs\n"),
+        (
+            "constants_without_inputs",
+            b".model k\n.outputs z o\n.names z\n.names o\n1\n.end\n".as_slice(),
+            b".\n",
+            b"outputs\n01\n",
+        ),
+        (
+            "toggling_latch",
+            TOGGLE,
+            b".\n.\n.\n",
+            b"outputs\n0\n1\n0\n",
+        ),
+        (
+            "seven_input_nand",
+            b".model n\n.inputs a b c d e f g\n.outputs y\n.names a b c d e f g y\n1111111 0\n.end\n",
+            b"1111111\n1111110\n0000000\n",
+            b"outputs\n0\n1\n1\n",
+        ),
+        (
+            "repeated_input_cover",
+            b".model v\n.inputs a b c d e\n.outputs y\n.names a b a c d e y\n1-1--- 1\n0-1--- 1\n.end\n",
+            b"10000\n01111\n",
+            b"outputs\n1\n0\n",
+        ),
+        (
+            "tool_written_design",
+            TOOL,
+            b"011\n000\n001\n010\n",
+            b"outputs\n0\n1\n1\n0\n",
+        ),
+        (
+            "second_control",
+            b".model m\n.inputs a\n.outputs p q\n.latch a p re c\n.latch a q re NIL\n.end\n",
+            b"1\n0\n",
+            b"outputs\n00\n11\n",
+        ),
+        (
+            "two_and_instances",
+            b".model top\n.inputs a b\n.outputs y\n.subckt and2 x=a z=b o=t\n.subckt and2 x=t z=b o=y\n.end\n.model and2\n.inputs x z\n.outputs o\n.names x z o\n11 1\n.end\n",
+            V4,
+            b"outputs\n0\n0\n0\n1\n",
+        ),
     ] {
-        let (status, sink) = outcome(alloc, AND, vectors, 4096)?;
-        assert_eq!(rt; sink.bytes(), text);
-        assert_eq!(rt; status, 0);
+        assert!(rt;
+            is_evaluated(&rt, design, vectors, text, 0, 4096)?,
+            "at {row}"
+        );
     }
     Ok(())
 }
 
 #[test]
-fn constants_without_inputs(rt: HostRuntime) -> Result<(), Fail> {
-    let design = b".model k\n.outputs z o\n.names z\n.names o\n1\n.end\n";
-    let (status, sink) = outcome(rt.alloc(), design, b".\n", 4096)?;
-    assert_eq!(rt; sink.bytes(), b"outputs\n01\n".as_slice());
-    assert_eq!(rt; status, 0);
+fn long_comment_vectors(rt: HostRuntime) -> Result<(), Fail> {
+    let alloc = rt.alloc();
+    let mut vectors = vec![in alloc; b'#'; 17_000_000]?;
+    vectors.extend_from_slice(b"\n1\n")?;
+    let wire = b".model w\n.inputs a\n.outputs a\n.end\n";
+    assert!(rt; is_evaluated(&rt, wire, &vectors, b"outputs\n1\n", 0, 4096)?);
     Ok(())
 }
 
-#[test]
-fn toggling_latch(rt: HostRuntime) -> Result<(), Fail> {
-    let design = b".model t\n.outputs q\n.names q d\n0 1\n.latch d q\n.end\n";
-    let (status, sink) = outcome(rt.alloc(), design, b".\n.\n.\n", 4096)?;
-    assert_eq!(rt; sink.bytes(), b"outputs\n0\n1\n0\n".as_slice());
-    assert_eq!(rt; status, 0);
-    Ok(())
-}
-
-// Whether the rows of the design `and` come from a store in pieces of at most so many bytes.
+// Whether four rows come from a store in pieces of at most so many bytes.
 fn is_same_in_pieces(rt: &HostRuntime, most: usize) -> Result<bool, Fail>
     requires { 0 < most }
 {
-    let (status, sink) = outcome(rt.alloc(), AND, V4, most)?;
-    Ok(status == 0 && sink.bytes() == b"outputs\n0\n0\n0\n1\n".as_slice())
+    for (design, vectors, text, status) in [
+        (AND, V4, b"outputs\n0\n0\n0\n1\n".as_slice(), 0u8),
+        (TOGGLE, b".\n.\n.\n", b"outputs\n0\n1\n0\n", 0),
+        (
+            AND,
+            b"00\n01\n0x\n",
+            b"outputs\n0\n0\nrefused vectors 3 char\n",
+            1,
+        ),
+        (TOOL, b"011\n000\n001\n010\n", b"outputs\n0\n1\n1\n0\n", 0),
+    ] {
+        if !is_evaluated(rt, design, vectors, text, status, most)? {
+            return Ok(false);
+        }
+    }
+    Ok(true)
 }
 
 #[test]
@@ -96,15 +164,6 @@ fn store_in_pieces(rt: HostRuntime) -> Result<(), Fail> {
     assert!(rt; is_same_in_pieces(&rt, 1)?);
     assert!(rt; is_same_in_pieces(&rt, 2)?);
     assert!(rt; is_same_in_pieces(&rt, 7)?);
-    Ok(())
-}
-
-#[test]
-fn several_models_are_not_built(rt: HostRuntime) -> Result<(), Fail> {
-    let design = b".model top\n.inputs a\n.outputs y\n.subckt m x=a z=y\n.end\n";
-    let (status, sink) = outcome(rt.alloc(), design, V4, 4096)?;
-    assert_eq!(rt; sink.bytes(), b"refused design 0 notbuilt\n".as_slice());
-    assert_eq!(rt; status, 1);
     Ok(())
 }
 
@@ -127,26 +186,84 @@ fn vector_faults(rt: HostRuntime) -> Result<(), Fail> {
     Ok(())
 }
 
+// Whether `eval` of a design is refused with this line.
+fn is_refused(rt: &HostRuntime, design: &[u8], line: &[u8]) -> Result<bool, Fail> {
+    let (status, sink) = outcome(rt.alloc(), design, V4, 4096)?;
+    Ok(status == 1 && sink.bytes() == line)
+}
+
 #[test]
-fn cyclic_undriven_doubled(rt: HostRuntime) -> Result<(), Fail> {
-    for (design, text) in [
+fn refused_designs(rt: HostRuntime) -> Result<(), Fail> {
+    for (row, design, line) in [
         (
+            "cyclic_undriven_doubled",
             b".model c\n.outputs a\n.names b a\n1 1\n.names a b\n1 1\n.end\n".as_slice(),
             b"refused design 3 cyclic a\n".as_slice(),
         ),
         (
-            b".model c\n.outputs a\n.names b a\n1 1\n.end\n".as_slice(),
-            b"refused design 3 undriven b\n".as_slice(),
+            "cyclic_undriven_doubled",
+            b".model c\n.outputs a\n.names b a\n1 1\n.end\n",
+            b"refused design 3 undriven b\n",
         ),
         (
-            b".model c\n.outputs a\n.names b a\n1 1\n.names b a\n1 1\n.end\n".as_slice(),
-            b"refused design 5 doubled a\n".as_slice(),
+            "cyclic_undriven_doubled",
+            b".model c\n.outputs a\n.names b a\n1 1\n.names b a\n1 1\n.end\n",
+            b"refused design 5 doubled a\n",
         ),
-        (b"".as_slice(), b"refused design 0 nomodel\n".as_slice()),
+        (
+            "exdc_left_out",
+            b".model a\n.exdc\n",
+            b"refused design 2 leftout\n",
+        ),
+        (
+            "latch_type_fe",
+            b".model a\n.latch d q fe c 0\n",
+            b"refused design 2 latchtype\n",
+        ),
+        (
+            "mixed_rows",
+            b".model and\n.inputs a b\n.outputs y\n.names a b y\n11 1\n00 0\n.end\n",
+            b"refused design 6 rowmixed\n",
+        ),
+        ("bad_byte_design", b"\x07", b"refused design 1 byte\n"),
+        (
+            "second_control",
+            b".model m\n.inputs a\n.outputs p q\n.latch a p re c\n.latch a q re d\n.end\n",
+            b"refused design 5 control\n",
+        ),
+        ("cut_design", b"", b"refused design 0 nomodel\n"),
+        (
+            "cut_design",
+            b".model and\n.inputs a b\n.outputs y\n",
+            b"refused design 3 undriven y\n",
+        ),
+        (
+            "subckt_refusals",
+            b".model top\n.inputs a b\n.outputs y\n.subckt nand x=a z=b o=t\n.subckt and2 x=t z=b o=y\n.end\n.model and2\n.inputs x z\n.outputs o\n.names x z o\n11 1\n.end\n",
+            b"refused design 4 nosuchmodel nand\n",
+        ),
+        (
+            "subckt_refusals",
+            b".model top\n.inputs a b\n.outputs y\n.subckt and2 q=a z=b o=t\n.subckt and2 x=t z=b o=y\n.end\n.model and2\n.inputs x z\n.outputs o\n.names x z o\n11 1\n.end\n",
+            b"refused design 4 formal q\n",
+        ),
+        (
+            "subckt_refusals",
+            b".model top\n.inputs a b\n.outputs y\n.subckt and2 x=a o=t\n.subckt and2 x=t z=b o=y\n.end\n.model and2\n.inputs x z\n.outputs o\n.names x z o\n11 1\n.end\n",
+            b"refused design 4 formal z\n",
+        ),
+        (
+            "subckt_refusals",
+            b".model top\n.inputs a b\n.outputs y\n.subckt and2 x=a z=b o=t\n.subckt and2 x=t z=b o=y\n.end\n.model and2\n.inputs x z\n.outputs o\n.subckt and2 x=x z=z o=o\n.end\n",
+            b"refused design 10 recursive and2\n",
+        ),
+        (
+            "subckt_refusals",
+            b".model top\n.inputs a b\n.outputs y\n.subckt and2 x=a z=b o=a\n.subckt and2 x=t z=b o=y\n.end\n.model and2\n.inputs x z\n.outputs o\n.names x z o\n11 1\n.end\n",
+            b"refused design 10 doubled a\n",
+        ),
     ] {
-        let (status, sink) = outcome(rt.alloc(), design, V4, 4096)?;
-        assert_eq!(rt; sink.bytes(), text);
-        assert_eq!(rt; status, 1);
+        assert!(rt; is_refused(&rt, design, line)?, "at {row}");
     }
     Ok(())
 }
@@ -228,3 +345,6 @@ fn cut_sinks(rt: HostRuntime) -> Result<(), Fail> {
     }
     Ok(())
 }
+
+const TWO_AND: &[u8] =
+    b".model top\n.inputs a b\n.outputs y\n.subckt and2 x=a z=b o=t\n.subckt and2 x=t z=b o=y\n.end\n.model and2\n.inputs x z\n.outputs o\n.names x z o\n11 1\n.end\n";

@@ -3,6 +3,7 @@ use Rattle.tm_text.specs.Lines.{lines_of}
 use Rattle.blif_read.specs.Runs.{Gives}
 use Rattle.blif_read.proofs.RunLemmas.{whole_is, are_read, found_are}
 use Rattle.blif_read.proofs.RowLemmas.{right_rows}
+use Rattle.blif_read.proofs.SizeLemmas.{few_outputs}
 use Rattle.blif_read.proofs.read.read_models.Goals as goal
 
 pub returns-clause-found : goal.returns-clause-found
@@ -16,3 +17,6 @@ returns-clause-exact c = subst (λ r. Gives (λ v. v.items) c.read_whole.result 
 
 pub returns-clause-rows : goal.returns-clause-rows
 returns-clause-rows c = right_rows (lines_of true c.args.bytes.now) c.read_whole.result c.read_whole.ensures
+
+pub returns-clause-outputs : goal.returns-clause-outputs
+returns-clause-outputs c = few_outputs c.args.bytes.now c.read_whole.result c.read_whole.ensures

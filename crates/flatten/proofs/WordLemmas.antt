@@ -1,0 +1,102 @@
+-- Which word of the substituted design is wrong.
+use Rattle.std.proofs.Common.{◌≡◌, ℕ, ◌<◌, true, not, List, Option, None, Some, refl, sym, ap, subst, ◌∙◌, arith, inl, inr, length, fold}
+use Rattle.std.specs.Prelude.{is_some}
+use Rattle.std.specs.List.{All}
+use Rattle.std.proofs.lemmas.Bool.{cases_lt}
+use Rattle.std.proofs.lemmas.List.{take_all}
+use Rattle.netlist.specs.declared.draft.Draft.{Draft}
+use Rattle.netlist.specs.declared.draft.PortDef.{PortDef}
+use Rattle.netlist.specs.Orders.{IsBefore, IsFirst}
+use Rattle.netlist.specs.Drafts.{word, word_at, signal_at, line_at, drives_of, reads_of}
+use Rattle.netlist.specs.Checks.{IsChecked, IsDoubledIn}
+use Rattle.netlist.specs.Words.{place_at, AreFirstWords, sooner}
+use Rattle.netlist.proofs.OrderLemmas.{not_itself, first_same}
+use Rattle.netlist.proofs.WordLemmas.{IsFree, place, place_first, at_place, fold_place}
+use Rattle.flatten.specs.declared.model.Signal.{Signal}
+use Rattle.flatten.specs.declared.words.Wrong.{Wrong}
+use Rattle.flatten.specs.Lines.{Line}
+use Rattle.flatten.specs.Signals.{signals_of}
+use Rattle.flatten.specs.Words.{drives_in, IsUndrivenIn, IsFirstDoubled}
+use Rattle.flatten.specs.Wrongs.{IsWordAnswer}
+use Rattle.flatten.proofs.CountLemmas.{NoneDoubled, NoneUndriven}
+use Rattle.flatten.proofs.MadeLemmas.{drives_below}
+
+pub doubled_is : (lines : List (Line Signal)) (words : List PortDef) (found : Option ℕ) → words ≡ drives_in lines → IsFirst (line_at words) (length words) (IsDoubledIn words) found → IsFirstDoubled lines found
+doubled_is lines words found e h =
+    let P : List PortDef → Type 0 = λ ws. IsFirst (line_at ws) (length ws) (IsDoubledIn ws) found in
+    subst P e h
+
+pub answer_of : (ls lines : List (Line Signal)) (o p : Option Wrong) → ls ≡ lines → o ≡ p → IsWordAnswer ls o → IsWordAnswer lines p
+answer_of ls lines o p same is h = subst (λ x. IsWordAnswer x p) same (subst (IsWordAnswer ls) is h)
+
+pub below_at : (lines : List (Line Signal)) (words : List PortDef) (n : ℕ) → words ≡ drives_in lines → n ≡ length (signals_of lines) → (k : ℕ) → k < length words → signal_at words k < n
+below_at lines words n e same k lk =
+    let lt : k < length (drives_in lines) = omega (arith, ap length e) in
+    let below : signal_at (drives_in lines) k < length (signals_of lines) = drives_below lines k (word 0 0) lt in
+    omega (arith, same, ap (λ ws. signal_at ws k) e)
+
+pub table_is : (lines : List (Line Signal)) (words : List PortDef) (firsts : List (Option ℕ)) (n : ℕ) → words ≡ drives_in lines → n ≡ length (signals_of lines) → AreFirstWords words (length words) n firsts → AreFirstWords (drives_in lines) (length (drives_in lines)) (length (signals_of lines)) firsts
+table_is lines words firsts n e same h =
+    let P : List PortDef → Type 0 = λ ws. AreFirstWords ws (length ws) (length (signals_of lines)) firsts in
+    subst P e (subst (λ m. AreFirstWords words (length words) m firsts) same h)
+
+-- ---- words that nothing drives
+
+module _ (drives reads : List PortDef) (firsts : List (Option ℕ)) (count : ℕ) (table : AreFirstWords drives (length drives) count firsts) (below : All (λ (w : PortDef). w.signal < count) reads) where
+  abbrev HasFirst : ℕ → Option ℕ → Type 0
+  HasFirst s found = IsFirst (line_at drives) (length drives) (λ k. signal_at drives k ≡ s) found
+
+  abbrev IsDrivenBy : ℕ → Type 0
+  IsDrivenBy s = (j : ℕ) × (j < length drives) × (signal_at drives j ≡ s)
+
+  free_of : (s : ℕ) (found : Option ℕ) → HasFirst s found → not (is_some found) ≡ true → IsDrivenBy s → ⊥
+  free_of s None h e driven = h driven.0 driven.1 driven.2
+  free_of s (Some j) h e driven = cc
+
+  of_free : (s : ℕ) (found : Option ℕ) → HasFirst s found → (IsDrivenBy s → ⊥) → not (is_some found) ≡ true
+  of_free s None h undriven = refl
+  of_free s (Some j) h undriven = absurd (undriven (j, h.0, h.1))
+
+  at : (k : ℕ) → k < length reads → HasFirst (signal_at reads k) (place_at firsts (signal_at reads k))
+  at k lk = table (signal_at reads k) (below k (word 0 0) lk)
+
+  undriven_of : (found : Option ℕ) → IsFirst (line_at reads) (length reads) (IsFree firsts reads) found → IsFirst (line_at reads) (length reads) (IsUndrivenIn drives reads) found
+  undriven_of found h =
+      first_same (line_at reads) (IsFree firsts reads) (IsUndrivenIn drives reads) (length reads) found
+      (λ k lk. free_of (signal_at reads k) (place_at firsts (signal_at reads k)) (at k lk))
+      (λ k lk. of_free (signal_at reads k) (place_at firsts (signal_at reads k)) (at k lk))
+      h
+
+  result_is : fold (sooner firsts) None reads ≡ at_place firsts reads (place firsts reads (length reads))
+  result_is = ap (λ ws. fold (sooner firsts) None ws) (sym (take_all (length reads) reads (omega arith))) ∙ fold_place firsts reads (length reads) (omega arith)
+
+  pub undriven_word : (w : PortDef) → Some w ≡ fold (sooner firsts) None reads → (k : ℕ) × IsFirst (line_at reads) (length reads) (IsUndrivenIn drives reads) (Some k) × (w ≡ word_at reads k)
+  undriven_word w e = by (place firsts reads (length reads)) (e ∙ result_is) (place_first firsts reads (length reads))
+    where
+      by : (p : Option ℕ) → Some w ≡ at_place firsts reads p → IsFirst (line_at reads) (length reads) (IsFree firsts reads) p → (k : ℕ) × IsFirst (line_at reads) (length reads) (IsUndrivenIn drives reads) (Some k) × (w ≡ word_at reads k)
+      by None f h = absurd cc
+      by (Some k) f h = (k, undriven_of (Some k) h, let g : w ≡ word_at reads k = cc in g)
+
+  pub none_undriven : None ≡ fold (sooner firsts) None reads → IsFirst (line_at reads) (length reads) (IsUndrivenIn drives reads) None
+  none_undriven e = by (place firsts reads (length reads)) (e ∙ result_is) (place_first firsts reads (length reads))
+    where
+      by : (p : Option ℕ) → None ≡ at_place firsts reads p → IsFirst (line_at reads) (length reads) (IsFree firsts reads) p → IsFirst (line_at reads) (length reads) (IsUndrivenIn drives reads) None
+      by None f h = undriven_of None h
+      by (Some k) f h = absurd cc
+
+-- ---- of a checked netlist
+
+pub once_none : (d : Draft) → IsChecked d → NoneDoubled (drives_of d)
+once_none d checked k lk dbl = elim (cases_lt dbl.0 k) [
+  | inl lt ↦ checked.once dbl.0 k lt lk dbl.3
+  | inr le ↦ elim (cases_lt k dbl.0) [
+    | inl lt ↦ checked.once k dbl.0 lt dbl.1 (sym dbl.3)
+    | inr ge ↦
+        let same : dbl.0 ≡ k = omega arith in
+        let before : IsBefore (line_at (drives_of d)) k k = rw same at dbl.2 in
+        not_itself (line_at (drives_of d)) k before
+  ]
+]
+
+pub driven_none : (d : Draft) → IsChecked d → NoneUndriven (drives_of d) (reads_of d)
+driven_none d checked k lk undriven = undriven (checked.driven k lk)

@@ -1,0 +1,11 @@
+use Rattle.std.proofs.Common.{◌≡◌, ℕ, List, [], map, take}
+use Rattle.flatten.specs.Given.{looked_up, place_of}
+use Rattle.flatten.specs.Lines.{pair_of}
+use Rattle.flatten.specs.Substitution.{becomes, pair_through, given}
+use Rattle.flatten.proofs.frames.given_by.Given as goal
+
+abbrev pub invariant-pairs : goal.invariant-pairs
+invariant-pairs l = record {
+  used : l.given.used ≡ l.used;
+  is : (w : List ℕ) → looked_up l.given w ≡ given (map (pair_through (becomes (place_of l.frame.given []) l.frame.names.now)) (map pair_of (take l.pair-index l.pairs))) w;
+}

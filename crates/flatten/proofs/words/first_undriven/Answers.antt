@@ -1,0 +1,18 @@
+use Rattle.std.proofs.Common.{◌∙◌, None, ap, sym, arith, fold}
+use Rattle.std.proofs.lemmas.List.{take_all}
+use Rattle.std.proofs.lemmas.List.Folds.{flat_map-map}
+use Rattle.netlist.specs.Words.{sooner}
+use Rattle.netlist.proofs.WordLemmas.{fold-flat_map}
+use Rattle.flatten.specs.Placed.{placed_line}
+use Rattle.flatten.specs.Words.{read_on}
+use Rattle.flatten.proofs.words.first_undriven.Goals as goal
+
+pub returns : goal.returns
+returns c =
+    let F = sooner c.args.firsts.now in
+    let R = read_on c.args.signals.now in
+    let ps = c.args.placed.now in
+    c.placed.invariant
+    ∙ ap (λ xs. fold (λ b p. fold F b (R (placed_line p))) None xs) (take_all c.placed.k ps (omega arith))
+    ∙ sym (fold-flat_map F (λ p. R (placed_line p)) None ps)
+    ∙ ap (fold F None) (sym (flat_map-map R placed_line ps))

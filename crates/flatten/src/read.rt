@@ -1,0 +1,162 @@
+//! The netlist that the substituted design spells.
+
+ghost use Rattle.std.specs.Prelude.{◌≡◌, ◌<◌, ◌≤◌, ℕ, List, length, map, None, IfOk, OnOk, IfErr};
+ghost use Rattle.netlist.specs.declared.draft.Draft.{Draft as DraftValue};
+ghost use Rattle.netlist.specs.declared.fault.DesignFault.TheVariants.{Memory};
+ghost use Rattle.netlist.specs.Checks.{IsChecked};
+ghost use Rattle.netlist.specs.Drafts.{IsWellMade};
+ghost use Rattle.flatten.specs.Faults.{name_in, IsClean, IsRefusalOfModels};
+ghost use Rattle.flatten.specs.Lines.{HaveRightRows};
+ghost use Rattle.flatten.specs.Netlists.{controls_of, AreOneControl, IsWithin, IsReadFrom, IsNetlistOf};
+ghost use Rattle.flatten.specs.Origins.{IsSubstitution};
+ghost use Rattle.flatten.specs.Placed.{placed_line};
+ghost use Rattle.flatten.specs.Readings.{IsReading};
+ghost use Rattle.flatten.specs.Sinks.{lines_in};
+ghost use Rattle.flatten.specs.Substitution.{first_model};
+ghost use Rattle.flatten.specs.Uses.{KeepsRules};
+ghost use Rattle.flatten.specs.Words.{IsFirstDoubled, IsFirstUndriven};
+
+use crate::clocks::other_control;
+use crate::lists::lists_of;
+use crate::model::{Model, Signal};
+use crate::placed::Placed;
+use crate::printed::{printed_name, printed_names};
+use crate::refusal::Refusal;
+use crate::words::{Wrong, wrong_word};
+use crate::work::{Substituted, substitute};
+use netlist::{DesignFault, DesignKind, Draft, Name};
+use std::alloc::{AllocError, Global};
+use tm_items::Items;
+
+/// The names of the signals of the first model.
+fn first_names(models: &[Model]) -> &[Name]
+    ensures { result.now ≡ (first_model models.now).names }
+{
+    match models.first() {
+        Some(model) => model.names.as_slice(),
+        None => &[],
+    }
+}
+
+/// The substituted design; else that it passes a limit.
+fn within_limits(alloc: Global, models: &[Model]) -> Result<Substituted<'_>, DesignFault>
+    requires { KeepsRules models.now }
+    ensures ok { IfOk result (IsSubstitution models.now) }
+    ensures refused { IfErr result (IsRefusalOfModels models.now) }
+    ensures only { (d : DraftValue) → IsNetlistOf models.now d → IfErr result (λ e. e ≡ Memory) }
+{
+    match substitute(alloc, models) {
+        Ok(found) => Ok(found),
+        Err(Refusal::Memory) => Err(DesignFault::Memory),
+        Err(Refusal::Limit) => Err(DesignFault::At {
+            line: 0,
+            kind: DesignKind::Limit,
+        }),
+    }
+}
+
+/// That all controls are one; else the first latch with another.
+fn check_controls(alloc: Global, models: &[Model], placed: &[Placed<'_>]) -> Result<(), DesignFault>
+    requires rules { KeepsRules models.now }
+    requires within { IsWithin models.now (map placed_line placed.now) }
+    ensures ok { OnOk result (AreOneControl (controls_of models.now (map placed_line placed.now))) }
+    ensures refused { IfErr result (IsRefusalOfModels models.now) }
+    ensures only { AreOneControl (controls_of models.now (map placed_line placed.now)) → IfErr result (λ e. e ≡ Memory) }
+{
+    match other_control(alloc, first_names(models), placed) {
+        Ok(None) => Ok(()),
+        Ok(Some(line)) => Err(DesignFault::At {
+            line,
+            kind: DesignKind::Control,
+        }),
+        Err(_) => Err(DesignFault::Memory),
+    }
+}
+
+/// The printed name of the signal with a number.
+fn name_of(
+    alloc: Global,
+    models: &[Model],
+    found: &Substituted<'_>,
+    signal: u32,
+) -> Result<Name, AllocError>
+    requires kept { IsSubstitution models.now found.now }
+    requires known { signal < length found.now.sink.signals }
+    ensures { IfOk result (λ n. n ≡ name_in models.now (lines_in found.now.sink) signal) }
+{
+    let signals = found.sink.signals.as_slice();
+    printed_name(alloc, &found.origins, first_names(models), signals, signal)
+}
+
+/// That no signal is driven twice and each that is read is driven; else the first word where it isn't so.
+fn check_words(alloc: Global, models: &[Model], found: &Substituted<'_>) -> Result<(), DesignFault>
+    requires rows { HaveRightRows models.now }
+    requires kept { IsSubstitution models.now found.now }
+    requires clean { IsClean models.now (lines_in found.now.sink) }
+    ensures undoubled { OnOk result (IsFirstDoubled (lines_in found.now.sink) None) }
+    ensures driven { OnOk result (IsFirstUndriven (lines_in found.now.sink) None) }
+    ensures refused { IfErr result (IsRefusalOfModels models.now) }
+    ensures only { IsFirstDoubled (lines_in found.now.sink) None → IsFirstUndriven (lines_in found.now.sink) None → IfErr result (λ e. e ≡ Memory) }
+{
+    match wrong_word(alloc, &found.sink.signals, &found.sink.placed) {
+        Ok(None) => Ok(()),
+        Ok(Some(Wrong::Doubled(word))) => {
+            let name = name_of(alloc, models, found, word.signal)?;
+            let kind = DesignKind::Doubled { name };
+            Err(DesignFault::At {
+                line: word.line,
+                kind,
+            })
+        }
+        Ok(Some(Wrong::Undriven(word))) => {
+            let name = name_of(alloc, models, found, word.signal)?;
+            let kind = DesignKind::Undriven { name };
+            Err(DesignFault::At {
+                line: word.line,
+                kind,
+            })
+        }
+        Err(_) => Err(DesignFault::Memory),
+    }
+}
+
+/// The netlist that the lines spell, over their signals.
+fn draft_of(
+    alloc: Global,
+    models: &[Model],
+    found: &Substituted<'_>,
+    signals: &[Signal],
+) -> Result<Draft, DesignFault>
+    requires kept { IsSubstitution models.now found.now }
+    requires signals { signals.now ≡ found.now.sink.signals }
+    ensures ok { IfOk result (IsReadFrom models.now (lines_in found.now.sink)) }
+    ensures refused { IfErr result (λ e. e ≡ Memory) }
+{
+    let lists = lists_of(alloc, &found.sink.signals, &found.sink.placed)?;
+    let first = first_names(models);
+    let names = printed_names(alloc, &found.origins, first, signals)?;
+    Ok(Draft {
+        names: Items::new(names),
+        inputs: Items::new(lists.inputs),
+        outputs: Items::new(lists.outputs),
+        covers: Items::new(lists.covers),
+        latches: Items::new(lists.latches),
+    })
+}
+
+/// The netlist that is read from the substituted design of models that keep the rules, where each signal is driven once.
+pub fn read(alloc: Global, models: &[Model]) -> Result<Draft, DesignFault>
+    requires rules { KeepsRules models.now }
+    requires rows { HaveRightRows models.now }
+    requires outputs { length (first_model models.now).outputs ≤ 16777216 }
+    ensures ok { IfOk result (IsReading models.now) }
+    ensures made { IfOk result (λ d. IsWellMade d) }
+    ensures refused { IfErr result (IsRefusalOfModels models.now) }
+    ensures only { (d : DraftValue) → IsNetlistOf models.now d → IsChecked d → IfErr result (λ e. e ≡ Memory) }
+{
+    let found = within_limits(alloc, models)?;
+    let signals = found.sink.signals.as_slice();
+    check_controls(alloc, models, &found.sink.placed)?;
+    check_words(alloc, models, &found)?;
+    draft_of(alloc, models, &found, signals)
+}
