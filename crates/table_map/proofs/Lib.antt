@@ -1,0 +1,14 @@
+pub mod PathLemmas
+pub mod SearchLemmas
+pub mod CellLemmas
+pub mod TreeLemmas
+pub mod NameLemmas
+pub mod PlainLemmas
+pub mod CoverLemmas
+pub mod DriveLemmas
+pub mod BlockLemmas
+pub mod ValueLemmas
+pub mod OriginLemmas
+pub mod NetworkLemmas
+pub mod ValuationLemmas
+pub mod RowLemmas

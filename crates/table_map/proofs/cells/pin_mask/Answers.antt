@@ -1,0 +1,5 @@
+use Rattle.table_map.proofs.CellLemmas.{pin_gives}
+use Rattle.table_map.proofs.cells.pin_mask.Goals as goal
+
+pub returns : goal.returns
+returns c = pin_gives c.args.pin c.requires

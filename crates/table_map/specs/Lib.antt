@@ -1,0 +1,9 @@
+pub mod Networks
+pub mod Rows
+pub mod Depths
+pub mod Plain
+pub mod Levels
+pub mod Cells
+pub mod Sizes
+pub mod Drives
+pub mod Bounds

@@ -1,0 +1,21 @@
+//! Networks of tables with at most six inputs.
+#![tactic(auto)]
+
+mod build;
+mod cells;
+mod covers;
+mod drives;
+pub mod laws;
+mod longest;
+mod names;
+mod network;
+mod source;
+#[cfg(test)]
+mod tests;
+mod trees;
+mod want;
+
+pub use build::plain;
+pub use longest::depth;
+pub use network::{NetTable, Network};
+pub use source::{Source, Sources};
