@@ -1,0 +1,5 @@
+-- Work that is made from a number.
+pub mod Draws
+pub mod Faults
+pub mod Positions
+pub mod Work

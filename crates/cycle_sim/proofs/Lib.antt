@@ -1,0 +1,15 @@
+pub mod ClassLemmas
+pub mod Joining
+pub mod Links
+pub mod Bases
+pub mod Touching
+pub mod Marking
+pub mod Levels
+pub mod Ticking
+pub mod Counts
+pub mod Loading
+pub mod Cycling
+pub mod Logging
+pub mod Sessions
+pub mod Going
+pub mod Naming

@@ -1,0 +1,11 @@
+use Rattle.std.proofs.Common.{◌≡◌, ◌+◌, length}
+use Rattle.hierarchy.specs.Faults.{stuck_wire}
+use Rattle.cycle_sim.specs.Classes.{AreTied}
+use Rattle.cycle_sim.specs.Building.{stuck_net}
+use Rattle.cycle_sim.proofs.base.close_stuck.Given as goal
+
+abbrev pub invariant-crosses : goal.invariant-crosses
+invariant-crosses l = record {
+  len : length l.knots ≡ length l.fn.knots;
+  tied : AreTied (stuck_net l.faults.shape l.faults.faults l.x) (stuck_wire l.faults.faults) l.knots (65536 + l.x);
+}

@@ -1,0 +1,18 @@
+use Rattle.std.proofs.Common.{◌≤◌, Err, length, subst}
+use Rattle.tm_outside.specs.Whole.{IsWithin}
+use Rattle.hierarchy.specs.Faults.{Faults}
+use Rattle.fault_model.specs.Text.{IsFaultText}
+use Rattle.fault_model.specs.Refusals.{most_bytes, IsRefusedAs, GivesOrLacks}
+use Rattle.fault_model.specs.declared.kind.FaultsFault.{FaultsFault}
+use Rattle.cycle_sim.proofs.Naming.{no_text}
+use Rattle.cycle_sim.proofs.named.faults_of_file.Goals as goal
+
+pub returns-in-Err-At-clause-refused : goal.returns-in-Err-At-clause-refused
+returns-in-Err-At-clause-refused g c =
+    let told = (g.S.Store.store_state c.args.store.now).contents c.args.name.now in
+    let m = c.args.shape.now in
+    let bytes = c.deref.result.now in
+    no_text m told c.in-Ok-Some.text.items bytes c.in-Err-At.line c.in-Err-At.kind
+    (subst (IsWithin 16777216 told) c.in-Ok-Some.field-0-is c.in-Ok-Some.ensures.text) c.deref.ensures.value
+    (subst (IsRefusedAs m bytes) c.in-Err-At.field-0-is c.in-Err-At.ensures.refused)
+    (subst (λ (e : FaultsFault). (f : Faults) → IsFaultText m bytes f → length bytes ≤ most_bytes → GivesOrLacks (record { shape = m; faults = f }) (Err e)) c.in-Err-At.field-0-is c.in-Err-At.ensures.only)

@@ -1,0 +1,31 @@
+-- A machine that is prepared, and one that is loaded.
+use Rattle.std.specs.Prelude.{◌≡◌, ℕ, ◌<◌, List, length, All}
+use Rattle.hierarchy.specs.declared.Shape.{Shape}
+use Rattle.hierarchy.specs.Shape.{wires_of, tables_of}
+use Rattle.hierarchy.specs.Faults.{Faults}
+use Rattle.config_set.specs.Configuration.{Configuration}
+use Rattle.cycle_sim.specs.declared.classes.Classes.{Classes}
+use Rattle.cycle_sim.specs.declared.board.Board.{Board}
+use Rattle.cycle_sim.specs.Building.{AreBase, AreKept}
+use Rattle.cycle_sim.specs.Gates.{IsClear, Fits}
+use Rattle.cycle_sim.specs.Cycles.{IsWired}
+
+-- its faults are prepared, and no class has a mark
+pub record IsPrepared (m : Shape) (f : Faults) (b : Board) : Type 0 where
+  pub base : AreBase m f b.classes.base.items
+  pub kept : AreKept b.classes
+  pub low_pins : length b.low_pins.items ≡ wires_of m
+  pub low_tables : length b.low_tables.items ≡ wires_of m
+  pub pins_clear : IsClear b.low_pins.items
+  pub tables_clear : IsClear b.low_tables.items
+
+-- the tables and pins are of the machine
+pub record AreFitting (m : Shape) (b : Board) : Type 0 where
+  pub gates : All (Fits (tables_of m) (wires_of m)) b.gates.items
+  pub pins : All (λ r. r < wires_of m) b.pins.items
+
+-- the configuration is loaded
+pub record IsLoaded (f : Faults) (g : Configuration) (b : Board) : Type 0 where
+  pub fitting : AreFitting g.shape b
+  pub root : ℕ → ℕ
+  pub wired : IsWired f g root b.classes.knots.items b.pins.items b.gates.items

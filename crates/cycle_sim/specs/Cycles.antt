@@ -1,0 +1,52 @@
+-- A loaded machine, and a cycle of it.
+use Rattle.std.specs.Prelude.{◌≡◌, ℕ, ◌<◌, Bool, true, false, List, length, map, slice_index}
+use Rattle.hierarchy.specs.Shape.{pin_wire, pins_of}
+use Rattle.hierarchy.specs.Circuit.{Outputs, Pins}
+use Rattle.hierarchy.specs.Faults.{Faults, stuck_wire}
+use Rattle.config_set.specs.Configuration.{Configuration}
+use Rattle.config_set.specs.Faulty.{circuit_of}
+use Rattle.config_set.specs.Run.{Ticks, Cycle}
+use Rattle.cycle_sim.specs.declared.classes.Knot.{Knot}
+use Rattle.cycle_sim.specs.declared.gates.Gate.{Gate}
+use Rattle.cycle_sim.specs.Classes.{AreKnots}
+use Rattle.cycle_sim.specs.Gates.{is_low, level_at, ticked, clocked, AreGates, AreOutputs, IsPulledBy, IsDrivenBy, AreMarkedToo}
+
+-- the classes, the tables that are on and the pins are those of the configuration under the faults
+pub record IsWired (f : Faults) (g : Configuration) (root : ℕ → ℕ) (knots : List Knot) (pins : List ℕ) (gates : List Gate) : Type 0 where
+  pub most : ℕ
+  pub knots_are : AreKnots (circuit_of f g).net (stuck_wire f) knots most root
+  pub gates_are : AreGates f g root gates
+  pub count : length pins ≡ pins_of g.shape
+  pub pins_are : (k : ℕ) → k < pins_of g.shape → slice_index pins k ≡ root (pin_wire g.shape k)
+
+-- the classes with a mark are those that the pins pull
+pub record AreDriven (pins : List ℕ) (drive : Pins) (low : List Bool) : Type 0 where
+  pub to : (r : ℕ) → is_low low r ≡ true → IsDrivenBy pins drive (length pins) r
+  pub from : (r : ℕ) → IsDrivenBy pins drive (length pins) r → is_low low r ≡ true
+
+-- the tables are what a tick makes of them, under marks of their own
+pub record IsTick (f : Faults) (knots : List Knot) (low_pins low_tables : List Bool) (old new : List Gate) : Type 0 where
+  pub marks : List Bool
+  pub marked : AreMarkedToo low_tables marks (IsPulledBy old (length old))
+  pub next : new ≡ map (ticked f (level_at knots low_pins marks)) old
+
+-- the reading, and the tables after the clock edge
+pub record IsEdge (f : Faults) (knots : List Knot) (low_pins low_tables : List Bool) (pins : List ℕ) (read : Pins) (old new : List Gate) : Type 0 where
+  pub marks : List Bool
+  pub marked : AreMarkedToo low_tables marks (IsPulledBy old (length old))
+  pub reads : read ≡ map (level_at knots low_pins marks) pins
+  pub next : new ≡ map (clocked f (level_at knots low_pins marks)) old
+
+-- the tables after some ticks of a cycle
+pub record HasTicked (f : Faults) (g : Configuration) (root : ℕ → ℕ) (knots : List Knot) (pins : List ℕ) (drive : Pins) (n : ℕ) (before : Outputs) (gates : List Gate) : Type 0 where
+  pub outputs : Outputs
+  pub ticks : Ticks (circuit_of f g) drive before n outputs
+  pub wired : IsWired f g root knots pins gates
+  pub gives : AreOutputs g gates outputs
+
+-- and after the whole cycle
+pub record HasCycled (f : Faults) (g : Configuration) (root : ℕ → ℕ) (knots : List Knot) (pins : List ℕ) (drive read : Pins) (before : Outputs) (gates : List Gate) : Type 0 where
+  pub outputs : Outputs
+  pub cycle : Cycle (circuit_of f g) before drive read outputs
+  pub wired : IsWired f g root knots pins gates
+  pub gives : AreOutputs g gates outputs

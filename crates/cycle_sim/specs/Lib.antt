@@ -1,0 +1,12 @@
+-- What a simulated machine keeps.
+pub mod Classes
+pub mod Building
+pub mod Gates
+pub mod Cycles
+pub mod Boards
+pub mod Tracks
+pub mod BitLogs
+pub mod Stored
+pub mod States
+pub mod Sims
+pub mod Named

@@ -1,0 +1,36 @@
+-- What a simulated machine is to its callers.
+use Rattle.std.specs.Prelude.{◌≡◌, ℕ, ◌+◌, ◌≤◌, Bool, Option, Some, IsSome, IfSome, List, [], ◌∷◌, ◌++◌, refl}
+use Rattle.std.specs.Coded.{Coded, code_by, coded×, coded_ℕ, coded_bool, coded_list, coded_option}
+use Rattle.hierarchy.specs.Circuit.{Pins}
+use Rattle.hierarchy.specs.Faults.{Faults}
+use Rattle.config_set.specs.Faulty.{IsRun}
+use Rattle.config_set.specs.Configuration.{Configuration, coded_configuration}
+use Rattle.fault_model.specs.Adding.{Faulty, coded_faulty}
+use Rattle.rig.specs.Rig.{Exchange, Session, drives_of, readings_of}
+
+-- its shape and faults, and its session, if one has begun
+pub record SimState : Type 0 where
+  pub machine : Faulty
+  pub session : Option Session
+
+-- codes, by which a proof tells these values apart
+abbrev pub coded_exchange : Coded Exchange
+coded_exchange = code_by (List Bool × List Bool) (coded× (coded_list coded_bool) (coded_list coded_bool)) (λ e. (e.drive, e.reading)) (λ p. record { drive = p.0; reading = p.1 }) (λ _. refl)
+
+abbrev pub coded_session : Coded Session
+coded_session = code_by (Configuration × (List Exchange × ℕ)) (coded× coded_configuration (coded× (coded_list coded_exchange) coded_ℕ)) (λ s. (s.config, (s.cycles, s.spare))) (λ p. record { config = p.0; cycles = p.1.0; spare = p.1.1 }) (λ _. refl)
+
+abbrev pub coded_sim : Coded SimState
+coded_sim = code_by (Faulty × Option Session) (coded× coded_faulty (coded_option coded_session)) (λ s. (s.machine, s.session)) (λ p. record { machine = p.0; session = p.1 }) (λ _. refl)
+
+-- the session goes on by a cycle, takes at most one place of its room, and its readings are the run
+pub record GoesOnFrom (f : Faults) (drive read : Pins) (old new : Session) : Type 0 where
+  pub config : new.config ≡ old.config
+  pub cycles : new.cycles ≡ old.cycles ++ record { drive = drive; reading = read } ∷ []
+  pub spare : old.spare ≤ new.spare + 1
+  pub run : IsRun f new.config (drives_of new.cycles) (readings_of new.cycles)
+
+-- the same of a machine that has a session
+pub record HasGoneOn (drive read : Pins) (old new : SimState) : Type 0 where
+  pub session : IsSome new.session
+  pub goes_on : IfSome old.session (λ s. IfSome new.session (λ t. GoesOnFrom old.machine.faults drive read s t))

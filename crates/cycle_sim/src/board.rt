@@ -1,0 +1,147 @@
+//! A machine that is prepared for its faults, and loaded.
+
+ghost use Rattle.std.specs.Prelude.{◌≡◌, ℕ, ◌+◌, ◌^◌, ◌<◌, Some, None, OnOk, IfOk, length, map, slice_index, All, unwrap_or};
+ghost use Rattle.hierarchy.specs.Shape.{wires_of, tables_of, pins_of, pin_wire, table_wire};
+ghost use Rattle.config_set.specs.Configuration.{Configuration, setting_of};
+ghost use Rattle.config_set.specs.Faulty.{circuit_of};
+ghost use Rattle.config_set.specs.Run.{at_load};
+ghost use Rattle.cycle_sim.specs.Classes.{HasRoots, AreRooted};
+ghost use Rattle.cycle_sim.specs.Boards.{IsPrepared, IsLoaded};
+ghost use Rattle.cycle_sim.specs.Gates.{Fits, IsGate, AreGates, AreOutputs};
+
+use crate::base::classes_of;
+use crate::classes::{Classes, Knot, root_of};
+use crate::closing::close_all;
+use crate::gates::Gate;
+use config_set::{Config, Setting};
+use fault_model::FaultSet;
+use hierarchy::{Shape, Table};
+use std::alloc::{AllocError, Global};
+
+/// What is kept of a machine: its wires in classes, its tables that are on, its pins, and marks.
+#[derive(Drop)]
+pub struct Board {
+    pub classes: Classes,
+    pub gates: Vec<Gate>,
+    /// The roots of the pins.
+    pub pins: Vec<u32>,
+    /// The classes that pins pull to 0.
+    pub low_pins: Vec<bool>,
+    /// The classes that tables pull to 0.
+    pub low_tables: Vec<bool>,
+}
+
+/// The root of a table's pin.
+fn root_at(knots: &[Knot], shape: Shape, table: Table, pin: u32) -> u32
+    requires len { length knots.now ≡ wires_of shape }
+    requires rooted { AreRooted knots.now }
+    requires table { table.0 < tables_of shape }
+    requires pin { pin < 7 }
+    ensures root { (most : ℕ) (root : ℕ → ℕ) → HasRoots knots.now most root → result ≡ root (table_wire shape table.0 pin) }
+    ensures within { result < wires_of shape }
+{
+    root_of(knots, shape.pin_of(table, pin).0)
+}
+
+/// A table with this setting, as it is after a load.
+fn gate_of(faults: &FaultSet, knots: &[Knot], table: Table, setting: Setting) -> Gate
+    requires len { length knots.now ≡ wires_of faults.now.shape }
+    requires rooted { AreRooted knots.now }
+    requires table { table.0 < tables_of faults.now.shape }
+    ensures fits { Fits (tables_of faults.now.shape) (wires_of faults.now.shape) result }
+    ensures gate { (g : Configuration) (most : ℕ) (root : ℕ → ℕ) → g.shape ≡ faults.now.shape → setting_of g table.0 ≡ Some setting → HasRoots knots.now most root → IsGate faults.now.faults g root result }
+    ensures table { result.table ≡ table }
+    ensures first { result.output ≡ unwrap_or result.held result.setting.init }
+{
+    let shape = faults.shape();
+    let held = if setting.latched {
+        faults.register(table)
+    } else {
+        None
+    };
+    Gate {
+        table,
+        setting,
+        held,
+        ins: [
+            root_at(knots, shape, table, 0),
+            root_at(knots, shape, table, 1),
+            root_at(knots, shape, table, 2),
+            root_at(knots, shape, table, 3),
+            root_at(knots, shape, table, 4),
+            root_at(knots, shape, table, 5),
+        ],
+        out: root_at(knots, shape, table, 6),
+        output: held.unwrap_or(setting.init),
+    }
+}
+
+/// The tables that are on.
+fn fill_gates(
+    gates: &mut Vec<Gate>,
+    faults: &FaultSet,
+    knots: &[Knot],
+    config: &Config,
+) -> Result<(), AllocError>
+    requires shape { config.now.config.shape ≡ faults.now.shape }
+    requires len { length knots.now ≡ wires_of faults.now.shape }
+    requires rooted { AreRooted knots.now }
+    ensures fits { OnOk result (All (Fits (tables_of faults.now.shape) (wires_of faults.now.shape)) gates.new.items) }
+    ensures gates { OnOk result ((most : ℕ) (root : ℕ → ℕ) → HasRoots knots.now most root → AreGates faults.now.faults config.now.config root gates.new.items) }
+    ensures first { OnOk result (AreOutputs config.now.config gates.new.items (at_load (circuit_of faults.now.faults config.now.config))) }
+{
+    let _shape = config.shape();
+    gates.clear();
+    let tables = config.tables_on();
+    'tables: for i in 0..tables.len() {
+        let table = tables[i];
+        if let Some(setting) = config.setting(table) {
+            gates.push(gate_of(faults, knots, table, setting))?;
+        }
+    }
+    Ok(())
+}
+
+/// The roots of the pins.
+fn fill_pins(pins: &mut Vec<u32>, knots: &[Knot], shape: Shape) -> Result<(), AllocError>
+    requires len { length knots.now ≡ wires_of shape }
+    requires rooted { AreRooted knots.now }
+    ensures len { OnOk result (length pins.new.items ≡ pins_of shape) }
+    ensures within { OnOk result (All (λ r. r < wires_of shape) pins.new.items) }
+    ensures roots { OnOk result ((most : ℕ) (root : ℕ → ℕ) → HasRoots knots.now most root → (k : ℕ) → k < pins_of shape → slice_index pins.new.items k ≡ root (pin_wire shape k)) }
+{
+    pins.clear();
+    'pins: for k in 0..shape.pins() {
+        pins.push(root_of(knots, shape.pin(k).0))?;
+    }
+    Ok(())
+}
+
+/// A machine with these faults, with nothing loaded.
+pub fn prepare(alloc: Global, faults: &FaultSet) -> Result<Board, AllocError>
+    ensures { IfOk result (IsPrepared faults.now.shape faults.now.faults) }
+{
+    let wires = faults.shape().wires() as usize;
+    Ok(Board {
+        classes: classes_of(alloc, faults)?,
+        gates: Vec::new(alloc),
+        pins: Vec::new(alloc),
+        low_pins: vec![in alloc; false; wires]?,
+        low_tables: vec![in alloc; false; wires]?,
+    })
+}
+
+/// Loads a configuration. Its cost grows with what is closed, on and faulty, and with the pins.
+pub fn load(board: &mut Board, faults: &FaultSet, config: &Config) -> Result<(), AllocError>
+    requires prepared { IsPrepared faults.now.shape faults.now.faults board.old }
+    requires shape { config.now.config.shape ≡ faults.now.shape }
+    ensures prepared { IsPrepared faults.now.shape faults.now.faults board.new }
+    ensures loaded { OnOk result (IsLoaded faults.now.faults config.now.config board.new) }
+    ensures first { OnOk result (AreOutputs config.now.config board.new.gates.items (at_load (circuit_of faults.now.faults config.now.config))) }
+{
+    let shape = config.shape();
+    close_all(&mut board.classes, faults, config.closed())?;
+    fill_gates(&mut board.gates, faults, &board.classes.knots, config)?;
+    fill_pins(&mut board.pins, &board.classes.knots, shape)?;
+    Ok(())
+}

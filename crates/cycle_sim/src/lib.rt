@@ -1,0 +1,18 @@
+//! A simulated machine: what a machine with known faults reads.
+#![tactic(auto)]
+
+mod base;
+mod bit_log;
+mod board;
+mod classes;
+mod closing;
+mod cycle;
+mod gates;
+mod marks;
+mod named;
+mod sim;
+mod sim_rig;
+#[cfg(test)]
+mod tests;
+
+pub use sim_rig::SimRig;

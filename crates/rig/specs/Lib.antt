@@ -1,0 +1,3 @@
+-- What a rig is to the code above it.
+pub mod Flaky
+pub mod Rig

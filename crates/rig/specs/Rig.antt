@@ -1,0 +1,145 @@
+-- A rig: a machine that is attached by name, loaded and driven.
+use Rattle.std.specs.Prelude.{◌≡◌, ℕ, ◌+◌, ◌<◌, ◌≤◌, List, [], ◌∷◌, ◌++◌, map, length, Option, None, Some, IfSome, option_map}
+use Rattle.std.specs.Option.{option_map_or}
+use Rattle.hierarchy.specs.declared.Shape.{Shape}
+use Rattle.hierarchy.specs.Shape.{pins_of}
+use Rattle.hierarchy.specs.Circuit.{Pins}
+use Rattle.hierarchy.specs.Faults.{Faults, AreFaultsOf}
+use Rattle.config_set.specs.Configuration.{Configuration}
+use Rattle.config_set.specs.Faulty.{IsRun}
+use Rattle.fault_model.specs.declared.kind.FaultsKind.{FaultsKind}
+use Rattle.fault_model.specs.declared.kind.FaultsFault.{FaultsFault}
+use Rattle.fault_model.specs.declared.kind.FaultsFault.TheVariants as text
+use Rattle.fault_model.specs.Text.{IsFaultText}
+use Rattle.fault_model.specs.Refusals.{most_bytes, IsFaultAt}
+use Rattle.rig.specs.declared.rig.AttachFail.{AttachFail}
+use Rattle.rig.specs.declared.rig.AttachFail.TheVariants as attach
+use Rattle.rig.specs.declared.rig.RigFail.{RigFail}
+use Rattle.rig.specs.declared.rig.RigFail.TheVariants as work
+use Rattle.tm_outside.specs.Counts.{Rose, next_count}
+
+-- a machine as it was asked for
+pub record Asked : Type 0 where
+  pub shape : Shape
+  pub name : List ℕ
+
+-- a cycle as it was driven and read
+pub record Exchange : Type 0 where
+  pub drive : Pins
+  pub reading : Pins
+
+-- the configuration that was loaded, and the cycles since
+pub record Session : Type 0 where
+  pub config : Configuration
+  pub cycles : List Exchange
+  -- how many further cycles there is room for
+  pub spare : ℕ
+
+-- how often a fault text was refused, and the line and kind of the last
+pub record Refused : Type 0 where
+  pub times : ℕ
+  pub last : Option (ℕ × FaultsKind)
+
+-- what `attach` alone changes
+pub record Machine : Type 0 where
+  pub asked : List Asked
+  pub attached : Option Asked
+  -- its faults, where they are told
+  pub faults : Option Faults
+  -- the fault text of a name, where it is told
+  pub texts : List ℕ → Option (List ℕ)
+  pub refused : Refused
+
+-- what a rig means
+pub record RigState : Type 0 where
+  pub machine : Machine
+  pub session : Option Session
+  -- the loads since the rig was made, up to the last value of u64
+  pub loads : ℕ
+  -- a count that never falls
+  pub faults : ℕ
+
+abbrev pub drives_of : List Exchange → List Pins
+drives_of cycles = map (λ c. c.drive) cycles
+
+abbrev pub readings_of : List Exchange → List Pins
+readings_of cycles = map (λ c. c.reading) cycles
+
+-- the shape of the machine that is attached
+abbrev pub shape_of : RigState → Option Shape
+shape_of rig = option_map (λ m. m.shape) rig.machine.attached
+
+-- the configuration of the session, if there is one
+abbrev pub config_of : RigState → Option Configuration
+config_of rig = option_map (λ s. s.config) rig.session
+
+-- the number of pins of the session's machine
+abbrev pub width_of : RigState → Option ℕ
+width_of rig = option_map (λ g. pins_of g.shape) (config_of rig)
+
+-- the cycles of the session; none where there is no session
+abbrev pub cycles_of : RigState → List Exchange
+cycles_of rig = option_map_or (λ s. s.cycles) rig.session []
+
+-- how many further cycles there is room for
+abbrev pub spare_of : RigState → ℕ
+spare_of rig = option_map_or (λ s. s.spare) rig.session 0
+
+-- the session's readings are the run of its configuration under its drives, where the faults are told
+abbrev pub IsTold : RigState → Type 0
+IsTold rig = IfSome rig.machine.faults (λ f. IfSome (config_of rig) (λ g. IsRun f g (drives_of (cycles_of rig)) (readings_of (cycles_of rig))))
+
+-- nothing is attached, and there is no session
+pub record IsDetached (rig : RigState) : Type 0 where
+  pub attached : rig.machine.attached ≡ None
+  pub session : rig.session ≡ None
+
+-- the machine was added to those asked, and is attached
+pub record Attaches (machine : Asked) (old new : RigState) : Type 0 where
+  pub asked : new.machine.asked ≡ old.machine.asked ++ machine ∷ []
+  pub attached : new.machine.attached ≡ Some machine
+  pub faults : IfSome new.machine.faults (AreFaultsOf machine.shape)
+  pub session : new.session ≡ None
+  pub refused : new.machine.refused ≡ old.machine.refused
+
+-- these bytes are no fault text of this machine within its limit, and this is their first fault
+pub record IsNoText (m : Shape) (bytes : List ℕ) (line : ℕ) (kind : FaultsKind) : Type 0 where
+  pub first : IsFaultAt m bytes line kind
+  pub too_long : (f : Faults) → IsFaultText m bytes f → most_bytes < length bytes
+
+-- a fault text is refused once more, the last at this line for this kind, and rightly so where it is told
+abbrev pub RefusesText : FaultsFault → Shape → Option (List ℕ) → Refused → Refused → Type 0
+RefusesText (text.At line kind) m told old new =
+    (new ≡ record { times = next_count old.times; last = Some (line, kind) }) × IfSome told (λ bytes. IsNoText m bytes line kind)
+RefusesText text.Memory m told old new = ⊥
+
+-- what a refusal of `attach` says
+abbrev pub AttachFails : AttachFail → Asked → RigState → RigState → Type 0
+AttachFails attach.Failed machine old new =
+    Rose old.faults new.faults × (new.machine.asked ≡ old.machine.asked ++ machine ∷ []) × (new.machine.refused ≡ old.machine.refused)
+AttachFails (attach.Faults fault) machine old new =
+    (new.machine.asked ≡ old.machine.asked ++ machine ∷ []) × RefusesText fault machine.shape (old.machine.texts machine.name) old.machine.refused new.machine.refused
+AttachFails attach.Memory machine old new = (new.machine.asked ≡ old.machine.asked) × (new.machine.refused ≡ old.machine.refused)
+
+-- a session with this configuration begins
+pub record Begins (g : Configuration) (room : ℕ) (rig : RigState) : Type 0 where
+  pub config : config_of rig ≡ Some g
+  pub cycles : cycles_of rig ≡ []
+  pub spare : room ≤ spare_of rig
+
+-- what a refusal of `load` says
+abbrev pub LoadFails : RigFail → RigState → RigState → Type 0
+LoadFails work.Failed old new = Rose old.faults new.faults
+LoadFails work.Memory old new = Unit {0}
+
+-- the session goes on by one cycle
+pub record GoesOn (drive reading : Pins) (old new : RigState) : Type 0 where
+  pub config : config_of new ≡ config_of old
+  pub cycles : cycles_of new ≡ cycles_of old ++ record { drive = drive; reading = reading } ∷ []
+  pub spare : spare_of old ≤ spare_of new + 1
+  pub told : IsTold new
+
+-- what a refusal of `cycle` says
+abbrev pub CycleFails : RigFail → RigState → RigState → Type 0
+CycleFails work.Failed old new = Rose old.faults new.faults × (new.session ≡ None)
+CycleFails work.Memory old new = (spare_of old ≡ 0) × (new.session ≡ old.session)

@@ -1,0 +1,157 @@
+//! A rig that fails at chosen calls.
+ghost use Rattle.std.specs.Prelude.{◌≡◌, ◌⊎◌, ◌-◌, ◌^◌, ◌≤◌, [], None, Some, min, length, IfErr, OnOk, OnErr, IsErrOf};
+ghost use Rattle.tm_outside.specs.Counts.{Rose, next_count};
+ghost use Rattle.rig.specs.Rig.{RigState, shape_of, width_of, IsDetached, Attaches, AttachFails, Begins, LoadFails, GoesOn, CycleFails};
+ghost use Rattle.rig.specs.Flaky.{flaky_state, IsChosen};
+
+use crate::{AskedMachines, AttachFail, PinBits, Rig, RigFail};
+use config_set::Config;
+use hierarchy::Shape;
+use std::alloc::Global;
+
+/// Fails at chosen calls of `attach`, `load` and `cycle`, which are numbered together from 1.
+///
+/// A chosen call answers `Failed` and doesn't reach the inner rig; every other call is passed on. It keeps the
+/// machines asked itself, and an `attach` that finds no room for one more answers `Memory` and doesn't reach the
+/// inner rig either, chosen or not. Its count of faults rises at each chosen call that fails, and where that of
+/// the inner rig does.
+#[derive(Drop)]
+pub struct FlakyRig<R: Rig> {
+    inner: R,
+    fails: Vec<u64>,
+    calls: u64,
+    asked: AskedMachines,
+    // Whether what is attached to the inner rig is attached, and whether its session stands.
+    is_attached: bool,
+    in_session: bool,
+    faults: u64,
+}
+
+impl<R: Rig> FlakyRig<R> {
+    /// A rig with nothing attached that was asked for no machine, and whose calls with these numbers fail.
+    pub fn new(alloc: Global, inner: R, fails: Vec<u64>) -> Self
+        ensures fails { result.fails.items ≡ fails.items }
+        ensures calls { result.calls ≡ 0 }
+        ensures inner { R.rig_state result.inner ≡ R.rig_state inner }
+        ensures asked { (⟦<FlakyRig<R> as Rig>⟧.rig_state result).machine.asked ≡ [] }
+        ensures faults_told { (⟦<FlakyRig<R> as Rig>⟧.rig_state result).machine.faults ≡ (R.rig_state inner).machine.faults }
+        ensures texts { (⟦<FlakyRig<R> as Rig>⟧.rig_state result).machine.texts ≡ (R.rig_state inner).machine.texts }
+        ensures refused { (⟦<FlakyRig<R> as Rig>⟧.rig_state result).machine.refused ≡ (R.rig_state inner).machine.refused }
+        ensures detached { IsDetached (⟦<FlakyRig<R> as Rig>⟧.rig_state result) }
+        ensures loads { (⟦<FlakyRig<R> as Rig>⟧.rig_state result).loads ≡ (R.rig_state inner).loads }
+        ensures faults { (⟦<FlakyRig<R> as Rig>⟧.rig_state result).faults ≡ min (R.rig_state inner).faults (2 ^ 64 - 1) }
+    {
+        FlakyRig {
+            inner,
+            fails,
+            calls: 0,
+            asked: AskedMachines::new(alloc),
+            is_attached: false,
+            in_session: false,
+            faults: 0,
+        }
+    }
+}
+
+impl<R: Rig> Rig for FlakyRig<R> {
+    ghost rig_state = { λ s. flaky_state (R.rig_state s.inner) s.asked s.is_attached s.in_session s.faults };
+
+    fn attach(&mut self, shape: &Shape, name: &str) -> Result<(), AttachFail>
+        ensures texts { (⟦<FlakyRig<R> as Rig>⟧.rig_state self.new).machine.texts ≡ (⟦<FlakyRig<R> as Rig>⟧.rig_state self.old).machine.texts }
+        ensures loads { (⟦<FlakyRig<R> as Rig>⟧.rig_state self.new).loads ≡ (⟦<FlakyRig<R> as Rig>⟧.rig_state self.old).loads }
+        ensures later { (⟦<FlakyRig<R> as Rig>⟧.rig_state self.old).faults ≤ (⟦<FlakyRig<R> as Rig>⟧.rig_state self.new).faults }
+        ensures attached { OnOk result (Attaches (record { shape = shape.now; name = name.now }) (⟦<FlakyRig<R> as Rig>⟧.rig_state self.old) (⟦<FlakyRig<R> as Rig>⟧.rig_state self.new)) }
+        ensures detached { OnErr result (IsDetached (⟦<FlakyRig<R> as Rig>⟧.rig_state self.new)) }
+        ensures refused { IfErr result (λ e. AttachFails e (record { shape = shape.now; name = name.now }) (⟦<FlakyRig<R> as Rig>⟧.rig_state self.old) (⟦<FlakyRig<R> as Rig>⟧.rig_state self.new)) }
+
+        // A chosen call fails and doesn't reach the inner rig; another call fails only where that one's count rose.
+        ensures fails { self.new.fails.items ≡ self.old.fails.items }
+        ensures calls { self.new.calls ≡ next_count self.old.calls }
+        ensures chosen { IsChosen self.old.fails.items self.old.calls → IsErrOf result AttachFail.Failed ⊎ IsErrOf result AttachFail.Memory }
+        ensures unreached { IsChosen self.old.fails.items self.old.calls → R.rig_state self.new.inner ≡ R.rig_state self.old.inner }
+        ensures failed { IsErrOf result AttachFail.Failed → IsChosen self.old.fails.items self.old.calls ⊎ Rose (R.rig_state self.old.inner).faults (R.rig_state self.new.inner).faults }
+    {
+        self.is_attached = false;
+        self.in_session = false;
+        self.calls = self.calls.saturating_add(1);
+        if self.asked.add(shape, name).is_err() {
+            return Err(AttachFail::Memory);
+        }
+        if self.fails.contains(&self.calls) {
+            self.faults = self.faults.saturating_add(1);
+            return Err(AttachFail::Failed);
+        }
+        match self.inner.attach(shape, name) {
+            Ok(()) => {
+                self.is_attached = true;
+                Ok(())
+            }
+            Err(AttachFail::Memory) => {
+                self.asked.remove_last();
+                Err(AttachFail::Memory)
+            }
+            Err(fail) => Err(fail),
+        }
+    }
+
+    fn load(&mut self, config: &Config, room: u32) -> Result<(), RigFail>
+        requires { shape_of (⟦<FlakyRig<R> as Rig>⟧.rig_state self.old) ≡ Some config.now.config.shape }
+
+        ensures machine { (⟦<FlakyRig<R> as Rig>⟧.rig_state self.new).machine ≡ (⟦<FlakyRig<R> as Rig>⟧.rig_state self.old).machine }
+        ensures later { (⟦<FlakyRig<R> as Rig>⟧.rig_state self.old).faults ≤ (⟦<FlakyRig<R> as Rig>⟧.rig_state self.new).faults }
+        ensures begins { OnOk result (Begins config.now.config room (⟦<FlakyRig<R> as Rig>⟧.rig_state self.new)) }
+        ensures counted { OnOk result ((⟦<FlakyRig<R> as Rig>⟧.rig_state self.new).loads ≡ next_count (⟦<FlakyRig<R> as Rig>⟧.rig_state self.old).loads) }
+        ensures ended { OnErr result ((⟦<FlakyRig<R> as Rig>⟧.rig_state self.new).session ≡ None) }
+        ensures not_counted { OnErr result ((⟦<FlakyRig<R> as Rig>⟧.rig_state self.new).loads ≡ (⟦<FlakyRig<R> as Rig>⟧.rig_state self.old).loads) }
+        ensures refused { IfErr result (λ e. LoadFails e (⟦<FlakyRig<R> as Rig>⟧.rig_state self.old) (⟦<FlakyRig<R> as Rig>⟧.rig_state self.new)) }
+
+        // A chosen call fails and doesn't reach the inner rig; another call fails only where that one's count rose.
+        ensures fails { self.new.fails.items ≡ self.old.fails.items }
+        ensures calls { self.new.calls ≡ next_count self.old.calls }
+        ensures chosen { IsChosen self.old.fails.items self.old.calls → IsErrOf result RigFail.Failed }
+        ensures unreached { IsChosen self.old.fails.items self.old.calls → R.rig_state self.new.inner ≡ R.rig_state self.old.inner }
+        ensures failed { IsErrOf result RigFail.Failed → IsChosen self.old.fails.items self.old.calls ⊎ Rose (R.rig_state self.old.inner).faults (R.rig_state self.new.inner).faults }
+    {
+        self.in_session = false;
+        self.calls = self.calls.saturating_add(1);
+        if self.fails.contains(&self.calls) {
+            self.faults = self.faults.saturating_add(1);
+            return Err(RigFail::Failed);
+        }
+        self.inner.load(config, room)?;
+        self.in_session = true;
+        Ok(())
+    }
+
+    fn cycle(&mut self, drive: &PinBits, read: &mut PinBits) -> Result<(), RigFail>
+        requires drive_pins { width_of (⟦<FlakyRig<R> as Rig>⟧.rig_state self.old) ≡ Some (length drive.now) }
+        requires read_pins { width_of (⟦<FlakyRig<R> as Rig>⟧.rig_state self.old) ≡ Some (length read.old) }
+
+        ensures machine { (⟦<FlakyRig<R> as Rig>⟧.rig_state self.new).machine ≡ (⟦<FlakyRig<R> as Rig>⟧.rig_state self.old).machine }
+        ensures loads { (⟦<FlakyRig<R> as Rig>⟧.rig_state self.new).loads ≡ (⟦<FlakyRig<R> as Rig>⟧.rig_state self.old).loads }
+        ensures later { (⟦<FlakyRig<R> as Rig>⟧.rig_state self.old).faults ≤ (⟦<FlakyRig<R> as Rig>⟧.rig_state self.new).faults }
+        ensures length { length read.new ≡ length read.old }
+        ensures cycles { OnOk result (GoesOn drive.now read.new (⟦<FlakyRig<R> as Rig>⟧.rig_state self.old) (⟦<FlakyRig<R> as Rig>⟧.rig_state self.new)) }
+        ensures kept { OnErr result (read.new ≡ read.old) }
+        ensures refused { IfErr result (λ e. CycleFails e (⟦<FlakyRig<R> as Rig>⟧.rig_state self.old) (⟦<FlakyRig<R> as Rig>⟧.rig_state self.new)) }
+
+        // A chosen call fails and doesn't reach the inner rig; another call fails only where that one's count rose.
+        ensures fails { self.new.fails.items ≡ self.old.fails.items }
+        ensures calls { self.new.calls ≡ next_count self.old.calls }
+        ensures chosen { IsChosen self.old.fails.items self.old.calls → IsErrOf result RigFail.Failed }
+        ensures unreached { IsChosen self.old.fails.items self.old.calls → R.rig_state self.new.inner ≡ R.rig_state self.old.inner }
+        ensures failed { IsErrOf result RigFail.Failed → IsChosen self.old.fails.items self.old.calls ⊎ Rose (R.rig_state self.old.inner).faults (R.rig_state self.new.inner).faults }
+    {
+        self.calls = self.calls.saturating_add(1);
+        if self.fails.contains(&self.calls) {
+            self.in_session = false;
+            self.faults = self.faults.saturating_add(1);
+            return Err(RigFail::Failed);
+        }
+        self.inner.cycle(drive, read)
+    }
+
+    fn loads(&self) -> u64 {
+        self.inner.loads()
+    }
+}

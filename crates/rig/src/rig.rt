@@ -1,0 +1,86 @@
+//! A rig as a trait.
+ghost use Rattle.std.specs.Prelude.{◌≡◌, ◌≤◌, None, Some, IfErr, OnOk, OnErr, length};
+ghost use Rattle.tm_outside.specs.Counts.{next_count};
+ghost use Rattle.rig.specs.Rig.{RigState, shape_of, width_of, IsDetached, Attaches, AttachFails, Begins, LoadFails, GoesOn, CycleFails};
+
+use crate::PinBits;
+use config_set::Config;
+use fault_model::FaultsFault;
+use hierarchy::Shape;
+
+/// Why a rig attaches nothing.
+#[derive(Clone, Copy, Debug, PartialEq, Eq)]
+pub enum AttachFail {
+    /// The rig failed, and counted it.
+    Failed,
+    /// The fault text of the name is refused, at this line for this kind. It is never want of memory.
+    Faults(FaultsFault),
+    /// Memory is wanting.
+    Memory,
+}
+
+/// Why a rig doesn't load or cycle.
+#[derive(Clone, Copy, Debug, PartialEq, Eq)]
+pub enum RigFail {
+    /// The rig failed, and counted it.
+    Failed,
+    /// Memory is wanting.
+    Memory,
+}
+
+/// A machine that is attached by name, loaded and driven.
+///
+/// Contracts see the machines that were asked for, the one that is attached, its faults and the fault text of
+/// each name where the rig tells them, how often a fault text was refused, the session, the number of loads, and
+/// a count of faults, which is a `u64` and never falls. A session is what was loaded, the cycles since, and for how
+/// many further cycles there is room. No call changes the fault texts.
+pub trait Rig: Drop {
+    ghost rig_state: { Self → RigState };
+
+    /// Makes the rig a machine of this shape under this name, with no session. A refusal leaves nothing attached.
+    ///
+    /// The shape and the name are added to the machines asked, but after `Memory`. After `Failed` the count rose.
+    /// After `Faults`, and then alone, one more text was refused; where the text of the name is told, it is no fault
+    /// text of this shape or has more than 16,777,216 bytes, and has its first fault at that line.
+    fn attach(&mut self, shape: &Shape, name: &str) -> Result<(), AttachFail>
+        ensures texts { (rig_state self.new).machine.texts ≡ (rig_state self.old).machine.texts }
+        ensures loads { (rig_state self.new).loads ≡ (rig_state self.old).loads }
+        ensures later { (rig_state self.old).faults ≤ (rig_state self.new).faults }
+        ensures attached { OnOk result (Attaches (record { shape = shape.now; name = name.now }) (rig_state self.old) (rig_state self.new)) }
+        ensures detached { OnErr result (IsDetached (rig_state self.new)) }
+        ensures refused { IfErr result (λ e. AttachFails e (record { shape = shape.now; name = name.now }) (rig_state self.old) (rig_state self.new)) };
+
+    /// Begins a session with this configuration, no cycles, and room for at least `room` of them. A refusal leaves
+    /// no session. After `Failed` the count rose.
+    fn load(&mut self, config: &Config, room: u32) -> Result<(), RigFail>
+        requires { shape_of (rig_state self.old) ≡ Some config.now.config.shape }
+
+        ensures machine { (rig_state self.new).machine ≡ (rig_state self.old).machine }
+        ensures later { (rig_state self.old).faults ≤ (rig_state self.new).faults }
+        ensures begins { OnOk result (Begins config.now.config room (rig_state self.new)) }
+        ensures counted { OnOk result ((rig_state self.new).loads ≡ next_count (rig_state self.old).loads) }
+        ensures ended { OnErr result ((rig_state self.new).session ≡ None) }
+        ensures not_counted { OnErr result ((rig_state self.new).loads ≡ (rig_state self.old).loads) }
+        ensures refused { IfErr result (λ e. LoadFails e (rig_state self.old) (rig_state self.new)) };
+
+    /// Drives the pins for one cycle, and reads them; a bit that is 1 releases its pin. It takes at most one place
+    /// of the session's room, and where the faults are told, all readings of the session are the machine's.
+    ///
+    /// After `Failed` the count rose and there is no session. `Memory` comes only where there is no room, and then
+    /// nothing was driven and the session is as before. After a refusal `read` is as it was.
+    fn cycle(&mut self, drive: &PinBits, read: &mut PinBits) -> Result<(), RigFail>
+        requires drive_pins { width_of (rig_state self.old) ≡ Some (length drive.now) }
+        requires read_pins { width_of (rig_state self.old) ≡ Some (length read.old) }
+
+        ensures machine { (rig_state self.new).machine ≡ (rig_state self.old).machine }
+        ensures loads { (rig_state self.new).loads ≡ (rig_state self.old).loads }
+        ensures later { (rig_state self.old).faults ≤ (rig_state self.new).faults }
+        ensures length { length read.new ≡ length read.old }
+        ensures cycles { OnOk result (GoesOn drive.now read.new (rig_state self.old) (rig_state self.new)) }
+        ensures kept { OnErr result (read.new ≡ read.old) }
+        ensures refused { IfErr result (λ e. CycleFails e (rig_state self.old) (rig_state self.new)) };
+
+    /// How many loads there were since the rig was made, up to the last `u64`.
+    fn loads(&self) -> u64
+        ensures { result ≡ (rig_state self.now).loads };
+}
