@@ -1,0 +1,5 @@
+pub mod Faults
+pub mod Kept
+pub mod Lists
+pub mod Steps
+pub mod Text
