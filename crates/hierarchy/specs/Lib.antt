@@ -8,6 +8,7 @@ pub mod Names
 pub mod Numerals
 pub mod Reading
 pub mod Laws
+pub mod Sites
 pub mod Faults
 pub mod Joined
 pub mod Circuit

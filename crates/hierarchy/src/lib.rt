@@ -17,6 +17,7 @@ mod limits;
 mod names;
 mod numbers;
 mod numerals;
+mod order;
 mod part;
 mod places;
 mod reads;
@@ -34,6 +35,7 @@ pub use laws::{
     a_small_machine_is_numbered_so, names_are_one_to_one, the_crosspoints_are_sound,
     the_numbering_is_sound,
 };
+pub use order::ports_and_lines_ascend;
 pub use part::PartName;
 
 /// How many of each there are. Ports are per module, chip and hextant, lines per root, module, chip and hextant.
