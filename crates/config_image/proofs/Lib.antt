@@ -1,0 +1,14 @@
+mod Bytes
+mod Wrong
+mod Passing
+mod Growing
+mod Steps
+mod Heads
+mod Counted
+mod Whole
+mod Faultless
+mod Ends
+mod Written
+mod Touching
+mod Driven
+mod Alike

@@ -1,0 +1,98 @@
+-- What an image touches.
+use Rattle.std.proofs.Common.{◌≡◌, ℕ, zero, suc, ◌+◌, ◌<◌, ◌≤◌, List, [], ◌∷◌, ◌++◌, Bool, true, false, Option, Some, None, length, get_or, All, refl, sym, ap, ◌∙◌, subst, arith, inl, inr}
+use Rattle.std.specs.Prelude.{◌⊎◌, ◌==◌, IsSome, if◌then◌else◌, is_some, count_by}
+use Rattle.std.proofs.lemmas.Bool.{false≢true}
+use Rattle.std.proofs.lemmas.Bool.Decides.{nat_tests}
+use Rattle.std.proofs.lemmas.Bool.{cases_lt}
+use Rattle.std.proofs.lemmas.List.{length-append, get_or-append-add, get_or_past}
+use Rattle.std.proofs.Math.ListN.{get_or-append}
+use Rattle.std.proofs.lemmas.List.Elements.{All-append}
+use Rattle.std.proofs.lemmas.List.Sums.{sum_by-cons}
+use Rattle.hierarchy.specs.declared.Shape.{Shape}
+use Rattle.hierarchy.specs.Shape.{pins_of, tables_of, pin_wire}
+use Rattle.hierarchy.specs.Defects.{Defects, IsFreeWire, IsFreeCross, IsFreeTable}
+use Rattle.config_set.specs.declared.Setting.{Setting}
+use Rattle.config_set.specs.Configuration.{Configuration, IsConfiguration, is_closed, setting_of}
+use Rattle.config_image.specs.Images.{ImageValue, IsImage}
+use Rattle.config_image.specs.Parts.{IsFreeImage}
+
+-- a list in which each number of a set stands once
+module _ {X : Type 0} (key : X → ℕ) where
+  stands : (q : ℕ) (P : ℕ → Type 0) (xs : List X) → All (λ x. P (key x)) xs → 0 < count_by (λ x. key x == q) xs → P q
+  stands q P [] all h = absurd (let no : ⊥ = omega (arith, h) in no)
+  stands q P (x ∷ xs) all h = by_head (key x == q) refl (sum_by-cons (λ y. if key y == q then 1 else 0) x xs) (stands q P xs (λ k d l. all (suc k) d (omega (arith, l))))
+    where
+      by_head : (b : Bool) → (key x == q) ≡ b → count_by (λ x. key x == q) (x ∷ xs) ≡ (if key x == q then 1 else 0) + count_by (λ x. key x == q) xs → (0 < count_by (λ x. key x == q) xs → P q) → P q
+      by_head true e s more = let same : key x ≡ q = grind (arith, nat_tests, e) in subst P same (all 0 x (omega arith))
+      by_head false e s more = more (let t = ap (λ b. (if b then 1 else 0) + count_by (λ x. key x == q) xs) e in omega (arith, h, s, t))
+
+  counted : (xs : List X) (k : ℕ) (d : X) → k < length xs → 0 < count_by (λ x. key x == key (get_or xs k d)) xs
+  counted [] k d l = absurd (let no : ⊥ = omega (arith, l) in no)
+  counted (x ∷ xs) zero d l =
+      let s = sum_by-cons (λ y. if key y == key x then 1 else 0) x xs in
+      let t = ap (λ b. (if b then 1 else 0) + count_by (λ y. key y == key x) xs) (let same : (key x == key x) ≡ true = grind (arith, nat_tests) in same) in
+      omega (arith, s, t)
+  counted (x ∷ xs) (suc k) d l =
+      let s = sum_by-cons (λ y. if key y == key (get_or xs k d) then 1 else 0) x xs in
+      omega (arith, s, counted xs k d (omega (arith, l)))
+
+  module _ (xs : List X) (f : ℕ → Bool) (counts : (q : ℕ) → count_by (λ x. key x == q) xs ≡ (if f q then 1 else 0)) (P : ℕ → Type 0) where
+    pub of_set : ((q : ℕ) → f q ≡ true → P q) → All (λ x. P (key x)) xs
+    of_set h k d l = h (key (get_or xs k d)) (by_bool (f (key (get_or xs k d))) (counts (key (get_or xs k d))))
+      where
+        by_bool : (b : Bool) → count_by (λ x. key x == key (get_or xs k d)) xs ≡ (if b then 1 else 0) → b ≡ true
+        by_bool true e = refl
+        by_bool false e = absurd (let no : ⊥ = omega (arith, e, counted xs k d l) in no)
+
+    pub to_set : All (λ x. P (key x)) xs → (q : ℕ) → f q ≡ true → P q
+    to_set all q e = stands q P xs all (let one : ◌≡◌ {A = ℕ} (if f q then 1 else 0) 1 = ap {B = ℕ} (λ b. if b then 1 else 0) e in omega (arith, counts q, one))
+
+-- ---- the whole
+
+-- a table is on
+some_true : (o : Option Setting) → is_some o ≡ true → IsSome o
+some_true (Some s) e = refl
+some_true None e = e
+
+pub true_some : (o : Option Setting) → IsSome o → is_some o ≡ true
+true_some (Some s) e = refl
+true_some None e = e
+
+module _ (d : Defects) (i : ImageValue) where
+  pub all_free : ((x : ℕ) → is_closed i.config x ≡ true → IsFreeCross i.config.shape d x) → ((t : ℕ) → is_some (setting_of i.config t) ≡ true → IsFreeTable i.config.shape d t) →
+      (m : Shape) → m ≡ i.config.shape → (ins outs : List ℕ) → ins ≡ i.inputs → outs ≡ i.outputs → All (λ k. IsFreeWire d (pin_wire m k)) ins → All (λ k. IsFreeWire d (pin_wire m k)) outs → IsFreeImage d i
+  all_free crosses tables m shape ins outs inputs outputs a b = record {
+    crosses = crosses;
+    tables = λ t is. tables t (true_some (setting_of i.config t) is);
+    pins = subst (λ z. All (λ k. IsFreeWire d (pin_wire z k)) (i.inputs ++ i.outputs)) shape
+        (All-append (λ k. IsFreeWire d (pin_wire m k)) i.inputs i.outputs (subst (All (λ k. IsFreeWire d (pin_wire m k))) inputs a) (subst (All (λ k. IsFreeWire d (pin_wire m k))) outputs b));
+  }
+
+  pub tables_of_free : IsFreeImage d i → (t : ℕ) → is_some (setting_of i.config t) ≡ true → IsFreeTable i.config.shape d t
+  tables_of_free free t is = free.tables t (some_true (setting_of i.config t) is)
+
+  module _ (m : Shape) (shape : m ≡ i.config.shape) (free : IsFreeImage d i) where
+    pub inputs_of_free : (ins : List ℕ) → ins ≡ i.inputs → All (λ k. IsFreeWire d (pin_wire m k)) ins
+    inputs_of_free ins e = subst (All (λ k. IsFreeWire d (pin_wire m k))) (sym e) (subst (λ z. All (λ k. IsFreeWire d (pin_wire z k)) i.inputs) (sym shape)
+        (λ k x l. subst (λ z. IsFreeWire d (pin_wire i.config.shape z)) (get_or-append i.inputs i.outputs x k l) (free.pins k x (omega (arith, l, length-append i.inputs i.outputs)))))
+
+    pub outputs_of_free : (outs : List ℕ) → outs ≡ i.outputs → All (λ k. IsFreeWire d (pin_wire m k)) outs
+    outputs_of_free outs e = subst (All (λ k. IsFreeWire d (pin_wire m k))) (sym e) (subst (λ z. All (λ k. IsFreeWire d (pin_wire z k)) i.outputs) (sym shape)
+        (λ k x l. subst (λ z. IsFreeWire d (pin_wire i.config.shape z)) (get_or-append-add i.inputs i.outputs k x) (free.pins (length i.inputs + k) x (omega (arith, l, length-append i.inputs i.outputs)))))
+
+-- pins of an image are pins of the machine
+pub inputs_within : (i : ImageValue) → IsImage i → (m : Shape) → m ≡ i.config.shape → (ins : List ℕ) → ins ≡ i.inputs → All (λ k. k < pins_of m) ins
+inputs_within i is m shape ins e = subst (All (λ k. k < pins_of m)) (sym e) (subst (λ z. All (λ k. k < pins_of z) i.inputs) (sym shape)
+    (λ k x l. subst (λ z. z < pins_of i.config.shape) (get_or-append i.inputs i.outputs x k l) (is.within k x (omega (arith, l, length-append i.inputs i.outputs)))))
+
+pub outputs_within : (i : ImageValue) → IsImage i → (m : Shape) → m ≡ i.config.shape → (outs : List ℕ) → outs ≡ i.outputs → All (λ k. k < pins_of m) outs
+outputs_within i is m shape outs e = subst (All (λ k. k < pins_of m)) (sym e) (subst (λ z. All (λ k. k < pins_of z) i.outputs) (sym shape)
+    (λ k x l. subst (λ z. z < pins_of i.config.shape) (get_or-append-add i.inputs i.outputs k x) (is.within (length i.inputs + k) x (omega (arith, l, length-append i.inputs i.outputs)))))
+
+-- a table that is on is one of the machine
+pub on_below : (g : Configuration) → IsConfiguration g → (t : ℕ) → is_some (setting_of g t) ≡ true → t < tables_of g.shape
+on_below g is t e = by_place (cases_lt t (length g.tables))
+  where
+    by_place : (t < length g.tables) ⊎ (length g.tables ≤ t) → t < tables_of g.shape
+    by_place (inl h) = omega (arith, h, is.tables)
+    by_place (inr h) = absurd (false≢true (sym (ap is_some (get_or_past g.tables t None h)) ∙ e))

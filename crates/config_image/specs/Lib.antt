@@ -1,0 +1,6 @@
+-- Images.
+pub mod Images
+pub mod Faults
+pub mod Fields
+pub mod Parts
+pub mod Reading
