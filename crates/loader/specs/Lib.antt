@@ -1,0 +1,4 @@
+-- Runs of images.
+pub mod Driven
+pub mod Pins
+pub mod Run
