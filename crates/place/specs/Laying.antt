@@ -1,0 +1,27 @@
+-- A plan laid out: which net has which terminals, ports and lines.
+use Rattle.hierarchy.specs.declared.Shape.{Shape}
+use Rattle.hierarchy.specs.Defects.{Defects}
+use Rattle.table_map.specs.declared.network.Network.{Network}
+use Rattle.place.specs.declared.layout.Laid.{Laid}
+use Rattle.place.specs.declared.layout.Laid.TheVariants as laid
+use Rattle.place.specs.declared.layout.Layout.{Layout}
+use Rattle.place.specs.declared.plan.Plan.{Plan}
+use Rattle.place.specs.declared.short.Need.{Need}
+use Rattle.place.specs.Choosing.{IsChoice}
+use Rattle.place.specs.Plans.{Fits, IsTerminal, nets_in}
+use Rattle.place.specs.Room.{IsFirstShort, Suffices}
+use Rattle.place.specs.Terminals.{ArePlanNets}
+
+-- the layout has the terminals of the plan's nets, and a choice of ports and lines for them
+pub record IsLayout (m : Shape) (d : Defects) (n : Network) (p : Plan) (l : Layout) : Type 0 where
+  pub nets : ArePlanNets m n p l.nets.items
+  pub choice : IsChoice m d (nets_in n) (IsTerminal m n p) l.ports.items l.visits.items
+
+-- the plan fits, with this layout
+abbrev pub FitsWith : Shape → Defects → Network → Plan → Layout → Type 0
+FitsWith m d n p l = Fits m d n p × IsLayout m d n p l
+
+-- there is room, and this is a layout; or this is the first short resource
+abbrev pub IsLaid : Shape → Defects → Network → Plan → Need → Need → Laid → Type 0
+IsLaid m d n p tables pins (laid.Out l) = Suffices m d (nets_in n) (IsTerminal m n p) tables pins × IsLayout m d n p l
+IsLaid m d n p tables pins (laid.Lacks s) = IsFirstShort m d (nets_in n) (IsTerminal m n p) tables pins s

@@ -1,0 +1,13 @@
+pub mod Lists
+pub mod Strands
+pub mod Trees
+pub mod Room
+pub mod Touches
+pub mod Choices
+pub mod Search
+pub mod Taps
+pub mod Layouts
+pub mod Plans
+pub mod Terminals
+pub mod Choosing
+pub mod Laying
