@@ -1,0 +1,16 @@
+pub mod Walk
+pub mod Drives
+pub mod PinValues
+pub mod Turns
+pub mod OnTree
+pub mod Terminals
+pub mod Routed
+pub mod Marking
+pub mod Lining
+pub mod Joining
+pub mod Ported
+pub mod Seats
+pub mod Whole
+pub mod Deep
+pub mod Reading
+pub mod Making

@@ -1,0 +1,57 @@
+-- What an image does that is made of a plan.
+use Rattle.std.proofs.Common.{◌≡◌, ◌⊎◌, ℕ, ◌<◌, ◌≤◌, Bool, true, false, map, if◌then◌else◌, nat_lt, refl, sym, ◌∙◌, subst, inl, inr, arith}
+use Rattle.std.proofs.lemmas.Bool.{cases_lt, false≢true, lt-ltb}
+use Rattle.hierarchy.specs.declared.Shape.{Shape}
+use Rattle.hierarchy.specs.Laws.{IsNumbered, IsTree}
+use Rattle.hierarchy.specs.Faults.{Faults}
+use Rattle.hierarchy.specs.Defects.{Defects, Covers}
+use Rattle.netlist.specs.declared.draft.Draft.{Draft}
+use Rattle.config_set.specs.Configuration.{is_closed}
+use Rattle.config_image.specs.Images.{ImageValue, row_of}
+use Rattle.config_image.specs.Parts.{IsFreeImage}
+use Rattle.table_map.specs.declared.network.Network.{Network}
+use Rattle.table_map.specs.Networks.{IsNetwork, IsDeepest}
+use Rattle.table_map.specs.Rows.{AreRows, HasRowsOf}
+use Rattle.place.specs.declared.plan.Plan.{Plan}
+use Rattle.place.specs.Plans.{IsPlan, IsTerminal}
+use Rattle.crossbar_route.specs.RightImages.{IsRightImage, ReadsRows}
+use Rattle.crossbar_route.specs.Layouts.{image_at}
+use Rattle.crossbar_route.specs.Owners.{HasLine}
+use Rattle.crossbar_route.specs.Trees.{IsLaidOnTree}
+use Rattle.crossbar_route.specs.Ticks.{AreTicks}
+use Rattle.crossbar_route.specs.Routed.{HasPortIn, IsRouteOf}
+use Rattle.crossbar_route.proofs.Routed.{set_is_free, tree_reads_rows}
+
+ticks_enough : (n : Network) (ticks : ℕ) → AreTicks n ticks → IsDeepest n ticks
+ticks_enough n ticks r j k path = by (nat_lt 0 r.0) refl (r.1.longest j k path) r.2
+  where
+    by : (b : Bool) → nat_lt 0 r.0 ≡ b → k ≤ r.0 → ticks ≡ (if b then r.0 else 1) → k ≤ ticks
+    by true e l t = omega (arith, t)
+    by false e l t = low (cases_lt 0 r.0)
+      where
+        low : (0 < r.0) ⊎ (r.0 ≤ 0) → k ≤ ticks
+        low (inl h) = absurd (false≢true (sym e ∙ lt-ltb 0 r.0 h))
+        low (inr h) = omega (arith, t, l, h)
+
+module _ (numbered : (m : Shape) → IsNumbered m) (tree : (m : Shape) → IsTree m) (m : Shape) (d : Defects) (n : Network) (p : Plan) (i : ImageValue) (plan : IsPlan m d n p) (is : IsRouteOf m d n p i) where
+  its : i ≡ image_at p i.config
+  its = λ k. record { config = i.config; inputs = is.inputs k; outputs = is.outputs k }
+
+  back : m ≡ i.config.shape
+  back = sym is.routed.shape
+
+  its_plan : IsPlan i.config.shape d n p
+  its_plan = subst (λ s. IsPlan s d n p) back plan
+
+  pub route_is_free : IsFreeImage d i
+  route_is_free = subst (IsFreeImage d) (sym its) (set_is_free d n p i.config its_plan is.routed.sets)
+
+  module _ (network : IsNetwork n) where
+    pub route_reads : (f : Faults) → Covers m d f → ReadsRows f i (AreRows n)
+    route_reads f covers = subst (λ j. ReadsRows f j (AreRows n)) (sym its)
+        (tree_reads_rows d n p i.config its_plan (HasLine is.visits) (HasPortIn is.ports) (numbered i.config.shape) (tree i.config.shape) network
+        (subst (λ s. IsLaidOnTree s (IsTerminal s n p) (is_closed i.config) (HasLine is.visits) (HasPortIn is.ports)) back is.routed.laid) f is.routed.sets
+        (ticks_enough n i.config.ticks is.ticks) (subst (λ s. Covers s d f) back covers))
+
+pub right_image : (n : Network) (netlist : Draft) (f : Faults) (i : ImageValue) → HasRowsOf n netlist → ReadsRows f i (AreRows n) → IsRightImage f i netlist
+right_image n netlist f i has reads vectors got long run = (has vectors (map (row_of i) got)).1 (reads vectors got long run)

@@ -1,0 +1,25 @@
+-- Walks over closed crosspoints.
+use Rattle.std.proofs.Common.{◌≡◌, ℕ, ◌<◌, Bool, true, None, Option}
+use Rattle.std.specs.Prelude.{unwrap_or}
+use Rattle.std.proofs.lemmas.Bool.{false≢true}
+use Rattle.hierarchy.specs.declared.Shape.{Shape}
+use Rattle.hierarchy.specs.Shape.{Ends, ends_of, crosses_of}
+use Rattle.hierarchy.specs.Faults.{Faults, stuck_cross}
+use Rattle.hierarchy.specs.Joined.{crossed, bridged, Joined, here, then, net_of, plain_net}
+use Rattle.hierarchy.specs.Defects.{Defects, IsFreeCross, Covers}
+
+conducting : (o : Option Bool) (b : Bool) → b ≡ true → o ≡ None → unwrap_or o b ≡ true
+conducting o b is free = rw free is
+
+module _ (m : Shape) (closed : ℕ → Bool) where
+  -- free crosspoints join as without faults
+  pub Joined-plain : (d : Defects) (f : Faults) → Covers m d f → ((x : ℕ) → closed x ≡ true → (x < crosses_of m) × IsFreeCross m d x) → {a b : ℕ} → Joined (plain_net m closed) a b → Joined (net_of m f closed) a b
+  Joined-plain d f covers free here = here
+  Joined-plain d f covers free (then j (crossed x on at)) = then (Joined-plain d f covers free j) (crossed x (conducting (stuck_cross f x) (closed x) on (covers.crosses x (free x on).0 (free x on).1)) at)
+  Joined-plain d f covers free (then j (bridged p is at)) = absurd (false≢true is)
+
+  -- what each closed crosspoint keeps, a walk keeps
+  pub keeps : (P : ℕ → Type 0) → ((x a b : ℕ) → closed x ≡ true → Ends (ends_of m x) a b → P a → P b) → {a b : ℕ} → Joined (plain_net m closed) a b → P a → P b
+  keeps P stay here p = p
+  keeps P stay (then j (crossed x on at)) p = stay x _ _ on at (keeps P stay j p)
+  keeps P stay (then j (bridged q is at)) p = absurd (false≢true is)

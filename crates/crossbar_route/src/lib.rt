@@ -1,0 +1,14 @@
+//! Routes a plan: from a network and its place on a machine to an image.
+#![tactic(auto)]
+
+mod close;
+mod laws;
+mod lines;
+mod owners;
+mod routing;
+#[cfg(test)]
+mod tests;
+mod ticks;
+
+pub use laws::{laid_out_nets_read_rows, nets_on_the_tree_read_rows};
+pub use routing::route;

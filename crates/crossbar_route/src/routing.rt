@@ -1,0 +1,162 @@
+//! Routes a plan.
+ghost use Rattle.std.specs.Prelude.{◌≡◌, ◌≢◌, ◌≤◌, ◌<◌, ◌++◌, ℕ, All, AllPairs, IfOk, length};
+ghost use Rattle.std.specs.FinSet as set;
+ghost use Rattle.hierarchy.specs.Shape.{pins_of, tables_of, wires_of};
+ghost use Rattle.hierarchy.specs.Defects.{Covers};
+ghost use Rattle.hierarchy.specs.Faults.{Faults};
+ghost use Rattle.netlist.specs.declared.draft.Draft.{Draft};
+ghost use Rattle.config_image.specs.Parts.{IsFreeImage};
+ghost use Rattle.table_map.specs.Networks.{IsNetwork};
+ghost use Rattle.table_map.specs.Rows.{HasRowsOf};
+ghost use Rattle.place.specs.Plans.{Fits, IsPlan};
+ghost use Rattle.crossbar_route.specs.RightImages.{IsRightImage};
+ghost use Rattle.crossbar_route.specs.Routed.{AreWiresOf, IsJoined, IsLaidBy, IsRouteOf, IsRouted};
+ghost use Rattle.crossbar_route.specs.Ticks.{AreTicks};
+
+use crate::close::{join_all, switch_all_on};
+use crate::lines::lines_of;
+use crate::owners::owners_of;
+use crate::ticks::ticks_of;
+use config_image::Image;
+use config_set::Config;
+use defect_db::Defects;
+use hierarchy::Shape;
+use place::{Need, Plan, Port, Room, Visit, look_for_room, nets_of_plan};
+use std::alloc::{AllocError, Global};
+use table_map::Network;
+use tm_items::Items;
+
+// A machine has few tables and pins.
+fn counts_are_few(shape: &Shape)
+    ensures tables { tables_of shape.now ≤ 4096 }
+    ensures pins { pins_of shape.now ≤ 16384 }
+    ensures wires { wires_of shape.now ≤ 16384 }
+{
+    let _tables = shape.tables();
+    let _pins = shape.pins();
+    let _wires = shape.wires();
+}
+
+// A configuration with the crosspoints of the nets' lines and taps closed.
+fn joined(
+    alloc: Global,
+    shape: Shape,
+    nets: &[Items<u32>],
+    ports: &[Port],
+    visits: &[Visit],
+) -> Result<Config, AllocError>
+    requires few { length nets.now < 4294967296 }
+    requires wires { AreWiresOf shape nets.now ports.now visits.now }
+    ensures { IfOk result (λ g. IsJoined shape nets.now ports.now visits.now g.config) }
+{
+    let lines = lines_of(alloc, visits)?;
+    let owners = owners_of(alloc, shape, nets, ports)?;
+    let mut config = Config::with_room(alloc, shape, 0)?;
+    join_all(&mut config, shape, &lines, &owners)?;
+    Ok(config)
+}
+
+// The configuration of a network whose nets have these terminals, ports and lines.
+fn configure(
+    alloc: Global,
+    network: &Network,
+    plan: &Plan,
+    defects: &Defects,
+    nets: &[Items<u32>],
+    ports: &[Port],
+    visits: &[Visit],
+) -> Result<Config, AllocError>
+    requires network { IsNetwork network.now }
+    requires plan { IsPlan defects.now.shape defects.now.list network.now plan.now }
+    requires laid { IsLaidBy defects.now.shape defects.now.list network.now plan.now nets.now ports.now visits.now }
+    ensures ticks { IfOk result (λ g. AreTicks network.now g.config.ticks) }
+    ensures routed { IfOk result (λ g. IsRouted defects.now.shape defects.now.list network.now plan.now ports.now visits.now g.config) }
+{
+    hierarchy::the_numbering_is_sound();
+    hierarchy::the_crosspoints_are_sound();
+    hierarchy::ports_and_lines_ascend();
+    let shape = defects.shape();
+    counts_are_few(&shape);
+    let ticks = ticks_of(alloc, network)?;
+    let mut config = joined(alloc, shape, nets, ports, visits)?;
+    switch_all_on(
+        &mut config,
+        plan.tables.as_slice(),
+        network.tables.as_slice(),
+    );
+    config.set_ticks(ticks);
+    Ok(config)
+}
+
+// The image of a configuration, with the plan's pins.
+fn image_of(alloc: Global, plan: &Plan, config: Config) -> Result<Image, AllocError>
+    requires within { All (λ k. k < pins_of config.config.shape) (plan.now.inputs ++ plan.now.outputs) }
+    requires apart { AllPairs (λ j k. j ≢ k) (plan.now.inputs ++ plan.now.outputs) }
+    requires few { set.len config.config.closed ≤ 1048576 }
+    ensures config { IfOk result (λ i. i.config ≡ config.config) }
+    ensures inputs { IfOk result (λ i. i.inputs ≡ plan.now.inputs) }
+    ensures outputs { IfOk result (λ i. i.outputs ≡ plan.now.outputs) }
+{
+    let inputs = plan.inputs.as_slice().to_vec(alloc)?;
+    let outputs = plan.outputs.as_slice().to_vec(alloc)?;
+    Ok(Image::new(config, inputs, outputs))
+}
+
+// The image of a network whose nets have these terminals, ports and lines.
+fn draw(
+    alloc: Global,
+    network: &Network,
+    plan: &Plan,
+    defects: &Defects,
+    nets: &[Items<u32>],
+    ports: &[Port],
+    visits: &[Visit],
+) -> Result<Image, AllocError>
+    requires network { IsNetwork network.now }
+    requires plan { IsPlan defects.now.shape defects.now.list network.now plan.now }
+    requires laid { IsLaidBy defects.now.shape defects.now.list network.now plan.now nets.now ports.now visits.now }
+    ensures { IfOk result (IsRouteOf defects.now.shape defects.now.list network.now plan.now) }
+{
+    let shape = defects.shape();
+    counts_are_few(&shape);
+    let config = configure(alloc, network, plan, defects, nets, ports, visits)?;
+    let image = image_of(alloc, plan, config)?;
+    Ok(image)
+}
+
+/// The image of a network on a plan that fits. Its tables do what the network's do, and nothing is used that the list
+/// names: it reads the rows of each netlist whose rows are the network's, under all faults that the list covers.
+///
+/// The j-th net that crosses a node has the j-th free port of it. Each net that visits a node has a line of its own there,
+/// and the closed crosspoints are those of the nets' lines and taps. A cycle takes as many ticks as the network is deep,
+/// and at least one. The pins are the plan's, in order.
+///
+/// # Errors
+///
+/// Want of memory.
+pub fn route(
+    alloc: Global,
+    network: &Network,
+    plan: &Plan,
+    defects: &Defects,
+) -> Result<Image, AllocError>
+    requires network { IsNetwork network.now }
+    requires plan { IsPlan defects.now.shape defects.now.list network.now plan.now }
+    requires fits { Fits defects.now.shape defects.now.list network.now plan.now }
+    ensures route { IfOk result (IsRouteOf defects.now.shape defects.now.list network.now plan.now) }
+    ensures free { IfOk result (IsFreeImage defects.now.list) }
+    ensures right { IfOk result (λ i. (netlist : Draft) (f : Faults) → HasRowsOf network.now netlist → Covers defects.now.shape defects.now.list f → IsRightImage f i netlist) }
+{
+    hierarchy::the_numbering_is_sound();
+    place::room_is_decided();
+    let shape = defects.shape();
+    counts_are_few(&shape);
+    let nets = nets_of_plan(alloc, defects, network, plan)?;
+    let nothing = Need { need: 0, have: 0 };
+    match look_for_room(alloc, defects, &nets, nothing, nothing)? {
+        Room::Enough { ports, visits } => {
+            draw(alloc, network, plan, defects, &nets, &ports, &visits)
+        }
+        Room::Lacks(_) => unreachable!(),
+    }
+}
