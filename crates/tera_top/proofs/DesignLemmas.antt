@@ -5,29 +5,24 @@ use Rattle.tm_outside.specs.Store.{StoreState}
 use Rattle.netlist.specs.declared.draft.Draft.{Draft}
 use Rattle.netlist.specs.declared.fault.DesignKind.{DesignKind}
 use Rattle.blif_read.specs.Designs.{IsDesignFault}
-use Rattle.tera_top.specs.declared.refusal.Refusal.TheVariants.{Words, Design, Vectors, Store, Memory}
+use Rattle.tera_top.specs.declared.refusal.Refusal.TheVariants.{Design, Memory}
 use Rattle.tera_top.specs.declared.refusal.Stop.{Stop}
-use Rattle.tera_top.specs.declared.refusal.Stop.TheVariants.{Refused, Sink}
+use Rattle.tera_top.specs.declared.refusal.Stop.TheVariants.{Refused}
 use Rattle.tera_top.specs.Designs.{IsRefusedAt, TextStops, DesignStops}
-use Rattle.tera_top.specs.Evals.{IsNoDesign, most_bytes}
-use Rattle.tera_top.proofs.ReadLemmas.{IfSome-with}
+use Rattle.tera_top.specs.Files.{most_bytes}
+use Rattle.tera_top.specs.Evals.{IsNoDesign}
+use Rattle.tera_top.proofs.VectorLemmas.{IfSome-with}
 
 -- a fault that was refused
 pub refused-text : (bytes : List ℕ) (line : ℕ) (kind : DesignKind) (stop : Stop) → IsRefusedAt line kind stop → IsDesignFault bytes line kind → IsNoDesign bytes → TextStops bytes stop
-refused-text bytes line kind (Refused Words) is fault none = absurd is
 refused-text bytes line kind (Refused (Design place)) is fault none = rw is (fault, none)
-refused-text bytes line kind (Refused (Vectors n k)) is fault none = absurd is
-refused-text bytes line kind (Refused Store) is fault none = absurd is
 refused-text bytes line kind (Refused Memory) is fault none = tt
-refused-text bytes line kind (Sink fail) is fault none = absurd is
+refused-text bytes line kind stop is fault none = absurd is
 
 text-stop : (told : Option (List ℕ)) (text : List ℕ) (stop : Stop) (old new : StoreState) → IfSome told (λ bytes. (text ≡ bytes) × (length bytes ≤ most_bytes)) → TextStops text stop → DesignStops told stop old new
-text-stop told text (Refused Words) old new is stops = absurd stops
 text-stop told text (Refused (Design place)) old new is stops = IfSome-with told _ _ is (λ bytes h. rw (← h.0) stops)
-text-stop told text (Refused (Vectors n k)) old new is stops = absurd stops
-text-stop told text (Refused Store) old new is stops = absurd stops
 text-stop told text (Refused Memory) old new is stops = tt
-text-stop told text (Sink fail) old new is stops = absurd stops
+text-stop told text stop old new is stops = absurd stops
 
 -- the text of a file
 pub text-stops : (told : Option (List ℕ)) (text : List ℕ) (result : Result Draft Stop) (old new : StoreState) → IfSome told (λ bytes. (text ≡ bytes) × (length bytes ≤ most_bytes)) → IfErr result (TextStops text) → IfErr result (λ stop. DesignStops told stop old new)

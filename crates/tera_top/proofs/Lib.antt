@@ -1,8 +1,16 @@
 mod WordLemmas
 mod WriteLemmas
+mod ShapeLemmas
+mod RightLemmas
+mod CompileRight
+mod CompileLemmas
 mod EndLemmas
+mod VectorLemmas
 mod ReadLemmas
 mod RowLemmas
 mod EvalLemmas
 mod DesignLemmas
 mod InputLemmas
+mod DriveLemmas
+mod RunLemmas
+mod JobLemmas

@@ -16,9 +16,11 @@ use Rattle.tera_top.specs.declared.refusal.Refusal.TheVariants.{Vectors, Store}
 use Rattle.tera_top.specs.declared.refusal.Stop.{Stop}
 use Rattle.tera_top.specs.declared.refusal.Stop.TheVariants.{Refused, Sink}
 use Rattle.tera_top.specs.Stops.{WriteStops, stop_of_vectors}
-use Rattle.tera_top.specs.Evals.{most_vector_bytes, most_ahead, says_to, vectors_in, vector_end, AreAllRows, IsAllRowsOf, IsNear, IsVectorsFault, AreRowsToFault, AreSomeRows, IsNextRow}
+use Rattle.tera_top.specs.Files.{most_vector_bytes, most_ahead, IsNear}
+use Rattle.tera_top.specs.Evals.{says_to, vectors_in, vector_end, AreAllRows, IsAllRowsOf, IsVectorsFault, AreRowsToFault, AreSomeRows, IsNextRow}
 use Rattle.tera_top.specs.Evaluations.{IsSized, IsReady, TakesRow, RowFails, EvalRowsStops, WroteRows, file_of, IsBegun}
-use Rattle.tera_top.proofs.ReadLemmas.{IsReading, IsReadTo, IsReading-start, IsReading-more, IfSome-all, IfSome-with, next-row, at-fault, at-end, some-rows}
+use Rattle.tera_top.proofs.ReadLemmas.{IsReading, IsReading-start, IsReading-more, next-row, at-fault, at-end, some-rows}
+use Rattle.tera_top.proofs.VectorLemmas.{IfSome-all, IfSome-with}
 use Rattle.tera_top.proofs.WriteLemmas.{Wrote-then, Wrote-none, row_lines-more}
 
 -- the rows so far
@@ -74,7 +76,7 @@ read-stops draft (Text line kind) before old rows store store' sink so_far fails
     let is = at-fault draft before store store' rows.vectors rows.eval.state so_far.done line kind so_far.reading fails.fails fails.stops in
     (is.0, (so_far.done, is.1, so_far.wrote))
 read-stops draft Failed before old rows store store' sink so_far fails =
-    (omega (arith, fails.fails.rose, so_far.reading.later), (so_far.done, some-rows draft before store rows.vectors rows.eval.state so_far.done so_far.reading, so_far.wrote))
+    (omega (arith, fails.fails.rose, so_far.reading.taking.later), (so_far.done, some-rows draft before store rows.vectors rows.eval.state so_far.done so_far.reading, so_far.wrote), fails.fails.closed)
 
 -- the file has ended
 pub all-rows : (draft : Draft) (before : StoreState) (old : SinkState) (rows rows' : Evaluation) (store store' : StoreState) (sink : SinkState) → IsRunning draft before old rows store sink → NextGives false rows'.vector.items rows.vectors rows'.vectors store store' → (written : List (List Bool)) × IsAllRowsOf draft (file_of before) written × WroteRows written old sink

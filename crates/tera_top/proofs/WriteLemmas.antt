@@ -1,8 +1,12 @@
 -- One write after another.
-use Rattle.std.proofs.Common.{◌≡◌, ℕ, ◌≤◌, List, [], ◌∷◌, ◌++◌, Bool, flat_map, Option, None, Some, append-nil, option_map, refl, sym, ap, ◌∙◌, append_assoc}
+use Rattle.std.proofs.Common.{◌≡◌, ℕ, ◌≤◌, List, [], ◌∷◌, ◌++◌, Bool, flat_map, Option, None, Some, append-nil, option_map, refl, sym, ap, ◌∙◌, append_assoc, inr}
 use Rattle.std.proofs.lemmas.Grind.{flat_map-append}
+use Rattle.std.specs.Prelude.{Result, Err}
 use Rattle.tm_outside.specs.Sink.{Wrote}
+use Rattle.tm_outside.specs.Store.{StoreState}
 use Rattle.netlist_eval.specs.Rows.{row_line}
+use Rattle.tera_top.specs.Stops.{Asks, AsksSome}
+use Rattle.tera_top.specs.declared.refusal.Stop.{Stop}
 
 append_twice : (told : Option (List ℕ)) (s t : List ℕ) → option_map (λ w. w ++ t) (option_map (λ w. w ++ s) told) ≡ option_map (λ w. w ++ (s ++ t)) told
 append_twice None s t = refl
@@ -20,3 +24,14 @@ Wrote-then a b c s t first second = second ∙ (ap (option_map (λ w. w ++ t)) f
 -- the lines of one more row
 pub row_lines-more : (rows : List (List Bool)) (row : List Bool) → flat_map row_line (rows ++ row ∷ []) ≡ flat_map row_line rows ++ row_line row
 row_lines-more rows row = rw (flat_map-append row_line rows (row ∷ [])) (ap (λ t. flat_map row_line rows ++ t) (append-nil (row_line row)))
+
+-- all names are some of them
+pub asks-all : (names old new : List (List ℕ)) → new ≡ old ++ names → AsksSome names old new
+asks-all [] old new all = all ∙ append-nil old
+asks-all (name ∷ names) old new all = inr (asks-all names (old ++ name ∷ []) new (all ∙ sym (append_assoc old (name ∷ []) names)))
+
+-- some names and then more were asked before a stop
+pub asks-both : {T : Type 0} (names more : List (List ℕ)) (result : Result T Stop) (stop : Stop) (old mid new : StoreState) → result ≡ Err stop → mid.asked ≡ old.asked ++ names → new.asked ≡ mid.asked ++ more → Asks (names ++ more) result old new
+asks-both names more result stop old mid new is first second =
+    let all : new.asked ≡ old.asked ++ (names ++ more) = second ∙ (ap (λ t. t ++ more) first ∙ append_assoc old.asked names more) in
+    rw is (record { all = tt; some = asks-all (names ++ more) old.asked new.asked all })

@@ -8,22 +8,11 @@ use Rattle.blif_read.specs.Designs.{IsDesign, IsDesignFault}
 use Rattle.netlist_eval.specs.Vectors.{SaidVectors, VectorLine, VectorFault, file_says}
 use Rattle.netlist_eval.specs.declared.vectors.VectorKind.{VectorKind}
 use Rattle.netlist_eval.specs.Rows.{row_line}
+use Rattle.tera_top.specs.Files.{most_bytes, says_at, vectors_at, end_at, IsNear}
 use Rattle.tera_top.specs.Lines.{outputs_line, output_text}
 use Rattle.tera_top.specs.Stops.{RefusalCause}
 use Rattle.tera_top.specs.declared.refusal.Refusal.{Refusal}
-use Rattle.tera_top.specs.declared.refusal.Refusal.TheVariants.{Words, Design, Vectors, Store, Memory}
-
--- the most bytes of a file of a design
-abbrev pub most_bytes : ℕ
-most_bytes = 16777216
-
--- the most bytes of a file of vectors
-abbrev pub most_vector_bytes : ℕ
-most_vector_bytes = 1099511627776
-
--- the most bytes that a reader of vectors takes beyond the line of a vector
-abbrev pub most_ahead : ℕ
-most_ahead = 65536
+use Rattle.tera_top.specs.declared.refusal.Refusal.TheVariants.{Design, Vectors, Store, Memory}
 
 -- the bytes are the text of this design, and of no other
 pub record IsDesignText (bytes : List ℕ) (draft : Draft) : Type 0 where
@@ -41,15 +30,15 @@ IsNoDesign bytes = (draft : Draft) → IsDesign bytes draft → length bytes ≤
 
 -- what a file of vectors says to a design
 abbrev pub says_to : Draft → List ℕ → SaidVectors
-says_to draft bytes = file_says (length draft.inputs) most_vector_bytes bytes
+says_to draft bytes = says_at (length draft.inputs) bytes
 
 -- its vectors, up to the first fault
 abbrev pub vectors_in : Draft → List ℕ → List (List Bool)
-vectors_in draft bytes = map (λ (v : VectorLine). v.bits) (says_to draft bytes).vectors
+vectors_in draft bytes = vectors_at (length draft.inputs) bytes
 
 -- where the line of the vector at a place ends: the end of the file where there is none
 abbrev pub vector_end : Draft → List ℕ → ℕ → ℕ
-vector_end draft bytes k = unwrap_or (option_map (λ (v : VectorLine). v.next_at) (slice_get (says_to draft bytes).vectors k)) (length bytes)
+vector_end draft bytes k = end_at (length draft.inputs) bytes k
 
 -- the rows of the vectors of a file that has no fault
 pub record AreAllRows (draft : Draft) (bytes : List ℕ) (rows : List (List Bool)) : Type 0 where
@@ -63,10 +52,6 @@ IsAllRowsOf draft told rows = IfSome told (λ bytes. AreAllRows draft bytes rows
 abbrev pub AreFirstRows : Draft → List ℕ → List (List Bool) → Type 0
 AreFirstRows draft bytes rows = AreRows draft (take (length rows) (vectors_in draft bytes)) rows
 
--- the place is not far beyond this end
-abbrev pub IsNear : Option Place → ℕ → Type 0
-IsNear place end = IfSome place (λ p. p.at ≤ end + most_ahead)
-
 -- this is the first fault of a file of vectors, where it is told
 abbrev pub IsVectorsFault : Draft → Option (List ℕ) → ℕ → VectorKind → Type 0
 IsVectorsFault draft told line kind = IfSome told (λ bytes. (says_to draft bytes).fault ≡ Some (record { line = line; kind = kind }))
@@ -79,7 +64,7 @@ EvalText design vectors refusal = ⊥
 
 -- why the command is refused
 abbrev pub EvalCause : (design vectors : Option (List ℕ)) → StoreState → StoreState → Refusal → Type 0
-EvalCause design vectors old new refusal = RefusalCause ⊥ (EvalText design vectors) (Rose old.faults new.faults) refusal
+EvalCause design vectors old new refusal = RefusalCause ⊥ (EvalText design vectors) (Rose old.faults new.faults) ⊥ refusal
 
 -- the line `outputs`, and a row for each vector of the file, which has no fault
 abbrev pub EvalFull : (design vectors : Option (List ℕ)) → List ℕ → Type 0
@@ -95,13 +80,13 @@ AreSomeRows draft told rows = IfSome told (λ bytes. AreFirstRows draft bytes ro
 
 -- what is written before a refusal. Want of memory comes before the line `outputs`
 abbrev pub EvalDue : (design vectors : Option (List ℕ)) → Option Place → Refusal → List ℕ → Type 0
-EvalDue design vectors place Words text = ⊥
 EvalDue design vectors place (Design fault) text = text ≡ []
 EvalDue design vectors place (Vectors line kind) text =
     (draft : Draft) × (rows : List (List Bool)) × (text ≡ output_text rows) × IsDesignOf design draft × AreRowsToFault draft vectors place rows
 EvalDue design vectors place Store text =
-    (text ≡ []) ⊎ ((draft : Draft) × (rows : List (List Bool)) × (text ≡ output_text rows) × IsDesignOf design draft × AreSomeRows draft vectors rows)
+    (text ≡ []) ⊎ ((draft : Draft) × (rows : List (List Bool)) × (text ≡ output_text rows) × IsDesignOf design draft × AreSomeRows draft vectors rows × (place ≡ None))
 EvalDue design vectors place Memory text = text ≡ []
+EvalDue design vectors place refusal text = ⊥
 
 -- the row comes next after these rows, and the file was read not far beyond its vector
 abbrev pub IsNextRow : Draft → Option (List ℕ) → Option Place → List (List Bool) → List Bool → Type 0

@@ -1,5 +1,5 @@
 -- What the steps of an evaluation say.
-use Rattle.std.specs.Prelude.{◌≡◌, ℕ, ◌+◌, ◌<◌, ◌≤◌, Bool, true, false, List, [], length, take, ◌++◌, flat_map, Option, Some, option_and_then, IfSome, IsTrue}
+use Rattle.std.specs.Prelude.{◌≡◌, ℕ, ◌+◌, ◌<◌, ◌≤◌, Bool, true, false, List, [], length, take, ◌++◌, flat_map, Option, None, Some, option_and_then, IfSome, IsTrue}
 use Rattle.tm_outside.specs.Counts.{Rose}
 use Rattle.tm_outside.specs.Store.{StoreState, moved, rest_of}
 use Rattle.tm_outside.specs.Sink.{SinkState, Wrote}
@@ -8,13 +8,14 @@ use Rattle.netlist.specs.declared.draft.Draft.{Draft}
 use Rattle.netlist_eval.specs.Evals.{first_eval, IsStep}
 use Rattle.netlist_eval.specs.declared.vectors.VectorsFail.{VectorsFail}
 use Rattle.netlist_eval.specs.declared.vectors.VectorsFail.TheVariants.{Text, Failed}
-use Rattle.netlist_eval.specs.Readings.{new_reading, NextGives, NextFails, HasMoved}
+use Rattle.netlist_eval.specs.Readings.{new_reading, NextGives, NextFails, HasMoved, StopsWithin}
 use Rattle.netlist_eval.specs.Rows.{row_line}
 use Rattle.tera_top.specs.declared.eval.Evaluation.{Evaluation}
-use Rattle.tera_top.specs.declared.refusal.Refusal.TheVariants.{Words, Design, Vectors, Store, Memory}
+use Rattle.tera_top.specs.declared.refusal.Refusal.TheVariants.{Vectors, Store, Memory}
 use Rattle.tera_top.specs.declared.refusal.Stop.{Stop}
 use Rattle.tera_top.specs.declared.refusal.Stop.TheVariants.{Refused, Sink}
-use Rattle.tera_top.specs.Evals.{most_vector_bytes, most_ahead, IsNextRow, AreRowsToFault, AreSomeRows, IsVectorsFault}
+use Rattle.tera_top.specs.Files.{most_vector_bytes, most_ahead}
+use Rattle.tera_top.specs.Evals.{IsNextRow, AreRowsToFault, AreSomeRows, IsVectorsFault}
 
 -- the buffers have the lengths that the netlist asks for
 pub record IsSized (rows : Evaluation) : Type 0 where
@@ -43,16 +44,6 @@ abbrev pub RowGives : Bool → Evaluation → Evaluation → StoreState → Stor
 RowGives true old new before after = TakesRow old new before after
 RowGives false old new before after = NextGives false new.vector.items old.vectors new.vectors before after
 
--- the store went on, at most to the end of the file
-pub record StaysWithin (before after : StoreState) : Type 0 where
-  pub count : ℕ
-  pub place : after.current ≡ moved before.current count
-  pub within : IfSome (rest_of before) (λ rest. count ≤ length rest)
-
-abbrev pub StopsWithin : VectorsFail → StoreState → StoreState → Type 0
-StopsWithin (Text line kind) before after = StaysWithin before after
-StopsWithin Failed before after = Unit {0}
-
 -- why no row is made
 pub record RowFails (fail : VectorsFail) (old : Evaluation) (before after : StoreState) : Type 0 where
   pub fails : NextFails fail old.vectors before after
@@ -75,7 +66,7 @@ abbrev pub EvalRowsStops : Draft → Stop → StoreState → StoreState → Sink
 EvalRowsStops draft (Refused (Vectors line kind)) before after old new =
     IsVectorsFault draft (file_of before) line kind × ((rows : List (List Bool)) × AreRowsToFault draft (file_of before) after.current rows × WroteRows rows old new)
 EvalRowsStops draft (Refused Store) before after old new =
-    Rose before.faults after.faults × ((rows : List (List Bool)) × AreSomeRows draft (file_of before) rows × WroteRows rows old new)
+    Rose before.faults after.faults × ((rows : List (List Bool)) × AreSomeRows draft (file_of before) rows × WroteRows rows old new) × (after.current ≡ None)
 EvalRowsStops draft (Sink SinkFailed) before after old new =
     Rose old.faults new.faults × ((rows : List (List Bool)) × (row : List Bool) × (n : ℕ) × IsNextRow draft (file_of before) after.current rows row
     × Wrote old.written new.written (flat_map row_line rows ++ take n (row_line row)))

@@ -9,25 +9,42 @@ use Rattle.tm_outside.specs.declared.sink.SinkFail.{SinkFail}
 use Rattle.tm_outside.specs.declared.sink.SinkFail.TheVariants.{Failed as SinkFailed, Memory as SinkMemory}
 use Rattle.netlist_eval.specs.declared.vectors.VectorsFail.{VectorsFail}
 use Rattle.netlist_eval.specs.declared.vectors.VectorsFail.TheVariants.{Text, Failed as VectorsFailed}
-use Rattle.tera_top.specs.Lines.{line_of, design_line, vectors_line}
+use Rattle.rig.specs.declared.rig.RigFail.{RigFail}
+use Rattle.rig.specs.declared.rig.RigFail.TheVariants as work
+use Rattle.rig.specs.declared.rig.AttachFail.{AttachFail}
+use Rattle.rig.specs.declared.rig.AttachFail.TheVariants as attach
+use Rattle.fault_model.specs.declared.kind.FaultsFault.TheVariants as text
+use Rattle.tera_top.specs.Lines.{line_of, machine_line, faults_line, defects_line, image_line, design_line, vectors_line, room_line}
 use Rattle.tera_top.specs.declared.refusal.Refusal.{Refusal}
-use Rattle.tera_top.specs.declared.refusal.Refusal.TheVariants.{Words, Design, Vectors, Store, Memory}
+use Rattle.tera_top.specs.declared.refusal.Refusal.TheVariants.{Words, Machine, Faults, Defects, Image, Design, Vectors, Room, Rig, Store, Memory}
 use Rattle.tera_top.specs.declared.refusal.Stop.{Stop}
 use Rattle.tera_top.specs.declared.refusal.Stop.TheVariants.{Refused, Sink}
 
 -- the line of a refusal
 abbrev pub refusal_text : Refusal → List ℕ
 refusal_text Words = line_of (codes "refused words")
+refusal_text (Machine line kind) = machine_line line kind
+refusal_text (Faults line kind) = faults_line line kind
+refusal_text (Defects line kind) = defects_line line kind
+refusal_text (Image line kind) = image_line line kind
 refusal_text (Design fault) = design_line fault.line fault.kind
 refusal_text (Vectors line kind) = vectors_line line kind
+refusal_text (Room place) = room_line place.shape place.short
+refusal_text Rig = line_of (codes "refused rig")
 refusal_text Store = line_of (codes "refused store")
 refusal_text Memory = line_of (codes "refused memory")
 
 -- the status of a refusal
 abbrev pub status_of : Refusal → ℕ
 status_of Words = 2
+status_of (Machine line kind) = 1
+status_of (Faults line kind) = 1
+status_of (Defects line kind) = 1
+status_of (Image line kind) = 1
 status_of (Design fault) = 1
 status_of (Vectors line kind) = 1
+status_of (Room place) = 3
+status_of Rig = 4
 status_of Store = 5
 status_of Memory = 6
 
@@ -35,17 +52,27 @@ abbrev pub stop_of_store : StoreFail → Stop
 stop_of_store StoreFailed = Refused Store
 stop_of_store StoreMemory = Refused Memory
 
+abbrev pub stop_of_rig : RigFail → Stop
+stop_of_rig work.Failed = Refused Rig
+stop_of_rig work.Memory = Refused Memory
+
+abbrev pub stop_of_attach : AttachFail → Stop
+stop_of_attach attach.Failed = Refused Rig
+stop_of_attach (attach.Faults (text.At line kind)) = Refused (Faults line kind)
+stop_of_attach (attach.Faults text.Memory) = Refused Memory
+stop_of_attach attach.Memory = Refused Memory
+
 abbrev pub stop_of_vectors : VectorsFail → Stop
 stop_of_vectors (Text line kind) = Refused (Vectors line kind)
 stop_of_vectors VectorsFailed = Refused Store
 
--- why a refusal comes: `text` says why a text is refused. Want of memory needs no cause
-abbrev pub RefusalCause : (words : Type 0) (text : Refusal → Type 0) (store : Type 0) → Refusal → Type 0
-RefusalCause words text store Words = words
-RefusalCause words text store (Design fault) = text (Design fault)
-RefusalCause words text store (Vectors line kind) = text (Vectors line kind)
-RefusalCause words text store Store = store
-RefusalCause words text store Memory = Unit {0}
+-- why a refusal comes: `text` says why a text is refused, or a design for want of room. Want of memory needs no cause
+abbrev pub RefusalCause : (words : Type 0) (text : Refusal → Type 0) (store rig : Type 0) → Refusal → Type 0
+RefusalCause words text store rig Words = words
+RefusalCause words text store rig Rig = rig
+RefusalCause words text store rig Store = store
+RefusalCause words text store rig Memory = Unit {0}
+RefusalCause words text store rig refusal = text refusal
 
 -- why a sink takes nothing more
 abbrev pub SinkCause : SinkFail → SinkState → SinkState → Type 0

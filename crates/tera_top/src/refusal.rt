@@ -1,10 +1,18 @@
 //! Why a command ends early.
-ghost use Rattle.std.specs.Prelude.{◌≡◌, IfOk};
-ghost use Rattle.tera_top.specs.Lines.{design_line};
+ghost use Rattle.std.specs.Prelude.{◌≡◌, ◌<◌, IfOk};
+ghost use Rattle.hierarchy.specs.Shape.{nodes_of};
+ghost use Rattle.tera_top.specs.Lines.{design_line, room_line};
 
-use crate::line::design_text;
+use crate::line::{design_text, room_text};
+use config_image::ImageKind;
+use defect_db::DefectsKind;
+use fault_model::{FaultsFault, FaultsKind};
+use hierarchy::Shape;
+use machine_file::MachineKind;
 use netlist::DesignKind;
 use netlist_eval::{VectorKind, VectorsFail};
+use place::Short;
+use rig::{AttachFail, RigFail};
 use std::alloc::{AllocError, Global};
 use std::marker::Model;
 use tm_outside::{SinkFail, StoreFail};
@@ -47,15 +55,65 @@ impl RefusedDesign {
     }
 }
 
+/// What is short on a machine of this shape. It holds the line that says so, so that writing this takes no memory.
+#[derive(Debug, Drop)]
+pub struct RefusedRoom {
+    shape: Shape,
+    short: Short,
+    text: Vec<u8>,
+}
+
+impl Model for RefusedRoom {
+    ghost use Rattle.std.specs.Prelude.{◌≡◌};
+    ghost use Rattle.tera_top.specs.Faults.{ShortPlace};
+    ghost use Rattle.tera_top.specs.Lines.{room_line};
+
+    ghost Value = { ShortPlace };
+
+    ghost view = { λ p. record { shape = p.shape; short = p.short } };
+
+    ghost invariant = { λ p. p.text.items ≡ room_line p.shape p.short };
+}
+
+impl RefusedRoom {
+    /// What is short at a node of a machine.
+    pub fn new(alloc: Global, shape: Shape, short: Short) -> Result<Self, AllocError>
+        requires { short.node.0 < nodes_of shape }
+        ensures { IfOk result (λ p. p ≡ record { shape = shape; short = short }) }
+    {
+        let text = room_text(alloc, &shape, &short)?;
+        Ok(RefusedRoom { shape, short, text })
+    }
+
+    /// The line that says what is short.
+    pub fn text(&self) -> &[u8]
+        ensures { result.now ≡ room_line self.now.shape self.now.short }
+    {
+        &self.text
+    }
+}
+
 /// Why a command is refused.
 #[derive(Debug, Drop)]
 pub enum Refusal {
     /// The words aren't right.
     Words,
+    /// The text of the machine isn't in its grammar, or is beyond its limit.
+    Machine { line: u64, kind: MachineKind },
+    /// The rig refused the text of faults.
+    Faults { line: u64, kind: FaultsKind },
+    /// The list of defects isn't in its grammar, or is beyond its limit.
+    Defects { line: u64, kind: DefectsKind },
+    /// The image isn't in its format, or is beyond its limit. Its line is the place of a byte.
+    Image { line: u64, kind: ImageKind },
     /// The design isn't in its grammar, or is beyond its limit.
     Design(RefusedDesign),
     /// The vectors aren't in their grammar, or are beyond their limit.
     Vectors { line: u64, kind: VectorKind },
+    /// There is no room for the design.
+    Room(RefusedRoom),
+    /// The rig failed.
+    Rig,
     /// The store failed.
     Store,
     /// Memory was wanting.
@@ -79,6 +137,39 @@ impl From<StoreFail> for Stop {
         match fail {
             StoreFail::Failed => Stop::Refused(Refusal::Store),
             StoreFail::Memory => Stop::Refused(Refusal::Memory),
+        }
+    }
+}
+
+impl From<RigFail> for Stop {
+    ghost use Rattle.std.specs.Prelude.{◌≡◌};
+    ghost use Rattle.tera_top.specs.Stops.{stop_of_rig};
+
+    ghost from_gives = { λ fail stop. stop ≡ stop_of_rig fail };
+
+    fn from(fail: RigFail) -> Stop {
+        match fail {
+            RigFail::Failed => Stop::Refused(Refusal::Rig),
+            RigFail::Memory => Stop::Refused(Refusal::Memory),
+        }
+    }
+}
+
+impl From<AttachFail> for Stop {
+    ghost use Rattle.std.specs.Prelude.{◌≡◌};
+    ghost use Rattle.tera_top.specs.Stops.{stop_of_attach};
+
+    ghost from_gives = { λ fail stop. stop ≡ stop_of_attach fail };
+
+    fn from(fail: AttachFail) -> Stop {
+        match fail {
+            AttachFail::Failed => Stop::Refused(Refusal::Rig),
+            AttachFail::Faults(FaultsFault::At { line, kind }) => {
+                Stop::Refused(Refusal::Faults { line, kind })
+            }
+            AttachFail::Faults(FaultsFault::Memory) | AttachFail::Memory => {
+                Stop::Refused(Refusal::Memory)
+            }
         }
     }
 }

@@ -6,7 +6,23 @@ ghost use Rattle.tera_top.specs.Words.{job_of, job_in, job_view, is_dashed};
 /// What the words ask.
 pub enum Task<'a> {
     /// The rows of a design for vectors: the names of the two files.
-    Eval { design: &'a str, vectors: &'a str },
+    Eval {
+        design: &'a str,
+        vectors: &'a str,
+    },
+    /// The rows of an image on a machine: the names of the files, and the name of the machine of the first for the rig.
+    Run {
+        machine: &'a str,
+        name: &'a str,
+        image: &'a str,
+        vectors: &'a str,
+    },
+    /// An image of a design on a machine with defects: the names of the files.
+    Compile {
+        machine: &'a str,
+        defects: &'a str,
+        design: &'a str,
+    },
 }
 
 // Whether a word begins with `-`.
@@ -34,6 +50,21 @@ fn task_in(words: &[String]) -> Option<Task<'_>>
         return Some(Task::Eval {
             design: words[1].as_str(),
             vectors: words[2].as_str(),
+        });
+    }
+    if words.len() == 5 && words[0].as_str() == "run" {
+        return Some(Task::Run {
+            machine: words[1].as_str(),
+            name: words[2].as_str(),
+            image: words[3].as_str(),
+            vectors: words[4].as_str(),
+        });
+    }
+    if words.len() == 4 && words[0].as_str() == "compile" {
+        return Some(Task::Compile {
+            machine: words[1].as_str(),
+            defects: words[2].as_str(),
+            design: words[3].as_str(),
         });
     }
     None

@@ -2,6 +2,8 @@
 ghost use Rattle.std.specs.Prelude.{◌<◌};
 
 use crate::teramac;
+use cycle_sim::SimRig;
+use rig::Rig;
 use std::alloc::{AllocError, Global};
 use std::test::Fail;
 use tm_outside::{CutSink, File, MemorySink, MemoryStore};
@@ -15,6 +17,14 @@ fn file(alloc: Global, name: &str, bytes: &[u8]) -> Result<File, AllocError> {
     let name = String::from_str(alloc, name)?;
     let bytes = Vec::from_slice(alloc, bytes)?;
     Ok(File { name, bytes })
+}
+
+// A rig with no files.
+fn bare_rig(alloc: Global) -> SimRig<MemoryStore> {
+    SimRig::new(
+        alloc,
+        MemoryStore::new(alloc, Vec::new(alloc), Vec::new(alloc)),
+    )
 }
 
 // A design and its vectors, as the files `design` and `vectors`.
@@ -47,7 +57,8 @@ fn outcome(
     let all = files(alloc, design, vectors)?;
     let mut store = MemoryStore::in_pieces(alloc, all, Vec::new(alloc), most);
     let mut sink = MemorySink::new(alloc, Vec::new(alloc));
-    let status = teramac(alloc, words.as_slice(), &mut store, &mut sink);
+    let mut rig: Box<dyn Rig> = Box::new(alloc, bare_rig(alloc))?;
+    let status = teramac(alloc, words.as_slice(), &mut store, &mut rig, &mut sink);
     Ok((status, sink))
 }
 
@@ -282,7 +293,8 @@ fn wrong_words(rt: HostRuntime) -> Result<(), Fail> {
         let words = words(alloc, line)?;
         let mut store = MemoryStore::new(alloc, files(alloc, AND, V4)?, Vec::new(alloc));
         let mut sink = MemorySink::new(alloc, Vec::new(alloc));
-        let status = teramac(alloc, words.as_slice(), &mut store, &mut sink);
+        let mut rig: Box<dyn Rig> = Box::new(alloc, bare_rig(alloc))?;
+        let status = teramac(alloc, words.as_slice(), &mut store, &mut rig, &mut sink);
         assert_eq!(rt; sink.bytes(), b"refused words\n".as_slice(), "at {line}");
         assert_eq!(rt; status, 2, "at {line}");
     }
@@ -301,7 +313,8 @@ fn missing_file_and_failing_sink(rt: HostRuntime) -> Result<(), Fail> {
         let words = words(alloc, line)?;
         let mut store = MemoryStore::new(alloc, files(alloc, AND, V4)?, Vec::new(alloc));
         let mut sink = MemorySink::new(alloc, Vec::from_slice(alloc, &[fail])?);
-        let status = teramac(alloc, words.as_slice(), &mut store, &mut sink);
+        let mut rig: Box<dyn Rig> = Box::new(alloc, bare_rig(alloc))?;
+        let status = teramac(alloc, words.as_slice(), &mut store, &mut rig, &mut sink);
         assert_eq!(rt; sink.bytes(), text, "at {line}, {fail}");
         assert_eq!(rt; status, 5, "at {line}, {fail}");
     }
@@ -324,7 +337,8 @@ fn failing_store_calls(rt: HostRuntime) -> Result<(), Fail> {
         let fails = Vec::from_slice(alloc, &[call])?;
         let mut store = MemoryStore::new(alloc, files(alloc, AND, V4)?, fails);
         let mut sink = MemorySink::new(alloc, Vec::new(alloc));
-        let status = teramac(alloc, words.as_slice(), &mut store, &mut sink);
+        let mut rig: Box<dyn Rig> = Box::new(alloc, bare_rig(alloc))?;
+        let status = teramac(alloc, words.as_slice(), &mut store, &mut rig, &mut sink);
         assert_eq!(rt; sink.bytes(), text, "at {call}");
         assert_eq!(rt; status, 5, "at {call}");
     }
@@ -339,7 +353,8 @@ fn cut_sinks(rt: HostRuntime) -> Result<(), Fail> {
     for most in 0..17usize {
         let mut store = MemoryStore::new(alloc, files(alloc, AND, V4)?, Vec::new(alloc));
         let mut sink = CutSink::new(alloc, most)?;
-        let status = teramac(alloc, words.as_slice(), &mut store, &mut sink);
+        let mut rig: Box<dyn Rig> = Box::new(alloc, bare_rig(alloc))?;
+        let status = teramac(alloc, words.as_slice(), &mut store, &mut rig, &mut sink);
         assert_eq!(rt; sink.bytes(), &text[..most.min(16)], "at {most}");
         assert_eq!(rt; status, if most < 16 { 5 } else { 0 }, "at {most}");
     }

@@ -1,6 +1,8 @@
-//! The program: real files and standard output.
+//! The program: real files, standard output, and a simulated rig.
 #![tactic(auto)]
 
+use cycle_sim::SimRig;
+use rig::{LogRig, Rig};
 use std::alloc::{AllocError, Global};
 use std::process::ExitCode;
 use std::rt::Env;
@@ -20,7 +22,7 @@ fn words(rt: &(impl Env + AllocGlobal)) -> io::Result<Vec<String>> {
     Ok(words)
 }
 
-// Runs the program over real files and standard output, and answers its status.
+// Runs the program over real files, standard output and a simulated rig with files of its own, and answers its status.
 fn run(rt: &HostRuntime) -> Result<u8, AllocError> {
     let alloc: Global = rt.alloc();
     // Words of which one is no text aren't right, and neither are none.
@@ -31,7 +33,9 @@ fn run(rt: &HostRuntime) -> Result<u8, AllocError> {
     };
     let mut store = FileStore::new(alloc, rt.clone()?);
     let mut sink = StdSink::new(rt.clone()?);
-    Ok(teramac(alloc, words.as_slice(), &mut store, &mut sink))
+    let sim = SimRig::new(alloc, FileStore::new(alloc, rt.clone()?));
+    let mut rig: Box<dyn Rig> = Box::new(alloc, LogRig::new(sim))?;
+    Ok(teramac(alloc, words.as_slice(), &mut store, &mut rig, &mut sink))
 }
 
 fn main(rt: HostRuntime) -> ExitCode {

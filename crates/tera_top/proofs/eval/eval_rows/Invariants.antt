@@ -1,5 +1,5 @@
 use Rattle.std.proofs.Common.{◌-◌}
-use Rattle.tera_top.specs.Evals.{most_vector_bytes}
+use Rattle.tera_top.specs.Files.{most_vector_bytes}
 use Rattle.tera_top.proofs.RowLemmas.{IsRunning}
 use Rattle.tera_top.proofs.eval.eval_rows.Given as goal
 
