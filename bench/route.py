@@ -1,0 +1,112 @@
+#!/usr/bin/env python3
+"""Makes machines, lists of defects and designs for `teramac compile` and `teramac run`.
+
+usage: route.py FOLDER shift|local|bench [PERCENT]
+
+FOLDER gets d.machine, d.defects, d.blif, d.vec and an empty file `none`, the faults of a sound machine.
+
+shift  A shift register of 1,920 latches on 32 hextants of 60 tables each.
+local  1,536 covers of four inputs each, which read one of the 10 signals before them, on 32
+       hextants of 48 tables each.
+bench  A shift register of 16 latches with the parity of its bits, on the machine that
+       `bench` of the generator stands for (128 tables), with 100,000 vectors.
+
+The list has PERCENT of the crosspoints of the tables' pins, drawn at random; none where it isn't given.
+"""
+import random
+import sys
+from pathlib import Path
+
+# modules, chips, hextants, tables, ports, lines, pins
+MACHINES = {
+    "shift": (2, 4, 4, 60, (4, 4, 4), (6, 6, 8, 64), 8),
+    "local": (2, 4, 4, 48, (24, 24, 24), (64, 64, 64, 80), 28),
+    "bench": (2, 2, 4, 8, (24, 24, 24), (32, 32, 32, 32), 28),
+}
+
+
+def machine_text(counts):
+    modules, chips, hextants, tables, ports, lines, pins = counts
+    return "\n".join([
+        "teramac 1",
+        f"modules {modules}",
+        f"chips {chips}",
+        f"hextants {hextants}",
+        f"tables {tables}",
+        "ports " + " ".join(map(str, ports)),
+        "lines " + " ".join(map(str, lines)),
+        f"pins {pins}",
+        "end",
+    ]) + "\n"
+
+
+def defects_text(counts, percent):
+    modules, chips, hextants, tables, ports, lines, pins = counts
+    head = ["defects 1", "shape " + " ".join(map(str, (modules, chips, hextants, tables, *ports, *lines, pins)))]
+    draw = random.Random(1)
+    entries = []
+    if percent:
+        for module in range(modules):
+            for chip in range(chips):
+                for hextant in range(hextants):
+                    node = f"m{module}.c{chip}.h{hextant}"
+                    for table in range(tables):
+                        for pin in [f"i{k}" for k in range(6)] + ["q"]:
+                            for line in range(lines[3]):
+                                if draw.randrange(100) < percent:
+                                    entries.append(f"cross {node}.t{table}.{pin} {node}.l{line}")
+    return "\n".join(head + entries + ["end"]) + "\n"
+
+
+def shift_text(latches):
+    lines = [".model s", ".inputs a", f".outputs q{latches - 1}"]
+    for k in range(latches):
+        before = f"q{k - 1}" if k else "a"
+        lines.append(f".latch {before} q{k} 0")
+    return "\n".join(lines + [".end"]) + "\n"
+
+
+def local_text(covers, width):
+    draw = random.Random(1)
+    names = [f"a{k}" for k in range(width)]
+    lines = [".model l", ".inputs " + " ".join(names)]
+    lines.append(".outputs " + " ".join(f"n{covers - 1 - k}" for k in range(width)))
+    for k in range(covers):
+        ins = draw.sample(names[-width:], 4)
+        lines.append(f".names {' '.join(ins)} n{k}")
+        lines += [format(row, "04b") + " 1" for row in sorted(draw.sample(range(16), 8))]
+        names.append(f"n{k}")
+    return "\n".join(lines + [".end"]) + "\n"
+
+
+def parity_text(latches):
+    lines = shift_text(latches).splitlines()
+    lines[2] = ".outputs p"
+    ins = [f"q{k}" for k in range(latches)]
+    groups = [ins[k:k + 4] for k in range(0, latches, 4)]
+    for k, group in enumerate(groups + [[f"x{k}" for k in range(len(groups))]]):
+        out = "p" if k == len(groups) else f"x{k}"
+        lines.insert(-1, f".names {' '.join(group)} {out}")
+        lines[-1:-1] = [format(row, f"0{len(group)}b") + " 1" for row in range(1 << len(group)) if bin(row).count("1") % 2]
+    return "\n".join(lines) + "\n"
+
+
+def main():
+    folder, kind = Path(sys.argv[1]), sys.argv[2]
+    percent = int(sys.argv[3]) if len(sys.argv) > 3 else 0
+    counts = MACHINES[kind]
+    text, inputs, vectors = {
+        "shift": lambda: (shift_text(1920), 1, 4000),
+        "local": lambda: (local_text(1536, 10), 10, 100),
+        "bench": lambda: (parity_text(16), 1, 100000),
+    }[kind]()
+    draw = random.Random(2)
+    folder.mkdir(exist_ok=True)
+    (folder / "d.machine").write_text(machine_text(counts))
+    (folder / "d.defects").write_text(defects_text(counts, percent))
+    (folder / "d.blif").write_text(text)
+    (folder / "d.vec").write_text("".join("".join(draw.choice("01") for _ in range(inputs)) + "\n" for _ in range(vectors)))
+    (folder / "none").write_text("")
+
+
+main()
