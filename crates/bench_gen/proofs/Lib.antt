@@ -1,3 +1,4 @@
 pub mod Counted
 pub mod Hitting
+pub mod Left
 pub mod Turns

@@ -1,5 +1,5 @@
 -- Work that is made from a number.
 pub mod Draws
 pub mod Faults
-pub mod Positions
+pub mod Left
 pub mod Work

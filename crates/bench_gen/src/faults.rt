@@ -1,7 +1,7 @@
 //! The faults that a number makes.
 ghost use Rattle.std.specs.Prelude.{◌≡◌, ◌<◌, OnOk, IfOk};
 ghost use Rattle.hierarchy.specs.Shape.{wires_of, crosses_of, tables_of};
-ghost use Rattle.fault_model.specs.Adding.{IsFaultOf};
+ghost use Rattle.fault_model.specs.Adding.{CanHave};
 ghost use Rattle.bench_gen.specs.Draws.{next_state, answer};
 ghost use Rattle.bench_gen.specs.Faults.{fault_of_turn, state_of_turn, IsOneMore, Takes, AreBenchFaults};
 
@@ -48,7 +48,7 @@ fn draw_table(draws: &mut Draws, shape: &Shape) -> Table
 fn draw_fault(draws: &mut Draws, shape: &Shape) -> Fault
     ensures state { draws.new ≡ state_of_turn draws.old }
     ensures fault { result ≡ fault_of_turn shape.now draws.old }
-    ensures within { IsFaultOf shape.now result }
+    ensures within { CanHave shape.now result }
 {
     match draws.draw(6) {
         0 => Fault::Stuck {
@@ -81,7 +81,7 @@ fn draw_fault(draws: &mut Draws, shape: &Shape) -> Fault
 
 // Adds a fault where the set takes it; what the set refuses is dropped.
 fn add_or_drop(set: &mut FaultSet, fault: Fault) -> Result<(), AllocError>
-    requires { IsFaultOf set.old.shape fault }
+    requires { CanHave set.old.shape fault }
     ensures shape { set.new.shape ≡ set.old.shape }
     ensures dropped { OnOk result (IsOneMore set.old.faults fault set.new.faults) }
 {
@@ -109,8 +109,7 @@ fn take_turn(draws: &mut Draws, shape: &Shape, set: &mut FaultSet) -> Result<(),
     add_or_drop(set, fault)
 }
 
-/// The faults that the number makes for a machine of this shape, in 400 turns. 20 pins, 20 lines and ports of each
-/// node, and 4 tables of each hextant with their pins, are left sound.
+/// The faults that the number makes for a machine of this shape, in 400 turns.
 pub fn bench_faults(alloc: Global, n: u32, shape: &Shape) -> Result<FaultSet, AllocError>
     ensures shape { IfOk result (λ s. s.shape ≡ shape.now) }
     ensures faults { IfOk result (λ s. AreBenchFaults shape.now n s.faults) }

@@ -1,16 +1,19 @@
 //! Work that is made from a number: the faults of a machine, a design, and its vectors.
 #![tactic(auto)]
 
-ghost use Rattle.std.specs.Prelude.{◌≡◌, ℕ};
+ghost use Rattle.std.specs.Prelude.{◌≡◌, ◌<◌, ℕ};
 ghost use Rattle.hierarchy.specs.declared.Shape.{Shape};
 ghost use Rattle.hierarchy.specs.Faults.{Faults};
+ghost use Rattle.hierarchy.specs.Served.{IsAmple};
+ghost use Rattle.hierarchy.specs.Shape.{nodes_of};
+ghost use Rattle.hierarchy.specs.Sound.{IsServed};
 ghost use Rattle.bench_gen.specs.Faults.{AreBenchFaults};
+ghost use Rattle.bench_gen.specs.Left.{LeavesSound};
+ghost use Rattle.bench_gen.specs.Work.{bench_counts};
 
 mod draws;
 mod faults;
 mod hits;
-#[cfg(test)]
-mod tests;
 mod work;
 
 pub use draws::Draws;
@@ -21,3 +24,17 @@ pub use work::{bench_counts, bench_design, bench_vector};
 pub fn bench_faults_are_one()
     ensures { (m : Shape) (n : ℕ) (f g : Faults) → AreBenchFaults m n f → AreBenchFaults m n g → f ≡ g }
 {}
+
+/// Generated faults leave the first 20 pins of the machine and the first 20 ports of each node sound, its first 20 lines whole, and
+/// the first 4 tables of each hextant sound. So each node is served where there are two pins, and two ports and two lines at each
+/// level, as in the machine that the work is for.
+pub fn bench_faults_leave_sound_parts()
+    ensures sound { (m : Shape) (n : ℕ) (f : Faults) → AreBenchFaults m n f → LeavesSound m f }
+    ensures served { (m : Shape) (n : ℕ) (f : Faults) → AreBenchFaults m n f → IsAmple m.counts →
+        (k : ℕ) → k < nodes_of m → IsServed m f k }
+    ensures ample { IsAmple bench_counts }
+{
+    hierarchy::the_numbering_is_sound();
+    hierarchy::the_crosspoints_are_sound();
+    hierarchy::ports_and_lines_ascend();
+}

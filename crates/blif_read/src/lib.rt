@@ -11,6 +11,3 @@ mod reader;
 mod text;
 
 pub use read::read_blif;
-
-#[cfg(test)]
-mod tests;

@@ -1,16 +1,15 @@
 -- An image on free parts runs alike under all fault sets that the list covers.
 use Rattle.std.proofs.Common.{◌≡◌, ℕ, ◌+◌, ◌<◌, Bool, true, false, Some, None, Option, List, [], ◌∷◌, ◌++◌, length, get_or, map, refl, sym, ap, ◌∙◌, subst, arith}
-use Rattle.std.specs.Prelude.{IsSome, unwrap_or}
+use Rattle.std.specs.Prelude.{IsSome}
 use Rattle.std.specs.List.{range_with_len}
 use Rattle.std.proofs.Math.Path.{fun_ext}
 use Rattle.std.proofs.lemmas.Bool.{false≢true}
 use Rattle.std.proofs.lemmas.List.{get_or_append_left, get_or-append-add, get_or-map, ext_get_or, length-append, length-map}
 use Rattle.std.proofs.lemmas.List.FromFn.{get_or-map-range_with_len}
-use Rattle.hierarchy.specs.declared.Shape.{Shape}
-use Rattle.hierarchy.specs.Shape.{pin_wire, table_wire, pins_of, tables_of, wires_of, crosses_of}
+use Rattle.hierarchy.specs.Shape.{pin_wire, table_wire, pins_of, tables_of, crosses_of}
 use Rattle.hierarchy.specs.Laws.{IsNumbered}
-use Rattle.hierarchy.specs.Faults.{Faults, stuck_cross}
-use Rattle.hierarchy.specs.Joined.{crossed, bridged, Joined, here, then, net_of, plain_net}
+use Rattle.hierarchy.specs.Faults.{Faults}
+use Rattle.hierarchy.specs.Joined.{Joined, plain_net}
 use Rattle.hierarchy.specs.Circuit.{Outputs, Pins}
 use Rattle.hierarchy.specs.Value.{Pulls, by_pin, by_table, IsHeld, IsValue, held_0, held_1, pulled, released, AreValues}
 use Rattle.hierarchy.specs.Defects.{Defects, IsFreeWire, IsFreeCross, Covers}
@@ -21,26 +20,9 @@ use Rattle.config_set.specs.Faulty.{circuit_of, table_or_off, IsRun}
 use Rattle.config_set.specs.Run.{number_of, address_at, pins_read, tick_output, edge_output, at_load, after_tick, after_edge, Ticks, unticked, tick, Cycles, none, cycle}
 use Rattle.config_image.specs.Images.{ImageValue, IsImage, drive_of, row_of}
 use Rattle.config_image.specs.Parts.{IsFreeImage}
-use Rattle.config_image.proofs.Driven.{driven_low, number_below, same_map, tick_of, edge_of, first_of}
+use Rattle.config_image.proofs.Driven.{drive_low, number_below, same_map, tick_of, edge_of, first_of}
+use Rattle.config_image.proofs.FreeWires.{IsGood, IsOff, joined_too}
 use Rattle.config_image.proofs.Touching.{on_below, true_some}
-
-conducting : (o : Option Bool) (b : Bool) → b ≡ true → o ≡ None → unwrap_or o b ≡ true
-conducting o b is free = rw free is
-
--- free crosspoints join as without faults
-pub joined_too : (m : Shape) (closed : ℕ → Bool) (d : Defects) (f : Faults) → Covers m d f → ((x : ℕ) → closed x ≡ true → (x < crosses_of m) × IsFreeCross m d x) → {a b : ℕ} → Joined (plain_net m closed) a b → Joined (net_of m f closed) a b
-joined_too m closed d f covers free here = here
-joined_too m closed d f covers free (then j (crossed x on at)) = then (joined_too m closed d f covers free j) (crossed x (conducting (stuck_cross f x) (closed x) on (covers.crosses x (free x on).0 (free x on).1)) at)
-joined_too m closed d f covers free (then j (bridged p is at)) = absurd (false≢true is)
-
--- a free wire of the machine
-record IsGood (m : Shape) (d : Defects) (w : ℕ) : Type 0 where
-  within : w < wires_of m
-  free : IsFreeWire d w
-
--- each table that is off gives 1
-abbrev IsOff : Configuration → Outputs → Type 0
-IsOff g o = (t : ℕ) → setting_of g t ≡ None → o t ≡ true
 
 module _ (d : Defects) (i : ImageValue) (numbered : IsNumbered i.config.shape) (is : IsImage i) (free : IsFreeImage d i) where
   abbrev g : Configuration
@@ -70,7 +52,7 @@ module _ (d : Defects) (i : ImageValue) (numbered : IsNumbered i.config.shape) (
   module _ (vector : List Bool) (o : Outputs) (off : IsOff g o) where
     module _ (f : Faults) (covers : Covers g.shape d f) where
       puller_good : {w : ℕ} → Pulls (circuit_of f g) (drive_of i vector) o w → IsGood g.shape d w
-      puller_good (by_pin k inside e at) = let r = driven_low (pins_of g.shape) i.inputs vector k e in subst (IsGood g.shape d) (ap (pin_wire g.shape) r.2 ∙ at) (good_in r.0 r.1)
+      puller_good (by_pin k inside e at) = let r = drive_low (pins_of g.shape) i.inputs vector k e in subst (IsGood g.shape d) (ap (pin_wire g.shape) r.2 ∙ at) (good_in r.0 r.1)
       puller_good {w} (by_table t e at) = by (setting_of g t) refl
         where
           by : (s : Option Setting) → setting_of g t ≡ s → IsGood g.shape d w

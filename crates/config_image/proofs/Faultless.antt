@@ -11,10 +11,10 @@ use Rattle.byteorder.specs.Endian.{big_bytes}
 use Rattle.hierarchy.specs.declared.Shape.{Shape}
 use Rattle.hierarchy.specs.Shape.{pins_of, tables_of, crosses_of}
 use Rattle.config_set.specs.declared.Setting.{Setting}
-use Rattle.config_set.specs.Configuration.{is_closed, setting_of}
+use Rattle.config_set.specs.Configuration.{CellsFit, is_closed, setting_of}
 use Rattle.config_image.specs.declared.kind.ImageKind.{ImageKind}
 use Rattle.config_image.specs.Faults.{counts_of, magic, count_fault, ticks_fault, most_fault, closed_fault, pin_fault, above_fault, flags_fault, InField, InEnd, InCrosses, InTables, InPins, InTicks, InCounts, InImage}
-use Rattle.config_image.specs.Images.{ImageValue, two, four, on_at, tables_on, closed_in, flags_of, table_bytes, CellsFit, IsImage, image_bytes}
+use Rattle.config_image.specs.Images.{ImageValue, two, four, on_at, tables_on, closed_in, flags_of, table_bytes, IsImage, image_bytes}
 use Rattle.config_image.specs.Reading.{Bounds}
 use Rattle.config_image.proofs.Bytes.{behind_number, number_within, same_number}
 use Rattle.config_image.proofs.Whole.{Each, each_of, Small, Fits, few_flags, few_pins, few_on, few_closed, on_within, closed_within, closed_few, tail}
@@ -22,7 +22,7 @@ use Rattle.config_image.proofs.Whole.{Each, each_of, Small, Fits, few_flags, few
 -- a right number is passed
 pass : {size : ℕ} {fault_of : ℕ → Option ImageKind} {B : ℕ → Type 0} {bytes : List ℕ} {l : ℕ} {k : ImageKind} {at : ℕ} (n : ℕ) (more : List ℕ) → 0 < size → n < 256 ^ size → drop at bytes ≡ big_bytes size n ++ more → fault_of n ≡ None →
     InField bytes l k at size fault_of B → B n × (drop (at + size) bytes ≡ more)
-pass {size} {fault_of} {B} {bytes} {l} {k} {at} n more pos small text right (InField.short h _ _) = absurd (let no : ⊥ = omega (arith, h, number_within size n bytes more at pos small text) in no)
+pass {size} {fault_of} {B} {bytes} {l} {k} {at} n more pos small text right (InField.cut h _ _) = absurd (let no : ⊥ = omega (arith, h, number_within size n bytes more at pos small text) in no)
 pass {size} {fault_of} {B} {bytes} {l} {k} {at} n more pos small text right (InField.wrong j s w _) =
     let no : None ≡ Some k = sym right ∙ ap fault_of (sym (same_number size n bytes more at pos small text j s)) ∙ w in cc
 pass {size} {fault_of} {B} {bytes} {l} {k} {at} n more pos small text right (InField.behind j s r b) =
@@ -129,7 +129,7 @@ module _ (i : ImageValue) (t : IsImage i) (b : Bounds i.config.shape) (bytes : L
       let p6 = pass_pins m bytes l k (i.inputs ++ i.outputs) [] (p2.0 + 6) _ (pins_right m bytes l k b.pins (i.inputs ++ i.outputs) [] t.within t.apart) (moved p2.0 4 2 6 (omega arith) p5.1)
       (subst (λ z. InPins m bytes l k (p2.0 + 6) z []) (sym (length-append i.inputs i.outputs)) p5.0) in
       let p7 = pass (length (tables_on i.config)) _ (omega arith) (omega (arith, few_on i t b)) p6.2 (most_fine (tables_of m) (length (tables_on i.config)) (on_within i)) p6.1 in
-      let p8 = pass_tables m bytes l k (tables_on i.config) 0 (p6.0 + 2) _ (tables_right m bytes l k b.tables (λ x. setting_of i.config x) (λ x h. t.cells x None (omega (arith, h, t.config.tables))) 0 (tables_of m) 0 (omega arith) (omega arith)) p7.1 p7.0 in
+      let p8 = pass_tables m bytes l k (tables_on i.config) 0 (p6.0 + 2) _ (tables_right m bytes l k b.tables (λ x. setting_of i.config x) (λ x h. t.config.cells x None (omega (arith, h, t.config.tables))) 0 (tables_of m) 0 (omega arith) (omega arith)) p7.1 p7.0 in
       let p9 = pass {B = λ n. InCrosses m bytes l k (p8.0 + 4) n 0} {at = p8.0} (length (closed_in i.config)) _ (omega arith) (omega (arith, few_closed i t b)) p8.2 (closed_fine (crosses_of m) (length (closed_in i.config)) (closed_within i) (omega (arith, closed_few i, t.few))) p8.1 in
       let p10 = pass_crosses m bytes l k (closed_in i.config) 0 (p8.0 + 4) [] (crosses_right m bytes l k b.crosses (λ x. is_closed i.config x) 0 (crosses_of m) 0 (omega arith) (omega arith)) (with_end (p8.0 + 4) (flat_map four (closed_in i.config)) p9.1) p9.0 in
       at_end m bytes l k p10.0 p10.1 p10.2

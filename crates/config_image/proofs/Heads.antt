@@ -9,7 +9,7 @@ use Rattle.hierarchy.specs.Shape.{tables_of}
 use Rattle.config_image.specs.declared.kind.ImageKind.{ImageKind}
 use Rattle.config_image.specs.declared.kind.ImageFault.{ImageFault}
 use Rattle.config_image.specs.Faults.{Stands, counts_of, no_fault, magic_fault, ticks_fault, above_fault, flags_fault, InField, InTicks, InCounts, InPins, InTables, InImage}
-use Rattle.config_image.specs.Fields.{IsShort, IsField, IsRefusedField, FaultIn, Passed}
+use Rattle.config_image.specs.Fields.{IsCut, IsField, IsRefusedField, FaultIn, Passed}
 use Rattle.config_image.specs.Images.{two}
 use Rattle.config_image.specs.Reading.{IsHead, IsTable}
 use Rattle.config_image.proofs.Wrong.{magic_right, ticks_right, above_right, most_right}
@@ -70,15 +70,15 @@ module _ (m : Shape) (bytes : List ℕ) where
         passed_ticks : Passed bytes at (at + 2) (two ticks) (λ l k. InTicks m bytes l k at) (λ l k. InInputs l k at)
         passed_ticks = pass_field (at + 2) (λ l k _. InInputs l k at) refl ticks_are
 
-        pub inputs_refused : (f : ImageFault) → IsShort 2 bytes (at + 2) f → FaultIn (λ l k. InImage m bytes l k) f
-        inputs_refused f r = passed_in (pass_both (passed_magic n magic_is) (pass_both counts passed_ticks)) f (refused_in (λ l k inputs. InOutputs l k at inputs) f (IsRefusedField.is_short r))
+        pub inputs_refused : (f : ImageFault) → IsCut 2 bytes (at + 2) f → FaultIn (λ l k. InImage m bytes l k) f
+        inputs_refused f r = passed_in (pass_both (passed_magic n magic_is) (pass_both counts passed_ticks)) f (refused_in (λ l k inputs. InOutputs l k at inputs) f (IsRefusedField.is_cut r))
 
         module _ (inputs : ℕ) (inputs_are : IsField 2 no_fault bytes (at + 2) inputs) where
           passed_inputs : Passed bytes (at + 2) (at + 4) (two inputs) (λ l k. InInputs l k at) (λ l k. InOutputs l k at inputs)
           passed_inputs = pass_field (at + 4) (λ l k x. InOutputs l k at x) (omega arith) inputs_are
 
-          pub outputs_refused : (f : ImageFault) → IsShort 2 bytes (at + 4) f → FaultIn (λ l k. InImage m bytes l k) f
-          outputs_refused f r = passed_in (pass_both (passed_magic n magic_is) (pass_both counts (pass_both passed_ticks passed_inputs))) f (refused_in (λ l k x. InPins m bytes l k (at + 6) (inputs + x) []) f (IsRefusedField.is_short r))
+          pub outputs_refused : (f : ImageFault) → IsCut 2 bytes (at + 4) f → FaultIn (λ l k. InImage m bytes l k) f
+          outputs_refused f r = passed_in (pass_both (passed_magic n magic_is) (pass_both counts (pass_both passed_ticks passed_inputs))) f (refused_in (λ l k x. InPins m bytes l k (at + 6) (inputs + x) []) f (IsRefusedField.is_cut r))
 
           pub head_read : (outputs : ℕ) → IsField 2 no_fault bytes (at + 4) outputs → IsHead m bytes (record { ticks = ticks; inputs = inputs; outputs = outputs; at = at + 6 })
           head_read outputs outputs_are = record {
@@ -118,8 +118,8 @@ module _ (m : Shape) (bytes : List ℕ) (at least : ℕ) where
       passed_flags : (left : ℕ) → Passed bytes (at + 2) (at + 3) (big_bytes 1 flags) (λ l k. InFlags l k left t) (λ l k. InCells l k left t)
       passed_flags left = pass_field (at + 3) (λ l k _. InCells l k left t) (omega arith) flags_are
 
-      pub cells_refused : (f : ImageFault) → IsShort 8 bytes (at + 3) f → (left : ℕ) → FaultIn (λ l k. InTables m bytes l k at (suc left) least) f
-      cells_refused f r left = passed_in (pass_both (passed_number left) (passed_flags left)) f (refused_in (λ l k _. InTables m bytes l k (at + 11) left (suc t)) f (IsRefusedField.is_short r))
+      pub cells_refused : (f : ImageFault) → IsCut 8 bytes (at + 3) f → (left : ℕ) → FaultIn (λ l k. InTables m bytes l k at (suc left) least) f
+      cells_refused f r left = passed_in (pass_both (passed_number left) (passed_flags left)) f (refused_in (λ l k _. InTables m bytes l k (at + 11) left (suc t)) f (IsRefusedField.is_cut r))
 
       pub table_read : (cells : ℕ) → IsField 8 no_fault bytes (at + 3) cells → IsTable m bytes at least t (record { cells = cells; latched = (flags % 2) == 1; init = nat_le 2 flags })
       table_read cells cells_are = record {

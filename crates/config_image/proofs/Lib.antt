@@ -10,5 +10,6 @@ mod Faultless
 mod Ends
 mod Written
 mod Touching
-mod Driven
+pub mod Driven
+pub mod FreeWires
 mod Alike

@@ -13,7 +13,7 @@ use Rattle.config_image.specs.Fields.{IsField, IsRefusedField, FaultIn, Passed}
 -- a refused field is the first fault
 pub refused_in : {size : ℕ} {fault_of : ℕ → Option ImageKind} {bytes : List ℕ} {at : ℕ} (B : ℕ → ImageKind → ℕ → Type 0) (f : ImageFault) →
     IsRefusedField size fault_of bytes at f → FaultIn (λ l k. InField bytes l k at size fault_of (B l k)) f
-refused_in B f (IsRefusedField.is_short s) = subst (FaultIn _) (sym s.1) (InField.short s.0 refl refl)
+refused_in B f (IsRefusedField.is_cut s) = subst (FaultIn _) (sym s.1) (InField.cut s.0 refl refl)
 refused_in B f (IsRefusedField.is_wrong n k stands wrong e) = subst (FaultIn _) (sym e) (InField.wrong n stands wrong refl)
 
 -- a fault behind what was passed is a fault of the whole

@@ -14,9 +14,9 @@ use Rattle.byteorder.specs.Endian.{big_bytes, big_from}
 use Rattle.byteorder.specs.Numbers.{big_number-reads_back, length-bytes_high_first}
 use Rattle.hierarchy.specs.Shape.{pins_of, tables_of, crosses_of}
 use Rattle.config_set.specs.declared.Setting.{Setting}
-use Rattle.config_set.specs.Configuration.{is_closed, setting_of}
+use Rattle.config_set.specs.Configuration.{CellsFit, is_closed, setting_of}
 use Rattle.config_image.specs.Faults.{counts_of}
-use Rattle.config_image.specs.Images.{ImageValue, two, four, on_at, tables_on, closed_in, flags_of, table_bytes, CellsFit, IsImage, image_bytes}
+use Rattle.config_image.specs.Images.{ImageValue, two, four, on_at, tables_on, closed_in, flags_of, table_bytes, IsImage, image_bytes}
 use Rattle.config_image.specs.Reading.{Bounds}
 use Rattle.config_image.proofs.Counted.{at_most_len}
 
@@ -37,9 +37,9 @@ pub each_flat : {X : Type 0} (P : X → Type 0) (f : ℕ → List X) (a n : ℕ)
 each_flat P f a zero h = tt
 each_flat P f a (suc n) h = each_both P (f a) (flat_map f (range_with_len (a + 1) n)) (h a (omega arith) (omega arith)) (each_flat P f (a + 1) n (λ t l u. h t (omega (arith, l)) (omega (arith, u))))
 
-pub short_flat : {X : Type 0} (f : ℕ → List X) (a n : ℕ) → ((t : ℕ) → length (f t) ≤ 1) → length (flat_map f (range_with_len a n)) ≤ n
-short_flat f a zero h = omega arith
-short_flat f a (suc n) h = omega (arith, length-append (f a) (flat_map f (range_with_len (a + 1) n)), h a, short_flat f (a + 1) n h)
+pub few_flat : {X : Type 0} (f : ℕ → List X) (a n : ℕ) → ((t : ℕ) → length (f t) ≤ 1) → length (flat_map f (range_with_len a n)) ≤ n
+few_flat f a zero h = omega arith
+few_flat f a (suc n) h = omega (arith, length-append (f a) (flat_map f (range_with_len (a + 1) n)), h a, few_flat f (a + 1) n h)
 
 -- ---- equal bytes
 
@@ -232,10 +232,10 @@ few_apart xs n within apart = length-le_from_distinct_below xs n (IsDistinct-fro
 -- ---- sizes of the parts of an image
 
 pub on_within : (i : ImageValue) → length (tables_on i.config) ≤ tables_of i.config.shape
-on_within i = short_flat (λ t. on_at t (setting_of i.config t)) 0 (tables_of i.config.shape) (λ t. one_long t (setting_of i.config t))
+on_within i = few_flat (λ t. on_at t (setting_of i.config t)) 0 (tables_of i.config.shape) (λ t. one_long t (setting_of i.config t))
 
 pub closed_within : (i : ImageValue) → length (closed_in i.config) ≤ crosses_of i.config.shape
-closed_within i = short_flat (λ x. if is_closed i.config x then x ∷ [] else []) 0 (crosses_of i.config.shape) (λ x. closed_long x (is_closed i.config x))
+closed_within i = few_flat (λ x. if is_closed i.config x then x ∷ [] else []) 0 (crosses_of i.config.shape) (λ x. closed_long x (is_closed i.config x))
 
 pub closed_few : (i : ImageValue) → length (closed_in i.config) ≤ set_.len i.config.closed
 closed_few i = at_most_len (λ x. is_closed i.config x) 0 (crosses_of i.config.shape) i.config.closed (λ x l e. e)
@@ -248,13 +248,13 @@ module _ (i : ImageValue) (t : IsImage i) (b : Bounds i.config.shape) where
   small_pins = each_of (λ k. k < pins_of i.config.shape) Small (λ x h. omega (arith, h, b.pins)) (i.inputs ++ i.outputs) t.within
 
   pub few_on : length (tables_on i.config) ≤ 4096
-  few_on = omega (arith, short_flat (λ t. on_at t (setting_of i.config t)) 0 (tables_of i.config.shape) (λ t. one_long t (setting_of i.config t)), b.tables)
+  few_on = omega (arith, few_flat (λ t. on_at t (setting_of i.config t)) 0 (tables_of i.config.shape) (λ t. one_long t (setting_of i.config t)), b.tables)
 
   pub few_closed : length (closed_in i.config) ≤ 4194304
-  few_closed = omega (arith, short_flat (λ x. if is_closed i.config x then x ∷ [] else []) 0 (crosses_of i.config.shape) (λ x. closed_long x (is_closed i.config x)), b.crosses)
+  few_closed = omega (arith, few_flat (λ x. if is_closed i.config x then x ∷ [] else []) 0 (crosses_of i.config.shape) (λ x. closed_long x (is_closed i.config x)), b.crosses)
 
   pub fit_tables : Each Fits (tables_on i.config)
-  fit_tables = each_flat Fits (λ t. on_at t (setting_of i.config t)) 0 (tables_of i.config.shape) (λ n l u. fits_on n (setting_of i.config n) (omega (arith, u, b.tables)) (t.cells n None (omega (arith, u, t.config.tables))))
+  fit_tables = each_flat Fits (λ t. on_at t (setting_of i.config t)) 0 (tables_of i.config.shape) (λ n l u. fits_on n (setting_of i.config n) (omega (arith, u, b.tables)) (t.config.cells n None (omega (arith, u, t.config.tables))))
 
   pub small_crosses : Each Small4 (closed_in i.config)
   small_crosses = each_flat Small4 (λ x. if is_closed i.config x then x ∷ [] else []) 0 (crosses_of i.config.shape) (λ x l u. small_closed x (is_closed i.config x) (omega (arith, u, b.crosses)))

@@ -13,9 +13,9 @@ abbrev pub Stands : (size n : ℕ) → List ℕ → ℕ → Type 0
 Stands size n bytes at = (n < 256 ^ size) × (drop at bytes ≡ big_bytes size n ++ drop (at + size) bytes)
 
 -- The first fault is that of the field at a place, or the field is right and the fault is behind it. A field
--- that isn't there whole is short, at the number of bytes.
+-- that isn't there whole is cut off, at the number of bytes.
 pub data InField (bytes : List ℕ) (line : ℕ) (fault : ImageKind) (at size : ℕ) (fault_of : ℕ → Option ImageKind) (Behind : ℕ → Type 0) : Type 0 where
-  short : length bytes < at + size → line ≡ length bytes → fault ≡ kind.Short → InField bytes line fault at size fault_of Behind
+  cut : length bytes < at + size → line ≡ length bytes → fault ≡ kind.Short → InField bytes line fault at size fault_of Behind
   wrong : (n : ℕ) → Stands size n bytes at → fault_of n ≡ Some fault → line ≡ at → InField bytes line fault at size fault_of Behind
   behind : (n : ℕ) → Stands size n bytes at → fault_of n ≡ None → Behind n → InField bytes line fault at size fault_of Behind
 

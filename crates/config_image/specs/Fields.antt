@@ -8,8 +8,8 @@ use Rattle.config_image.specs.declared.kind.ImageFault.TheVariants.{At, Memory}
 use Rattle.config_image.specs.Faults.{Stands}
 
 -- so many bytes don't stand at a place
-abbrev pub IsShort : ℕ → List ℕ → ℕ → ImageFault → Type 0
-IsShort size bytes at fault = (length bytes < at + size) × (fault ≡ At (length bytes) kind.Short)
+abbrev pub IsCut : ℕ → List ℕ → ℕ → ImageFault → Type 0
+IsCut size bytes at fault = (length bytes < at + size) × (fault ≡ At (length bytes) kind.Short)
 
 -- this number stands in a field, and is right there
 pub record IsField (size : ℕ) (fault_of : ℕ → Option ImageKind) (bytes : List ℕ) (at n : ℕ) : Type 0 where
@@ -17,9 +17,9 @@ pub record IsField (size : ℕ) (fault_of : ℕ → Option ImageKind) (bytes : L
   pub within : at + size ≤ length bytes
   pub right : fault_of n ≡ None
 
--- a field is refused as short, or for the number that stands there
+-- a field is refused as cut off, or for the number that stands there
 pub data IsRefusedField (size : ℕ) (fault_of : ℕ → Option ImageKind) (bytes : List ℕ) (at : ℕ) (fault : ImageFault) : Type 0 where
-  is_short : IsShort size bytes at fault → IsRefusedField size fault_of bytes at fault
+  is_cut : IsCut size bytes at fault → IsRefusedField size fault_of bytes at fault
   is_wrong : (n : ℕ) (k : ImageKind) → Stands size n bytes at → fault_of n ≡ Some k → fault ≡ At at k → IsRefusedField size fault_of bytes at fault
 
 -- a fault has this place and kind; of want of memory nothing is said

@@ -1,5 +1,5 @@
 -- Images: a configuration with its input pins and its output pins, and their bytes.
-use Rattle.std.specs.Prelude.{◌≡◌, ◌≢◌, ℕ, ◌+◌, ◌^◌, ◌<◌, ◌≤◌, ◌==◌, Bool, true, if◌then◌else◌, List, [], ◌∷◌, ◌++◌, map, length, codes, Option, Some, None, IfSome, slice_index_or, All, AllPairs, ◌⊎◌, refl}
+use Rattle.std.specs.Prelude.{◌≡◌, ◌≢◌, ℕ, ◌+◌, ◌<◌, ◌≤◌, ◌==◌, Bool, true, if◌then◌else◌, List, [], ◌∷◌, ◌++◌, map, length, codes, Option, Some, None, slice_index_or, All, AllPairs, ◌⊎◌, refl}
 use Rattle.std.specs.List.{range_with_len, flat_map}
 use Rattle.std.specs.FinSet as set
 use Rattle.std.specs.Coded.{Coded, code_by, coded×, coded_ℕ, coded_list}
@@ -20,15 +20,10 @@ pub record ImageValue : Type 0 where
   pub inputs : List ℕ
   pub outputs : List ℕ
 
--- the cells of a table that is on fit in eight bytes
-abbrev pub CellsFit : Option Setting → Type 0
-CellsFit o = IfSome o (λ s. s.cells < 2 ^ 64)
-
--- What is set is of the machine, and its cells fit. The pins are pins of the machine, each named once over both
+-- What is set is of the machine. The pins are pins of the machine, each named once over both
 -- lists, and no more than 1,048,576 crosspoints are closed.
 pub record IsImage (i : ImageValue) : Type 0 where
   pub config : IsConfiguration i.config
-  pub cells : All CellsFit i.config.tables
   pub within : All (λ k. k < pins_of i.config.shape) (i.inputs ++ i.outputs)
   pub apart : AllPairs (λ j k. j ≢ k) (i.inputs ++ i.outputs)
   pub few : set.len i.config.closed ≤ 1048576

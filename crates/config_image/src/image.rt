@@ -2,17 +2,14 @@
 
 ghost use Rattle.std.specs.Prelude.{◌≡◌, ◌≢◌, ◌<◌, ◌≤◌, ◌++◌, All, AllPairs};
 ghost use Rattle.std.specs.FinSet as set;
-ghost use Rattle.hierarchy.specs.Shape.{pins_of, tables_of};
-ghost use Rattle.config_set.specs.Configuration.{setting_of};
-ghost use Rattle.config_image.specs.Images.{IsImage, CellsFit};
+ghost use Rattle.hierarchy.specs.Shape.{pins_of};
+ghost use Rattle.config_image.specs.Images.{IsImage};
 
 use config_set::Config;
-use hierarchy::Table;
 use std::marker::Model;
 
 /// A configuration with its input pins and its output pins. They are pins of the machine, each named once over both
-/// lists; what is set is of the machine, the cells of each table that is on are 64 bits, and at most 1,048,576
-/// crosspoints are closed.
+/// lists; what is set is of the machine, and at most 1,048,576 crosspoints are closed.
 #[derive(Drop)]
 pub struct Image {
     config: Config,
@@ -32,23 +29,6 @@ impl Model for Image {
     ghost invariant = { λ i. IsImage (record { config = i.config.config; inputs = i.inputs.items; outputs = i.outputs.items }) };
 }
 
-/// The cells of a table are 64 bits, which is known of a setting once it is looked at.
-fn cells_fit(config: &Config, t: u32)
-    requires { t < tables_of config.now.config.shape }
-    ensures { CellsFit (setting_of config.now.config t) }
-{
-    let _setting = config.setting(Table(t));
-}
-
-/// So are those of all tables.
-fn all_cells_fit(config: &Config)
-    ensures { All CellsFit config.now.config.tables }
-{
-    'tables: for t in 0..config.shape().tables() {
-        cells_fit(config, t);
-    }
-}
-
 impl Image {
     /// An image of a configuration and of pins of its machine.
     pub fn new(config: Config, inputs: Vec<u32>, outputs: Vec<u32>) -> Image
@@ -58,7 +38,7 @@ impl Image {
         ensures value { result ≡ record { config = config.config; inputs = inputs.items; outputs = outputs.items } }
         ensures right { IsImage result }
     {
-        all_cells_fit(&config);
+        // Says that what is set is of the machine.
         let _shape = config.shape();
         Image {
             config,

@@ -7,8 +7,6 @@ mod image;
 mod kind;
 mod laws;
 mod read;
-#[cfg(test)]
-mod tests;
 mod touch;
 mod write;
 

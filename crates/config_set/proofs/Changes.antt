@@ -1,5 +1,5 @@
 -- Configurations after a change.
-use Rattle.std.proofs.Common.{◌≡◌, ℕ, ◌<◌, Bool, true, false, not, ◌||◌, ◌&&◌, Option, refl, sym, ap, ◌∙◌, subst, arith}
+use Rattle.std.proofs.Common.{◌≡◌, ℕ, ◌<◌, Bool, true, false, not, ◌||◌, ◌&&◌, None, Option, refl, sym, ap, ◌∙◌, subst, arith}
 use Rattle.std.specs.Ordering.{nat_cmp, eq_by_cmp}
 use Rattle.std.specs.Prelude.{◌==◌, if◌then◌else◌}
 use Rattle.std.specs.Cmp.{nat_cmp_total, unsigned_tied, Equal-is}
@@ -7,10 +7,11 @@ use Rattle.std.specs.FinSet as set_
 use Rattle.std.specs.FinSet.{contains-insert, contains-remove, contains-empty, same_set, nat_cmp-IsAntisymmetric}
 use Rattle.std.proofs.lemmas.Bool.{false≢true}
 use Rattle.std.proofs.lemmas.List.{length-set, length-replicate}
+use Rattle.std.proofs.lemmas.List.Elements.{All-replicate}
 use Rattle.hierarchy.specs.declared.Shape.{Shape}
-use Rattle.hierarchy.specs.Shape.{crosses_of}
+use Rattle.hierarchy.specs.Shape.{crosses_of, tables_of}
 use Rattle.config_set.specs.declared.Setting.{Setting}
-use Rattle.config_set.specs.Configuration.{Configuration, IsConfiguration, is_closed, cleared, with_closed, with_open, with_setting}
+use Rattle.config_set.specs.Configuration.{Configuration, CellsFit, IsConfiguration, is_closed, cleared, with_closed, with_open, with_setting}
 
 pub same_number : (a b : ℕ) → eq_by_cmp nat_cmp a b ≡ true → a ≡ b
 same_number a b e = nat_cmp-IsAntisymmetric a b ((Equal-is _).0 e)
@@ -75,17 +76,8 @@ remove_within s c n within x is = by_test (eq_by_cmp nat_cmp x c) (sym (contains
     by_test true i = absurd (false≢true i)
     by_test false i = within x i
 
-pub IsConfiguration-closed : (g : Configuration) (c : ℕ) → IsConfiguration g → c < crosses_of g.shape → IsConfiguration (with_closed g c)
-IsConfiguration-closed g c is h = record { crosses = insert_within g.closed c (crosses_of g.shape) is.crosses h; tables = is.tables; some_ticks = is.some_ticks; few_ticks = is.few_ticks }
-
-pub IsConfiguration-open : (g : Configuration) (c : ℕ) → IsConfiguration g → IsConfiguration (with_open g c)
-IsConfiguration-open g c is = record { crosses = remove_within g.closed c (crosses_of g.shape) is.crosses; tables = is.tables; some_ticks = is.some_ticks; few_ticks = is.few_ticks }
-
-pub IsConfiguration-setting : (g : Configuration) (t : ℕ) (s : Option Setting) → IsConfiguration g → IsConfiguration (with_setting g t s)
-IsConfiguration-setting g t s is = record { crosses = is.crosses; tables = length-set g.tables t s ∙ is.tables; some_ticks = is.some_ticks; few_ticks = is.few_ticks }
-
 pub IsConfiguration-cleared : (m : Shape) → IsConfiguration (cleared m)
-IsConfiguration-cleared m = record { crosses = λ x is. absurd (false≢true (sym (contains-empty nat_cmp x) ∙ is)); tables = length-replicate _ _; some_ticks = omega arith; few_ticks = omega arith }
+IsConfiguration-cleared m = record { crosses = λ x is. absurd (false≢true (sym (contains-empty nat_cmp x) ∙ is)); tables = length-replicate _ _; cells = All-replicate CellsFit (tables_of m) None tt; some_ticks = omega arith; few_ticks = omega arith }
 
 -- what is closed after a change
 pub is_closed-closed : (g : Configuration) (x y : ℕ) → is_closed (with_closed g x) y ≡ (if y == x then true else is_closed g y)

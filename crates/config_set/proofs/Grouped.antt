@@ -1,10 +1,10 @@
 -- What wires of two groups are joined to, and walks within a group.
-use Rattle.std.proofs.Common.{◌≡◌, ◌⊎◌, ℕ, Bool, true, false, Some, None, Option, List, [], ◌∷◌, ◌++◌, refl, sym, subst, inl, inr, arith}
+use Rattle.std.proofs.Common.{◌≡◌, ◌⊎◌, ◌<◌, ℕ, Bool, true, false, Some, None, Option, List, [], ◌∷◌, ◌++◌, refl, sym, subst, inl, inr, arith}
 use Rattle.std.specs.Prelude.{◌==◌}
 use Rattle.std.specs.List.{AllByRecursion}
 use Rattle.std.proofs.lemmas.Bool.Decides.{nat_tests}
 use Rattle.hierarchy.specs.declared.Shape.{Shape}
-use Rattle.hierarchy.specs.Shape.{Ends, in_order, turned, ends_of}
+use Rattle.hierarchy.specs.Shape.{Ends, in_order, turned, ends_of, crosses_of}
 use Rattle.hierarchy.specs.Faults.{Faults, stuck_cross, stuck_wire}
 use Rattle.hierarchy.specs.Joined.{Net, Linked, crossed, bridged, Joined, here, then, Shorted, net_of}
 use Rattle.config_set.specs.Groups.{among}
@@ -70,14 +70,19 @@ pub apart_from_one : (m : Shape) (f : Faults) (left right : ℕ → Bool) (t : �
 apart_from_one m f left right t apart n w is s = n (λ u on r. apart w u is on (Joined-trans s r))
 
 -- walks
-pub LeadsTo-push : {m : Shape} {a e b : ℕ} {xs ws : List ℕ} (x : ℕ) → LeadsTo m a xs ws e → Ends (ends_of m x) e b → LeadsTo m a (xs ++ x ∷ []) (ws ++ b ∷ []) b
-LeadsTo-push x ends at = goes at ends
-LeadsTo-push x (goes s more) at = goes s (LeadsTo-push x more at)
+pub LeadsTo-push : {m : Shape} {a e b : ℕ} {xs ws : List ℕ} (x : ℕ) → x < crosses_of m → LeadsTo m a xs ws e → Ends (ends_of m x) e b → LeadsTo m a (xs ++ x ∷ []) (ws ++ b ∷ []) b
+LeadsTo-push x h ends at = goes h at ends
+LeadsTo-push x h (goes below s more) at = goes below s (LeadsTo-push x h more at)
+
+-- one walk after another
+pub LeadsTo-then : {m : Shape} {a e d : ℕ} {xs ws ys vs : List ℕ} → LeadsTo m a xs ws e → LeadsTo m e ys vs d → (us : List ℕ) × LeadsTo m a (xs ++ ys) us d
+LeadsTo-then {vs = vs} ends q = (vs, q)
+LeadsTo-then {a = a} (goes below at p) q = let r = LeadsTo-then p q in (a ∷ r.0, goes below at r.1)
 
 -- a walk over crosspoints that conduct joins its start to its end
 pub LeadsTo-joined : {net : Net} {a e : ℕ} {xs ws : List ℕ} → LeadsTo net.shape a xs ws e → AllByRecursion (λ x. net.conducts x ≡ true) xs → Joined net a e
 LeadsTo-joined ends on = here
-LeadsTo-joined (goes {x = x} at more) on = Joined-trans (then here (crossed x on.0 at)) (LeadsTo-joined more on.1)
+LeadsTo-joined (goes {x = x} below at more) on = Joined-trans (then here (crossed x on.0 at)) (LeadsTo-joined more on.1)
 
 among_head : (a w : ℕ) (ws : List ℕ) → a ≡ w → among (a ∷ ws) w ≡ true
 among_head a w ws e = grind (arith, nat_tests)
@@ -87,11 +92,11 @@ among_tail a w ws e = grind (arith, nat_tests)
 
 pub LeadsTo-start : {m : Shape} {a e : ℕ} {xs ws : List ℕ} → LeadsTo m a xs ws e → among ws a ≡ true
 LeadsTo-start {a = a} ends = among_head a a [] refl
-LeadsTo-start {a = a} (goes {ws = ws} at more) = among_head a a ws refl
+LeadsTo-start {a = a} (goes {ws = ws} below at more) = among_head a a ws refl
 
 pub LeadsTo-end : {m : Shape} {a e : ℕ} {xs ws : List ℕ} → LeadsTo m a xs ws e → among ws e ≡ true
 LeadsTo-end {e = e} ends = among_head e e [] refl
-LeadsTo-end {a = a} {e = e} (goes {ws = ws} at more) = among_tail a e ws (LeadsTo-end more)
+LeadsTo-end {a = a} {e = e} (goes {ws = ws} below at more) = among_tail a e ws (LeadsTo-end more)
 
 ends_among : {m : Shape} (ws : List ℕ) {x a b : ℕ} → Ends (ends_of m x) a b → among ws a ≡ true → among ws b ≡ true → IsWithin m (among ws) x
 ends_among ws (in_order s t) p q = record { tap = subst (λ w. among ws w ≡ true) (sym s) p; line = subst (λ w. among ws w ≡ true) (sym t) q }
@@ -107,10 +112,19 @@ first_or_later y x xs is = by_test (y == x) refl
     by_test true e = inl (grind (arith, nat_tests))
     by_test false e = inr (grind (arith, nat_tests))
 
--- each crosspoint of a walk is within its wires
+-- each crosspoint of a walk is one of the machine
+pub LeadsTo-below : {m : Shape} {a e : ℕ} {xs ws : List ℕ} → LeadsTo m a xs ws e → (x : ℕ) → among xs x ≡ true → x < crosses_of m
+LeadsTo-below ends x is = cc
+LeadsTo-below {m} (goes {x = y} {xs = ys} below at more) x is = step (LeadsTo-below more x) (first_or_later y x ys is)
+  where
+    step : (among ys x ≡ true → x < crosses_of m) → (y ≡ x) ⊎ (among ys x ≡ true) → x < crosses_of m
+    step later (inl e) = subst (λ k. k < crosses_of m) e below
+    step later (inr h) = later h
+
+-- and within its wires
 pub LeadsTo-within : {m : Shape} {a e : ℕ} {xs ws : List ℕ} → LeadsTo m a xs ws e → (x : ℕ) → among xs x ≡ true → IsWithin m (among ws) x
 LeadsTo-within ends x is = cc
-LeadsTo-within {m} {a} (goes {b = b} {x = y} {xs = ys} {ws = ws} at more) x is = step (LeadsTo-within more x) (first_or_later y x ys is)
+LeadsTo-within {m} {a} (goes {b = b} {x = y} {xs = ys} {ws = ws} below at more) x is = step (LeadsTo-within more x) (first_or_later y x ys is)
   where
     step : (among ys x ≡ true → IsWithin m (among ws) x) → (y ≡ x) ⊎ (among ys x ≡ true) → IsWithin m (among (a ∷ ws)) x
     step later (inl e) = subst (IsWithin m (among (a ∷ ws))) e (ends_among (a ∷ ws) at (among_head a a ws refl) (among_tail a b ws (LeadsTo-start more)))

@@ -11,3 +11,4 @@ pub mod Parts
 pub mod Passing
 pub mod Loops
 pub mod Cells
+pub mod FirstReadings

@@ -12,7 +12,7 @@ use Rattle.hierarchy.specs.Defects.{IsClear}
 use Rattle.hierarchy.proofs.JoinedLemmas.{Joined-trans, Joined-sym, Joined-Shorted}
 use Rattle.hierarchy.proofs.Values.{swings, apart}
 use Rattle.config_set.specs.Run.{Cycle, Cycles, none, cycle}
-use Rattle.config_set.specs.Route.{Leads, stays, leads}
+use Rattle.config_set.specs.Route.{LeadsTo, ends, goes}
 use Rattle.config_set.specs.Configuration.{Configuration, is_closed}
 use Rattle.config_set.specs.Faulty.{IsRun}
 
@@ -24,9 +24,9 @@ module _ {c : Circuit} {before after : Outputs} {drive read : Pins} where
       subst (IsValue c drive s.outputs (pin_wire c.net.shape k)) (is ∙ e) (s.values _)
 
 -- a route's wires are joined to where it starts
-pub Leads-joined : {net : Net} {start a : ℕ} {xs ws : List ℕ} → Joined net start a → Leads net.shape a xs ws → AllByRecursion (λ x. net.conducts x ≡ true) xs → AllByRecursion (λ w. Joined net start w) ws
-Leads-joined j stays on = (j, tt)
-Leads-joined j (leads {x = x} at more) on = (j, Leads-joined (then j (crossed x on.0 at)) more on.1)
+pub LeadsTo-all : {net : Net} {start a e : ℕ} {xs ws : List ℕ} → Joined net start a → LeadsTo net.shape a xs ws e → AllByRecursion (λ x. net.conducts x ≡ true) xs → AllByRecursion (λ w. Joined net start w) ws
+LeadsTo-all j ends on = (j, tt)
+LeadsTo-all j (goes {x = x} below at more) on = (j, LeadsTo-all (then j (crossed x on.0 at)) more on.1)
 
 clear_of : (o : Option Bool) → ((b : Bool) → o ≡ Some b → ⊥) → o ≡ None
 clear_of None n = refl
@@ -66,5 +66,5 @@ module _ (f : Faults) (g : Configuration) where
   all_conduct [] p q = tt
   all_conduct (x ∷ xs) p q = (conducting (stuck_cross f x) (is_closed g x) p.0 q.0, all_conduct xs p.1 q.1)
 
-  pub route_joined : {a : ℕ} {xs ws : List ℕ} → Leads g.shape a xs ws → AllByRecursion (λ x. is_closed g x ≡ true) xs → AllByRecursion (λ x. stuck_cross f x ≡ None) xs → AllByRecursion (λ w. Joined (net_of g.shape f (is_closed g)) a w) ws
-  route_joined {xs = xs} l p q = Leads-joined here l (all_conduct xs p q)
+  pub route_joined : {a e : ℕ} {xs ws : List ℕ} → LeadsTo g.shape a xs ws e → AllByRecursion (λ x. is_closed g x ≡ true) xs → AllByRecursion (λ x. stuck_cross f x ≡ None) xs → AllByRecursion (λ w. Joined (net_of g.shape f (is_closed g)) a w) ws
+  route_joined {xs = xs} l p q = LeadsTo-all here l (all_conduct xs p q)

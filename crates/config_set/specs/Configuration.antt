@@ -1,5 +1,5 @@
 -- A configuration: what is set on a machine.
-use Rattle.std.specs.Prelude.{◌≡◌, ℕ, ◌^◌, ◌<◌, ◌≤◌, Bool, true, false, ◌==◌, Option, None, List, length, if◌then◌else◌, slice_index_or, slice_set, bit_xor, replicate, refl}
+use Rattle.std.specs.Prelude.{◌≡◌, ℕ, ◌^◌, ◌<◌, ◌≤◌, Bool, true, false, ◌==◌, Option, None, List, All, IfSome, length, if◌then◌else◌, slice_index_or, slice_set, bit_xor, replicate, refl}
 use Rattle.std.specs.Int.{bit_at}
 use Rattle.std.specs.Ordering.{nat_cmp}
 use Rattle.std.specs.FinSet as set
@@ -17,10 +17,15 @@ pub record Configuration : Type 0 where
   pub tables : List (Option Setting)
   pub ticks : ℕ
 
+-- a table that is on has 64 cells
+abbrev pub CellsFit : Option Setting → Type 0
+CellsFit o = IfSome o (λ s. s.cells < 2 ^ 64)
+
 -- it is one of its machine
 pub record IsConfiguration (g : Configuration) : Type 0 where
   pub crosses : (x : ℕ) → set.contains g.closed x ≡ true → x < crosses_of g.shape
   pub tables : length g.tables ≡ tables_of g.shape
+  pub cells : All CellsFit g.tables
   pub some_ticks : 1 ≤ g.ticks
   pub few_ticks : g.ticks ≤ 4096
 

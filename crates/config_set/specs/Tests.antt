@@ -2,7 +2,7 @@
 use Rattle.std.specs.Prelude.{◌≡◌, ◌≢◌, ◌⊎◌, ℕ, ◌<◌, Bool, true, false, Some, None, List, map, slice_index_or}
 use Rattle.std.specs.List.{AllByRecursion, range_with_len}
 use Rattle.hierarchy.specs.Shape.{Ends, ends_of, pin_wire, table_wire, pins_of}
-use Rattle.hierarchy.specs.Faults.{Faults, stuck_cross, wrong_cell}
+use Rattle.hierarchy.specs.Faults.{Faults, stuck_cross, wrong_cell, stuck_register}
 use Rattle.hierarchy.specs.Joined.{Joined, net_of}
 use Rattle.config_set.specs.Run.{number_of}
 use Rattle.hierarchy.specs.Sound.{IsSoundWire}
@@ -71,4 +71,16 @@ pub record IsCellTest (f : Faults) (g : Configuration) (t a : ℕ) (s : Setting)
       ((bits j ≡ false) × (left (table_wire g.shape t j) ≡ true) × Joined (net_of g.shape f (is_closed g)) (table_wire g.shape t j) (pin_wire g.shape k)) ⊎
       ((bits j ≡ true) × IsSoundWire g.shape f (table_wire g.shape t j) × (left (table_wire g.shape t j) ≡ false) × (right (table_wire g.shape t j) ≡ false))
   pub number : number_of (map bits (range_with_len 0 6)) ≡ a
+  pub led : Joined (net_of g.shape f (is_closed g)) (pin_wire g.shape l) (table_wire g.shape t 6)
+
+-- One table is on and latched, and its register isn't stuck. Its output is led to the right pin, and each pin that is
+-- driven 0 is in the left group.
+pub record IsRegisterTest (f : Faults) (g : Configuration) (t : ℕ) (s : Setting) (left right : ℕ → Bool) (drive : Pins) (l : ℕ) : Type 0 where
+  pub on : setting_of g t ≡ Some s
+  pub off : (u : ℕ) → u ≢ t → setting_of g u ≡ None
+  pub latched : s.latched ≡ true
+  pub not_stuck : stuck_register f t ≡ None
+  pub groups : AreGroups g.shape f (is_closed g) left right
+  pub l_right : right (pin_wire g.shape l) ≡ true
+  pub quiet : (j : ℕ) → slice_index_or drive j true ≡ false → left (pin_wire g.shape j) ≡ true
   pub led : Joined (net_of g.shape f (is_closed g)) (pin_wire g.shape l) (table_wire g.shape t 6)

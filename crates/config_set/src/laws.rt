@@ -10,9 +10,9 @@ ghost use Rattle.hierarchy.specs.Shape.{pin_wire, pins_of};
 ghost use Rattle.config_set.specs.Configuration.{Configuration, IsConfiguration, is_closed, setting_of, with_closed, with_open, with_setting, cell_of, with_cell, with_init};
 ghost use Rattle.config_set.specs.Faulty.{circuit_of, IsRun};
 ghost use Rattle.config_set.specs.Groups.{AreGroups};
-ghost use Rattle.config_set.specs.Route.{Leads};
+ghost use Rattle.config_set.specs.Route.{LeadsTo};
 ghost use Rattle.config_set.specs.Run.{Cycle, Cycles, at_load};
-ghost use Rattle.config_set.specs.Tests.{AreOff, AreReleased, IsDrivenAlone, IsLoop, IsCellTest};
+ghost use Rattle.config_set.specs.Tests.{AreOff, AreReleased, IsDrivenAlone, IsLoop, IsCellTest, IsRegisterTest};
 ghost use Rattle.config_set.specs.declared.Setting.{Setting};
 
 /// What is closed once a crosspoint is closed or opened. Closing a closed one and opening an open one
@@ -95,14 +95,14 @@ pub fn apart_shows()
 
 /// The wires of a route of closed crosspoints that aren't stuck are joined to its start.
 pub fn routes_are_joined()
-    ensures { (f : Faults) (g : Configuration) (a : ℕ) (xs ws : List ℕ) → Leads g.shape a xs ws →
+    ensures { (f : Faults) (g : Configuration) (a e : ℕ) (xs ws : List ℕ) → LeadsTo g.shape a xs ws e →
         AllByRecursion (λ x. is_closed g x ≡ true) xs → AllByRecursion (λ x. stuck_cross f x ≡ None) xs →
         AllByRecursion (λ w. Joined (net_of g.shape f (is_closed g)) a w) ws }
 {}
 
 /// Where all tables are off, closed crosspoints have both ends in one of two groups of wires, no wire of these
 /// is shorted to a stuck one, and none of one group to one of the other, the tests of wires and crosspoints
-/// pass. So does that of a cell, where one table alone is on.
+/// pass. So do those of a cell and of a register, where one table alone is on.
 pub fn tests_pass()
     ensures apart { (f : Faults) (g : Configuration) (left right : ℕ → Bool) (drive r : Pins) (k l : ℕ) → AreOff g → AreGroups g.shape f (is_closed g) left right →
         k < pins_of g.shape → l < pins_of g.shape → left (pin_wire g.shape k) ≡ true → right (pin_wire g.shape l) ≡ true → IsDrivenAlone drive k →
@@ -114,4 +114,6 @@ pub fn tests_pass()
         IsRun f g (drive ∷ []) (r ∷ []) → IsRun f (with_open g x) (drive ∷ []) (q ∷ []) → (slice_index_or r l true ≡ false) × (slice_index_or q l true ≡ true) }
     ensures cell { (f : Faults) (g : Configuration) (t a k l : ℕ) (s : Setting) (left right bits : ℕ → Bool) (drive r : Pins) → IsCellTest f g t a s left right bits k l → IsDrivenAlone drive k →
         l < pins_of g.shape → IsRun f g (drive ∷ []) (r ∷ []) → slice_index_or r l true ≡ cell_of s a }
+    ensures register { (f : Faults) (g : Configuration) (t l : ℕ) (s : Setting) (left right : ℕ → Bool) (drive r : Pins) →
+        IsRegisterTest f g t s left right drive l → l < pins_of g.shape → IsRun f g (drive ∷ []) (r ∷ []) → slice_index_or r l true ≡ s.init }
 {}

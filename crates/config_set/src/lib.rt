@@ -9,8 +9,6 @@ ghost use Rattle.config_set.specs.Configuration.{IsConfiguration, cleared, is_cl
 
 pub mod laws;
 mod lists;
-#[cfg(test)]
-mod tests;
 
 use hierarchy::{Cross, Shape, Table};
 use lists::{open_all, place_of, switch_all_off};

@@ -1,5 +1,3 @@
-pub mod Walk
-pub mod Drives
 pub mod PinValues
 pub mod Turns
 pub mod OnTree

@@ -2,8 +2,7 @@
 use Rattle.std.proofs.Common.{◌≡◌, ◌⊎◌, ℕ, ◌+◌, ◌<◌, Bool, true, false, Some, None, Option, List, length, get_or, refl, sym, ap, ◌∙◌, subst, inl, inr, arith}
 use Rattle.std.proofs.lemmas.Bool.{false≢true, cases_Bool}
 use Rattle.std.proofs.lemmas.List.{get_or_append_left, get_or-append-add, length-append, length-map}
-use Rattle.hierarchy.specs.declared.Shape.{Shape}
-use Rattle.hierarchy.specs.Shape.{Ends, in_order, turned, ends_of, pin_wire, table_wire, pins_of, tables_of, wires_of, crosses_of}
+use Rattle.hierarchy.specs.Shape.{Ends, in_order, turned, ends_of, pin_wire, table_wire, pins_of, tables_of, crosses_of}
 use Rattle.hierarchy.specs.Laws.{IsNumbered}
 use Rattle.hierarchy.specs.Faults.{Faults}
 use Rattle.hierarchy.specs.Joined.{Joined, here, plain_net}
@@ -15,6 +14,8 @@ use Rattle.hierarchy.proofs.Covered.{none_stuck, joined_plainly}
 use Rattle.config_set.specs.Configuration.{Configuration, is_closed, setting_of}
 use Rattle.config_set.specs.Faulty.{circuit_of}
 use Rattle.config_image.specs.Images.{drive_on}
+use Rattle.config_image.proofs.Driven.{drive_pin, drive_low}
+use Rattle.config_image.proofs.FreeWires.{IsGood, IsOff, joined_too, keeps}
 use Rattle.table_map.specs.declared.source.Source.{Source}
 use Rattle.table_map.specs.declared.source.Source.TheVariants.{Input, Table}
 use Rattle.table_map.specs.declared.network.Network.{Network}
@@ -23,8 +24,6 @@ use Rattle.table_map.specs.Rows.{bit_of}
 use Rattle.place.specs.declared.plan.Plan.{Plan}
 use Rattle.place.specs.Plans.{place_of, places, number_of, driver_of, net_of, drives}
 use Rattle.crossbar_route.specs.Layouts.{reader_of, IsLaidOut}
-use Rattle.crossbar_route.proofs.Walk.{Joined-plain, keeps}
-use Rattle.crossbar_route.proofs.Drives.{drive_pin, drive_low}
 
 -- sources of one net are one
 pub net_of-same : (n : Network) (s r : Source) → IsSourceOf n s → IsSourceOf n r → net_of n s ≡ net_of n r → s ≡ r
@@ -32,14 +31,6 @@ net_of-same n (Input k) (Input l) hs hr e = ap Input e
 net_of-same n (Input k) (Table l) hs hr e = absurd (omega arith)
 net_of-same n (Table k) (Input l) hs hr e = absurd (omega arith)
 net_of-same n (Table k) (Table l) hs hr e = ap Table (omega arith)
-
-pub record IsGood (m : Shape) (d : Defects) (w : ℕ) : Type 0 where
-  pub within : w < wires_of m
-  pub free : IsFreeWire d w
-
--- each table that is off gives 1
-abbrev pub IsOff : Configuration → Outputs → Type 0
-IsOff g o = (t : ℕ) → setting_of g t ≡ None → o t ≡ true
 
 -- what the network's tables give
 abbrev pub given : Plan → Outputs → ℕ → Bool
@@ -145,7 +136,7 @@ module _ (d : Defects) (n : Network) (p : Plan) (g : Configuration) (has : ℕ �
 
     -- what is joined to a source's driver by closed crosspoints has the source's bit
     pub read_value : (s : Source) (w : ℕ) (b : Bool) → IsSourceOf n s → IsOff g o → Joined (plain_net g.shape (is_closed g)) (driver_of g.shape p s) w → IsValue (circuit_of f g) (drive_on (pins_of g.shape) p.inputs vector) o w b → b ≡ bit_of vector (given p o) s
-    read_value s w b of off j v = driver_value s b of off (IsValue-along (Joined-plain g.shape (is_closed g) d f covers free j) v)
+    read_value s w b of off j v = driver_value s b of off (IsValue-along (joined_too g.shape (is_closed g) d f covers free j) v)
 
     -- a good wire of no net is 1
     pub idle_value : (w : ℕ) (b : Bool) → IsGood g.shape d w → ((l : ℕ) → ¬ has l w) → IsOff g o → IsValue (circuit_of f g) (drive_on (pins_of g.shape) p.inputs vector) o w b → b ≡ true

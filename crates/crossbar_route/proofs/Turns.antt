@@ -1,23 +1,23 @@
 -- What an image's tables give, tick by tick and cycle by cycle, where its nets are laid on free parts.
-use Rattle.std.proofs.Common.{◌≡◌, ◌⊎◌, ℕ, suc, ◌+◌, ◌*◌, ◌^◌, ◌<◌, ◌≤◌, Bool, true, false, Some, None, Option, List, [], ◌∷◌, length, get_or, map, refl, sym, ap, ◌∙◌, inl, inr, arith}
+use Rattle.std.proofs.Common.{◌≡◌, ◌⊎◌, ℕ, suc, ◌+◌, ◌*◌, ◌^◌, ◌<◌, ◌≤◌, Bool, true, false, None, List, [], ◌∷◌, length, get_or, map, refl, sym, ap, ◌∙◌, subst, inl, inr, arith}
 use Rattle.std.specs.Prelude.{if◌then◌else◌}
 use Rattle.std.specs.List.{All, range_with_len, Contains}
 use Rattle.std.proofs.lemmas.Bool.{cases_lt, cases_Bool}
 use Rattle.std.proofs.lemmas.List.{get_or_past, get_or_default, get_or-map, ext_get_or, length-map}
 use Rattle.std.proofs.lemmas.List.Elements.{Contains-get_or}
-use Rattle.std.proofs.lemmas.List.FromFn.{get_or-map-range_with_len, length-map-range_with_len, fill_by_all}
-use Rattle.std.proofs.Math.Nat.{pow-succ'}
+use Rattle.std.proofs.lemmas.List.FromFn.{get_or-map-range_with_len}
 use Rattle.hierarchy.specs.Shape.{pin_wire, pins_of}
 use Rattle.hierarchy.specs.Laws.{IsNumbered}
 use Rattle.hierarchy.specs.Faults.{Faults, wrong_cell, stuck_register}
 use Rattle.hierarchy.specs.Circuit.{Outputs, Pins}
 use Rattle.hierarchy.specs.Value.{IsValue, AreValues}
-use Rattle.config_set.specs.Run.{number_of, address_at, pins_read, first_output, tick_output, edge_output, after_tick, after_edge, Ticks, unticked, tick, Cycles, none, cycle}
+use Rattle.config_set.specs.Run.{number_of, address_at, pins_read, tick_output, edge_output, after_tick, after_edge, Ticks, unticked, tick, Cycles, none, cycle}
 use Rattle.hierarchy.specs.Defects.{Defects, Covers}
-use Rattle.config_set.specs.declared.Setting.{Setting}
-use Rattle.config_set.specs.Configuration.{Configuration, setting_of, cell_of}
+use Rattle.config_set.specs.Configuration.{Configuration, setting_of}
 use Rattle.config_set.specs.Faulty.{circuit_of, table_or_off}
 use Rattle.config_image.specs.Images.{drive_on, row_at}
+use Rattle.config_image.proofs.Driven.{number_below, same_map, tick_of, edge_of, first_of}
+use Rattle.config_image.proofs.FreeWires.{IsOff}
 use Rattle.table_map.specs.declared.source.Source.{Source}
 use Rattle.table_map.specs.declared.source.Source.TheVariants.{Input, Table}
 use Rattle.table_map.specs.declared.network.Network.{Network}
@@ -28,41 +28,15 @@ use Rattle.place.specs.declared.plan.Plan.{Plan}
 use Rattle.crossbar_route.specs.RightImages.{ReadsRows}
 use Rattle.place.specs.Plans.{place_of, net_of, IsTerminal, drives, reads, shows}
 use Rattle.crossbar_route.specs.Layouts.{reader_of, shower_of, IsLaidOut, setting_in, image_at}
-use Rattle.crossbar_route.proofs.PinValues.{IsOff, given, output_within, table_on, table_within, pin_good, read_value, idle_value}
-
-below_two_more : (b : Bool) (n m : ℕ) → n < m → (if b then 1 else 0) + 2 * n < 2 * m
-below_two_more true n m h = omega arith
-below_two_more false n m h = omega arith
+use Rattle.crossbar_route.proofs.PinValues.{given, output_within, table_on, table_within, pin_good, read_value, idle_value}
 
 -- the two numbers of bits are one
-pub same_number : (bs : List Bool) → number_of bs ≡ network.number_of bs
+same_number : (bs : List Bool) → number_of bs ≡ network.number_of bs
 same_number [] = refl
 same_number (b ∷ bs) = ap (λ k. (if b then 1 else 0) + 2 * k) (same_number bs)
 
-pub number_below : (bs : List Bool) → network.number_of bs < 2 ^ length bs
-number_below [] = omega arith
-number_below (b ∷ bs) = rw pow-succ' (below_two_more b (network.number_of bs) (2 ^ length bs) (number_below bs))
-
-pub same_map : {X : Type 0} (f h : ℕ → X) (n : ℕ) (d : X) → ((k : ℕ) → k < n → f k ≡ h k) → map f (range_with_len 0 n) ≡ map h (range_with_len 0 n)
-same_map f h n d same = fill_by_all h (map f (range_with_len 0 n)) n d (length-map-range_with_len f 0 n) (λ k l. get_or-map-range_with_len f 0 n k k d l (omega arith) ∙ same k l)
-
--- a table on free parts does as its setting says
-pub tick_of : (f : Faults) (t : ℕ) (o : Option Setting) (s : Setting) (a : ℕ) (old : Bool) → o ≡ Some s → wrong_cell f t a ≡ None → tick_output (table_or_off f t o) a old ≡ (if s.latched then old else cell_of s a)
-tick_of f t o s a old e free = rw e (rw free refl)
-
-pub edge_of : (f : Faults) (t : ℕ) (o : Option Setting) (s : Setting) (a : ℕ) (old : Bool) → o ≡ Some s → wrong_cell f t a ≡ None → stuck_register f t ≡ None → edge_output (table_or_off f t o) a old ≡ (if s.latched then cell_of s a else old)
-edge_of f t o s a old e free loose = rw e (by s.latched refl)
-  where
-    by : (b : Bool) → s.latched ≡ b → edge_output (table_or_off f t (Some s)) a old ≡ (if s.latched then cell_of s a else old)
-    by true q = rw (q, free, loose) refl
-    by false q = rw q refl
-
-pub first_of_loose : (f : Faults) (t : ℕ) (o : Option Setting) (s : Setting) → o ≡ Some s → stuck_register f t ≡ None → first_output (table_or_off f t o) ≡ s.init
-first_of_loose f t o s e loose = rw e (by s.latched refl)
-  where
-    by : (b : Bool) → s.latched ≡ b → first_output (table_or_off f t (Some s)) ≡ s.init
-    by true q = rw (q, loose) refl
-    by false q = rw q refl
+low_number : (bs : List Bool) → network.number_of bs < 2 ^ length bs
+low_number bs = subst (λ k. k < 2 ^ length bs) (same_number bs) (number_below bs)
 
 module _ (d : Defects) (n : Network) (p : Plan) (g : Configuration) (has : ℕ → ℕ → Type 0) (f : Faults) (numbered : IsNumbered g.shape) (formed : IsNetwork n) (laid : IsLaidOut d n p g has) (covers : Covers g.shape d f) where
   -- the wire of a source's reader has the source's bit
@@ -95,7 +69,7 @@ module _ (d : Defects) (n : Network) (p : Plan) (g : Configuration) (has : ℕ �
     ticked : (j : ℕ) → j < length n.tables → after_tick (circuit_of f g) value o (place_of p j) ≡ (if (table_at n j).latched then o (place_of p j) else truth vector (given p o) (table_at n j))
     ticked j h =
         let a = network.number_of (net_pins vector (given p o) (table_at n j).ins) in
-        let low : a < 64 = number_below (net_pins vector (given p o) (table_at n j).ins) in
+        let low : a < 64 = low_number (net_pins vector (given p o) (table_at n j).ins) in
         ap (λ x. tick_output (table_or_off f (place_of p j) (setting_of g (place_of p j))) x (o (place_of p j))) (address_same j h)
         ∙ tick_of f (place_of p j) (setting_of g (place_of p j)) (setting_in (table_at n j)) a (o (place_of p j)) (laid.set.settings j h) (no_wrong_cell j a h low)
 
@@ -105,7 +79,7 @@ module _ (d : Defects) (n : Network) (p : Plan) (g : Configuration) (has : ℕ �
     edged : (j : ℕ) → j < length n.tables → after_edge (circuit_of f g) value o (place_of p j) ≡ (if (table_at n j).latched then truth vector (given p o) (table_at n j) else o (place_of p j))
     edged j h =
         let a = network.number_of (net_pins vector (given p o) (table_at n j).ins) in
-        let low : a < 64 = number_below (net_pins vector (given p o) (table_at n j).ins) in
+        let low : a < 64 = low_number (net_pins vector (given p o) (table_at n j).ins) in
         ap (λ x. edge_output (table_or_off f (place_of p j) (setting_of g (place_of p j))) x (o (place_of p j))) (address_same j h)
         ∙ edge_of f (place_of p j) (setting_of g (place_of p j)) (setting_in (table_at n j)) a (o (place_of p j)) (laid.set.settings j h) (no_wrong_cell j a h low) (loose j h)
 
@@ -206,7 +180,7 @@ module _ (d : Defects) (n : Network) (p : Plan) (g : Configuration) (has : ℕ �
 
     pub route_reads_rows : ReadsRows f (image_at p g) (AreRows n)
     route_reads_rows vectors got long run = rows_from (first_state n) vectors long (λ t e. rw e refl)
-        (λ j is. first_of_loose f (place_of p j) (setting_of g (place_of p j)) (setting_in (table_at n j)) (laid.set.settings j is.within) (loose_at j is.within)) run.cycles
+        (λ j is. first_of f (place_of p j) (setting_of g (place_of p j)) (setting_in (table_at n j)) (laid.set.settings j is.within) (loose_at j is.within)) run.cycles
       where
         loose_at : (j : ℕ) → j < length n.tables → stuck_register f (place_of p j) ≡ None
         loose_at j h = covers.registers (place_of p j) (table_within d n p g has f numbered formed laid covers j h) (table_on d n p g has f numbered formed laid covers j h)

@@ -1,4 +1,4 @@
--- When an image does what a netlist says.
+-- When an image does what a network or a netlist says.
 use Rattle.std.specs.Prelude.{◌≡◌, List, Bool, map, length}
 use Rattle.std.specs.List.{All}
 use Rattle.hierarchy.specs.Faults.{Faults}
@@ -7,12 +7,18 @@ use Rattle.config_set.specs.Faulty.{IsRun}
 use Rattle.config_image.specs.Images.{ImageValue, drive_of, row_of}
 use Rattle.netlist.specs.declared.draft.Draft.{Draft}
 use Rattle.netlist.specs.Rows as netlist
+use Rattle.table_map.specs.declared.network.Network.{Network}
+use Rattle.table_map.specs.Rows.{AreRows}
 
 -- Under the faults, the run with each vector on the input pins, and 1 on all others, reads at the output pins rows that
 -- the relation allows for the vectors.
 abbrev pub ReadsRows : Faults → ImageValue → (List (List Bool) → List (List Bool) → Type 0) → Type 0
 ReadsRows f i Rows = (vectors : List (List Bool)) (reads : List Pins) → All (λ v. length v ≡ length i.inputs) vectors →
     IsRun f i.config (map (drive_of i) vectors) reads → Rows vectors (map (row_of i) reads)
+
+-- it reads the network's rows
+abbrev pub IsRightForNetwork : Faults → ImageValue → Network → Type 0
+IsRightForNetwork f i n = ReadsRows f i (AreRows n)
 
 -- it reads the netlist's rows
 abbrev pub IsRightImage : Faults → ImageValue → Draft → Type 0

@@ -100,6 +100,7 @@ pub fn switch_all_on(config: &mut Config, seats: &[Table], tables: &[NetTable])
     requires apart { AllPairs (λ t u. t.0 ≢ u.0) seats.now }
     ensures { SwitchesOn seats.now tables.now (length seats.now) config.old.config config.new.config }
 {
+    // Says that there is a place for each table of the machine.
     let _shape = config.shape();
     for j in 0..seats.len() {
         let table = &tables[j];

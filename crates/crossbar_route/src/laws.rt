@@ -1,14 +1,16 @@
 //! That nets which are laid on free parts read their network's rows, whatever faults a list covers.
-ghost use Rattle.std.specs.Prelude.{◌≡◌, ◌≤◌, ℕ, Option, Some};
+ghost use Rattle.std.specs.Prelude.{◌≡◌, ℕ, Option, Some};
 ghost use Rattle.hierarchy.specs.Defects.{Defects, Covers};
 ghost use Rattle.hierarchy.specs.Faults.{Faults};
 ghost use Rattle.config_set.specs.Configuration.{Configuration, is_closed};
 ghost use Rattle.config_image.specs.Parts.{IsFreeImage};
 ghost use Rattle.table_map.specs.declared.network.Network.{Network};
 ghost use Rattle.table_map.specs.Networks.{IsNetwork, IsDeepest};
-ghost use Rattle.table_map.specs.Rows.{AreRows};
+ghost use Rattle.netlist.specs.declared.draft.Draft.{Draft};
+ghost use Rattle.config_image.specs.Images.{ImageValue};
+ghost use Rattle.table_map.specs.Rows.{HasRowsOf};
 ghost use Rattle.place.specs.declared.plan.Plan.{Plan};
-ghost use Rattle.crossbar_route.specs.RightImages.{ReadsRows};
+ghost use Rattle.crossbar_route.specs.RightImages.{IsRightForNetwork, IsRightImage};
 ghost use Rattle.place.specs.Plans.{IsPlan, IsTerminal};
 ghost use Rattle.crossbar_route.specs.Layouts.{IsSet, IsLaidOut, image_at};
 ghost use Rattle.crossbar_route.specs.Trees.{IsLaidOnTree};
@@ -17,7 +19,7 @@ ghost use Rattle.crossbar_route.specs.Trees.{IsLaidOnTree};
 /// together, the image reads the network's rows.
 pub fn laid_out_nets_read_rows()
     ensures { (f : Faults) (d : Defects) (n : Network) (p : Plan) (g : Configuration) (owner : ℕ → Option ℕ) → IsNetwork n →
-        IsLaidOut d n p g (λ k w. owner w ≡ Some k) → IsDeepest n g.ticks → Covers g.shape d f → ReadsRows f (image_at p g) (AreRows n) }
+        IsLaidOut d n p g (λ k w. owner w ≡ Some k) → IsDeepest n g.ticks → Covers g.shape d f → IsRightForNetwork f (image_at p g) n }
 {
     hierarchy::the_numbering_is_sound();
 }
@@ -28,7 +30,13 @@ pub fn nets_on_the_tree_read_rows()
     ensures free { (d : Defects) (n : Network) (p : Plan) (g : Configuration) → IsPlan g.shape d n p → IsSet d n p g → IsFreeImage d (image_at p g) }
     ensures rows { (f : Faults) (d : Defects) (n : Network) (p : Plan) (g : Configuration) (line port : ℕ → ℕ → Option ℕ) → IsNetwork n →
         IsPlan g.shape d n p → IsSet d n p g → IsLaidOnTree g.shape (IsTerminal g.shape n p) (is_closed g) (λ a k w. line a k ≡ Some w) (λ a k w. port a k ≡ Some w) →
-        IsDeepest n g.ticks → Covers g.shape d f → ReadsRows f (image_at p g) (AreRows n) }
+        IsDeepest n g.ticks → Covers g.shape d f → IsRightForNetwork f (image_at p g) n }
 {
     hierarchy::the_numbering_is_sound();
 }
+
+/// An image that reads a network's rows is right for each netlist whose rows are the network's.
+pub fn an_image_is_right_for_the_netlists_of_its_network()
+    ensures { (f : Faults) (i : ImageValue) (n : Network) (netlist : Draft) → HasRowsOf n netlist →
+        IsRightForNetwork f i n → IsRightImage f i netlist }
+{}

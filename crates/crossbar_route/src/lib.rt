@@ -6,9 +6,10 @@ mod laws;
 mod lines;
 mod owners;
 mod routing;
-#[cfg(test)]
-mod tests;
 mod ticks;
 
-pub use laws::{laid_out_nets_read_rows, nets_on_the_tree_read_rows};
+pub use laws::{
+    an_image_is_right_for_the_netlists_of_its_network, laid_out_nets_read_rows,
+    nets_on_the_tree_read_rows,
+};
 pub use routing::route;

@@ -9,7 +9,7 @@ ghost use Rattle.config_image.specs.Parts.{IsFreeImage};
 ghost use Rattle.table_map.specs.Networks.{IsNetwork};
 ghost use Rattle.table_map.specs.Rows.{HasRowsOf};
 ghost use Rattle.place.specs.Plans.{Fits, IsPlan};
-ghost use Rattle.crossbar_route.specs.RightImages.{IsRightImage};
+ghost use Rattle.crossbar_route.specs.RightImages.{IsRightForNetwork, IsRightImage};
 ghost use Rattle.crossbar_route.specs.Routed.{AreWiresOf, IsJoined, IsLaidBy, IsRouteOf, IsRouted};
 ghost use Rattle.crossbar_route.specs.Ticks.{AreTicks};
 
@@ -26,7 +26,7 @@ use std::alloc::{AllocError, Global};
 use table_map::Network;
 use tm_items::Items;
 
-// A machine has few tables and pins.
+// A machine has few tables, pins and wires, as the counts of its shape say.
 fn counts_are_few(shape: &Shape)
     ensures tables { tables_of shape.now ≤ 4096 }
     ensures pins { pins_of shape.now ≤ 16384 }
@@ -124,8 +124,8 @@ fn draw(
     Ok(image)
 }
 
-/// The image of a network on a plan that fits. Its tables do what the network's do, and nothing is used that the list
-/// names: it reads the rows of each netlist whose rows are the network's, under all faults that the list covers.
+/// The image of a network on a plan that fits. Nothing is used that the list names, and under all faults that the list
+/// covers it reads the network's rows, and so the rows of each netlist whose rows are the network's.
 ///
 /// The j-th net that crosses a node has the j-th free port of it. Each net that visits a node has a line of its own there,
 /// and the closed crosspoints are those of the nets' lines and taps. A cycle takes as many ticks as the network is deep,
@@ -145,6 +145,7 @@ pub fn route(
     requires fits { Fits defects.now.shape defects.now.list network.now plan.now }
     ensures route { IfOk result (IsRouteOf defects.now.shape defects.now.list network.now plan.now) }
     ensures free { IfOk result (IsFreeImage defects.now.list) }
+    ensures rows { IfOk result (λ i. (f : Faults) → Covers defects.now.shape defects.now.list f → IsRightForNetwork f i network.now) }
     ensures right { IfOk result (λ i. (netlist : Draft) (f : Faults) → HasRowsOf network.now netlist → Covers defects.now.shape defects.now.list f → IsRightImage f i netlist) }
 {
     hierarchy::the_numbering_is_sound();

@@ -12,13 +12,15 @@ use Rattle.tm_text.proofs.NumberLemmas.{own}
 use Rattle.fault_model.specs.Text.{IsFaultText}
 use Rattle.fault_model.specs.Refusals.{most_bytes, IsFaultAt}
 use Rattle.fault_model.specs.declared.kind.FaultsKind.{FaultsKind}
+use Rattle.tm_outside.specs.Told.{Told, untold, absent, holds, bytes_of, IfTold}
 use Rattle.rig.specs.Rig.{IsNoText}
 use Rattle.cycle_sim.specs.Named.{number_of_word, generated_of}
 
-pub no_text : (m : Shape) (told : Option (List ℕ)) (text bytes : List ℕ) (line : ℕ) (kind : FaultsKind) → IfSome told (λ b. (text ≡ b) × (length b ≤ 16777216)) → bytes ≡ text → IsFaultAt m bytes line kind →
-    ((f : Faults) → IsFaultText m bytes f → length bytes ≤ most_bytes → ⊥) → IfSome told (λ b. IsNoText m b line kind)
-no_text m None text bytes line kind w e is only = tt
-no_text m (Some b) text bytes line kind w e is only =
+pub no_text : (m : Shape) (told : Told) (text bytes : List ℕ) (line : ℕ) (kind : FaultsKind) → IfTold told (λ b. (text ≡ b) × (length b ≤ 16777216)) → bytes ≡ text → IsFaultAt m bytes line kind →
+    ((f : Faults) → IsFaultText m bytes f → length bytes ≤ most_bytes → ⊥) → IfSome (bytes_of told) (λ b. IsNoText m b line kind)
+no_text m untold text bytes line kind w e is only = tt
+no_text m absent text bytes line kind w e is only = tt
+no_text m (holds b) text bytes line kind w e is only =
     subst (λ (l : List ℕ). IsNoText m l line kind) (e ∙ w.0) (record { first = is; too_long = λ f t. ⊎_elim (λ l. l) (λ l. absurd (only f t l)) (cases_lt most_bytes (length bytes)) })
 
 same_bytes : (xs ys : List ℕ) → xs ≡ ys → bytes_eq xs ys ≡ true

@@ -5,6 +5,7 @@ use Rattle.hierarchy.specs.declared.Shape.{Shape}
 use Rattle.hierarchy.specs.Faults.{Faults}
 use Rattle.tm_text.specs.Number.{read_on}
 use Rattle.tm_outside.specs.Counts.{Rose}
+use Rattle.tm_outside.specs.Told.{Told, bytes_of, IfTold}
 use Rattle.tm_outside.specs.Store.{StoreState}
 use Rattle.fault_model.specs.Text.{IsFaultText}
 use Rattle.fault_model.specs.Refusals.{most_bytes}
@@ -28,13 +29,13 @@ abbrev pub text_by : Option ℕ → Option (List ℕ) → Option (List ℕ)
 text_by (Some n) told = Some []
 text_by None told = told
 
-abbrev pub texts_of : (List ℕ → Option (List ℕ)) → List ℕ → Option (List ℕ)
-texts_of contents name = text_by (generated_of name) (contents name)
+abbrev pub texts_of : (List ℕ → Told) → List ℕ → Option (List ℕ)
+texts_of contents name = text_by (generated_of name) (bytes_of (contents name))
 
 -- the faults are those that the number makes, or else those that the file spells, where it is told
-abbrev pub AreNamed : Option ℕ → Shape → Option (List ℕ) → Faults → Type 0
+abbrev pub AreNamed : Option ℕ → Shape → Told → Faults → Type 0
 AreNamed (Some n) m told f = AreBenchFaults m n f
-AreNamed None m told f = IfSome told (λ bytes. IsFaultText m bytes f × (length bytes ≤ most_bytes))
+AreNamed None m told f = IfTold told (λ bytes. IsFaultText m bytes f × (length bytes ≤ most_bytes))
 
 -- the store was asked for nothing where the name has a number, and else for the name alone
 abbrev pub Asks : Option ℕ → List ℕ → StoreState → StoreState → Type 0
@@ -48,12 +49,12 @@ AsksAtMost None name old new = (new.asked ≡ old.asked) ⊎ (new.asked ≡ old.
 
 -- why the faults of a name aren't given
 abbrev pub NamesFail : AttachFail → Shape → Option (List ℕ) → StoreState → StoreState → Type 0
-NamesFail attach.Failed m told old new = Rose old.faults new.faults
+NamesFail attach.Failed m told old new = Rose old.failures new.failures
 NamesFail (attach.Faults (text.At line kind)) m told old new = IfSome told (λ bytes. IsNoText m bytes line kind)
 NamesFail (attach.Faults text.Memory) m told old new = ⊥
 NamesFail attach.Memory m told old new = Unit {0}
 
 -- the faults are told, and are those of the name
-abbrev pub TellsNamed : Option ℕ → Shape → Option (List ℕ) → Option Faults → Type 0
+abbrev pub TellsNamed : Option ℕ → Shape → Told → Option Faults → Type 0
 TellsNamed number m told None = ⊥
 TellsNamed number m told (Some f) = AreNamed number m told f

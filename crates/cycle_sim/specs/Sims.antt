@@ -5,7 +5,7 @@ use Rattle.std.specs.Coded.{Coded, code_by, coded×, coded_ℕ, coded_bool, code
 use Rattle.hierarchy.specs.declared.Shape.{Shape}
 use Rattle.hierarchy.specs.declared.Cross.{Cross}
 use Rattle.hierarchy.specs.Shape.{tables_of, pins_of}
-use Rattle.hierarchy.specs.Faults.{Faults}
+use Rattle.hierarchy.specs.Faults.{Faults, AreFaultsOf}
 use Rattle.hierarchy.specs.Circuit.{Pins}
 use Rattle.config_set.specs.declared.Setting.{Setting}
 use Rattle.config_set.specs.Configuration.{Configuration, coded_configuration}
@@ -40,6 +40,7 @@ pub record IsRunning (f : Faults) (g : Configuration) (cycles : List Exchange) (
 
 -- what a simulated machine always keeps
 pub record IsSim (a : Inside) : Type 0 where
+  pub sound : AreFaultsOf a.faults.shape a.faults.faults
   pub prepared : IsPrepared a.faults.shape a.faults.faults a.board
   pub pins : a.pins ≡ pins_of a.faults.shape
   pub few_pins : a.pins ≤ 16384

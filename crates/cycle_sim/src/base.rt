@@ -36,6 +36,7 @@ fn bridge_all(knots: &mut [Knot], faults: &FaultSet)
     ensures len { length knots.new ≡ length knots.old }
     ensures tied { AreTied (stuck_net faults.now.shape faults.now.faults 0) (stuck_wire faults.now.faults) knots.new 65536 }
 {
+    // The faults are those of their shape, so each bridge joins two wires of it.
     let _shape = faults.shape();
     let bridges = faults.bridges();
     'bridges: for i in 0..bridges.len() {

@@ -90,6 +90,7 @@ fn fill_gates(
     ensures gates { OnOk result ((most : ℕ) (root : ℕ → ℕ) → HasRoots knots.now most root → AreGates faults.now.faults config.now.config root gates.new.items) }
     ensures first { OnOk result (AreOutputs config.now.config gates.new.items (at_load (circuit_of faults.now.faults config.now.config))) }
 {
+    // Each table of the shape has its setting, and only these have one.
     let _shape = config.shape();
     gates.clear();
     let tables = config.tables_on();

@@ -101,6 +101,7 @@ pub fn cycle(board: &mut Board, faults: &FaultSet, ticks: u16, drive: &PinBits, 
         GivesCycle faults.now.faults g before drive.now read.new board.new.gates.items }
     ensures length { length read.new ≡ length read.old }
 {
+    // The shape keeps its limits, so its wires can be numbered.
     let _shape = faults.shape();
     mark_pins(&board.pins, drive, &mut board.low_pins);
     tick_times(

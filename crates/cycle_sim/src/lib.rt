@@ -12,7 +12,5 @@ mod marks;
 mod named;
 mod sim;
 mod sim_rig;
-#[cfg(test)]
-mod tests;
 
 pub use sim_rig::SimRig;

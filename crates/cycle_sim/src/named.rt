@@ -1,6 +1,7 @@
 //! The faults that a name stands for.
 
 ghost use Rattle.std.specs.Prelude.{◌≡◌, ◌≤◌, None, IfOk, IfErr, OnOk};
+ghost use Rattle.tm_outside.specs.Told.{bytes_of};
 ghost use Rattle.cycle_sim.specs.Named.{number_of_word, generated_of, texts_of, AreNamed, Asks, AsksAtMost, NamesFail};
 
 use bench_gen::bench_faults;
@@ -48,10 +49,10 @@ fn faults_of_file<S: Store>(
     ensures shape { IfOk result (λ s. s.shape ≡ shape.now) }
     ensures faults { IfOk result (λ s. AreNamed None shape.now ((S.store_state store.old).contents name.now) s.faults) }
     ensures contents { (S.store_state store.new).contents ≡ (S.store_state store.old).contents }
-    ensures later { (S.store_state store.old).faults ≤ (S.store_state store.new).faults }
+    ensures later { (S.store_state store.old).failures ≤ (S.store_state store.new).failures }
     ensures asks { OnOk result (Asks None name.now (S.store_state store.old) (S.store_state store.new)) }
     ensures asks_at_most { AsksAtMost None name.now (S.store_state store.old) (S.store_state store.new) }
-    ensures refused { IfErr result (λ e. NamesFail e shape.now ((S.store_state store.old).contents name.now) (S.store_state store.old) (S.store_state store.new)) }
+    ensures refused { IfErr result (λ e. NamesFail e shape.now (bytes_of ((S.store_state store.old).contents name.now)) (S.store_state store.old) (S.store_state store.new)) }
 {
     match read_within(alloc, store, name, MOST_BYTES) {
         Ok(Some(text)) => match read_faults(alloc, shape, &text) {
@@ -80,7 +81,7 @@ pub fn faults_of<S: Store>(
     ensures shape { IfOk result (λ s. s.shape ≡ shape.now) }
     ensures faults { IfOk result (λ s. AreNamed (generated_of name.now) shape.now ((S.store_state store.old).contents name.now) s.faults) }
     ensures contents { (S.store_state store.new).contents ≡ (S.store_state store.old).contents }
-    ensures later { (S.store_state store.old).faults ≤ (S.store_state store.new).faults }
+    ensures later { (S.store_state store.old).failures ≤ (S.store_state store.new).failures }
     ensures asks { OnOk result (Asks (generated_of name.now) name.now (S.store_state store.old) (S.store_state store.new)) }
     ensures asks_at_most { AsksAtMost (generated_of name.now) name.now (S.store_state store.old) (S.store_state store.new) }
     ensures refused { IfErr result (λ e. NamesFail e shape.now (texts_of (S.store_state store.old).contents name.now) (S.store_state store.old) (S.store_state store.new)) }

@@ -2,6 +2,7 @@
 
 ghost use Rattle.std.specs.Prelude.{◌≡◌, ℕ, ◌+◌, ◌*◌, ◌<◌, ◌≤◌, Some, None, [], ◌∷◌, ◌++◌, length, IfOk, IfSome, OnOk, OnErr, option_map};
 ghost use Rattle.hierarchy.specs.Shape.{pins_of};
+ghost use Rattle.hierarchy.specs.Faults.{AreFaultsOf};
 ghost use Rattle.rig.specs.Rig.{Session};
 ghost use Rattle.cycle_sim.specs.States.{HasGoneOn};
 
@@ -85,8 +86,10 @@ fn push_pins(log: &mut BitLog, pins: &PinBits)
 impl Sim {
     /// A machine with these faults, and no session.
     pub fn new(alloc: Global, faults: FaultSet) -> Result<Sim, AllocError>
-        ensures { IfOk result (λ s. s ≡ record { machine = faults; session = None }) }
+        ensures made { IfOk result (λ s. s ≡ record { machine = faults; session = None }) }
+        ensures sound { IfOk result (λ s. AreFaultsOf s.machine.shape s.machine.faults) }
     {
+        // The faults are those of their shape, and the shape keeps its limits.
         let shape = faults.shape();
         let _wires = shape.wires();
         let pins = shape.pins();
@@ -108,9 +111,11 @@ impl Sim {
     pub fn load(&mut self, config: &Config, room: u32) -> Result<(), AllocError>
         requires { config.now.config.shape ≡ self.old.machine.shape }
         ensures machine { self.new.machine ≡ self.old.machine }
+        ensures sound { AreFaultsOf self.new.machine.shape self.new.machine.faults }
         ensures begun { OnOk result (self.new.session ≡ Some (record { config = config.now.config; cycles = []; spare = room })) }
         ensures none { OnErr result (self.new.session ≡ None) }
     {
+        // Each table of the shape has its setting.
         let _shape = config.shape();
         self.running = false;
         self.used = 0;

@@ -3,7 +3,7 @@
 ghost use Rattle.std.specs.Prelude.{◌≡◌, ◌⊎◌, ◌^◌, ◌<◌, ◌≤◌, ◌∷◌, [], None, Some, IfOk, IfErr, IfSome, OnOk, OnErr, length, option_map, option_and_then, string_bytes};
 ghost use Rattle.hierarchy.specs.Faults.{AreFaultsOf};
 ghost use Rattle.tm_outside.specs.Counts.{next_count, Rose};
-ghost use Rattle.rig.specs.Rig.{RigState, shape_of, width_of, IsDetached, Attaches, AttachFails, Begins, LoadFails, GoesOn, CycleFails};
+ghost use Rattle.rig.specs.Rig.{RigState, shape_of, width_of, IsDetached, Attaches, AttachFails, HasFaultsOf, Begins, LoadFails, GoesOn, CycleFails};
 ghost use Rattle.rig.specs.declared.rig.RigFail.TheVariants as work;
 ghost use Rattle.cycle_sim.specs.Named.{generated_of, texts_of, AreNamed, TellsNamed, Asks, AsksAtMost, NamesFail};
 
@@ -32,7 +32,7 @@ pub struct SimRig<S: Store + Drop> {
     asked: AskedMachines,
     attached: Option<Attached>,
     loads: u64,
-    faults: u64,
+    failures: u64,
     refused: u64,
     last: Option<(u64, FaultsKind)>,
 }
@@ -54,13 +54,10 @@ fn sim_of<S: Store>(
     ensures refused { IfErr result (λ e. NamesFail e shape.now (texts_of (S.store_state store.old).contents name.now) (S.store_state store.old) (S.store_state store.new)) }
 {
     match faults_of(alloc, store, shape, name) {
-        Ok(faults) => {
-            let _shape = faults.shape();
-            match Sim::new(alloc, faults) {
-                Ok(sim) => Ok(sim),
-                Err(_) => Err(AttachFail::Memory),
-            }
-        }
+        Ok(faults) => match Sim::new(alloc, faults) {
+            Ok(sim) => Ok(sim),
+            Err(_) => Err(AttachFail::Memory),
+        },
         Err(e) => Err(e),
     }
 }
@@ -74,7 +71,7 @@ impl<S: Store + Drop> SimRig<S> {
         ensures refused { (⟦<SimRig<S> as Rig>⟧.rig_state result).machine.refused ≡ record { times = 0; last = None } }
         ensures detached { IsDetached (⟦<SimRig<S> as Rig>⟧.rig_state result) }
         ensures loads { (⟦<SimRig<S> as Rig>⟧.rig_state result).loads ≡ 0 }
-        ensures faults { (⟦<SimRig<S> as Rig>⟧.rig_state result).faults ≡ 0 }
+        ensures failures { (⟦<SimRig<S> as Rig>⟧.rig_state result).failures ≡ 0 }
     {
         SimRig {
             alloc,
@@ -82,7 +79,7 @@ impl<S: Store + Drop> SimRig<S> {
             asked: AskedMachines::new(alloc),
             attached: None,
             loads: 0,
-            faults: 0,
+            failures: 0,
             refused: 0,
             last: None,
         }
@@ -100,7 +97,7 @@ impl<S: Store + Drop> Rig for SimRig<S> {
       };
       session = option_and_then (λ a. a.sim.session) s.attached;
       loads = s.loads;
-      faults = s.faults;
+      failures = s.failures;
     } };
 
     /// The store is asked for the file of this name and no other, and for nothing where the name is `@n`. The rig
@@ -108,8 +105,8 @@ impl<S: Store + Drop> Rig for SimRig<S> {
     fn attach(&mut self, shape: &Shape, name: &str) -> Result<(), AttachFail>
         ensures texts { (⟦<SimRig<S> as Rig>⟧.rig_state self.new).machine.texts ≡ (⟦<SimRig<S> as Rig>⟧.rig_state self.old).machine.texts }
         ensures loads { (⟦<SimRig<S> as Rig>⟧.rig_state self.new).loads ≡ (⟦<SimRig<S> as Rig>⟧.rig_state self.old).loads }
-        ensures later { (⟦<SimRig<S> as Rig>⟧.rig_state self.old).faults ≤ (⟦<SimRig<S> as Rig>⟧.rig_state self.new).faults }
-        ensures count { (⟦<SimRig<S> as Rig>⟧.rig_state self.new).faults < 2 ^ 64 }
+        ensures later { (⟦<SimRig<S> as Rig>⟧.rig_state self.old).failures ≤ (⟦<SimRig<S> as Rig>⟧.rig_state self.new).failures }
+        ensures count { (⟦<SimRig<S> as Rig>⟧.rig_state self.new).failures < 2 ^ 64 }
         ensures attached { OnOk result (Attaches (record { shape = shape.now; name = name.now }) (⟦<SimRig<S> as Rig>⟧.rig_state self.old) (⟦<SimRig<S> as Rig>⟧.rig_state self.new)) }
         ensures detached { OnErr result (IsDetached (⟦<SimRig<S> as Rig>⟧.rig_state self.new)) }
         ensures refused { IfErr result (λ e. AttachFails e (record { shape = shape.now; name = name.now }) (⟦<SimRig<S> as Rig>⟧.rig_state self.old) (⟦<SimRig<S> as Rig>⟧.rig_state self.new)) }
@@ -117,9 +114,10 @@ impl<S: Store + Drop> Rig for SimRig<S> {
         ensures asks { OnOk result (Asks (generated_of name.now) name.now (S.store_state self.old.store) (S.store_state self.new.store)) }
         ensures asks_at_most { AsksAtMost (generated_of name.now) name.now (S.store_state self.old.store) (S.store_state self.new.store) }
         ensures caused { IfErr result (λ e. NamesFail e shape.now ((⟦<SimRig<S> as Rig>⟧.rig_state self.old).machine.texts name.now) (S.store_state self.old.store) (S.store_state self.new.store)) }
-        ensures rises { ((⟦<SimRig<S> as Rig>⟧.rig_state self.new).faults ≡ (⟦<SimRig<S> as Rig>⟧.rig_state self.old).faults) ⊎ Rose (S.store_state self.old.store).faults (S.store_state self.new.store).faults }
+        ensures rises { ((⟦<SimRig<S> as Rig>⟧.rig_state self.new).failures ≡ (⟦<SimRig<S> as Rig>⟧.rig_state self.old).failures) ⊎ Rose (S.store_state self.old.store).failures (S.store_state self.new.store).failures }
     {
-        let _faults = self.faults;
+        // A count that was read is known to be a u64.
+        let _failures = self.failures;
         self.attached = None;
         let Ok(own_name) = String::from_str(self.alloc, name) else {
             return Err(AttachFail::Memory);
@@ -136,7 +134,7 @@ impl<S: Store + Drop> Rig for SimRig<S> {
                 Ok(())
             }
             Err(AttachFail::Failed) => {
-                self.faults = self.faults.saturating_add(1);
+                self.failures = self.failures.saturating_add(1);
                 Err(AttachFail::Failed)
             }
             Err(AttachFail::Memory) | Err(AttachFail::Faults(FaultsFault::Memory)) => {
@@ -155,18 +153,20 @@ impl<S: Store + Drop> Rig for SimRig<S> {
     fn load(&mut self, config: &Config, room: u32) -> Result<(), RigFail>
         requires { shape_of (⟦<SimRig<S> as Rig>⟧.rig_state self.old) ≡ Some config.now.config.shape }
         ensures machine { (⟦<SimRig<S> as Rig>⟧.rig_state self.new).machine ≡ (⟦<SimRig<S> as Rig>⟧.rig_state self.old).machine }
-        ensures later { (⟦<SimRig<S> as Rig>⟧.rig_state self.old).faults ≤ (⟦<SimRig<S> as Rig>⟧.rig_state self.new).faults }
-        ensures count { (⟦<SimRig<S> as Rig>⟧.rig_state self.new).faults < 2 ^ 64 }
+        ensures later { (⟦<SimRig<S> as Rig>⟧.rig_state self.old).failures ≤ (⟦<SimRig<S> as Rig>⟧.rig_state self.new).failures }
+        ensures count { (⟦<SimRig<S> as Rig>⟧.rig_state self.new).failures < 2 ^ 64 }
         ensures begins { OnOk result (Begins config.now.config room (⟦<SimRig<S> as Rig>⟧.rig_state self.new)) }
+        ensures told { OnOk result (HasFaultsOf config.now.config.shape (⟦<SimRig<S> as Rig>⟧.rig_state self.new)) }
         ensures counted { OnOk result ((⟦<SimRig<S> as Rig>⟧.rig_state self.new).loads ≡ next_count (⟦<SimRig<S> as Rig>⟧.rig_state self.old).loads) }
         ensures ended { OnErr result ((⟦<SimRig<S> as Rig>⟧.rig_state self.new).session ≡ None) }
         ensures not_counted { OnErr result ((⟦<SimRig<S> as Rig>⟧.rig_state self.new).loads ≡ (⟦<SimRig<S> as Rig>⟧.rig_state self.old).loads) }
         ensures refused { IfErr result (λ e. LoadFails e (⟦<SimRig<S> as Rig>⟧.rig_state self.old) (⟦<SimRig<S> as Rig>⟧.rig_state self.new)) }
         ensures store { self.new.store ≡ self.old.store }
         ensures never_fails { IfErr result (λ e. e ≡ work.Memory) }
-        ensures no_fault { (⟦<SimRig<S> as Rig>⟧.rig_state self.new).faults ≡ (⟦<SimRig<S> as Rig>⟧.rig_state self.old).faults }
+        ensures no_failure { (⟦<SimRig<S> as Rig>⟧.rig_state self.new).failures ≡ (⟦<SimRig<S> as Rig>⟧.rig_state self.old).failures }
     {
-        let _faults = self.faults;
+        // A count that was read is known to be a u64.
+        let _failures = self.failures;
         let Some(mut attached) = self.attached.take() else {
             unreachable!()
         };
@@ -187,17 +187,18 @@ impl<S: Store + Drop> Rig for SimRig<S> {
         requires read_pins { width_of (⟦<SimRig<S> as Rig>⟧.rig_state self.old) ≡ Some (length read.old) }
         ensures machine { (⟦<SimRig<S> as Rig>⟧.rig_state self.new).machine ≡ (⟦<SimRig<S> as Rig>⟧.rig_state self.old).machine }
         ensures loads { (⟦<SimRig<S> as Rig>⟧.rig_state self.new).loads ≡ (⟦<SimRig<S> as Rig>⟧.rig_state self.old).loads }
-        ensures later { (⟦<SimRig<S> as Rig>⟧.rig_state self.old).faults ≤ (⟦<SimRig<S> as Rig>⟧.rig_state self.new).faults }
-        ensures count { (⟦<SimRig<S> as Rig>⟧.rig_state self.new).faults < 2 ^ 64 }
+        ensures later { (⟦<SimRig<S> as Rig>⟧.rig_state self.old).failures ≤ (⟦<SimRig<S> as Rig>⟧.rig_state self.new).failures }
+        ensures count { (⟦<SimRig<S> as Rig>⟧.rig_state self.new).failures < 2 ^ 64 }
         ensures length { length read.new ≡ length read.old }
         ensures cycles { OnOk result (GoesOn drive.now read.new (⟦<SimRig<S> as Rig>⟧.rig_state self.old) (⟦<SimRig<S> as Rig>⟧.rig_state self.new)) }
         ensures kept { OnErr result (read.new ≡ read.old) }
         ensures refused { IfErr result (λ e. CycleFails e (⟦<SimRig<S> as Rig>⟧.rig_state self.old) (⟦<SimRig<S> as Rig>⟧.rig_state self.new)) }
         ensures store { self.new.store ≡ self.old.store }
         ensures never_fails { IfErr result (λ e. e ≡ work.Memory) }
-        ensures no_fault { (⟦<SimRig<S> as Rig>⟧.rig_state self.new).faults ≡ (⟦<SimRig<S> as Rig>⟧.rig_state self.old).faults }
+        ensures no_failure { (⟦<SimRig<S> as Rig>⟧.rig_state self.new).failures ≡ (⟦<SimRig<S> as Rig>⟧.rig_state self.old).failures }
     {
-        let _faults = self.faults;
+        // A count that was read is known to be a u64.
+        let _failures = self.failures;
         let Some(mut attached) = self.attached.take() else {
             unreachable!()
         };

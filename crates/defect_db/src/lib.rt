@@ -10,8 +10,6 @@ mod laws;
 mod list;
 mod read;
 mod sweep;
-#[cfg(test)]
-mod tests;
 mod write;
 
 pub use kind::{DefectsFault, DefectsKind};

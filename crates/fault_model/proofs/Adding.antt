@@ -12,7 +12,7 @@ use Rattle.hierarchy.specs.Faults.{Faults, AreFaultsOf, pair_cmp, is_bridge}
 use Rattle.fault_model.specs.declared.fault.Fault.{Fault}
 use Rattle.fault_model.specs.declared.fault.Fault.TheVariants.{Stuck, CrossStuck, Cell, Register, Bridge}
 use Rattle.fault_model.specs.declared.fault.AddFault.TheVariants.{Same, Limit}
-use Rattle.fault_model.specs.Adding.{Faulty, IsFaultSet, IsFaultOf, no_faults, with_fault, value_at, value_of, is_loop, lower_first, refusal_at, refusal_of, count_of}
+use Rattle.fault_model.specs.Adding.{Faulty, IsFaultSet, CanHave, no_faults, with_fault, value_at, value_of, is_loop, lower_first, refusal_at, refusal_of, count_of}
 use Rattle.fault_model.proofs.Keeping.{pairs_total, pairs_exact, all_put, all_added, len_put, len_added}
 
 -- ---- what it is not to be refused
@@ -70,21 +70,21 @@ pair_of_set s k q is = let h = k.faults.bridges q.0 q.1 is in (h.0, h.1, k.lower
 bridges_from : (m : Shape) (f : Faults) → ((q : ℕ × ℕ) → set.contains f.bridges q ≡ true → IsPair m q) → (w u : ℕ) → is_bridge f (w, u) ≡ true → (w < wires_of m) × (u < wires_of m) × (w ≢ u)
 bridges_from m f all w u is = let h = all (w, u) is in (h.0, h.1, omega arith)
 
-faults_kept : (s : Faulty) (x : Fault) → IsFaultSet s → IsFaultOf s.shape x → is_loop x ≡ false → AreFaultsOf s.shape (with_fault s.faults x)
+faults_kept : (s : Faulty) (x : Fault) → IsFaultSet s → CanHave s.shape x → is_loop x ≡ false → AreFaultsOf s.shape (with_fault s.faults x)
 faults_kept s (Stuck wire value) k is apart = record { wires = all_put nat_cmp_total exact_unsigned s.faults.wires wire.0 value (λ q. q < wires_of s.shape) k.faults.wires is; crosses = k.faults.crosses; cells = k.faults.cells; registers = k.faults.registers; bridges = k.faults.bridges }
 faults_kept s (CrossStuck cross closed) k is apart = record { wires = k.faults.wires; crosses = all_put nat_cmp_total exact_unsigned s.faults.crosses cross.0 closed (λ q. q < crosses_of s.shape) k.faults.crosses is; cells = k.faults.cells; registers = k.faults.registers; bridges = k.faults.bridges }
 faults_kept s (Cell table address value) k is apart = record { wires = k.faults.wires; crosses = k.faults.crosses; cells = λ t a. all_put pairs_total pairs_exact s.faults.cells (table.0, address) value (λ q. (q.0 < tables_of s.shape) × (q.1 < 64)) (λ q. k.faults.cells q.0 q.1) is (t, a); registers = k.faults.registers; bridges = k.faults.bridges }
 faults_kept s (Register table value) k is apart = record { wires = k.faults.wires; crosses = k.faults.crosses; cells = k.faults.cells; registers = all_put nat_cmp_total exact_unsigned s.faults.registers table.0 value (λ q. q < tables_of s.shape) k.faults.registers is; bridges = k.faults.bridges }
 faults_kept s (Bridge a b) k is apart = record { wires = k.faults.wires; crosses = k.faults.crosses; cells = k.faults.cells; registers = k.faults.registers; bridges = bridges_from s.shape (with_fault s.faults (Bridge a b)) (all_added pairs_total pairs_exact s.faults.bridges (lower_first a.0 b.0) (IsPair s.shape) (pair_of_set s k) (pair_is s.shape a.0 b.0 is.0 is.1 apart)) }
 
-lower_kept : (s : Faulty) (x : Fault) → IsFaultSet s → IsFaultOf s.shape x → is_loop x ≡ false → (a b : ℕ) → is_bridge (with_fault s.faults x) (a, b) ≡ true → a < b
+lower_kept : (s : Faulty) (x : Fault) → IsFaultSet s → CanHave s.shape x → is_loop x ≡ false → (a b : ℕ) → is_bridge (with_fault s.faults x) (a, b) ≡ true → a < b
 lower_kept s (Stuck wire value) k is apart = k.lower_first
 lower_kept s (CrossStuck cross closed) k is apart = k.lower_first
 lower_kept s (Cell table address value) k is apart = k.lower_first
 lower_kept s (Register table value) k is apart = k.lower_first
 lower_kept s (Bridge a b) k is apart = λ w u there. (all_added pairs_total pairs_exact s.faults.bridges (lower_first a.0 b.0) (IsPair s.shape) (pair_of_set s k) (pair_is s.shape a.0 b.0 is.0 is.1 apart) (w, u) there).2
 
-pub set_kept : (s : Faulty) (x : Fault) → IsFaultSet s → IsFaultOf s.shape x → refusal_of s.faults x ≡ None → IsFaultSet (record { shape = s.shape; faults = with_fault s.faults x })
+pub set_kept : (s : Faulty) (x : Fault) → IsFaultSet s → CanHave s.shape x → refusal_of s.faults x ≡ None → IsFaultSet (record { shape = s.shape; faults = with_fault s.faults x })
 set_kept s x k is e =
     let free = free_from s.faults x e in
     record { faults = faults_kept s x k is free.apart; lower_first = lower_kept s x k is free.apart; few = omega (arith, count_more s.faults x free.free) }

@@ -14,7 +14,7 @@ use Rattle.fault_model.specs.declared.fault.Fault.{Fault}
 use Rattle.fault_model.specs.declared.fault.Fault.TheVariants.{Stuck, CrossStuck, Cell, Register, Bridge}
 use Rattle.fault_model.specs.declared.head.Head.{Head}
 use Rattle.fault_model.specs.declared.head.Head.TheVariants as head
-use Rattle.fault_model.specs.Adding.{IsFaultOf}
+use Rattle.fault_model.specs.Adding.{CanHave}
 use Rattle.fault_model.specs.Heads.{word_of}
 use Rattle.fault_model.specs.Text.{bit_word, head_of, rest_of, words_of}
 use Rattle.fault_model.proofs.Words.{IsTold, tap_in, line_in}
@@ -80,7 +80,7 @@ short_bit : (b : Bool) → IsShort (bit_word b)
 short_bit true = omega arith
 short_bit false = omega arith
 
-few_short : (m : Shape) → IsTold m → (x : Fault) → IsFaultOf m x → (length (rest_of m x) ≤ 3) × AllByRecursion IsShort (rest_of m x)
+few_short : (m : Shape) → IsTold m → (x : Fault) → CanHave m x → (length (rest_of m x) ≤ 3) × AllByRecursion IsShort (rest_of m x)
 few_short m k (Stuck w v) p = (omega arith, (short_wire m w.0 p, tt))
 few_short m k (CrossStuck x c) p = (omega arith, (short_wire m (ends_of m x.0).0 (tap_in m k x.0 p), (short_wire m (ends_of m x.0).1 (line_in m k x.0 p), tt)))
 few_short m k (Cell t a v) p = (omega arith, (short_table m t.0 p.0, (omega (arith, five_digits a (omega (arith, p.1))), (short_bit v, tt))))
@@ -94,7 +94,7 @@ short_behind (w ∷ ws) p =
     let r = short_behind ws p.1 in
     omega (arith, p.0)
 
-short_line : (m : Shape) → IsTold m → (x : Fault) → IsFaultOf m x → length (written_line (words_of m x)) ≤ 256
+short_line : (m : Shape) → IsTold m → (x : Fault) → CanHave m x → length (written_line (words_of m x)) ≤ 256
 short_line m k x p =
     let f = few_short m k x p in
     let h = short_head (head_of x) in
@@ -103,7 +103,7 @@ short_line m k x p =
     let l = length-append (spaced (words_of m x)) (10 ∷ []) in
     omega (arith, f.0)
 
-pub short_text : (m : Shape) → IsTold m → (xs : List Fault) → AllByRecursion (IsFaultOf m) xs → length (written (map (words_of m) xs)) ≤ 256 * length xs
+pub short_text : (m : Shape) → IsTold m → (xs : List Fault) → AllByRecursion (CanHave m) xs → length (written (map (words_of m) xs)) ≤ 256 * length xs
 short_text m k [] p = omega arith
 short_text m k (x ∷ xs) p =
     let n = length-append (written_line (words_of m x)) (written (map (words_of m) xs)) in

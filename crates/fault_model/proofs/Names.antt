@@ -15,7 +15,7 @@ use Rattle.fault_model.specs.declared.fault.Fault.{Fault}
 use Rattle.fault_model.specs.declared.fault.Fault.TheVariants.{Stuck, CrossStuck, Cell, Register, Bridge}
 use Rattle.fault_model.specs.declared.head.Head.{Head}
 use Rattle.fault_model.specs.declared.head.Head.TheVariants as head
-use Rattle.fault_model.specs.Adding.{IsFaultOf}
+use Rattle.fault_model.specs.Adding.{CanHave}
 use Rattle.fault_model.specs.Heads.{word_of}
 use Rattle.fault_model.specs.Text.{bit_word, head_of, rest_of, words_of}
 use Rattle.fault_model.proofs.Words.{IsTold, tap_in, line_in}
@@ -118,14 +118,14 @@ abbrev pub AreWords : List (List ℕ) → Type 0
 AreWords [] = Unit {0}
 AreWords (w ∷ ws) = IsWord w × AreWords ws
 
-rest_words : (m : Shape) → IsTold m → (x : Fault) → IsFaultOf m x → AreWords (rest_of m x)
+rest_words : (m : Shape) → IsTold m → (x : Fault) → CanHave m x → AreWords (rest_of m x)
 rest_words m k (Stuck w v) p = (wire_word m w.0 p, tt)
 rest_words m k (CrossStuck x c) p = (wire_word m (ends_of m x.0).0 (tap_in m k x.0 p), (wire_word m (ends_of m x.0).1 (line_in m k x.0 p), tt))
 rest_words m k (Cell t a v) p = (table_word m t.0 p.0, ((decimal_nonempty a (omega (arith, p.1)), plain-decimal a (omega (arith, p.1))), (bit_is_word v, tt)))
 rest_words m k (Register t v) p = (table_word m t.0 p, (bit_is_word v, tt))
 rest_words m k (Bridge a b) p = (wire_word m a.0 p.0, (wire_word m b.0 p.1, tt))
 
-pub entry_words : (m : Shape) → IsTold m → (x : Fault) → IsFaultOf m x → AreWords (words_of m x)
+pub entry_words : (m : Shape) → IsTold m → (x : Fault) → CanHave m x → AreWords (words_of m x)
 entry_words m k x p = (head_word (head_of x), rest_words m k x p)
 
 good_byte : (b : ℕ) → 35 < b → b < 127 → is_bad b ≡ false
@@ -142,5 +142,5 @@ good_words : (ws : List (List ℕ)) → AreWords ws → list_any (list_any is_ba
 good_words [] p = refl
 good_words (w ∷ ws) p = (λ i. good_word w p.0.1 i || good_words ws p.1 i)
 
-pub good_entry : (m : Shape) → IsTold m → (x : Fault) → IsFaultOf m x → list_any (list_any is_bad) (words_of m x) ≡ false
+pub good_entry : (m : Shape) → IsTold m → (x : Fault) → CanHave m x → list_any (list_any is_bad) (words_of m x) ≡ false
 good_entry m k x p = good_words (words_of m x) (entry_words m k x p)

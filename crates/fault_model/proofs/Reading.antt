@@ -24,7 +24,7 @@ use Rattle.fault_model.specs.declared.kind.FaultsKind.{FaultsKind}
 use Rattle.fault_model.specs.declared.kind.FaultsKind.TheVariants as kind
 use Rattle.fault_model.specs.declared.kind.FaultsFault.{FaultsFault}
 use Rattle.fault_model.specs.declared.kind.FaultsFault.TheVariants.{At, Memory}
-use Rattle.fault_model.specs.Adding.{Faulty, IsFaultOf, IsRefusal, no_faults, with_fault, refusal_of}
+use Rattle.fault_model.specs.Adding.{Faulty, CanHave, IsRefusal, no_faults, with_fault, refusal_of}
 use Rattle.fault_model.specs.Heads.{word_of, follow_of, has_wires, has_cross}
 use Rattle.fault_model.specs.Text.{end_names, head_of, rest_of, words_of, with_all, AreAdded, IsFaultText}
 use Rattle.fault_model.specs.Refusals.{IsRestFault, IsNoEntry, IsLineFault, IsFirstFault, IsFirst, GivesOrLacks, Takes, told_of, line_told, AreWireNames}
@@ -56,7 +56,7 @@ module _ (m : Shape) (first : List ℕ) (rest words : List (List ℕ)) (parts : 
       let tails : r ≡ rest = cc in
       size (ap length (sym tails) ∙ f.size ∙ ap follow_of same))
 
-  pub read_form : (h : Head) → word_of h ≡ first → length rest ≡ follow_of h → (r : Result Fault FaultsKind) → MatchResult r (λ x. IsFaultOf m x × (words_of m x ≡ word_of h ∷ rest)) (IsRestFault m h rest) → MatchResult r (λ x. IsFaultOf m x × (words_of m x ≡ words)) (IsNoEntry m words)
+  pub read_form : (h : Head) → word_of h ≡ first → length rest ≡ follow_of h → (r : Result Fault FaultsKind) → MatchResult r (λ x. CanHave m x × (words_of m x ≡ word_of h ∷ rest)) (IsRestFault m h rest) → MatchResult r (λ x. CanHave m x × (words_of m x ≡ words)) (IsNoEntry m words)
   read_form h is size (Ok x) got = (got.0, got.1 ∙ ap (λ w. w ∷ rest) is ∙ parts)
   read_form h is size (Err k) got = formed h rest (record { all = ap (λ w. w ∷ rest) is ∙ parts; size = size }) got
 
@@ -66,7 +66,7 @@ pub with_all_more : (f : Faults) (xs : List Fault) (x : Fault) → with_all f (x
 with_all_more f [] x = refl
 with_all_more f (y ∷ xs) x = with_all_more (with_fault f y) xs x
 
-pub added_more : (m : Shape) (f : Faults) (xs : List Fault) (x : Fault) → AreAdded m f xs → IsFaultOf m x → refusal_of (with_all f xs) x ≡ None → AreAdded m f (xs ++ x ∷ [])
+pub added_more : (m : Shape) (f : Faults) (xs : List Fault) (x : Fault) → AreAdded m f xs → CanHave m x → refusal_of (with_all f xs) x ≡ None → AreAdded m f (xs ++ x ∷ [])
 added_more m f [] x all is free = (is, free, tt)
 added_more m f (y ∷ xs) x all is free = (all.0, all.1, added_more m (with_fault f y) xs x all.2 is free)
 
@@ -91,7 +91,7 @@ module _ (m : Shape) (lines left rest : List LogicalLine) (l : LogicalLine) (s :
     entries = k.entries ++ took.0 ∷ [];
     parts = append_assoc k.above (l ∷ []) rest ∙ ap (λ ls. k.above ++ ls) (sym next) ∙ k.parts;
     rows = map-append (λ (r : LogicalLine). r.words) k.above (l ∷ []) ∙ (λ i. k.rows i ++ sym (subst (λ n. words_of n took.0 ≡ l.words) k.shape took.1) i ∷ []) ∙ sym (map-append (words_of m) k.entries (took.0 ∷ []));
-    added = added_more m no_faults k.entries took.0 k.added (subst (λ n. IsFaultOf n took.0) k.shape took.2) (subst (λ f. refusal_of f took.0 ≡ None) (sym k.all) took.3);
+    added = added_more m no_faults k.entries took.0 k.added (subst (λ n. CanHave n took.0) k.shape took.2) (subst (λ f. refusal_of f took.0 ≡ None) (sym k.all) took.3);
     all = with_all_more no_faults k.entries took.0 ∙ ap (λ f. with_fault f took.0) k.all ∙ sym (ap (λ v. v.faults) took.4);
   }
 
@@ -130,7 +130,7 @@ ends m bytes left s k none = record {
 
 -- ---- what a refusal of the set is told
 
-pub refusal_told : (m : Shape) (s : Faulty) (l : LogicalLine) (x : Fault) (why : AddFault) (t : Faulty) → is_bad_line l ≡ false → words_of s.shape x ≡ l.words → IsFaultOf s.shape x → IsRefusal (refusal_of s.faults x) why → Takes s l (Err (told_of l.number why)) t
+pub refusal_told : (m : Shape) (s : Faulty) (l : LogicalLine) (x : Fault) (why : AddFault) (t : Faulty) → is_bad_line l ≡ false → words_of s.shape x ≡ l.words → CanHave s.shape x → IsRefusal (refusal_of s.faults x) why → Takes s l (Err (told_of l.number why)) t
 refusal_told m s l x add.Memory t sound w is r = tt
 refusal_told m s l x add.Same t sound w is r = (refl, refused x add.Same sound w is r)
 refusal_told m s l x add.Doubled t sound w is r = (refl, refused x add.Doubled sound w is r)
@@ -138,24 +138,24 @@ refusal_told m s l x add.Against t sound w is r = (refl, refused x add.Against s
 refusal_told m s l x add.Limit t sound w is r = (refl, refused x add.Limit sound w is r)
 
 -- the same where the entry was read at this shape, of these words
-pub refusal_at_line : (s : Faulty) (l : LogicalLine) (x : Fault) (why : AddFault) (t : Faulty) (n : Shape) (words : List (List ℕ)) (number : ℕ) (e : FaultsFault) → n ≡ s.shape → words ≡ l.words → number ≡ l.number → e ≡ told_of number why → is_bad_line l ≡ false → IsFaultOf n x × (words_of n x ≡ words) → IsRefusal (refusal_of s.faults x) why → Takes s l (Err e) t
+pub refusal_at_line : (s : Faulty) (l : LogicalLine) (x : Fault) (why : AddFault) (t : Faulty) (n : Shape) (words : List (List ℕ)) (number : ℕ) (e : FaultsFault) → n ≡ s.shape → words ≡ l.words → number ≡ l.number → e ≡ told_of number why → is_bad_line l ≡ false → CanHave n x × (words_of n x ≡ words) → IsRefusal (refusal_of s.faults x) why → Takes s l (Err e) t
 refusal_at_line s l x why t n words number e shape same here told sound got r =
     subst (λ f. Takes s l (Err f) t) (sym (told ∙ ap (λ k. told_of k why) here))
-    (refusal_told s.shape s l x why t sound (subst (λ m. words_of m x ≡ words) shape got.1 ∙ same) (subst (λ m. IsFaultOf m x) shape got.0) r)
+    (refusal_told s.shape s l x why t sound (subst (λ m. words_of m x ≡ words) shape got.1 ∙ same) (subst (λ m. CanHave m x) shape got.0) r)
 
 pub no_entry_at_line : (s : Faulty) (l : LogicalLine) (n : Shape) (words : List (List ℕ)) (k : FaultsKind) → n ≡ s.shape → words ≡ l.words → is_bad_line l ≡ false → IsNoEntry n words k → IsLineFault s.shape s.faults l k
 no_entry_at_line s l n words k shape same sound none = no_entry sound (subst (λ m. IsNoEntry m l.words k) shape (subst (λ ws. IsNoEntry n ws k) same none))
 
 -- ---- a text of faults is read
 
-wires_named : (m : Shape) → IsTold m → (x : Fault) → IsFaultOf m x → has_wires (head_of x) ≡ true → AreWireNames m (rest_of m x)
+wires_named : (m : Shape) → IsTold m → (x : Fault) → CanHave m x → has_wires (head_of x) ≡ true → AreWireNames m (rest_of m x)
 wires_named m k (Stuck w v) p h = ((w.0, p, refl), tt)
 wires_named m k (CrossStuck x c) p h = (((ends_of m x.0).0, tap_in m k x.0 p, refl), (((ends_of m x.0).1, line_in m k x.0 p, refl), tt))
 wires_named m k (Cell t a v) p h = absurd cc
 wires_named m k (Register t v) p h = absurd cc
 wires_named m k (Bridge a b) p h = ((a.0, p.0, refl), ((b.0, p.1, refl), tt))
 
-cross_there : (m : Shape) (x : Fault) → IsFaultOf m x → has_cross (head_of x) ≡ true → ((y : ℕ) → y < crosses_of m → end_names m y ≢ rest_of m x) → ⊥
+cross_there : (m : Shape) (x : Fault) → CanHave m x → has_cross (head_of x) ≡ true → ((y : ℕ) → y < crosses_of m → end_names m y ≢ rest_of m x) → ⊥
 cross_there m (Stuck w false) p h none = cc
 cross_there m (Stuck w true) p h none = cc
 cross_there m (CrossStuck x c) p h none = none x.0 p refl
@@ -163,21 +163,21 @@ cross_there m (Cell t a v) p h none = cc
 cross_there m (Register t v) p h none = cc
 cross_there m (Bridge a b) p h none = cc
 
-rest_right : (m : Shape) → IsTold m → (x : Fault) → IsFaultOf m x → (k' : FaultsKind) → IsRestFault m (head_of x) (rest_of m x) k' → ⊥
+rest_right : (m : Shape) → IsTold m → (x : Fault) → CanHave m x → (k' : FaultsKind) → IsRestFault m (head_of x) (rest_of m x) k' → ⊥
 rest_right m k x p kind.Wire f = f.1 (wires_named m k x p f.0)
 rest_right m k x p kind.Cross f = cross_there m x p f.0 f.2
 rest_right m k x p kind.Cell f = f.1 x p refl
 rest_right m k x p kind.Register f = f.1 x p refl
 rest_right m k x p _ f = f
 
-entry_right : (m : Shape) → IsTold m → (x : Fault) → IsFaultOf m x → (k' : FaultsKind) → IsNoEntry m (words_of m x) k' → ⊥
+entry_right : (m : Shape) → IsTold m → (x : Fault) → CanHave m x → (k' : FaultsKind) → IsNoEntry m (words_of m x) k' → ⊥
 entry_right m k x p k' (formless none) = none (head_of x) (rest_of m x) (record { all = refl; size = right_size m x })
 entry_right m k x p k' (formed h rest f r) =
     let same : h ≡ head_of x = one_head h (head_of x) (ap (λ ws. get_or ws 0 []) f.all) in
     let tails : rest ≡ rest_of m x = cc (f.all) in
     rest_right m k x p k' (subst (λ t. IsRestFault m (head_of x) t k') tails (subst (λ g. IsRestFault m g rest k') same r))
 
-line_right : (m : Shape) → IsTold m → (f : Faults) (l : LogicalLine) (x : Fault) → l.words ≡ words_of m x → IsFaultOf m x → refusal_of f x ≡ None → (k' : FaultsKind) → IsLineFault m f l k' → ⊥
+line_right : (m : Shape) → IsTold m → (f : Faults) (l : LogicalLine) (x : Fault) → l.words ≡ words_of m x → CanHave m x → refusal_of f x ≡ None → (k' : FaultsKind) → IsLineFault m f l k' → ⊥
 line_right m k f l x w p free k' (bad b) = let e : true ≡ false = sym b ∙ ap (list_any (list_any is_bad)) w ∙ good_entry m k x p in cc
 line_right m k f l x w p free k' (no_entry sound n) = entry_right m k x p k' (subst (λ ws. IsNoEntry m ws k') w n)
 line_right m k f l x w p free k' (refused y why sound v q r) =

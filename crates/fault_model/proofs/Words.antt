@@ -11,7 +11,7 @@ use Rattle.fault_model.specs.declared.fault.Fault.{Fault}
 use Rattle.fault_model.specs.declared.fault.Fault.TheVariants.{Stuck, CrossStuck, Cell, Register, Bridge}
 use Rattle.fault_model.specs.declared.head.Head.{Head}
 use Rattle.fault_model.specs.declared.head.Head.TheVariants as head
-use Rattle.fault_model.specs.Adding.{IsFaultOf}
+use Rattle.fault_model.specs.Adding.{CanHave}
 use Rattle.fault_model.specs.Heads.{word_of, follow_of}
 use Rattle.fault_model.specs.Text.{bit_word, head_of, rest_of, words_of}
 
@@ -111,7 +111,7 @@ tap_in m k x lt = k.numbered.ends x (ends_of m x).0 (ends_of m x).1 lt (in_order
 pub line_in : (m : Shape) → IsTold m → (x : ℕ) → x < crosses_of m → (ends_of m x).1 < wires_of m
 line_in m k x lt = k.numbered.ends x (ends_of m x).1 (ends_of m x).0 lt (turned refl refl)
 
-pub one_fault : (m : Shape) → IsTold m → (x y : Fault) → IsFaultOf m x → IsFaultOf m y → words_of m x ≡ words_of m y → x ≡ y
+pub one_fault : (m : Shape) → IsTold m → (x y : Fault) → CanHave m x → CanHave m y → words_of m x ≡ words_of m y → x ≡ y
 one_fault m k (Stuck w v) (Stuck u q) p r e =
     let n = k.names.one_wire w.0 u.0 p r (nth 1 _ _ e) in
     let b = sym (says_stuck w v) ∙ ap says (same_head m (Stuck w v) (Stuck u q) e) ∙ says_stuck u q in

@@ -14,7 +14,7 @@ use Rattle.tm_text.specs.Written as text
 use Rattle.tm_text.proofs.WrittenLemmas.{lines_back}
 use Rattle.fault_model.specs.declared.fault.Fault.{Fault}
 use Rattle.fault_model.specs.declared.fault.AddFault.TheVariants.{Same, Limit}
-use Rattle.fault_model.specs.Adding.{IsFaultSet, IsFaultOf, no_faults, with_fault, value_at, value_of, is_loop, lower_first, refusal_at, refusal_of, count_of}
+use Rattle.fault_model.specs.Adding.{IsFaultSet, CanHave, no_faults, with_fault, value_at, value_of, is_loop, lower_first, refusal_at, refusal_of, count_of}
 use Rattle.fault_model.specs.Refusals.{most_bytes}
 use Rattle.fault_model.specs.Text.{words_of, with_all, AreAdded, IsFaultText}
 use Rattle.fault_model.specs.Written.{Kinds, AreAscending, AreInOrder, grouped, faults_of, stuck_wire_at, stuck_cross_at, wrong_cell_at, stuck_register_at, bridge_of}
@@ -48,7 +48,7 @@ not_refused f x apart free few =
 module _ (m : Shape) where
   abbrev AreFree : Faults → List Fault → Type 0
   AreFree f [] = Unit {0}
-  AreFree f (x ∷ xs) = IsFaultOf m x × (is_loop x ≡ false) × (value_at f x ≡ None) × AreFree (with_fault f x) xs
+  AreFree f (x ∷ xs) = CanHave m x × (is_loop x ≡ false) × (value_at f x ≡ None) × AreFree (with_fault f x) xs
 
   free_more : (f : Faults) (xs ys : List Fault) → AreFree f xs → AreFree (with_all f xs) ys → AreFree f (xs ++ ys)
   free_more f [] ys p q = q
@@ -67,7 +67,7 @@ module _ (m : Shape) where
       let one = count_more f x p.2 in
       (p.0, not_refused f x p.1 p.2 (omega arith), added (with_fault f x) xs p.3 (omega (arith, one)))
 
-  all_of_shape : (f : Faults) (xs : List Fault) → AreFree f xs → AllByRecursion (IsFaultOf m) xs
+  all_of_shape : (f : Faults) (xs : List Fault) → AreFree f xs → AllByRecursion (CanHave m) xs
   all_of_shape f [] p = tt
   all_of_shape f (x ∷ xs) p = (p.0, all_of_shape (with_fault f x) xs p.3)
 
@@ -208,7 +208,7 @@ as_words : (ws : List (List ℕ)) → AreWords ws → AllByRecursion text.IsWord
 as_words [] p = tt
 as_words (w ∷ ws) p = ((p.0.0, plain_graphic w p.0.1), as_words ws p.1)
 
-rows_of : (m : Shape) → IsTold m → (xs : List Fault) → AllByRecursion (IsFaultOf m) xs → AllByRecursion (λ words. (0 < length words) × All text.IsWord words) (map (words_of m) xs)
+rows_of : (m : Shape) → IsTold m → (xs : List Fault) → AllByRecursion (CanHave m) xs → AllByRecursion (λ words. (0 < length words) × All text.IsWord words) (map (words_of m) xs)
 rows_of m k [] p = tt
 rows_of m k (x ∷ xs) p = ((omega arith, all_from text.IsWord (words_of m x) (as_words (words_of m x) (entry_words m k x p.0))), rows_of m k xs p.1)
 
@@ -226,8 +226,8 @@ module _ (m : Shape) (f : Faults) (s : IsFaultSet (record { shape = m; faults = 
   few_of : length xs ≤ 65536
   few_of = subst (λ ys. length ys ≤ 65536) (sym o.groups) (few_grouped m o.kinds o.ascend s')
 
-  pub each_of_shape : All (IsFaultOf m) xs
-  each_of_shape = all_from (IsFaultOf m) xs (all_of_shape m no_faults xs makes.0)
+  pub each_of_shape : All (CanHave m) xs
+  each_of_shape = all_from (CanHave m) xs (all_of_shape m no_faults xs makes.0)
 
   -- the lines of these faults are a text of the set
   pub text_is : IsTold m → (bytes : List ℕ) → bytes ≡ written (map (words_of m) xs) → IsFaultText m bytes f

@@ -35,13 +35,13 @@ count_of f = map.len f.wires + map.len f.crosses + map.len f.cells + map.len f.r
 abbrev pub no_faults : Faults
 no_faults = record { wires = map.empty; crosses = map.empty; cells = map.empty; registers = map.empty; bridges = set.empty }
 
--- the numbers of a fault are those of a machine of this shape
-abbrev pub IsFaultOf : Shape → Fault → Type 0
-IsFaultOf m (Stuck wire value) = wire.0 < wires_of m
-IsFaultOf m (CrossStuck cross closed) = cross.0 < crosses_of m
-IsFaultOf m (Cell table address value) = (table.0 < tables_of m) × (address < 64)
-IsFaultOf m (Register table value) = table.0 < tables_of m
-IsFaultOf m (Bridge a b) = (a.0 < wires_of m) × (b.0 < wires_of m)
+-- a machine of this shape can have the fault: its numbers are within the machine
+abbrev pub CanHave : Shape → Fault → Type 0
+CanHave m (Stuck wire value) = wire.0 < wires_of m
+CanHave m (CrossStuck cross closed) = cross.0 < crosses_of m
+CanHave m (Cell table address value) = (table.0 < tables_of m) × (address < 64)
+CanHave m (Register table value) = table.0 < tables_of m
+CanHave m (Bridge a b) = (a.0 < wires_of m) × (b.0 < wires_of m)
 
 -- two wires, the lower one first
 abbrev pub lower_first : ℕ → ℕ → ℕ × ℕ

@@ -10,7 +10,7 @@ use Rattle.fault_model.specs.declared.fault.Fault.{Fault}
 use Rattle.fault_model.specs.declared.fault.Fault.TheVariants.{Stuck, CrossStuck, Cell, Register, Bridge}
 use Rattle.fault_model.specs.declared.head.Head.{Head}
 use Rattle.fault_model.specs.declared.head.Head.TheVariants as head
-use Rattle.fault_model.specs.Adding.{no_faults, with_fault, refusal_of, IsFaultOf}
+use Rattle.fault_model.specs.Adding.{no_faults, with_fault, refusal_of, CanHave}
 use Rattle.fault_model.specs.Heads.{word_of}
 
 abbrev pub bit_word : Bool → List ℕ
@@ -48,7 +48,7 @@ with_all f (x ∷ xs) = with_all (with_fault f x) xs
 
 abbrev pub AreAdded : Shape → Faults → List Fault → Type 0
 AreAdded m f [] = Unit {0}
-AreAdded m f (x ∷ xs) = IsFaultOf m x × (refusal_of f x ≡ None) × AreAdded m (with_fault f x) xs
+AreAdded m f (x ∷ xs) = CanHave m x × (refusal_of f x ≡ None) × AreAdded m (with_fault f x) xs
 
 -- a text gives these faults of a machine: each of its lines is an entry, and these are all its entries
 pub record IsFaultText (m : Shape) (bytes : List ℕ) (f : Faults) : Type 0 where

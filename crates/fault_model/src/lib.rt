@@ -8,8 +8,6 @@ mod kind;
 mod line;
 mod read;
 mod set;
-#[cfg(test)]
-mod tests;
 mod write;
 
 pub use fault::{AddFault, Fault};

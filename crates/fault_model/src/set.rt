@@ -4,7 +4,7 @@ ghost use Rattle.std.specs.Prelude.{◌≡◌, ◌<◌, length, map, OnOk, OnErr
 ghost use Rattle.std.specs.FinSet as set;
 ghost use Rattle.hierarchy.specs.Faults.{stuck_wire, stuck_cross, wrong_cell, stuck_register};
 ghost use Rattle.hierarchy.specs.Shape.{wires_of, crosses_of, tables_of};
-ghost use Rattle.fault_model.specs.Adding.{no_faults, with_fault, refusal_of, count_of, IsFaultOf, IsRefusal, IsFaultSet};
+ghost use Rattle.fault_model.specs.Adding.{no_faults, with_fault, refusal_of, count_of, CanHave, IsRefusal, IsFaultSet};
 ghost use Rattle.fault_model.specs.Stored.{pair_of};
 ghost use Rattle.fault_model.specs.Written.{AreInOrder};
 ghost use Rattle.fault_model.specs.declared.fault.AddFault.TheVariants as add;
@@ -64,7 +64,7 @@ impl FaultSet {
 
     /// Adds a fault. Where it is refused, the set is as it was.
     pub fn add(&mut self, f: Fault) -> Result<(), AddFault>
-        requires { IsFaultOf self.old.shape f }
+        requires { CanHave self.old.shape f }
         ensures ok { OnOk result (self.new ≡ record { shape = self.old.shape; faults = with_fault self.old.faults f }) }
         ensures free { OnOk result (refusal_of self.old.faults f ≡ None) }
         ensures refused { IfErr result (IsRefusal (refusal_of self.old.faults f)) }

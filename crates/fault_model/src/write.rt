@@ -6,7 +6,7 @@ ghost use Rattle.std.specs.Ordering.{nat_cmp};
 ghost use Rattle.std.specs.List.Sorted.{IsStrictlySortedBy};
 ghost use Rattle.hierarchy.specs.Faults.{pair_cmp};
 ghost use Rattle.tm_text.specs.Written.{written, written_line};
-ghost use Rattle.fault_model.specs.Adding.{IsFaultOf};
+ghost use Rattle.fault_model.specs.Adding.{CanHave};
 ghost use Rattle.fault_model.specs.Stored.{kinds_in};
 ghost use Rattle.fault_model.specs.Refusals.{most_bytes};
 ghost use Rattle.fault_model.specs.Text.{words_of, bit_word, IsFaultText};
@@ -38,7 +38,7 @@ fn put_next(text: &mut Vec<u8>, word: &[u8]) -> Result<(), AllocError>
 
 /// Appends the line of a fault.
 fn put_fault(text: &mut Vec<u8>, shape: &Shape, fault: Fault) -> Result<(), AllocError>
-    requires { IsFaultOf shape.now fault }
+    requires { CanHave shape.now fault }
     ensures { OnOk result (text.new.items ≡ text.old.items ++ written_line (words_of shape.now fault)) }
 {
     match fault {
@@ -188,7 +188,7 @@ pub fn in_order(alloc: Global, entries: &Entries) -> Result<Vec<Fault>, AllocErr
 
 /// Appends the lines of faults.
 fn put_faults(text: &mut Vec<u8>, shape: &Shape, faults: &[Fault]) -> Result<(), AllocError>
-    requires { All (IsFaultOf shape.now) faults.now }
+    requires { All (CanHave shape.now) faults.now }
     ensures { OnOk result (text.new.items ≡ text.old.items ++ written (map (words_of shape.now) faults.now)) }
 {
     for fault in faults {

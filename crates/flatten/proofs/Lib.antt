@@ -4,7 +4,7 @@ pub mod SubstitutionLemmas
 pub mod NameLemmas
 pub mod UseLemmas
 pub mod FormalLemmas
-pub mod LevelLemmas
+pub mod LinkLemmas
 pub mod FrameLemmas
 pub mod WorkLemmas
 pub mod ClockLemmas

@@ -1,33 +1,51 @@
 -- Printed names.
-use Rattle.std.proofs.Common.{◌≡◌, ℕ, zero, suc, ◌<◌, ◌||◌, false, List, [], ◌∷◌, ◌++◌, length, refl, ap, sym, ◌∙◌, arith, append_assoc, ◌+◌, ◌-◌}
+use Rattle.std.proofs.Common.{◌≡◌, ℕ, zero, suc, ◌<◌, ◌≤◌, ◌||◌, false, List, [], ◌∷◌, ◌++◌, length, map, get_or, refl, ap, sym, ◌∙◌, inl, inr, arith, append_assoc, ◌+◌, ◌-◌}
+use Rattle.std.proofs.lemmas.Bool.{cases_eq, cases_lt}
+use Rattle.std.proofs.lemmas.List.{get_or_push, get_or_append_left, get_or_past, append-nil}
+use Rattle.std.proofs.lemmas.List.Concat.{flat_map-append}
+use Rattle.netlist.specs.Names.{whole}
 use Rattle.std.specs.Fmt.{decimal}
 use Rattle.flatten.specs.declared.model.Model.{Model}
 use Rattle.flatten.specs.declared.model.Signal.{Signal}
 use Rattle.flatten.specs.declared.work.Origin.{Origin as Kept}
 use Rattle.flatten.specs.Lines.{Part, InputPart, OutputPart, CoverPart, LatchPart, UsePart, Line, is_use}
 use Rattle.flatten.specs.Substitution.{first_model, after, is_left, IsSubstituted}
-use Rattle.flatten.specs.Netlists.{first_use, origin_of, printed_way}
+use Rattle.flatten.specs.Netlists.{first_use, origin_of, printed, printed_way}
 use Rattle.flatten.specs.Frames.{way_to}
-use Rattle.flatten.specs.Origins.{IsOrigin, AreOrigins, AreFalling, AreAllOrigins, way_of}
+use Rattle.flatten.specs.Origins.{IsOrigin, AreOrigins, AreAllOrigins, AreWays, step_to, shared_as}
 use Rattle.flatten.proofs.SubstitutionLemmas.{stays_after}
 
-pub way_push : (ps : List ℕ) (q : ℕ) → way_of (ps ++ q ∷ []) ≡ q ∷ way_of ps
-way_push [] q = refl
-way_push (p ∷ ps) q = ap (λ w. w ++ p ∷ []) (way_push ps q)
+way_push : (way : List ℕ) (place : ℕ) → printed_way (way ++ place ∷ []) ≡ printed_way way ++ decimal place ++ 47 ∷ []
+way_push way place =
+    flat_map-append (λ k. decimal k ++ 47 ∷ []) way (place ∷ [])
+    ∙ ap (λ x. printed_way way ++ x) (append-nil (decimal place ++ 47 ∷ []))
+    ∙ sym (append_assoc (printed_way way) (decimal place) (47 ∷ []))
 
--- the last place is put
-pub put_one : (t : List ℕ) (q : ℕ) (rest : List ℕ) → ((t ++ decimal q) ++ 47 ∷ []) ++ printed_way (way_of rest) ≡ t ++ printed_way (way_of (rest ++ q ∷ []))
-put_one t q rest =
-    let r = printed_way (way_of rest) in
-    append_assoc (t ++ decimal q) (47 ∷ []) r ∙ append_assoc t (decimal q) (47 ∷ r) ∙ ap (λ x. t ++ x) (sym (append_assoc (decimal q) (47 ∷ []) r) ∙ ap printed_way (sym (way_push rest q)))
+-- one more way
+pub ways_more : (ms : List Model) (n : ℕ) (ts : List (List ℕ)) (o : Kept) → length ts ≡ n → IsOrigin ms n o → AreWays ms n ts → AreWays ms (n + 1) (ts ++ (get_or ts o.within [] ++ step_to n o.place) ∷ [])
+ways_more ms n ts o len is ways k lt = elim (cases_eq k n) [
+  | inl e ↦ get_or_push ts (get_or ts o.within [] ++ step_to n o.place) [] k (len ∙ sym e) ∙ last n len is ways ∙ ap (λ j. printed_way (way_to ms j)) (sym e)
+  | inr ne ↦ get_or_append_left ts ((get_or ts o.within [] ++ step_to n o.place) ∷ []) [] k (omega arith) ∙ ways k (omega arith)
+]
+  where
+    last : (n : ℕ) → length ts ≡ n → IsOrigin ms n o → AreWays ms n ts → get_or ts o.within [] ++ step_to n o.place ≡ printed_way (way_to ms n)
+    last zero len is ways = ap (λ x. x ++ []) (get_or_past ts o.within [] (omega arith))
+    last (suc m) len is ways =
+        ap (λ x. x ++ (decimal o.place ++ 47 ∷ [])) (ways o.within (let le = is.1 in omega arith))
+        ∙ sym (append_assoc (printed_way (way_to ms o.within)) (decimal o.place) (47 ∷ []))
+        ∙ sym (way_push (way_to ms o.within) o.place)
+        ∙ ap printed_way (sym is.2)
 
-pub way_step : (ms : List Model) (k : ℕ) (o : Kept) → (k ≡ 0 → ⊥) → IsOrigin ms k o → way_to ms k ≡ way_to ms o.within ++ o.place ∷ []
-way_step ms zero o h is = absurd (h refl)
-way_step ms (suc k) o h is = is.2
+-- all ways, also to lines that weren't replaced
+pub all_ways : (ms : List Model) (os : List Kept) (ts : List (List ℕ)) → AreAllOrigins ms os → length ts ≡ length os → AreWays ms (length os) ts → (k : ℕ) → get_or ts k [] ≡ printed_way (way_to ms k)
+all_ways ms os ts all len ways k = elim (cases_lt k (length os)) [
+  | inl lt ↦ ways k lt
+  | inr le ↦ get_or_past ts k [] (omega arith) ∙ ap (λ o. printed_way o.way) (sym (all.1 k le))
+]
 
-pub falling : (ms : List Model) (os : List Kept) → AreOrigins ms os → AreFalling os
-falling ms os h zero o pos lt = absurd (omega arith)
-falling ms os h (suc k) o pos lt = let le = (h (suc k) o lt).1 in omega (arith, le)
+pub names_are : (ms : List Model) (ts : List (List ℕ)) → ((k : ℕ) → get_or ts k [] ≡ printed_way (way_to ms k)) → (ss : List Signal) → map (whole ts) (map (shared_as ms) ss) ≡ map (printed ms) ss
+names_are ms ts h [] = refl
+names_are ms ts h (s ∷ ss) = λ i. (h s.used i ++ get_or (origin_of ms s.used).model.names s.own []) ∷ names_are ms ts h ss i
 
 -- where none is left
 none_use : (ms : List Model) (lines : List (Line Signal)) → is_left lines ≡ false → first_use ms lines ≡ record { model = first_model ms; way = [] }

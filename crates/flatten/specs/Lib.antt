@@ -14,7 +14,7 @@ pub mod Sinks
 pub mod Lists
 pub mod NameSets
 pub mod UseLines
-pub mod Levels
+pub mod Links
 pub mod Frames
 pub mod Origins
 pub mod Clocks

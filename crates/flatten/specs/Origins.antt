@@ -1,12 +1,15 @@
 -- What is kept of the replaced lines.
-use Rattle.std.specs.Prelude.{ℕ, zero, suc, ◌≡◌, ◌<◌, ◌≤◌, ◌+◌, List, [], ◌∷◌, ◌++◌, length, slice_index_or}
+use Rattle.std.specs.Prelude.{ℕ, zero, suc, ◌≡◌, ◌<◌, ◌≤◌, ◌+◌, List, [], ◌∷◌, ◌++◌, Some, length, slice_index_or}
+use Rattle.std.specs.Fmt.{decimal}
+use Rattle.netlist.specs.declared.shared.Shared.{Shared}
 use Rattle.flatten.specs.declared.model.Model.{Model}
+use Rattle.flatten.specs.declared.model.Signal.{Signal}
 use Rattle.flatten.specs.declared.refusal.Refusal.{Refusal}
 use Rattle.flatten.specs.declared.refusal.Refusal.TheVariants.{Memory, Limit}
 use Rattle.flatten.specs.declared.work.Origin.{Origin}
 use Rattle.flatten.specs.declared.work.Substituted.{Substituted}
 use Rattle.flatten.specs.Substitution.{first_model, IsSubstituted}
-use Rattle.flatten.specs.Netlists.{origin_of}
+use Rattle.flatten.specs.Netlists.{origin_of, printed_way}
 use Rattle.flatten.specs.Faults.{IsTooMuch}
 use Rattle.flatten.specs.Frames.{way_to}
 use Rattle.flatten.specs.Sinks.{IsSink, lines_in}
@@ -19,18 +22,22 @@ IsOrigin models (suc k) o = (o.names.now ≡ (origin_of models (suc k)).model.na
 abbrev pub AreOrigins : List Model → List Origin → Type 0
 AreOrigins models origins = (k : ℕ) (o : Origin) → k < length origins → IsOrigin models k (slice_index_or origins k o)
 
--- each stood in the model of an earlier one
-abbrev pub AreFalling : List Origin → Type 0
-AreFalling origins = (k : ℕ) (o : Origin) → 0 < k → k < length origins → (slice_index_or origins k o).within < k
-
 -- and none comes later
 abbrev pub AreAllOrigins : List Model → List Origin → Type 0
 AreAllOrigins models origins = AreOrigins models origins × ((k : ℕ) → length origins ≤ k → origin_of models k ≡ record { model = first_model models; way = [] })
 
--- a way, from its places backwards
-abbrev pub way_of : List ℕ → List ℕ
-way_of [] = []
-way_of (place ∷ places) = way_of places ++ place ∷ []
+-- the last step on the way to what replaced a line, as it is printed
+abbrev pub step_to : ℕ → ℕ → List ℕ
+step_to zero place = []
+step_to (suc k) place = decimal place ++ 47 ∷ []
+
+-- the printed ways to what replaced the first n lines
+abbrev pub AreWays : List Model → ℕ → List (List ℕ) → Type 0
+AreWays models n texts = (k : ℕ) → k < n → slice_index_or texts k [] ≡ printed_way (way_to models k)
+
+-- the printed name of a signal, as its way and its own name
+abbrev pub shared_as : List Model → Signal → Shared
+shared_as models s = record { beginning = Some s.used; end = slice_index_or (origin_of models s.used).model.names s.own [] }
 
 pub record IsSubstitution (models : List Model) (s : Substituted) : Type 0 where
   pub sink : IsSink s.sink

@@ -31,13 +31,12 @@ pub struct Frame<'a> {
     pub given: Given<'a>,
 }
 
-/// A line of a frame that uses a model: the place after it, the model, and what it gives, in so many pairs.
+/// A line of a frame that uses a model: the place after it, the model, and what it gives.
 #[derive(Drop)]
 pub struct Found<'a> {
     pub next: usize,
     pub model: &'a [u8],
     pub given: Given<'a>,
-    pub pairs: usize,
 }
 
 /// What a line that uses a model says.
@@ -179,7 +178,6 @@ pub fn place_lines<'a>(
                 next: k + 1,
                 model: found.model,
                 given,
-                pairs: found.pairs.len(),
             }));
         }
         put_line(alloc, frame, &line, sink)?;

@@ -9,7 +9,6 @@ mod design;
 mod formals;
 mod frames;
 mod given;
-mod levels;
 mod lists;
 mod model;
 mod name_set;
@@ -27,8 +26,3 @@ mod work;
 
 pub use design::flatten;
 pub use model::{Model, PairDef, Piece, Signal};
-
-#[cfg(test)]
-mod tests;
-#[cfg(test)]
-mod uses_tests;

@@ -1,53 +1,55 @@
-//! The printed names of signals.
+//! The printed names of signals. They share their beginnings and are spelt out only where a fault names one.
 
-ghost use Rattle.std.specs.Prelude.{◌≡◌, ◌<◌, ℕ, List, [], ◌++◌, length, map, IfOk, IfErr, OnOk, slice_index_or};
-ghost use Rattle.netlist.specs.declared.fault.DesignFault.TheVariants.{Memory};
+ghost use Rattle.std.specs.Prelude.{◌≡◌, ◌++◌, ◌∷◌, List, [], length, map, IfOk, slice_index_or};
+ghost use Rattle.netlist.specs.Names.{texts_of};
 ghost use Rattle.flatten.specs.declared.model.Model.{Model as ModelValue};
 ghost use Rattle.flatten.specs.Substitution.{first_model};
-ghost use Rattle.flatten.specs.Netlists.{origin_of, printed, printed_way};
-ghost use Rattle.flatten.specs.Frames.{way_to};
-ghost use Rattle.flatten.specs.Origins.{AreFalling, AreAllOrigins, way_of};
+ghost use Rattle.flatten.specs.Netlists.{origin_of, printed};
+ghost use Rattle.flatten.specs.Origins.{AreOrigins, AreAllOrigins, AreWays, step_to, shared_as};
 
 use crate::given::name_at;
 use crate::model::Signal;
+use crate::uses::copied;
 use crate::work::Origin;
-use netlist::{DesignFault, Name};
+use netlist::{Beginning, Name, Names, Shared};
 use std::alloc::{AllocError, Global};
 use tm_items::Items;
 use tm_text::put_number;
 
-/// The places on the way to what replaced a line, the last first.
-fn way_back(alloc: Global, origins: &[Origin<'_>], used: u32) -> Result<Vec<usize>, AllocError>
-    requires { AreFalling origins.now }
-    ensures { (models : List ModelValue) → AreAllOrigins models origins.now → IfOk result (λ v. way_of v.items ≡ way_to models used) }
+/// A place on the way, followed by a slash; nothing for the first model.
+fn step_to(alloc: Global, used: usize, place: usize) -> Result<Name, AllocError>
+    ensures { IfOk result (λ n. n ≡ step_to used place) }
 {
-    let mut places = Vec::new(alloc);
-    let mut line = used;
-    'lines: while line != 0 {
-        let Some(origin) = origins.get(line as usize) else {
-            return Ok(places);
-        };
-        places.push(origin.place)?;
-        line = origin.within;
+    let mut text = Vec::new(alloc);
+    if used == 0 {
+        return Ok(Items::new(text));
     }
-    Ok(places)
+    put_number(&mut text, place as u64)?;
+    text.push(b'/')?;
+    Ok(Items::new(text))
 }
 
-/// Adds each place on the way, followed by a slash.
-fn put_way(text: &mut Vec<u8>, back: Vec<usize>) -> Result<(), AllocError>
-    ensures { OnOk result (text.new.items ≡ text.old.items ++ printed_way (way_of back.items)) }
+/// The ways to what replaced the lines, as beginnings of names.
+fn ways_of(alloc: Global, origins: &[Origin<'_>]) -> Result<Vec<Beginning>, AllocError>
+    ensures len { IfOk result (λ v. length (texts_of v.items) ≡ length origins.now) }
+    ensures ways { (models : List ModelValue) → AreOrigins models origins.now →
+        IfOk result (λ v. AreWays models (length origins.now) (texts_of v.items)) }
 {
-    let mut places = back;
-    'places: while let Some(place) = places.pop() {
-        put_number(text, place as u64)?;
-        text.push(b'/')?;
+    let mut ways = Vec::new(alloc);
+    'origins: for used in 0..origins.len() {
+        let origin = origins[used];
+        ways.push(Beginning {
+            before: origin.within,
+            text: step_to(alloc, used, origin.place)?,
+        })?;
     }
-    Ok(())
+    Ok(ways)
 }
 
 /// The names of the model that replaced a line; those of the first model where there is no such line.
 fn names_in<'a>(origins: &[Origin<'a>], first: &'a [Name], used: u32) -> &'a [Name]
-    ensures { (models : List ModelValue) → AreAllOrigins models origins.now → first.now ≡ (first_model models).names → result.now ≡ (origin_of models used).model.names }
+    ensures { (models : List ModelValue) → AreAllOrigins models origins.now → first.now ≡ (first_model models).names →
+        result.now ≡ (origin_of models used).model.names }
 {
     match origins.get(used as usize) {
         Some(origin) => origin.names,
@@ -55,64 +57,51 @@ fn names_in<'a>(origins: &[Origin<'a>], first: &'a [Name], used: u32) -> &'a [Na
     }
 }
 
-fn printed(
+fn shared_of(
     alloc: Global,
     origins: &[Origin<'_>],
     first: &[Name],
     signal: Signal,
-) -> Result<Vec<u8>, AllocError>
-    requires { AreFalling origins.now }
-    ensures { (models : List ModelValue) → AreAllOrigins models origins.now → first.now ≡ (first_model models).names → IfOk result (λ v. v.items ≡ printed models signal) }
+) -> Result<Shared, AllocError>
+    ensures { (models : List ModelValue) → AreAllOrigins models origins.now → first.now ≡ (first_model models).names →
+        IfOk result (λ s. s ≡ shared_as models signal) }
 {
-    let back = way_back(alloc, origins, signal.used)?;
-    let mut text = Vec::new(alloc);
-    put_way(&mut text, back)?;
     let names = names_in(origins, first, signal.used);
-    text.extend_from_slice(name_at(names, signal.own as usize))?;
-    Ok(text)
+    let end = copied(alloc, name_at(names, signal.own as usize))?;
+    Ok(Shared {
+        beginning: Some(signal.used),
+        end,
+    })
 }
 
-/// The name of the signal with a number.
-pub fn printed_name(
+fn all_shared(
     alloc: Global,
     origins: &[Origin<'_>],
     first: &[Name],
     signals: &[Signal],
-    number: u32,
-) -> Result<Name, AllocError>
-    requires falling { AreFalling origins.now }
-    requires known { number < length signals.now }
-    ensures { (models : List ModelValue) → AreAllOrigins models origins.now → first.now ≡ (first_model models).names → IfOk result (λ n. n ≡ slice_index_or (map (printed models) signals.now) number []) }
+) -> Result<Vec<Shared>, AllocError>
+    ensures { (models : List ModelValue) → AreAllOrigins models origins.now → first.now ≡ (first_model models).names →
+        IfOk result (λ v. v.items ≡ map (shared_as models) signals.now) }
 {
-    let text = printed(alloc, origins, first, signals[number as usize])?;
-    Ok(Items::new(text))
+    let mut all = Vec::new(alloc);
+    'signals: for signal in signals {
+        let shared = shared_of(alloc, origins, first, *signal)?;
+        all.push(shared)?;
+    }
+    Ok(all)
 }
 
-/// The most bytes of all names: on a deep way each is long, so a small file could else fill the memory.
-const MOST_BYTES: usize = 268_435_456;
-
 /// The names of signals: the places of the lines on the way, each followed by a slash, and the own name.
-///
-/// More than 268,435,456 bytes in all are refused with `Memory`.
 pub fn printed_names(
     alloc: Global,
     origins: &[Origin<'_>],
     first: &[Name],
     signals: &[Signal],
-) -> Result<Vec<Name>, DesignFault>
-    requires { AreFalling origins.now }
-    ensures ok { (models : List ModelValue) → AreAllOrigins models origins.now → first.now ≡ (first_model models).names → IfOk result (λ v. v.items ≡ map (printed models) signals.now) }
-    ensures refused { IfErr result (λ e. e ≡ Memory) }
+) -> Result<Names, AllocError>
+    ensures { (models : List ModelValue) → AreAllOrigins models origins.now → first.now ≡ (first_model models).names →
+        IfOk result (λ n. n ≡ map (printed models) signals.now) }
 {
-    let mut names = Vec::new(alloc);
-    let mut room = MOST_BYTES;
-    'signals: for signal in signals {
-        let text = printed(alloc, origins, first, *signal)?;
-        if text.len() > room {
-            return Err(DesignFault::Memory);
-        }
-        room -= text.len();
-        names.push(Items::new(text))?;
-    }
-    Ok(names)
+    let ways = ways_of(alloc, origins)?;
+    let all = all_shared(alloc, origins, first, signals)?;
+    Ok(Names::sharing(ways, all))
 }

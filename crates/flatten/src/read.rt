@@ -5,12 +5,13 @@ ghost use Rattle.netlist.specs.declared.draft.Draft.{Draft as DraftValue};
 ghost use Rattle.netlist.specs.declared.fault.DesignFault.TheVariants.{Memory};
 ghost use Rattle.netlist.specs.Checks.{IsChecked};
 ghost use Rattle.netlist.specs.Drafts.{IsWellMade};
-ghost use Rattle.flatten.specs.Faults.{name_in, IsClean, IsRefusalOfModels};
+ghost use Rattle.flatten.specs.Faults.{IsClean, IsRefusalOfModels};
 ghost use Rattle.flatten.specs.Lines.{HaveRightRows};
-ghost use Rattle.flatten.specs.Netlists.{controls_of, AreOneControl, IsWithin, IsReadFrom, IsNetlistOf};
+ghost use Rattle.flatten.specs.Netlists.{printed, controls_of, AreOneControl, IsWithin, IsReadFrom, IsNetlistOf};
 ghost use Rattle.flatten.specs.Origins.{IsSubstitution};
 ghost use Rattle.flatten.specs.Placed.{placed_line};
 ghost use Rattle.flatten.specs.Readings.{IsReading};
+ghost use Rattle.flatten.specs.Signals.{signals_of};
 ghost use Rattle.flatten.specs.Sinks.{lines_in};
 ghost use Rattle.flatten.specs.Substitution.{first_model};
 ghost use Rattle.flatten.specs.Uses.{KeepsRules};
@@ -20,11 +21,11 @@ use crate::clocks::other_control;
 use crate::lists::lists_of;
 use crate::model::{Model, Signal};
 use crate::placed::Placed;
-use crate::printed::{printed_name, printed_names};
+use crate::printed::printed_names;
 use crate::refusal::Refusal;
 use crate::words::{Wrong, wrong_word};
 use crate::work::{Substituted, substitute};
-use netlist::{DesignFault, DesignKind, Draft, Name};
+use netlist::{DesignFault, DesignKind, Draft, Name, Names};
 use std::alloc::{AllocError, Global};
 use tm_items::Items;
 
@@ -73,35 +74,42 @@ fn check_controls(alloc: Global, models: &[Model], placed: &[Placed<'_>]) -> Res
     }
 }
 
-/// The printed name of the signal with a number.
-fn name_of(
+/// The names of the signals.
+fn names_of(
     alloc: Global,
     models: &[Model],
     found: &Substituted<'_>,
-    signal: u32,
-) -> Result<Name, AllocError>
+    signals: &[Signal],
+) -> Result<Names, AllocError>
     requires kept { IsSubstitution models.now found.now }
-    requires known { signal < length found.now.sink.signals }
-    ensures { IfOk result (λ n. n ≡ name_in models.now (lines_in found.now.sink) signal) }
+    requires signals { signals.now ≡ found.now.sink.signals }
+    ensures { IfOk result (λ names. names ≡ map (printed models.now) (signals_of (lines_in found.now.sink))) }
 {
-    let signals = found.sink.signals.as_slice();
-    printed_name(alloc, &found.origins, first_names(models), signals, signal)
+    let names = printed_names(alloc, &found.origins, first_names(models), signals)?;
+    Ok(names)
 }
 
 /// That no signal is driven twice and each that is read is driven; else the first word where it isn't so.
-fn check_words(alloc: Global, models: &[Model], found: &Substituted<'_>) -> Result<(), DesignFault>
+fn check_words(
+    alloc: Global,
+    models: &[Model],
+    found: &Substituted<'_>,
+    names: &Names,
+) -> Result<(), DesignFault>
     requires rows { HaveRightRows models.now }
     requires kept { IsSubstitution models.now found.now }
+    requires names { names.now ≡ map (printed models.now) (signals_of (lines_in found.now.sink)) }
     requires clean { IsClean models.now (lines_in found.now.sink) }
     ensures undoubled { OnOk result (IsFirstDoubled (lines_in found.now.sink) None) }
     ensures driven { OnOk result (IsFirstUndriven (lines_in found.now.sink) None) }
     ensures refused { IfErr result (IsRefusalOfModels models.now) }
-    ensures only { IsFirstDoubled (lines_in found.now.sink) None → IsFirstUndriven (lines_in found.now.sink) None → IfErr result (λ e. e ≡ Memory) }
+    ensures only { let lines = lines_in found.now.sink in
+        IsFirstDoubled lines None → IsFirstUndriven lines None → IfErr result (λ e. e ≡ Memory) }
 {
     match wrong_word(alloc, &found.sink.signals, &found.sink.placed) {
         Ok(None) => Ok(()),
         Ok(Some(Wrong::Doubled(word))) => {
-            let name = name_of(alloc, models, found, word.signal)?;
+            let name = names.get(alloc, word.signal as usize)?;
             let kind = DesignKind::Doubled { name };
             Err(DesignFault::At {
                 line: word.line,
@@ -109,7 +117,7 @@ fn check_words(alloc: Global, models: &[Model], found: &Substituted<'_>) -> Resu
             })
         }
         Ok(Some(Wrong::Undriven(word))) => {
-            let name = name_of(alloc, models, found, word.signal)?;
+            let name = names.get(alloc, word.signal as usize)?;
             let kind = DesignKind::Undriven { name };
             Err(DesignFault::At {
                 line: word.line,
@@ -125,18 +133,16 @@ fn draft_of(
     alloc: Global,
     models: &[Model],
     found: &Substituted<'_>,
-    signals: &[Signal],
+    names: Names,
 ) -> Result<Draft, DesignFault>
     requires kept { IsSubstitution models.now found.now }
-    requires signals { signals.now ≡ found.now.sink.signals }
+    requires names { names ≡ map (printed models.now) (signals_of (lines_in found.now.sink)) }
     ensures ok { IfOk result (IsReadFrom models.now (lines_in found.now.sink)) }
     ensures refused { IfErr result (λ e. e ≡ Memory) }
 {
     let lists = lists_of(alloc, &found.sink.signals, &found.sink.placed)?;
-    let first = first_names(models);
-    let names = printed_names(alloc, &found.origins, first, signals)?;
     Ok(Draft {
-        names: Items::new(names),
+        names,
         inputs: Items::new(lists.inputs),
         outputs: Items::new(lists.outputs),
         covers: Items::new(lists.covers),
@@ -157,6 +163,7 @@ pub fn read(alloc: Global, models: &[Model]) -> Result<Draft, DesignFault>
     let found = within_limits(alloc, models)?;
     let signals = found.sink.signals.as_slice();
     check_controls(alloc, models, &found.sink.placed)?;
-    check_words(alloc, models, &found)?;
-    draft_of(alloc, models, &found, signals)
+    let names = names_of(alloc, models, &found, signals)?;
+    check_words(alloc, models, &found, &names)?;
+    draft_of(alloc, models, &found, names)
 }

@@ -1,192 +1,126 @@
 //! Models that use themselves.
 
-ghost use Rattle.std.specs.Prelude.{◌≡◌, ◌<◌, ◌≤◌, ◌&&◌, not, ℕ, List, map, length, IfOk, OnOk, IfErr, IfSome, MatchOption, IsTrue, ◌↔◌, None, true, false};
+ghost use Rattle.std.specs.Prelude.{◌≡◌, ◌<◌, ◌≤◌, ℕ, map, length, IfOk, OnOk, IfErr, None, slice_set};
 ghost use Rattle.netlist.specs.declared.fault.DesignFault.TheVariants.{Memory};
-ghost use Rattle.flatten.specs.declared.model.Model.{Model as ModelValue};
-ghost use Rattle.flatten.specs.Uses.{uses_of, is_among, IsUnknown, IsWronglyGiven, IsRecursive, IsFirstUse};
+ghost use Rattle.netlist.specs.Covers.{cover_at};
+ghost use Rattle.netlist.specs.Groups.{AreGroups};
+ghost use Rattle.flatten.specs.Uses.{uses_of, IsUnknown, IsWronglyGiven, IsRecursive, IsFirstUse};
 ghost use Rattle.flatten.specs.Faults.{IsRefusalOfModels};
 ghost use Rattle.flatten.specs.UseLines.{use_in, listed, IsFirstListed};
-ghost use Rattle.flatten.specs.Levels.{level_at, AreOrdered, IsFirstRecursive, IsClosed, AreReached};
+ghost use Rattle.flatten.specs.Links.{HaveNames, AreBare, AreLinked, with_input, group_at};
 
-use crate::levels::{Edge, Graph, at, levels_of, ways_from};
 use crate::model::Model;
 use crate::name_set::NameSet;
 use crate::uses::{UseLine, chosen, copied, is_sooner};
-use netlist::{DesignFault, DesignKind};
+use netlist::{Cover, DesignFault, DesignKind, groups_of};
 use std::alloc::{AllocError, Global};
+use tm_items::Items;
 
-fn names_in<'a>(alloc: Global, uses: &[UseLine<'a>]) -> Result<NameSet<'a>, AllocError> {
+/// The most names that can be numbered. So many would take 64 GB.
+const MOST_NAMES: usize = 4_294_967_295;
+
+/// The names of the models that stand on the lines.
+fn names_in<'a>(alloc: Global, uses: &[UseLine<'a>]) -> Result<NameSet<'a>, AllocError>
+    ensures { IfOk result (λ names. HaveNames names (map use_in uses.now) (length uses.now)) }
+{
     let mut names = NameSet::new(alloc);
-    'uses: for used in uses {
+    'uses: for place in 0..uses.len() {
+        let used = uses[place];
         names.add(used.own)?;
         names.add(used.model)?;
     }
     Ok(names)
 }
 
-fn edges_of(
+/// A cover for each name, which reads nothing.
+fn bare_covers(alloc: Global, count: usize) -> Result<Vec<Cover>, AllocError>
+    requires { count ≤ 4294967295 }
+    ensures { IfOk result (λ covers. AreBare count covers.items) }
+{
+    let mut covers = Vec::new(alloc);
+    'names: for number in 0..count {
+        covers.push(Cover {
+            out: number as u32,
+            ins: Items::empty(alloc),
+            rows: Items::empty(alloc),
+            off: false,
+            line: 0,
+        })?;
+    }
+    Ok(covers)
+}
+
+/// Lets the cover at a place read one more.
+fn add_input(covers: &mut Vec<Cover>, place: usize, input: u32) -> Result<(), AllocError>
+    requires { place < length covers.old.items }
+    ensures { OnOk result (covers.new.items ≡ slice_set covers.old.items place (with_input (cover_at covers.old.items place) input)) }
+{
+    covers[place].ins.push(input)?;
+    Ok(())
+}
+
+/// A cover for each name, which reads those of the models that are used in models of the name.
+fn covers_of(
     alloc: Global,
     names: &NameSet<'_>,
     uses: &[UseLine<'_>],
-) -> Result<Vec<Edge>, AllocError> {
-    let mut edges = Vec::new(alloc);
-    'uses: for used in uses {
-        edges.push(Edge {
-            own: names.number(used.own),
-            model: names.number(used.model),
-        })?;
+) -> Result<Vec<Cover>, AllocError>
+    requires few { length names.now ≤ 4294967295 }
+    requires names { HaveNames names.now (map use_in uses.now) (length uses.now) }
+    ensures { IfOk result (λ covers. AreLinked names.now (map use_in uses.now) (length uses.now) covers.items) }
+{
+    let mut covers = bare_covers(alloc, names.len())?;
+    'uses: for place in 0..uses.len() {
+        let used = uses[place];
+        let own = names.number(used.own);
+        let model = names.number(used.model) as u32;
+        add_input(&mut covers, own, model)?;
     }
-    Ok(edges)
+    Ok(covers)
 }
 
-fn level_of(names: &NameSet<'_>, levels: &[usize], name: &[u8]) -> usize
-    ensures { result ≡ level_at names.now levels.now name.now }
+fn group_of(names: &NameSet<'_>, groups: &[usize], name: &[u8]) -> usize
+    ensures { result ≡ group_at names.now groups.now name.now }
 {
-    match levels.get(names.number(name)) {
-        Some(level) => *level,
+    match groups.get(names.number(name)) {
+        Some(group) => *group,
         None => 0,
     }
 }
 
-/// Whether no line uses a model of a higher level than its own.
-fn are_ordered(names: &NameSet<'_>, levels: &[usize], uses: &[UseLine<'_>]) -> bool
-    ensures { IsTrue result → AreOrdered (level_at names.now levels.now) (map use_in uses.now) (length uses.now) }
-{
-    'uses: for place in 0..uses.len() {
-        let used = uses[place];
-        if level_of(names, levels, used.model) > level_of(names, levels, used.own) {
-            return false;
-        }
-    }
-    true
-}
-
-/// The first line that uses a model of its own level.
-fn first_level(names: &NameSet<'_>, levels: &[usize], uses: &[UseLine<'_>]) -> Option<usize>
-    ensures { IsFirstListed (map use_in uses.now) (λ k. level_at names.now levels.now (listed (map use_in uses.now) k).model ≡ level_at names.now levels.now (listed (map use_in uses.now) k).own) result }
+/// The first line whose own model and the one that it uses are of one group.
+fn first_in_group(names: &NameSet<'_>, groups: &[usize], uses: &[UseLine<'_>]) -> Option<usize>
+    ensures { let lines = map use_in uses.now in
+        let group = group_at names.now groups.now in
+        IsFirstListed lines (λ k. group (listed lines k).model ≡ group (listed lines k).own) result }
 {
     let mut found: Option<usize> = None;
     'uses: for place in 0..uses.len() {
         let used = uses[place];
-        let level = level_of(names, levels, used.model) == level_of(names, levels, used.own);
+        let same = group_of(names, groups, used.model) == group_of(names, groups, used.own);
         let sooner = is_sooner(uses, place, found);
-        found = chosen(level, sooner, place, found);
+        found = chosen(same, sooner, place, found);
     }
     found
 }
 
-/// Whether the ways lead from the model that the line uses to its own.
-fn leads_back(names: &NameSet<'_>, ways: &[usize], uses: &[UseLine<'_>], place: usize) -> bool
-    requires { place < length uses.now }
-    ensures { IsTrue result → (models : List ModelValue) → map use_in uses.now ≡ uses_of models → IsRecursive models place }
-{
-    let used = uses[place];
-    let mut name = used.own;
-    'steps: for _ in 0..uses.len() {
-        if name == used.model {
-            return true;
-        }
-        let way = at(ways, names.number(name));
-        if way >= uses.len() {
-            return false;
-        }
-        let before = uses[way];
-        if before.model != name {
-            return false;
-        }
-        name = before.own;
-    }
-    name == used.model
-}
-
-/// The first line through which its own model is used again; nothing where the levels weren't right.
-fn first_by_levels(alloc: Global, uses: &[UseLine<'_>]) -> Result<Option<Option<usize>>, AllocError>
-    ensures { IfOk result (λ answer. IfSome answer (IsFirstRecursive (map use_in uses.now))) }
+/// The first line through which its own model is used again.
+fn first_recursive(
+    alloc: Global,
+    models: &[Model],
+    uses: &[UseLine<'_>],
+) -> Result<Option<usize>, DesignFault>
+    requires { map use_in uses.now ≡ uses_of models.now }
+    ensures ok { IfOk result (IsFirstUse models.now (IsRecursive models.now)) }
+    ensures refused { IfErr result (λ e. e ≡ Memory) }
 {
     let names = names_in(alloc, uses)?;
-    let edges = edges_of(alloc, &names, uses)?;
-    let graph = Graph::new(alloc, &edges, names.len())?;
-    let levels = levels_of(alloc, &graph)?;
-    if !are_ordered(&names, &levels, uses) {
-        return Ok(None);
+    if names.len() > MOST_NAMES {
+        return Err(DesignFault::Memory);
     }
-    let Some(place) = first_level(&names, &levels, uses) else {
-        return Ok(Some(None));
-    };
-    let start = names.number(uses[place].model);
-    let ways = ways_from(alloc, &graph, start)?;
-    if !leads_back(&names, &ways, uses, place) {
-        return Ok(None);
-    }
-    Ok(Some(Some(place)))
-}
-
-fn is_new(set: &NameSet<'_>, used: &UseLine<'_>) -> bool
-    ensures { result ≡ (is_among set.now used.now.own.now && not (is_among set.now used.now.model.now)) }
-{
-    set.contains(used.own) && !set.contains(used.model)
-}
-
-/// The first line whose own model is in the set and whose used model isn't.
-fn first_new(set: &NameSet<'_>, uses: &[UseLine<'_>]) -> Option<usize>
-    ensures { MatchOption result (IsClosed set.now (map use_in uses.now) (length uses.now)) (λ k. (k < length uses.now) × (is_among set.now (listed (map use_in uses.now) k).own ≡ true) × (is_among set.now (listed (map use_in uses.now) k).model ≡ false)) }
-{
-    'uses: for place in 0..uses.len() {
-        if is_new(set, &uses[place]) {
-            return Some(place);
-        }
-    }
-    None
-}
-
-/// The models that a model uses, directly or through others, and itself.
-fn flood<'a>(
-    alloc: Global,
-    uses: &[UseLine<'a>],
-    start: &'a [u8],
-) -> Result<NameSet<'a>, AllocError>
-    ensures { IfOk result (λ set. AreReached (map use_in uses.now) start.now set) }
-{
-    let mut set = NameSet::new(alloc);
-    set.add(start)?;
-    'steps: for _ in 0..uses.len() {
-        let Some(place) = first_new(&set, uses) else {
-            return Ok(set);
-        };
-        set.add(uses[place].model)?;
-    }
-    Ok(set)
-}
-
-fn is_recursive(alloc: Global, uses: &[UseLine<'_>], place: usize) -> Result<bool, AllocError>
-    requires { place < length uses.now }
-    ensures { IfOk result (λ b. (models : List ModelValue) → map use_in uses.now ≡ uses_of models → IsTrue b ↔ IsRecursive models place) }
-{
-    let used = uses[place];
-    let set = flood(alloc, uses, used.model)?;
-    Ok(set.contains(used.own))
-}
-
-/// The first line through which its own model is used again, sought from each line anew.
-fn first_by_floods(alloc: Global, uses: &[UseLine<'_>]) -> Result<Option<usize>, AllocError>
-    ensures { IfOk result (IsFirstRecursive (map use_in uses.now)) }
-{
-    let mut found: Option<usize> = None;
-    'uses: for place in 0..uses.len() {
-        let recursive = is_recursive(alloc, uses, place)?;
-        let sooner = is_sooner(uses, place, found);
-        found = chosen(recursive, sooner, place, found);
-    }
-    Ok(found)
-}
-
-fn first_recursive(alloc: Global, uses: &[UseLine<'_>]) -> Result<Option<usize>, AllocError>
-    ensures { IfOk result (IsFirstRecursive (map use_in uses.now)) }
-{
-    match first_by_levels(alloc, uses)? {
-        Some(found) => Ok(found),
-        None => first_by_floods(alloc, uses),
-    }
+    let covers = covers_of(alloc, &names, uses)?;
+    let groups = groups_of(alloc, &covers, names.len())?;
+    Ok(first_in_group(&names, &groups, uses))
 }
 
 /// That no model uses itself; else the first line through which its own model is used again.
@@ -202,7 +136,7 @@ pub fn check_recursion(
     ensures refused { IfErr result (IsRefusalOfModels models.now) }
     ensures only { IsFirstUse models.now (IsRecursive models.now) None → IfErr result (λ e. e ≡ Memory) }
 {
-    let Some(place) = first_recursive(alloc, uses)? else {
+    let Some(place) = first_recursive(alloc, models, uses)? else {
         return Ok(());
     };
     let used = uses[place];

@@ -15,17 +15,12 @@ use std::alloc::Global;
 /// The most characters of rows.
 pub const MOST_CHARACTERS: usize = 16_777_216;
 
-/// The most that is kept: two for each cover and latch, one for each input of a cover and each port. Covers without
-/// rows have no characters, so a small file could else fill the memory.
-const MOST_KEPT: usize = 33_554_432;
-
 /// The lines so far, their signals, and the characters of their rows.
 #[derive(Drop)]
 pub struct Sink<'a> {
     pub placed: Vec<Placed<'a>>,
     pub signals: Signals,
     pub size: usize,
-    kept: usize,
 }
 
 /// The characters of rows, if there is room for so many.
@@ -79,18 +74,6 @@ fn add_words(signals: &mut Signals, part: &PlacedPart<'_>) -> Result<(), Refusal
     }
 }
 
-fn weight(part: &PlacedPart<'_>) -> usize {
-    match part {
-        PlacedPart::Input(_) | PlacedPart::Output(_) => 1,
-        PlacedPart::Cover {
-            out: _,
-            ins,
-            cover: _,
-        } => ins.as_slice().len().saturating_add(2),
-        PlacedPart::Latch { .. } => 2,
-    }
-}
-
 impl<'a> Sink<'a> {
     pub fn new(alloc: Global) -> Self
         ensures sink { IsSink result }
@@ -100,7 +83,6 @@ impl<'a> Sink<'a> {
             placed: Vec::new(alloc),
             signals: Signals::new(alloc),
             size: 0,
-            kept: 0,
         }
     }
 
@@ -111,16 +93,11 @@ impl<'a> Sink<'a> {
         ensures ok { OnOk result (lines_in self.new ≡ lines_in self.old ++ placed_line line.entry ∷ []) }
         ensures refused { IfErr result (IsOver (lines_in self.old ++ placed_line line.entry ∷ [])) }
     {
-        let kept = self.kept.saturating_add(weight(&line.part));
-        if kept > MOST_KEPT {
-            return Err(Refusal::Memory);
-        }
         let Some(size) = size_within(&line.part, MOST_CHARACTERS - self.size) else {
             return Err(Refusal::Limit);
         };
         add_words(&mut self.signals, &line.part)?;
         self.size += size;
-        self.kept = kept;
         self.placed.push(line)?;
         Ok(())
     }

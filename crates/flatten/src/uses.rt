@@ -139,9 +139,11 @@ fn check_names(
     }
 }
 
-/// The rules on lines that use models: each names a model, gives each input and no formal twice or wrongly, and none leads back to its own model.
+/// The rules on lines that use models: each names a model, gives each input and no formal twice or wrongly, and none
+/// leads back to its own model.
 ///
-/// A line that breaks one is refused with NoSuchModel, Formal or Recursive; of all such lines the first of the first kind in this order. Want of memory is refused with Memory.
+/// A line that breaks one is refused with NoSuchModel, Formal or Recursive; of all such lines the first of the first
+/// kind in this order. Want of memory is refused with Memory.
 pub fn check_uses(alloc: Global, models: &[Model]) -> Result<(), DesignFault>
     ensures ok { OnOk result (KeepsRules models.now) }
     ensures refused { IfErr result (IsRefusalOfModels models.now) }

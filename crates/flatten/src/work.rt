@@ -14,10 +14,8 @@ use std::alloc::Global;
 /// The most lines that may be replaced.
 pub const MOST_REPLACED: u32 = 65_535;
 
-/// The most pairs that replaced lines may give: each is looked up anew, so a small file could else take hours.
-const MOST_GIVEN: usize = 33_554_432;
-
-/// What replaced a line: the names of the model, the replaced line in whose model that line stood, and its place among the lines there that use models.
+/// What replaced a line: the names of the model, the replaced line in whose model that line stood, and its place among
+/// the lines there that use models.
 #[derive(Clone, Copy, Debug)]
 pub struct Origin<'a> {
     pub names: &'a [Name],
@@ -47,7 +45,6 @@ pub fn substitute<'a>(alloc: Global, models: &'a [Model]) -> Result<Substituted<
         place: 0,
     })?;
     let mut replaced = 0;
-    let mut given: usize = 0;
     let mut stack = Vec::new(alloc);
     stack.push(first)?;
     'work: while let Some(frame) = stack.pop() {
@@ -56,10 +53,6 @@ pub fn substitute<'a>(alloc: Global, models: &'a [Model]) -> Result<Substituted<
         };
         if replaced >= MOST_REPLACED {
             return Err(Refusal::Limit);
-        }
-        given = given.saturating_add(found.pairs);
-        if given > MOST_GIVEN {
-            return Err(Refusal::Memory);
         }
         let next = frame_of(alloc, &catalog, found.model, found.given)?;
         origins.push(Origin {

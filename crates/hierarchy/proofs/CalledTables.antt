@@ -17,7 +17,7 @@ use Rattle.hierarchy.proofs.Dotted.{no_dot-numbered}
 use Rattle.hierarchy.proofs.Called.{letters, letters_undotted, one_reading}
 
 -- a way to a table has a step at each level
-spot_full : {ls : Levels} {p : Path} → IsSpot ls p → rest ls p ≡ [] → length p ≡ length ls
+pub spot_full : {ls : Levels} {p : Path} → IsSpot ls p → rest ls p ≡ [] → length p ≡ length ls
 spot_full stop e = sym (ap length e)
 spot_full (step h s) e = ap suc (spot_full s e)
 
@@ -33,7 +33,8 @@ no_table_here [] j h = absurd (omega arith)
 no_table_here (l ∷ ls) j h = refl
 
 -- the tables of a hextant are numbered one by one
-table_start : {ls : Levels} {p : Path} (j : ℕ) → IsSpot ls p → j < children_in (rest ls p) → next (rest ls p) ≡ [] → start tables_in ls (p ++ j ∷ []) ≡ start tables_in ls p + j
+pub table_start : {ls : Levels} {p : Path} (j : ℕ) → IsSpot ls p → j < children_in (rest ls p) → next (rest ls p) ≡ [] →
+    start tables_in ls (p ++ j ∷ []) ≡ start tables_in ls p + j
 table_start {ls} {p} j s h e =
     let m = start_more tables_in j s h in
     let z = no_table_here (rest ls p) j h in

@@ -30,3 +30,8 @@ pub mod Clear
 pub mod Faultless
 pub mod Faulty
 pub mod Covered
+pub mod TapsAndLines
+pub mod Serving
+pub mod Fairness
+pub mod PartNames
+pub mod Sums

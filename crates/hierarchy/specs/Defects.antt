@@ -47,7 +47,8 @@ pub record Covers (m : Shape) (d : Defects) (f : Faults) : Type 0 where
 pub record IsOfUse (m : Shape) (f : Faults) (w : ℕ) : Type 0 where
   pub crosses : IsLine m (node_of m w) w → HasTwo (λ x. (x < crosses_of m) × ((ends_of m x).1 ≡ w) × IsSoundCross m f x)
 
--- what is sound in a served node is free, except a line with fewer than two sound crosspoints
+-- Of the served nodes the list holds no sound wire except a line with fewer than two sound crosspoints, no sound crosspoint, no
+-- crosspoint of a whole line, and no sound table. Of other nodes it may hold anything.
 pub record IsFair (m : Shape) (d : Defects) (f : Faults) : Type 0 where
   pub wires : (w : ℕ) → w < wires_of m → IsServed m f (node_of m w) → IsSoundWire m f w → IsOfUse m f w → IsFreeWire d w
   pub crosses : (x : ℕ) → x < crosses_of m → IsServed m f (node_of_cross m x) → IsSoundCross m f x → set.contains d.crosses x ≡ false

@@ -51,6 +51,14 @@ pub record HasCrosses (m : Shape) : Type 0 where
   pub ends : (n a b : ℕ) → n < nodes_of m → a < taps_of m n → b < lines_of m n → ends_of m (cross_at m n a b) ≡ (tap_at m n a, line_at m n b)
   pub one : (x y : ℕ) → x < crosses_of m → y < crosses_of m → ends_of m x ≡ ends_of m y → x ≡ y
 
+-- each crosspoint has a tap and a line of its node, and a tap and a line of one node have a crosspoint
+pub record HasMeetings (m : Shape) : Type 0 where
+  pub line_within : (n w : ℕ) → IsLine m n w → n < nodes_of m
+  pub port_within : (n w : ℕ) → IsPort m n w → (0 < n) × (n < nodes_of m)
+  pub tap : (x : ℕ) → x < crosses_of m → IsTap m (node_of_cross m x) (ends_of m x).0
+  pub line : (x : ℕ) → x < crosses_of m → IsLine m (node_of_cross m x) (ends_of m x).1
+  pub meet : (n t l : ℕ) → IsTap m n t → IsLine m n l → (x : ℕ) × (x < crosses_of m) × (ends_of m x ≡ (t, l)) × (node_of_cross m x ≡ n)
+
 -- the nodes: the root is 0 and has no node above it, and a node comes before its children
 pub record HasParents (m : Shape) : Type 0 where
   pub root : parent_of m 0 ≡ None

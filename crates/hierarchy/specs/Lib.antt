@@ -4,10 +4,12 @@ pub mod Shape
 pub mod Kinds
 pub mod Bars
 pub mod Limits
+pub mod Said
 pub mod Names
 pub mod Numerals
 pub mod Reading
 pub mod Laws
+pub mod PartNames
 pub mod Sites
 pub mod Faults
 pub mod Joined
@@ -15,3 +17,5 @@ pub mod Circuit
 pub mod Value
 pub mod Sound
 pub mod Defects
+pub mod Served
+pub mod Sums

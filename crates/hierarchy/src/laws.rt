@@ -1,6 +1,8 @@
 //! What later crates rest on, of the numbering.
 ghost use Rattle.std.specs.Prelude.{◌≡◌};
-ghost use Rattle.hierarchy.specs.Laws.{IsNumbered, IsTree, HasMeanings, HasTaps, HasCrosses, HasParents, HasNames, IsNumberedAsTiny, tiny};
+ghost use Rattle.hierarchy.specs.Laws.{IsNumbered, IsTree, HasMeanings, HasTaps, HasCrosses, HasMeetings, HasParents, HasNames, IsNumberedAsTiny, tiny};
+ghost use Rattle.hierarchy.specs.PartNames.{HasPartNames};
+ghost use Rattle.hierarchy.specs.Sums.{HasSums};
 ghost use Rattle.hierarchy.specs.declared.Shape.{Shape};
 
 /// Each wire has one meaning, and the nodes are a tree.
@@ -20,9 +22,20 @@ pub fn a_small_machine_is_numbered_so()
 pub fn the_crosspoints_are_sound()
     ensures taps { (m : Shape) → HasTaps m }
     ensures crosses { (m : Shape) → HasCrosses m }
+    ensures meetings { (m : Shape) → HasMeetings m }
 {}
 
 /// What wires are called, and that no two wires, tables or nodes have one name.
 pub fn names_are_one_to_one()
     ensures { (m : Shape) → HasNames m }
+{}
+
+/// What nodes and tables are called, by the names of the nodes above them.
+pub fn names_follow_the_tree()
+    ensures { (m : Shape) → HasPartNames m }
+{}
+
+/// All crossbars together have each crosspoint once, and at most two taps or lines for each wire.
+pub fn crossbars_add_up()
+    ensures { (m : Shape) → HasSums m }
 {}

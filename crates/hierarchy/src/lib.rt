@@ -21,10 +21,10 @@ mod order;
 mod part;
 mod places;
 mod reads;
-#[cfg(test)]
-mod tests;
+mod served;
 mod tree;
 mod way;
+mod wires;
 
 pub use joining::{
     covered_wires_are_as_without_faults, every_list_covers_no_faults, joined_grows,
@@ -32,11 +32,15 @@ pub use joining::{
     sound_wires_stay_apart, values_are_unique, values_exist, without_faults_all_is_sound,
 };
 pub use laws::{
-    a_small_machine_is_numbered_so, names_are_one_to_one, the_crosspoints_are_sound,
-    the_numbering_is_sound,
+    a_small_machine_is_numbered_so, crossbars_add_up, names_are_one_to_one, names_follow_the_tree,
+    the_crosspoints_are_sound, the_numbering_is_sound,
 };
 pub use order::ports_and_lines_ascend;
 pub use part::PartName;
+pub use served::{
+    each_wire_has_a_home, fair_lists_leave_sound_parts, fair_lists_of_faultless_machines_are_empty,
+    served_nodes_have_sound_parts, whole_lines_have_two_sound_crosspoints,
+};
 
 /// How many of each there are. Ports are per module, chip and hextant, lines per root, module, chip and hextant.
 #[derive(Clone, Copy, Debug, PartialEq, Eq)]
@@ -85,6 +89,19 @@ pub struct Table(pub u32);
 /// The number of a crosspoint.
 #[derive(Clone, Copy, Debug, PartialEq, Eq, PartialOrd, Ord)]
 pub struct Cross(pub u32);
+
+/// What a wire is.
+#[derive(Clone, Copy, Debug, PartialEq, Eq)]
+pub enum Meaning {
+    /// A pin of the machine.
+    Pin { position: u32 },
+    /// A line of a node.
+    Line { node: Node, position: u32 },
+    /// A port of a node below the root.
+    Port { node: Node, position: u32 },
+    /// A pin of a table: inputs are 0 to 5, and the output is 6.
+    TablePin { table: Table, pin: u32 },
+}
 
 /// A line of a machine's text that gives counts.
 #[derive(Clone, Copy, Debug, PartialEq, Eq)]

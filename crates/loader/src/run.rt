@@ -3,12 +3,12 @@ ghost use Rattle.std.specs.Prelude.{◌≡◌, ◌^◌, ◌≤◌, ◌<◌, Some
 ghost use Rattle.tm_outside.specs.Counts.{next_count};
 ghost use Rattle.hierarchy.specs.Shape.{pins_of};
 ghost use Rattle.config_image.specs.Images.{drive_on, row_at};
-ghost use Rattle.rig.specs.Rig.{shape_of, width_of, Begins, LoadFails, GoesOn, CycleFails};
+ghost use Rattle.rig.specs.Rig.{shape_of, width_of, HasFaultsOf, Begins, LoadFails, CycleFails};
 ghost use Rattle.loader.specs.Driven.{driven};
 ghost use Rattle.loader.specs.Run.{RunsRow, EndsOrKeeps};
 
 use config_image::Image;
-use rig::{PinBits, Rig, RigFail};
+use rig::{PinBits, Rig, RigFail, cycle, load};
 use std::alloc::{AllocError, Global};
 use std::marker::Model;
 
@@ -53,7 +53,7 @@ fn prepare(alloc: Global, image: &Image) -> Result<Run, AllocError>
 }
 
 /// Loads an image, with room for at least `room` rows. The rig's session is then the image's configuration, with no
-/// cycles. After a refusal there is no session, or nothing changed; after `Failed` the rig's count of faults rose.
+/// cycles. After a refusal there is no session, or nothing changed; after `Failed` the rig's count of failures rose.
 pub fn begin(
     alloc: Global,
     rig: &mut Box<dyn Rig>,
@@ -63,9 +63,10 @@ pub fn begin(
     requires { shape_of (rig_state rig.old) ≡ Some image.now.config.shape }
 
     ensures machine { (rig_state rig.new).machine ≡ (rig_state rig.old).machine }
-    ensures later { (rig_state rig.old).faults ≤ (rig_state rig.new).faults }
+    ensures later { (rig_state rig.old).failures ≤ (rig_state rig.new).failures }
     ensures run { IfOk result (λ run. run ≡ record { pins = pins_of image.now.config.shape; inputs = image.now.inputs; outputs = image.now.outputs }) }
     ensures begins { OnOk result (Begins image.now.config room (rig_state rig.new)) }
+    ensures told { OnOk result (HasFaultsOf image.now.config.shape (rig_state rig.new)) }
     ensures counted { OnOk result ((rig_state rig.new).loads ≡ next_count (rig_state rig.old).loads) }
     ensures ended { OnErr result (EndsOrKeeps (rig_state rig.old) (rig_state rig.new)) }
     ensures not_counted { OnErr result ((rig_state rig.new).loads ≡ (rig_state rig.old).loads) }
@@ -74,7 +75,7 @@ pub fn begin(
     let Ok(run) = prepare(alloc, image) else {
         return Err(RigFail::Memory);
     };
-    match rig.load(image.config(), room) {
+    match load(rig, image.config(), room) {
         Ok(()) => Ok(run),
         Err(fail) => Err(fail),
     }
@@ -104,20 +105,6 @@ fn put_vector(drive: &mut PinBits, pins: &[u32], vector: &[bool])
     set_pins(drive, pins, vector);
 }
 
-// Makes a cycle.
-fn make_cycle(rig: &mut Box<dyn Rig>, drive: &PinBits, read: &mut PinBits) -> Result<(), RigFail>
-    requires drive_pins { width_of (rig_state rig.old) ≡ Some (length drive.now) }
-    requires read_pins { width_of (rig_state rig.old) ≡ Some (length read.old) }
-    ensures machine { (rig_state rig.new).machine ≡ (rig_state rig.old).machine }
-    ensures loads { (rig_state rig.new).loads ≡ (rig_state rig.old).loads }
-    ensures later { (rig_state rig.old).faults ≤ (rig_state rig.new).faults }
-    ensures length { length read.new ≡ length read.old }
-    ensures cycles { OnOk result (GoesOn drive.now read.new (rig_state rig.old) (rig_state rig.new)) }
-    ensures refused { IfErr result (λ e. CycleFails e (rig_state rig.old) (rig_state rig.new)) }
-{
-    rig.cycle(drive, read)
-}
-
 // What these pins read.
 fn read_pins(read: &PinBits, pins: &[u32], out: &mut [bool])
     requires same { length out.old ≡ length pins.now }
@@ -134,7 +121,7 @@ impl Run {
     /// Makes one cycle with the vector on the input pins and all other pins released, and gives its reading at the
     /// output pins. Takes no memory of its own.
     ///
-    /// Its refusals are those of the cycle: after `Failed` the rig's count of faults rose and there is no session,
+    /// Its refusals are those of the cycle: after `Failed` the rig's count of failures rose and there is no session,
     /// and `Memory` comes only where the session has no room, and leaves it as it was. After a refusal `out` is as
     /// it was.
     pub fn row(
@@ -150,14 +137,15 @@ impl Run {
         ensures same { self.new ≡ self.old }
         ensures machine { (rig_state rig.new).machine ≡ (rig_state rig.old).machine }
         ensures loads { (rig_state rig.new).loads ≡ (rig_state rig.old).loads }
-        ensures later { (rig_state rig.old).faults ≤ (rig_state rig.new).faults }
+        ensures later { (rig_state rig.old).failures ≤ (rig_state rig.new).failures }
+        ensures count { (rig_state rig.new).failures < 2 ^ 64 }
         ensures row { OnOk result (RunsRow self.old (rig_state rig.old) (rig_state rig.new) vector.now out.new) }
         ensures length { length out.new ≡ length out.old }
         ensures kept { OnErr result (out.new ≡ out.old) }
         ensures refused { IfErr result (λ e. CycleFails e (rig_state rig.old) (rig_state rig.new)) }
     {
         put_vector(&mut self.drive, &self.inputs, vector);
-        match make_cycle(rig, &self.drive, &mut self.read) {
+        match cycle(rig, &self.drive, &mut self.read) {
             Ok(()) => {
                 read_pins(&self.read, &self.outputs, out);
                 Ok(())

@@ -11,7 +11,8 @@ use Rattle.std.specs.Fmt.{decimal}
 use Rattle.std.specs.List.{list_all, All}
 use Rattle.std.specs.Str.{bytes_eq}
 use Rattle.std.proofs.lemmas.Grind.{get_or_default_zero}
-use Rattle.std.proofs.lemmas.Bool.{cases_Bool, and_parts, and_from}
+use Rattle.std.proofs.lemmas.Bool.{cases_Bool, and_parts, and_from, false≢true}
+use native.Mathlib.Decide.{dec_lt}
 use Rattle.std.proofs.lemmas.Bool.Decides.{Decides-and, Decides-ltb, Decides-by_and}
 use Rattle.std.proofs.lemmas.Slice.Eq.{bytes_eq-Decides}
 use Rattle.tm_text.proofs.NumberLemmas.{read_on-decimal}
@@ -21,10 +22,11 @@ use Rattle.machine_file.specs.Reading.{value_of, is_count, counts_fault, is_full
 use Rattle.hierarchy.specs.declared.Counts.{Counts}
 use Rattle.hierarchy.specs.declared.Field.{Field}
 use Rattle.hierarchy.specs.declared.Field.TheVariants as field
+use Rattle.hierarchy.specs.declared.Which.{Which}
 use Rattle.hierarchy.specs.declared.Which.TheVariants as which
 use Rattle.hierarchy.specs.declared.ShapeFault.{ShapeFault}
 use Rattle.hierarchy.specs.declared.ShapeFault.TheVariants.{Zero, Limit}
-use Rattle.hierarchy.specs.Limits.{HasZero, IsFaultOf, MakeShape, amount_of}
+use Rattle.hierarchy.specs.Limits.{HasZero, IsFaultOf, MakeShape, amount_of, most_of}
 
 abbrev IsCount : List ℕ → Type 0
 IsCount w = (w ≡ decimal (value_of w)) × ((0 < value_of w) × (value_of w < 65536))
@@ -155,6 +157,24 @@ module _ (c : Counts) where
   no_fault s (Limit which.Tables n) h = omega (arith, s.tables, h.1.passed)
   no_fault s (Limit which.Wires n) h = omega (arith, s.wires, h.1.passed)
   no_fault s (Limit which.Crosspoints n) h = omega (arith, s.crosses, h.1.passed)
+
+  pub made : is_shape c ≡ true → MakeShape c
+  made e = record { full = no_zero (shapely e); within = λ kind. below (shapely e) kind }
+    where
+      below : Shapely c → (kind : Which) → amount_of c kind ≤ most_of kind
+      below s which.Tables = let lt = s.tables in omega (arith, lt)
+      below s which.Wires = let lt = s.wires in omega (arith, lt)
+      below s which.Crosspoints = let lt = s.crosses in omega (arith, lt)
+
+  -- where no count is 0, counts that make no shape pass a limit
+  pub passed : All (λ n. 0 < n) singles → All (λ n. 0 < n) c.ports → All (λ n. 0 < n) c.lines → is_shape c ≡ false → (kind : Which) × (most_of kind < amount_of c kind)
+  passed single ports lines unshaped = by (dec_lt (amount_of c which.Tables) 4097) (dec_lt (amount_of c which.Wires) 16385) (dec_lt (amount_of c which.Crosspoints) 4194305)
+    where
+      by : Dec (amount_of c which.Tables < 4097) → Dec (amount_of c which.Wires < 16385) → Dec (amount_of c which.Crosspoints < 4194305) → (kind : Which) × (most_of kind < amount_of c kind)
+      by (no t) w x = (which.Tables, omega (arith, t))
+      by (yes t) (no w) x = (which.Wires, omega (arith, w))
+      by (yes t) (yes w) (no x) = (which.Crosspoints, omega (arith, x))
+      by (yes t) (yes w) (yes x) = absurd (false≢true (sym unshaped ∙ shape_from (record { single = single; ports = ports; lines = lines; tables = t; wires = w; crosses = x })))
 
   -- counts that are refused make no shape, and others do
   pub limit_fault : (fault : ShapeFault) → IsFaultOf c fault → is_shape c ≡ false

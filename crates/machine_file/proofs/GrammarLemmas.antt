@@ -23,7 +23,8 @@ use Rattle.tm_text.proofs.WrittenLemmas.{decimal_word, sound_words, lines_back}
 use Rattle.hierarchy.specs.declared.Shape.{Shape}
 use Rattle.machine_file.specs.declared.kind.MachineFault.{MachineFault}
 use Rattle.machine_file.specs.declared.kind.MachineFault.TheVariants.{At, Memory}
-use Rattle.machine_file.specs.Faults.{most_bytes, IsFirst, GivesOrLacks}
+use Rattle.machine_file.specs.Faults.{most_bytes, GivesOrLacks}
+use Rattle.machine_file.specs.Readers.{IsReadFault}
 use Rattle.machine_file.specs.declared.head.Head.{Head}
 use Rattle.machine_file.specs.declared.head.Head.TheVariants as head
 use Rattle.machine_file.specs.declared.kind.MachineKind.{MachineKind}
@@ -35,10 +36,10 @@ use Rattle.machine_file.proofs.CountLemmas.{count_parts, is_count-decimal, value
 
 -- ---- heads
 
-abbrev at_place : ℕ → Head
+abbrev pub at_place : ℕ → Head
 at_place k = get_or heads k head.End
 
-at_place-place_of : (h : Head) → at_place (place_of h) ≡ h
+pub at_place-place_of : (h : Head) → at_place (place_of h) ≡ h
 at_place-place_of head.Teramac = refl
 at_place-place_of head.Modules = refl
 at_place-place_of head.Chips = refl
@@ -49,10 +50,10 @@ at_place-place_of head.Lines = refl
 at_place-place_of head.Pins = refl
 at_place-place_of head.End = refl
 
-one_place : (h g : Head) → place_of h ≡ place_of g → h ≡ g
+pub one_place : (h g : Head) → place_of h ≡ place_of g → h ≡ g
 one_place h g e = sym (at_place-place_of h) ∙ ap at_place e ∙ at_place-place_of g
 
-place_below : (h : Head) → place_of h < 9
+pub place_below : (h : Head) → place_of h < 9
 place_below head.Teramac = omega arith
 place_below head.Modules = omega arith
 place_below head.Chips = omega arith
@@ -75,7 +76,7 @@ word_from : (w : List ℕ) (h : Head) → head_of w ≡ Some h → w ≡ word_of
 unfolding head_of
 word_from w h e = (bytes_eq-Decides w (word_of h)).0 (found (λ g. bytes_eq w (word_of g)) heads h e)
 
-head_of-word_of : (h : Head) → head_of (word_of h) ≡ Some h
+pub head_of-word_of : (h : Head) → head_of (word_of h) ≡ Some h
 unfolding head_of
 head_of-word_of head.Teramac = refl
 head_of-word_of head.Modules = refl
@@ -89,7 +90,7 @@ head_of-word_of head.End = refl
 
 -- ---- a line without a fault
 
-if_none : {K : Type 0} (b : Bool) (k : K) (rest : Option K) → (if b then Some k else rest) ≡ None → (b ≡ false) × (rest ≡ None)
+pub if_none : {K : Type 0} (b : Bool) (k : K) (rest : Option K) → (if b then Some k else rest) ≡ None → (b ≡ false) × (rest ≡ None)
 if_none true k rest e = absurd cc
 if_none false k rest e = (refl, e)
 
@@ -116,7 +117,7 @@ abbrev numbers_in : Head → List (List ℕ) → List ℕ
 numbers_in head.Teramac ws = 1 ∷ []
 numbers_in _ ws = map value_of ws
 
-counts_are : (ws : List (List ℕ)) → list_all is_count ws ≡ true → (ws ≡ map decimal (map value_of ws)) × All (λ n. (0 < n) × (n ≤ 65535)) (map value_of ws)
+pub counts_are : (ws : List (List ℕ)) → list_all is_count ws ≡ true → (ws ≡ map decimal (map value_of ws)) × All (λ n. (0 < n) × (n ≤ 65535)) (map value_of ws)
 counts_are [] h = (refl, λ k d lt. absurd (omega arith))
 counts_are (w ∷ ws) h =
     let parts = and_parts (is_count w) (list_all is_count ws) h in
@@ -145,7 +146,7 @@ by_counts c h ws size e same =
       given = ap (with_numbers c h) (sym same);
     }
 
-one_word : (ws : List (List ℕ)) → length ws ≡ 1 → ws ≡ get_or ws 0 [] ∷ []
+pub one_word : (ws : List (List ℕ)) → length ws ≡ 1 → ws ≡ get_or ws 0 [] ∷ []
 one_word [] e = absurd (omega arith)
 one_word (w ∷ ws) e = ap (λ r. w ∷ r) (nil_from_length ws (omega arith))
 
@@ -172,7 +173,7 @@ numbers_from c head.End ws size e =
 -- ---- the next line, where the rest is read
 
 -- the state after a line of this kind with these numbers
-abbrev moved : State → Head → List ℕ → State
+abbrev pub moved : State → Head → List ℕ → State
 moved s h ns = record { read = s.read + 1; counts = with_numbers s.counts h ns }
 
 record Next (s : State) (lines : List LogicalLine) (c : Counts) (h : Head) : Type 0 where
@@ -197,7 +198,7 @@ ok_none : (b : Bool) (c d : Counts) → (if b then Err missing else Ok c) ≡ Ok
 ok_none true c d e = absurd cc
 ok_none false c d e = (refl, cc)
 
-word_first : (words : List (List ℕ)) (h : Head) → head_of (get_or words 0 []) ≡ Some h → words ≡ word_of h ∷ drop 1 words
+pub word_first : (words : List (List ℕ)) (h : Head) → head_of (get_or words 0 []) ≡ Some h → words ≡ word_of h ∷ drop 1 words
 word_first [] h e = let k = word_from [] h e in absurd (no_word h k)
   where
     no_word : (h : Head) → [] ≡ word_of h → ⊥
@@ -212,28 +213,53 @@ word_first [] h e = let k = word_from [] h e in absurd (no_word h k)
     no_word head.End k = absurd cc
 word_first (w ∷ words) h e = ap (λ v. v ∷ words) (word_from w h e)
 
+-- a line without a fault, and the state after it
+pub record Sound (s : State) (l : LogicalLine) : Type 0 where
+  pub h : Head
+  pub place : place_of h ≡ s.read
+  pub numbers : List ℕ
+  pub words : l.words ≡ word_of h ∷ map decimal numbers
+  pub size : length numbers ≡ follow_of h
+  pub small : All (λ n. (0 < n) × (n ≤ 65535)) numbers
+  pub format : h ≡ head.Teramac → numbers ≡ 1 ∷ []
+  pub ready : h ≡ head.End → is_shape s.counts ≡ true
+  pub moves : after s l.words ≡ moved s h numbers
+
+pub sound_line : (s : State) (l : LogicalLine) → fault_of s l ≡ None → Sound s l
+sound_line s l e =
+    let said = (if_none (is_bad_line l) kind.Byte (said_fault s l.words) e).1 in
+    let headed = (if_none (nat_lt 8 s.read) kind.After (head_fault s (head_of (get_or l.words 0 [])) (drop 1 l.words)) said).1 in
+    let parts = head_parts s (head_of (get_or l.words 0 [])) (drop 1 l.words) headed in
+    let numbers = numbers_from s.counts parts.h (drop 1 l.words) parts.size parts.sound in
+    record {
+      h = parts.h;
+      place = parts.place;
+      numbers = numbers_in parts.h (drop 1 l.words);
+      words = word_first l.words parts.h parts.is ∙ ap (λ ws. word_of parts.h ∷ ws) numbers.words;
+      size = numbers.size;
+      small = numbers.small;
+      format = λ first. ap (λ g. numbers_in g (drop 1 l.words)) first;
+      ready = λ last. then_none (is_shape s.counts) kind.Limit (subst (λ g. words_fault s.counts g (drop 1 l.words) ≡ None) last parts.sound);
+      moves = ap (λ k. record { read = s.read + 1; counts = k }) (ap (λ o. with_line s.counts o (drop 1 l.words)) parts.is ∙ numbers.given);
+    }
+
 next : (s : State) (lines : List LogicalLine) (c : Counts) (h : Head) → s.read ≡ place_of h → reading s lines ≡ Ok c → Next s lines c h
 unfolding reading
 next s [] c h place e = let k = ok_none (nat_lt s.read 9) s.counts c e in absurd (false≢true (sym k.0 ∙ lt-ltb s.read 9 (omega (arith, place_below h))))
 next s (l ∷ lines) c h place e =
     let go = sound_ok l.number (fault_of s l) (reading (after s l.words) lines) c e in
-    let said = (if_none (is_bad_line l) kind.Byte (said_fault s l.words) go.0).1 in
-    let headed = (if_none (nat_lt 8 s.read) kind.After (head_fault s (head_of (get_or l.words 0 [])) (drop 1 l.words)) said).1 in
-    let parts = head_parts s (head_of (get_or l.words 0 [])) (drop 1 l.words) headed in
-    let one : parts.h ≡ h = one_place parts.h h (parts.place ∙ place) in
-    let is : head_of (get_or l.words 0 []) ≡ Some h = parts.is ∙ ap Some one in
-    let numbers = numbers_from s.counts h (drop 1 l.words) (parts.size ∙ ap follow_of one) (subst (λ g. words_fault s.counts g (drop 1 l.words) ≡ None) one parts.sound) in
-    record {
+    let this = sound_line s l go.0 in
+    subst (Next s (l ∷ lines) c) (one_place this.h h (this.place ∙ place)) (record {
       line = l;
       rest = lines;
       lines_are = refl;
-      numbers = numbers_in h (drop 1 l.words);
-      words = word_first l.words h is ∙ ap (λ ws. word_of h ∷ ws) numbers.words;
-      size = numbers.size;
-      small = numbers.small;
-      format = λ first. ap (λ g. numbers_in g (drop 1 l.words)) first;
-      goes_on = ap (λ k. reading (record { read = s.read + 1; counts = k }) lines) (sym (ap (λ o. with_line s.counts o (drop 1 l.words)) is ∙ numbers.given)) ∙ go.1;
-    }
+      numbers = this.numbers;
+      words = this.words;
+      size = this.size;
+      small = this.small;
+      format = this.format;
+      goes_on = subst (λ t. reading t lines ≡ Ok c) this.moves go.1;
+    })
 
 last : (s : State) (lines : List LogicalLine) (c : Counts) → s.read ≡ 9 → reading s lines ≡ Ok c → (lines ≡ []) × (s.counts ≡ c)
 unfolding reading
@@ -256,7 +282,7 @@ pub record Spelled (lines : List LogicalLine) (c : Counts) : Type 0 where
   four : length c.lines ≡ 4
   small : (h : Head) → All (λ n. (0 < n) × (n ≤ 65535)) (numbers_of c h)
 
-only_number : (ns : List ℕ) → length ns ≡ 1 → ns ≡ get_or ns 0 0 ∷ []
+pub only_number : (ns : List ℕ) → length ns ≡ 1 → ns ≡ get_or ns 0 0 ∷ []
 only_number [] e = absurd (omega arith)
 only_number (n ∷ ns) e = ap (λ r. n ∷ r) (nil_from_length ns (omega arith))
 
@@ -330,7 +356,7 @@ spelled lines c e =
 
 -- ---- a machine's text is read
 
-some_counts : (ns : List ℕ) → Small ns → list_all is_count (map decimal ns) ≡ true
+pub some_counts : (ns : List ℕ) → Small ns → list_all is_count (map decimal ns) ≡ true
 some_counts [] small = refl
 some_counts (n ∷ ns) small =
     let this = small 0 0 (omega arith) in
@@ -364,7 +390,7 @@ row_is_words c h small zero d lt = word_is_word h
 row_is_words c h small (suc k) d lt = numerals_are_words (numbers_of c h) small k d (omega arith)
 
 -- the counts make a shape, where the last line stands
-abbrev IsReady : Counts → Head → Type 0
+abbrev pub IsReady : Counts → Head → Type 0
 IsReady c head.End = is_shape c ≡ true
 IsReady c _ = Unit {0}
 
@@ -379,7 +405,7 @@ no_fault d c head.Lines small ready = ap (λ t. if t then None else Some kind.Nu
 no_fault d c head.Pins small ready = ap (λ t. if t then None else Some kind.Number) (some_counts (numbers_of c head.Pins) small)
 no_fault d c head.End small ready = ap (λ t. if t then None else Some kind.Limit) ready
 
-not_past : (k : ℕ) → k < 9 → nat_lt 8 k ≡ false
+pub not_past : (k : ℕ) → k < 9 → nat_lt 8 k ≡ false
 not_past k lt = elim (cases_Bool (nat_lt 8 k)) [ inl over ↦ absurd (omega (arith, ltb-true 8 k over)) | inr within ↦ within ]
 
 head_sound : (s : State) (c : Counts) (h : Head) → s.read ≡ place_of h → length (numbers_of c h) ≡ follow_of h → Small (numbers_of c h) → IsReady s.counts h → head_fault s (Some h) (map decimal (numbers_of c h)) ≡ None
@@ -388,7 +414,7 @@ head_sound s c h place size small ready =
     let sized : (length (map decimal (numbers_of c h)) == follow_of h) ≡ true = eq-eqb _ _ (length-map (numbers_of c h) decimal ∙ size) in
     rw (placed, sized) (no_fault s.counts c h small ready)
 
-row_sound : (s : State) (c : Counts) (h : Head) (l : LogicalLine) → l.words ≡ row_of c h → s.read ≡ place_of h → length (numbers_of c h) ≡ follow_of h → Small (numbers_of c h) → IsReady s.counts h → fault_of s l ≡ None
+pub row_sound : (s : State) (c : Counts) (h : Head) (l : LogicalLine) → l.words ≡ row_of c h → s.read ≡ place_of h → length (numbers_of c h) ≡ follow_of h → Small (numbers_of c h) → IsReady s.counts h → fault_of s l ≡ None
 row_sound s c h l words place size small ready =
     let good : is_bad_line l ≡ false = ap has_bad_byte words ∙ sound_words (row_of c h) (row_is_words c h small) in
     let within : nat_lt 8 s.read ≡ false = not_past s.read (omega (arith, place_below h)) in
@@ -398,7 +424,7 @@ row_sound s c h l words place size small ready =
     ∙ ap (λ o. head_fault s o (map decimal (numbers_of c h))) (head_of-word_of h)
     ∙ head_sound s c h place size small ready
 
-after_row : (s : State) (c : Counts) (h : Head) (words : List (List ℕ)) → words ≡ row_of c h → Small (numbers_of c h) → after s words ≡ moved s h (numbers_of c h)
+pub after_row : (s : State) (c : Counts) (h : Head) (words : List (List ℕ)) → words ≡ row_of c h → Small (numbers_of c h) → after s words ≡ moved s h (numbers_of c h)
 after_row s c h words is small =
     ap (after s) is
     ∙ ap (λ o. record { read = s.read + 1; counts = with_line s.counts o (map decimal (numbers_of c h)) }) (head_of-word_of h)
@@ -464,7 +490,7 @@ pub found_is : (bytes : List ℕ) (r : Result Shape MachineFault) → length byt
 found_is bytes (Ok s) few h = (is_machine bytes s.counts h.0 h.1, few)
 found_is bytes (Err e) few h = tt
 
-pub only_is : (bytes : List ℕ) (r : Result Shape MachineFault) → IfOk r (λ s. (reading start (lines_of false bytes) ≡ Ok s.counts) × MakeShape s.counts) → IfErr r (IsFirst (lines_of false bytes)) → (c : Counts) → IsMachine bytes c → GivesOrLacks c r
+pub only_is : (bytes : List ℕ) (r : Result Shape MachineFault) → IfOk r (λ s. (reading start (lines_of false bytes) ≡ Ok s.counts) × MakeShape s.counts) → IfErr r (IsReadFault (lines_of false bytes)) → (c : Counts) → IsMachine bytes c → GivesOrLacks c r
 only_is bytes (Ok s) got first c m = let one : ◌≡◌ {A = Result Counts (ℕ × MachineKind)} (Ok s.counts) (Ok c) = sym got.0 ∙ machine_is_read bytes c m in cc
 only_is bytes (Err Memory) got first c m = tt
 only_is bytes (Err (At line kind)) got first c m = let e : ◌≡◌ {A = Result Counts (ℕ × MachineKind)} (Err (line, kind)) (Ok c) = sym first ∙ machine_is_read bytes c m in absurd cc

@@ -1,2 +1,4 @@
 pub mod CountLemmas
 pub mod GrammarLemmas
+pub mod FaultLemmas
+pub mod OneFault

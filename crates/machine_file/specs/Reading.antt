@@ -1,4 +1,5 @@
--- The fault of a line by what stands above it, and the first fault of a text.
+-- The reader line by line: the state after the lines above, and what it makes of the next. What a text and its first
+-- fault are stands in Machine and Faults.
 use Rattle.std.specs.Prelude.{ℕ, ◌+◌, ◌==◌, Bool, not, ◌&&◌, nat_lt, codes, if◌then◌else◌, List, [], ◌∷◌, Option, Some, None, Result, Ok, Err, length, map, drop, slice_index, slice_index_or}
 use Rattle.std.specs.List.{list_all}
 use Rattle.std.specs.Str.{bytes_eq}

@@ -18,10 +18,9 @@
 
 mod head;
 mod kind;
+pub mod laws;
 mod read;
 mod reader;
-#[cfg(test)]
-mod tests;
 mod text;
 
 pub use kind::{MachineFault, MachineKind};

@@ -4,9 +4,9 @@ ghost use Rattle.std.specs.Prelude.{◌≡◌, ◌≤◌, ◌∷◌, [], ℕ, Bo
 ghost use Rattle.hierarchy.specs.declared.Counts.{Counts};
 ghost use Rattle.hierarchy.specs.Limits.{MakeShape};
 ghost use Rattle.tm_text.specs.Lines.{lines_of};
-ghost use Rattle.machine_file.specs.Faults.{most_bytes, IsRefusedAs, IsFirst, GivesOrLacks};
+ghost use Rattle.machine_file.specs.Faults.{most_bytes, IsRefusedAs, GivesOrLacks};
 ghost use Rattle.machine_file.specs.Machine.{IsMachine};
-ghost use Rattle.machine_file.specs.Readers.{state_of, IsReader};
+ghost use Rattle.machine_file.specs.Readers.{state_of, IsReader, IsReadFault};
 ghost use Rattle.machine_file.specs.Reading.{reading, start};
 
 use crate::kind::{MachineFault, MachineKind};
@@ -43,7 +43,7 @@ fn new_reader() -> Reader
 #[tactic(auto, unfolding(crate::specs::Reading::reading))]
 fn read_lines(alloc: Global, bytes: &[u8]) -> Result<Shape, MachineFault>
     ensures found { IfOk result (λ s. (reading start (lines_of false bytes.now) ≡ Ok s.counts) × MakeShape s.counts) }
-    ensures refused { IfErr result (IsFirst (lines_of false bytes.now)) }
+    ensures refused { IfErr result (IsReadFault (lines_of false bytes.now)) }
 {
     let mut lines = Lines::new(alloc, bytes, false);
     let mut reader = new_reader();

@@ -1,13 +1,15 @@
 -- Numbers tell which covers are on a cycle.
 use Rattle.std.proofs.Common.{◌≡◌, ℕ, ◌<◌, ◌≤◌, List, Option, Some, length, refl, sym, ap, ◌∙◌, inl, inr, arith}
 use Rattle.std.proofs.lemmas.Bool.{cases_lt}
+use Rattle.std.proofs.lemmas.List.{length-map, get_or-map}
 use Rattle.netlist.specs.declared.draft.Cover.{Cover}
 use Rattle.netlist.specs.declared.search.State.{State}
-use Rattle.netlist.specs.declared.search.State.TheVariants.{Done}
+use Rattle.netlist.specs.declared.search.State.TheVariants.{New, Done}
 use Rattle.netlist.specs.Covers.{cover_at, Reads, Reaches, here, onward, IsOnCycle}
 use Rattle.netlist.specs.Drivers.{driver_at, AreDrivers}
 use Rattle.netlist.specs.Valuations.{number_at, IsOrder}
 use Rattle.netlist.specs.Searches.{state_at, number_of, AreNumbered, IsListed}
+use Rattle.netlist.specs.Groups.{AreGroups, numbers_of}
 use Rattle.netlist.proofs.StepLemmas.{reads_driver, read_at, driver_of}
 
 module _ (covers : List Cover) (states : List State) (are : AreNumbered covers states) where
@@ -75,3 +77,26 @@ module _ (covers : List Cover) (states : List State) (are : AreNumbered covers s
 
       below : (u v m d : ℕ) → state_at states u ≡ Done m → state_at states v ≡ Done d → d ≤ m → Reads covers u v → d < m
       below u v m d e f le r = elim (cases_lt d m) [ inl l ↦ l | inr l ↦ absurd (let n : d ≡ m = omega arith in acyclic u r.reader (same_number covers states are u v r (ap (λ x. number_of x) f ∙ n ∙ sym (ap (λ x. number_of x) e)))) ]
+
+-- numbers tell which covers reach one another
+pub are_groups : (covers : List Cover) (states : List State) → AreNumbered covers states → AreGroups covers (numbers_of states)
+are_groups covers states are = record {
+  len = length-map states number_of ∙ are.len;
+  same = λ u v lu lv. (
+    λ e. (
+        let a = are.each u lu in
+        let b = are.each v lv in
+        let n : a.0 ≡ b.0 = sym (ap (λ x. number_of x) a.1) ∙ sym (at u lu) ∙ e ∙ at v lv ∙ ap (λ x. number_of x) b.1 in
+        (are.together u v b.0 (a.1 ∙ ap (λ x. Done x) n) b.1, are.together v u b.0 b.1 (a.1 ∙ ap (λ x. Done x) n))),
+    λ r. (
+        let a = are.each u lu in
+        let b = are.each v lv in
+        let down : b.0 ≤ a.0 = falls covers states are a.0 b.0 a.1 b.1 r.0 in
+        let up : a.0 ≤ b.0 = falls covers states are b.0 a.0 b.1 a.1 r.1 in
+        let n : a.0 ≡ b.0 = omega arith in
+        at u lu ∙ ap (λ x. number_of x) a.1 ∙ n ∙ sym (ap (λ x. number_of x) b.1) ∙ sym (at v lv)),
+  );
+}
+  where
+    at : (u : ℕ) → u < length covers → number_at (numbers_of states) u ≡ number_of (state_at states u)
+    at u lu = get_or-map number_of states u New 0 (omega (arith, are.len))

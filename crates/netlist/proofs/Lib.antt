@@ -10,3 +10,4 @@ pub mod WordLemmas
 pub mod CheckLemmas
 pub mod RightLemmas
 pub mod MadeLemmas
+pub mod NameLemmas

@@ -39,6 +39,10 @@ some_matches (r ∷ rs) bits = if matches r bits then true else some_matches rs 
 abbrev pub truth : (ℕ → Bool) → Cover → Bool
 truth given c = if c.off then not (some_matches c.rows (map given c.ins)) else some_matches c.rows (map given c.ins)
 
+-- a cover of these rows over these signals
+abbrev pub cover_of : List (List Lit) → Bool → List ℕ → Cover
+cover_of rows off ins = record { out = 0; ins = ins; rows = rows; off = off; line = 0 }
+
 -- cover i reads the output of cover j
 pub record Reads (covers : List Cover) (i j : ℕ) : Type 0 where
   pub reader : i < length covers

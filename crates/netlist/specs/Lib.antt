@@ -1,3 +1,4 @@
+pub mod Names
 pub mod Orders
 pub mod Covers
 pub mod Drivers
@@ -8,4 +9,5 @@ pub mod Rows
 pub mod Searches
 pub mod States
 pub mod Sorts
+pub mod Groups
 pub mod Words

@@ -13,7 +13,6 @@ use crate::fault::{DesignFault, DesignKind};
 use crate::netlist::Netlist;
 use crate::reads::first_undriven;
 use std::alloc::{AllocError, Global};
-use tm_items::Items;
 
 /// What the check finds first.
 #[derive(Debug, Drop)]
@@ -34,7 +33,7 @@ fn sort(alloc: Global, draft: &Draft) -> Result<Found, AllocError>
     ensures { IfOk result (λ found. IsFoundIn draft.now found) }
 {
     let covers = draft.covers.as_slice();
-    let drivers = drivers_of(alloc, covers, draft.names.as_slice().len())?;
+    let drivers = drivers_of(alloc, covers, draft.names.len())?;
     match sort_covers(alloc, covers, &drivers)? {
         Sorted::Order(order) => Ok(Found::Order(order)),
         Sorted::Cyclic(place) => Ok(Found::Cyclic(PortDef {
@@ -50,7 +49,7 @@ fn look(alloc: Global, draft: &Draft) -> Result<Found, AllocError>
     ensures { IfOk result (λ found. IsFoundIn draft.now found) }
 {
     let words = drives_of(alloc, draft)?;
-    let firsts = first_words(alloc, &words, draft.names.as_slice().len())?;
+    let firsts = first_words(alloc, &words, draft.names.len())?;
     if let Some(place) = first_doubled(&words, &firsts) {
         return Ok(Found::Doubled(words[place]));
     }
@@ -60,14 +59,13 @@ fn look(alloc: Global, draft: &Draft) -> Result<Found, AllocError>
     sort(alloc, draft)
 }
 
-/// A copy of the signal's name.
+/// The signal's name.
 fn name_of(alloc: Global, draft: &Draft, signal: u32) -> Result<Name, AllocError>
     requires { signal < length draft.now.names }
     ensures { IfOk result (λ name. name ≡ name_at draft.now signal) }
 {
-    let name = &draft.names.as_slice()[signal as usize];
-    let copy = Vec::from_slice(alloc, name.as_slice())?;
-    Ok(Items::new(copy))
+    let name = draft.names.get(alloc, signal as usize)?;
+    Ok(name)
 }
 
 /// Checks a design: no signal may be driven twice, each signal that is read must be driven, and no cover may be

@@ -9,18 +9,8 @@ ghost use Rattle.netlist.specs.Sorts.{AreSorted};
 ghost use Rattle.netlist.specs.Searches.{AreNumbered, number_of, state_at};
 
 use crate::draft::Cover;
-use crate::search::{State, number_covers};
+use crate::search::{State, number_covers, number_of};
 use std::alloc::{AllocError, Global};
-
-fn number_of(states: &Vec<State>, cover: usize) -> usize
-    requires { cover < length states.now.items }
-    ensures { result ≡ number_of (state_at states.now.items cover) }
-{
-    match states[cover] {
-        State::Done(number) => number,
-        State::New | State::Open(_) => 0,
-    }
-}
 
 /// Whether the cover reads one of its own number.
 fn is_on_cycle(covers: &[Cover], drivers: &[Option<u32>], states: &Vec<State>, cover: usize) -> bool
@@ -90,7 +80,7 @@ pub fn sort_covers(
     drivers: &[Option<u32>],
 ) -> Result<Sorted, AllocError>
     requires drivers { AreDrivers covers.now drivers.now }
-    requires few { length covers.now ≤ 65535 }
+    requires few { length covers.now ≤ 4294967295 }
     ensures { IfOk result (λ sorted. AreSorted covers.now sorted) }
 {
     let search = number_covers(alloc, covers, drivers)?;

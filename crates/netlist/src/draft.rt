@@ -1,5 +1,6 @@
 //! A design before it is checked: its names, ports, covers and latches.
 
+use crate::names::Names;
 use tm_items::Items;
 
 /// The name of a signal or of a model: its bytes.
@@ -60,7 +61,7 @@ pub struct PortDef {
 #[derive(Debug, Drop)]
 pub struct Draft {
     /// The names of the signals. Two signals may have the same name.
-    pub names: Items<Name>,
+    pub names: Names,
     /// The inputs of the design, in order.
     pub inputs: Items<PortDef>,
     /// The outputs of the design, in order.

@@ -130,7 +130,7 @@ pub fn drivers_of(
     covers: &[Cover],
     count: usize,
 ) -> Result<Vec<Option<u32>>, AllocError>
-    requires few { length covers.now ≤ 65535 }
+    requires few { length covers.now ≤ 4294967295 }
     requires within { (i : ℕ) → i < length covers.now → (cover_at covers.now i).out < count }
     requires once { (i j : ℕ) → i < j → j < length covers.now → (cover_at covers.now i).out ≡ (cover_at covers.now j).out → ⊥ }
     ensures len { IfOk result (λ drivers. length drivers.items ≡ count) }

@@ -1,10 +1,10 @@
-//! Evaluation of covers in a sorted order.
+//! Evaluation of covers.
 
-ghost use Rattle.std.specs.Prelude.{◌≡◌, ◌<◌, ◌≤◌, ℕ, Bool, length, slice_index_or, map, not, if◌then◌else◌};
-ghost use Rattle.netlist.specs.Covers.{cover_at, no_cover, fits, matches, some_matches, truth, IsCoverOver};
-ghost use Rattle.netlist.specs.Valuations.{bit_at, IsOrder, IsSettled};
+ghost use Rattle.std.specs.Prelude.{◌≡◌, ◌<◌, ℕ, [], length, slice_index_or, map};
+ghost use Rattle.netlist.specs.Covers.{fits, matches, truth, cover_of};
+ghost use Rattle.netlist.specs.Valuations.{bit_at};
 
-use crate::draft::{Cover, Lit};
+use crate::draft::{Cube, Lit};
 
 fn fits(lit: Lit, bit: bool) -> bool
     ensures { result ≡ fits lit bit }
@@ -30,29 +30,16 @@ fn row_matches(row: &[Lit], ins: &[u32], values: &[bool]) -> bool
     true
 }
 
-/// The bit that the cover gives.
-fn truth_of(cover: &Cover, values: &[bool]) -> bool
-    requires made { IsCoverOver cover.now (length values.now) }
-    ensures { result ≡ truth (bit_at values.now) cover.now }
+/// The truth of a cover of these rows over these signals, whose bits are given. Takes no memory.
+pub fn truth_of(rows: &[Cube], off: bool, ins: &[u32], values: &[bool]) -> bool
+    requires within { (k : ℕ) → k < length ins.now → slice_index_or ins.now k 0 < length values.now }
+    requires rows { (k : ℕ) → k < length rows.now → length (slice_index_or rows.now k []) ≡ length ins.now }
+    ensures { result ≡ truth (bit_at values.now) (cover_of rows.now off ins.now) }
 {
-    let ins = cover.ins.as_slice();
-    let rows = cover.rows.as_slice();
     'rows: for k in 0..rows.len() {
         if row_matches(rows[k].as_slice(), ins, values) {
-            return !cover.off;
+            return !off;
         }
     }
-    cover.off
-}
-
-/// Gives each cover's output its truth. The covers stand in an order in which each reads only earlier ones.
-pub fn settle(covers: &[Cover], order: &[u32], values: &mut [bool])
-    requires order { IsOrder covers.now order.now }
-    requires made { (i : ℕ) → i < length covers.now → IsCoverOver (cover_at covers.now i) (length values.old) }
-    ensures { IsSettled covers.now (bit_at values.old) (bit_at values.new) }
-{
-    'places: for k in 0..order.len() {
-        let cover = &covers[order[k] as usize];
-        values[cover.out as usize] = truth_of(cover, values);
-    }
+    off
 }

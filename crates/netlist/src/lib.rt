@@ -7,17 +7,21 @@ mod draft;
 mod drives;
 mod eval;
 mod fault;
+mod groups;
 pub mod laws;
+mod names;
 mod netlist;
 mod reads;
 mod search;
-#[cfg(test)]
-mod tests;
+mod shared;
 mod well_made;
 
 pub use checks::check;
 pub use draft::{Cover, Cube, Draft, LatchDef, Lit, Name, PortDef};
 pub use drives::{first_doubled, first_words};
-pub use eval::settle;
+pub use eval::truth_of;
 pub use fault::{DesignFault, DesignKind};
+pub use groups::groups_of;
+pub use names::Names;
 pub use netlist::Netlist;
+pub use shared::{Beginning, Shared};

@@ -3,7 +3,7 @@
 ghost use Rattle.std.specs.Prelude.{◌≡◌, ◌<◌, ◌≤◌, ◌+◌, ◌-◌, ◌++◌, ℕ, [], ◌∷◌, length, IfOk, IsTrue, ◌↔◌, OnOk, slice_index_or, slice_set, take, None, MatchOption};
 ghost use Rattle.std.specs.Option.{IsSomeAnd};
 ghost use Rattle.netlist.specs.Drivers.{AreDrivers};
-ghost use Rattle.netlist.specs.Searches.{targets, work, state_at, LeadsTo, IsSearch, IsClosed, IsKept, IsTaken, IsListed, IsJoinedOn, StaysSeen, AreNumbered};
+ghost use Rattle.netlist.specs.Searches.{targets, work, state_at, number_of, LeadsTo, IsSearch, IsClosed, IsKept, IsTaken, IsListed, IsJoinedOn, StaysSeen, AreNumbered};
 ghost use Rattle.netlist.specs.States.{IsSearching, left_of, IsLast, IsLastOf, IsReadFromLast};
 ghost use Rattle.netlist.specs.declared.search.State.TheVariants.{New};
 
@@ -252,6 +252,17 @@ fn is_new(states: &Vec<State>, cover: usize) -> bool
     }
 }
 
+/// The number of a cover.
+pub fn number_of(states: &Vec<State>, cover: usize) -> usize
+    requires { cover < length states.now.items }
+    ensures { result ≡ number_of (state_at states.now.items cover) }
+{
+    match states[cover] {
+        State::Done(number) => number,
+        State::New | State::Open(_) => 0,
+    }
+}
+
 /// Numbers all that a cover reaches, if it has no number yet.
 fn number_from(
     search: &mut Search,
@@ -282,7 +293,7 @@ pub fn number_covers(
     drivers: &[Option<u32>],
 ) -> Result<Search, AllocError>
     requires drivers { AreDrivers covers.now drivers.now }
-    requires few { length covers.now ≤ 65535 }
+    requires few { length covers.now ≤ 4294967295 }
     ensures numbered { IfOk result (λ s. AreNumbered covers.now s.states.items) }
     ensures listed { IfOk result (λ s. IsListed covers.now s.states.items s.order.items) }
 {

@@ -114,7 +114,7 @@ impl Draft {
     pub fn is_well_made(&self) -> bool
         ensures { IsTrue result ↔ IsWellMade self.now }
     {
-        let count = self.names.as_slice().len();
+        let count = self.names.len();
         if count > MOST_NAMES || self.outputs.as_slice().len() > MOST_OUTPUTS {
             return false;
         }

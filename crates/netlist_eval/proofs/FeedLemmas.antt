@@ -2,6 +2,7 @@
 use Rattle.std.proofs.Common.{◌≡◌, ℕ, ◌+◌, ◌≤◌, List, ◌++◌, length, take, drop, Option, None, Some, IfSome, option_map, refl, sym, ap, ◌∙◌, arith}
 use Rattle.std.specs.Prelude.{option_and_then}
 use Rattle.std.proofs.lemmas.List.{take-take, take-append-le, take-append-drop, drop-drop}
+use Rattle.tm_outside.specs.Told.{Told, bytes_of}
 use Rattle.tm_outside.specs.Store.{StoreState, Place, AreNext, moved, rest_of}
 use Rattle.netlist_eval.specs.Readings.{bytes_ahead}
 
@@ -9,9 +10,9 @@ told-moved : (told : Option (List ℕ)) (at n : ℕ) → option_map (λ bytes. d
 told-moved None at n = refl
 told-moved (Some bytes) at n = ap Some (sym (drop-drop n at bytes))
 
-place-moved : (contents : List ℕ → Option (List ℕ)) (current : Option Place) (n : ℕ) → option_and_then (λ p. option_map (λ bytes. drop p.at bytes) (contents p.name)) (moved current n) ≡ option_map (λ (bytes : List ℕ). drop n bytes) (option_and_then (λ p. option_map (λ bytes. drop p.at bytes) (contents p.name)) current)
+place-moved : (contents : List ℕ → Told) (current : Option Place) (n : ℕ) → option_and_then (λ p. option_map (λ bytes. drop p.at bytes) (bytes_of (contents p.name))) (moved current n) ≡ option_map (λ (bytes : List ℕ). drop n bytes) (option_and_then (λ p. option_map (λ bytes. drop p.at bytes) (bytes_of (contents p.name))) current)
 place-moved contents None n = refl
-place-moved contents (Some p) n = told-moved (contents p.name) p.at n
+place-moved contents (Some p) n = told-moved (bytes_of (contents p.name)) p.at n
 
 pub rest-moved : (before after : StoreState) (n : ℕ) → after.contents ≡ before.contents → after.current ≡ moved before.current n → rest_of after ≡ option_map (λ (bytes : List ℕ). drop n bytes) (rest_of before)
 rest-moved before after n contents place = rw (contents, place) (place-moved before.contents before.current n)

@@ -5,10 +5,9 @@ use Rattle.std.proofs.lemmas.Bool.{and_parts, and_from}
 use Rattle.std.proofs.lemmas.List.{length-take-le}
 use Rattle.netlist_eval.specs.declared.line.Line.TheInside.{Inside}
 use Rattle.netlist_eval.specs.Vectors.{is_vector_byte}
-use Rattle.netlist_eval.specs.Lines.{PartLine}
+use Rattle.netlist_eval.specs.Lines.{PartLine, IsSound}
 use Rattle.netlist_eval.specs.Inside.{part_line, IsPartLine}
 use Rattle.netlist_eval.proofs.TextLemmas.{AreRight}
-use Rattle.netlist_eval.proofs.LineLemmas.{IsSound}
 
 pub IsSound-inside : (l : Inside) (p : PartLine) → IsPartLine l → part_line l ≡ p → IsSound p
 IsSound-inside l p h e = subst IsSound e (record { right = h.right; room = omega (arith, length-take-le l.count l.bytes.items h.count, h.count, h.size) })

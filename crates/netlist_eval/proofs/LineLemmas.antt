@@ -7,13 +7,8 @@ use Rattle.netlist_eval.specs.declared.vectors.VectorKind.{VectorKind}
 use Rattle.netlist_eval.specs.declared.vectors.VectorKind.TheVariants.{Char, Width, Limit}
 use Rattle.netlist_eval.specs.declared.line.Step.TheVariants.{Onward, Vector, Fault}
 use Rattle.netlist_eval.specs.Vectors.{is_blank, is_comment_mark, is_line_feed, is_vector_byte, vector_size, PhysicalLine, put_before, physical_lines, shown, byte_fault, end_fault, fault_or, line_fault, line_says, lines_say, bits_of, SaidVectors, fault_said, with_vector, nothing_said}
-use Rattle.netlist_eval.specs.Lines.{PartLine, front_of, begun, says_on, HasRead}
+use Rattle.netlist_eval.specs.Lines.{PartLine, IsSound, front_of, begun, says_on, HasRead}
 use Rattle.netlist_eval.proofs.TextLemmas.{AreRight, lines-limit, lines-feed, lines-more, lines-end, put_before-twice, put_before-nil, first-line, shown-nil, shown-right, shown-comment, shown-blank, shown-other, unmarked, no_byte_fault, char_fault, width_fault}
-
--- what the code keeps of a line
-pub record IsSound (p : PartLine) : Type 0 where
-  pub right : AreRight p.width p.shown
-  pub room : length p.shown ≤ vector_size p.width
 
 -- what lines say, by what is shown of the first
 says-first : (width : ℕ) (l : PhysicalLine) (ls : List PhysicalLine) (s : List ℕ) → shown l.bytes ≡ s → lines_say width (l ∷ ls) ≡ line_says width l.number l.next_at (line_fault width l.is_cut s) s (lines_say width ls)
@@ -112,7 +107,7 @@ pub on-extra : (p : PartLine) (b : ℕ) → IsSound p → p.at < p.limit → is_
 on-extra p b sound lt e m h c right full = faulty p b Width sound lt e m h c (λ more. width_fault p.width b p.shown more sound.right full right)
 
 -- what is left of the line where it ends here
-ended : (p : PartLine) → IsSound p → shown (front_of p ++ []) ≡ p.shown
+pub ended : (p : PartLine) → IsSound p → shown (front_of p ++ []) ≡ p.shown
 ended p sound = by p.in_comment
   where
     by : (c : Bool) → shown ((p.shown ++ (if c then 35 ∷ [] else [])) ++ []) ≡ p.shown

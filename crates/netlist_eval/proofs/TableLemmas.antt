@@ -9,10 +9,10 @@ use Rattle.std.proofs.lemmas.List.{take-map, get_or-take, length-take, drop_more
 use Rattle.std.proofs.Common.{get_or-set_same, get_or-set_other}
 use Rattle.netlist.specs.declared.draft.Cover.{Cover}
 use Rattle.netlist.specs.declared.draft.Lit.{Lit}
-use Rattle.netlist.specs.Covers.{no_cover, cover_at, truth, IsCoverOver}
+use Rattle.netlist.specs.Covers.{no_cover, cover_at, truth, IsCoverOver, cover_of}
 use Rattle.netlist.specs.Valuations.{bit_at}
 use Rattle.netlist_eval.specs.Bits.{AreBelow}
-use Rattle.netlist_eval.specs.Tables.{truth_at, cover_of, address, six_bits, AreCells, AreWires, IsTable}
+use Rattle.netlist_eval.specs.Tables.{truth_at, address, six_bits, AreCells, AreWires, IsTable}
 
 halved : (b : Bool) (n : ℕ) → ((if b then 1 else 0) + 2 * n) / 2 ≡ n
 halved true n = omega arith

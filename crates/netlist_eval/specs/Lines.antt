@@ -1,8 +1,9 @@
 -- A physical line that is being read byte by byte.
-use Rattle.std.specs.Prelude.{◌≡◌, ℕ, ◌+◌, ◌<◌, ◌≤◌, List, [], ◌∷◌, ◌++◌, length, drop, Bool, false, if◌then◌else◌}
+use Rattle.std.specs.Prelude.{◌≡◌, ℕ, ◌+◌, ◌<◌, ◌≤◌, List, [], ◌∷◌, ◌++◌, length, drop, Bool, true, false, if◌then◌else◌}
+use Rattle.std.specs.List.{list_all}
 use Rattle.netlist_eval.specs.declared.line.Step.{Step}
 use Rattle.netlist_eval.specs.declared.line.Step.TheVariants.{Onward, Vector, Fault}
-use Rattle.netlist_eval.specs.Vectors.{physical_lines, lines_say, put_before, SaidVectors, nothing_said, fault_said, with_vector, bits_of, vector_size}
+use Rattle.netlist_eval.specs.Vectors.{physical_lines, lines_say, put_before, SaidVectors, nothing_said, fault_said, with_vector, bits_of, is_vector_byte, vector_size}
 use Rattle.netlist_eval.specs.declared.vectors.VectorKind.TheVariants.{Width}
 
 -- a line of which some bytes were read
@@ -19,6 +20,11 @@ pub record PartLine : Type 0 where
   pub in_comment : Bool
   -- the bytes that are left of it so far, all of them right
   pub shown : List ℕ
+
+-- what is left of it is right so far
+pub record IsSound (p : PartLine) : Type 0 where
+  pub right : list_all (is_vector_byte p.width) p.shown ≡ true
+  pub room : length p.shown ≤ vector_size p.width
 
 -- bytes that leave the same of a line as those that were read
 abbrev pub front_of : PartLine → List ℕ

@@ -1,9 +1,9 @@
 -- A vector file that is being read from a store.
-use Rattle.std.specs.Prelude.{◌≡◌, ◌⊎◌, ℕ, ◌+◌, ◌<◌, ◌≤◌, List, [], ◌++◌, length, Bool, true, false, Option, IfSome, option_map}
-use Rattle.tm_outside.specs.Store.{StoreState, IsFault, moved, rest_of}
+use Rattle.std.specs.Prelude.{◌≡◌, ◌⊎◌, ℕ, ◌+◌, ◌<◌, ◌≤◌, List, [], ◌++◌, length, take, Bool, true, false, Option, None, IfSome, option_map}
+use Rattle.tm_outside.specs.Store.{StoreState, IsFailure, moved, rest_of}
 use Rattle.netlist_eval.specs.declared.vectors.VectorsFail.{VectorsFail}
 use Rattle.netlist_eval.specs.declared.vectors.VectorsFail.TheVariants.{Text, Failed}
-use Rattle.netlist_eval.specs.Vectors.{physical_lines, lines_say, SaidVectors, nothing_said, fault_said, with_vector}
+use Rattle.netlist_eval.specs.Vectors.{physical_lines, put_before, shown, byte_fault, lines_say, SaidVectors, nothing_said, fault_said, with_vector}
 
 -- a reader between two lines
 pub record VectorReading : Type 0 where
@@ -42,7 +42,7 @@ NextGives false row old new before after = IfSome (said_ahead old before) (λ sa
 -- what a refusal says: the file's first fault, or the store's
 abbrev pub NextFails : VectorsFail → VectorReading → StoreState → StoreState → Type 0
 NextFails (Text line kind) old before after = IfSome (said_ahead old before) (λ said. said ≡ fault_said line kind)
-NextFails Failed old before after = IsFault before after
+NextFails Failed old before after = IsFailure before after
 
 -- the store went on by as many bytes as the reader took or has unread
 pub record HasMoved (old new : VectorReading) (before after : StoreState) : Type 0 where
@@ -51,9 +51,24 @@ pub record HasMoved (old new : VectorReading) (before after : StoreState) : Type
   pub bytes : old.at + length old.unread + count ≡ new.at + length new.unread
   pub within : IfSome (rest_of before) (λ rest. count ≤ length rest)
 
--- the store was asked only once no byte was unread
-abbrev pub AskedLate : VectorReading → VectorReading → StoreState → StoreState → Type 0
-AskedLate old new before after = (after ≡ before) ⊎ (old.at + length old.unread ≤ new.at)
+-- these bytes end no vector's line and have no fault: whatever follows them, they say what the beginning of one
+-- line says, which is right so far
+pub record AreOpen (reading : VectorReading) (bytes : List ℕ) : Type 0 where
+  pub number : ℕ
+  pub at : ℕ
+  pub front : List ℕ
+  pub right : byte_fault reading.width (shown front) ≡ None
+  pub says : (rest : List ℕ) → says_next reading (bytes ++ rest) ≡
+      lines_say reading.width (put_before front (physical_lines reading.limit number at rest))
+
+-- the store was asked for bytes only while no vector's line and no fault was decided in those before: neither in the
+-- bytes that were unread, nor in those before the last piece
+pub record AskedOpen (old : VectorReading) (before after : StoreState) : Type 0 where
+  pub unread : AreOpen old old.unread
+  -- how many bytes the store gave before the last piece
+  pub count : ℕ
+  pub last : IfSome (rest_of before) (λ rest. AreOpen old (old.unread ++ take count rest))
+  pub piece : IfSome after.current (λ p. IfSome before.current (λ q. p.at ≤ q.at + count + 65536))
 
 -- a vector takes at least a byte, and no more than are allowed
 abbrev pub GoesFurther : Bool → VectorReading → VectorReading → Type 0

@@ -1,13 +1,13 @@
 -- What the parts of reading a vector's line from a store come to.
-use Rattle.std.specs.Prelude.{◌≡◌, ◌⊎◌, ℕ, ◌+◌, ◌<◌, ◌≤◌, List, [], ◌++◌, length, drop, Bool, true, false, Result, Ok, Err, IfSome, IsSome, IfOk, IfErr, OnOk, option_map}
-use Rattle.tm_outside.specs.Store.{StoreState, IsFault, moved, rest_of}
+use Rattle.std.specs.Prelude.{◌≡◌, ◌⊎◌, ℕ, ◌+◌, ◌<◌, ◌≤◌, List, [], ◌++◌, length, take, drop, Bool, true, false, Result, Ok, Err, IfSome, IsSome, IfOk, IfErr, OnOk, option_map}
+use Rattle.tm_outside.specs.Store.{StoreState, IsFailure, moved, rest_of}
 use Rattle.netlist_eval.specs.declared.vectors.VectorsFail.{VectorsFail}
 use Rattle.netlist_eval.specs.declared.vectors.VectorsFail.TheVariants.{Text, Failed}
 use Rattle.netlist_eval.specs.declared.line.Step.{Step}
 use Rattle.netlist_eval.specs.declared.line.Step.TheVariants.{Onward, Vector, Fault}
 use Rattle.netlist_eval.specs.Vectors.{nothing_said, fault_said, with_vector, bits_of, vector_size}
-use Rattle.netlist_eval.specs.Readings.{VectorReading, bytes_ahead, HasMoved, AskedLate, GoesFurther, StopsWithin}
-use Rattle.netlist_eval.specs.Lines.{PartLine, begun, says_on, SaysStep, IsStepTo, IsFull}
+use Rattle.netlist_eval.specs.Readings.{VectorReading, bytes_ahead, HasMoved, AskedOpen, GoesFurther, StopsWithin}
+use Rattle.netlist_eval.specs.Lines.{PartLine, front_of, begun, says_on, SaysStep, IsStepTo, IsFull}
 
 -- where a line and the unread bytes stand
 abbrev pub reading_of : PartLine → List ℕ → VectorReading
@@ -22,7 +22,7 @@ IsFed false new before = IfSome (rest_of before) (λ rest. rest ≡ [])
 pub record IsRefilled (more : Bool) (old new : List ℕ) (before after : StoreState) : Type 0 where
   pub ahead : bytes_ahead old before ≡ bytes_ahead new after
   pub fed : IsFed more new before
-  pub late : (after ≡ before) ⊎ (old ≡ [])
+  pub late : ((after ≡ before) × (new ≡ old)) ⊎ (old ≡ [])
   pub ended : more ≡ false → (old ≡ []) × (new ≡ [])
   pub count : ℕ
   pub place : after.current ≡ moved before.current count
@@ -32,7 +32,7 @@ pub record IsRefilled (more : Bool) (old new : List ℕ) (before after : StoreSt
 -- the store's refusal
 abbrev pub IsStoreFail : VectorsFail → StoreState → StoreState → Type 0
 IsStoreFail (Text line kind) before after = ⊥
-IsStoreFail Failed before after = IsFault before after
+IsStoreFail Failed before after = IsFailure before after
 
 -- unread bytes were read, all of them where the line or the text goes on
 pub record HasReadOn (step : Step) (old : PartLine) (unread : List ℕ) (new : PartLine) (left : List ℕ) : Type 0 where
@@ -57,28 +57,35 @@ answer_of (Fault kind) line = Err (Text line kind)
 abbrev pub LineGives : Bool → PartLine → List ℕ → PartLine → List ℕ → StoreState → StoreState → Type 0
 LineGives true old unread new left before after =
     (length new.shown ≡ vector_size new.width) ×
-    (option_map (says_on old) (bytes_ahead unread before) ≡ option_map (λ bytes. with_vector (bits_of new.width new.shown) new.at (says_on (begun new) bytes)) (bytes_ahead left after))
+    (option_map (says_on old) (bytes_ahead unread before) ≡
+    option_map (λ bytes. with_vector (bits_of new.width new.shown) new.at (says_on (begun new) bytes)) (bytes_ahead left after))
 LineGives false old unread new left before after = IfSome (bytes_ahead unread before) (λ bytes. says_on old bytes ≡ nothing_said)
 
 -- what a refusal says of it
 abbrev pub LineFails : VectorsFail → PartLine → List ℕ → StoreState → StoreState → Type 0
 LineFails (Text line kind) old unread before after = IfSome (bytes_ahead unread before) (λ bytes. says_on old bytes ≡ fault_said line kind)
-LineFails Failed old unread before after = IsFault before after
+LineFails Failed old unread before after = IsFailure before after
 
 -- what reading a vector's line comes to: an answer or a refusal, and where line, unread bytes and store stand then
-pub record HasAnswered (result : Result Bool VectorsFail) (old : PartLine) (unread : List ℕ) (new : PartLine) (left : List ℕ) (before after : StoreState) : Type 0 where
+pub record HasAnswered (result : Result Bool VectorsFail) (old : PartLine) (unread : List ℕ) (new : PartLine) (left : List ℕ)
+    (before after : StoreState) : Type 0 where
   pub gives : IfOk result (λ more. LineGives more old unread new left before after)
   pub refused : IfErr result (λ e. LineFails e old unread before after)
   pub width : new.width ≡ old.width
   pub limit : new.limit ≡ old.limit
   pub moves : OnOk result (HasMoved (reading_of old unread) (reading_of new left) before after)
   pub current : OnOk result (IsSome after.current)
-  pub late : OnOk result (AskedLate (reading_of old unread) (reading_of new left) before after)
+  pub open_ : front_of old ≡ [] → (after ≡ before) ⊎ AskedOpen (reading_of old unread) before after
   pub onward : old.shown ≡ [] → IfOk result (λ more. GoesFurther more (reading_of old unread) (reading_of new left))
   pub stopped : IfErr result (λ e. StopsWithin e before after)
   pub contents : after.contents ≡ before.contents
   pub asked : after.asked ≡ before.asked
-  pub later : before.faults ≤ after.faults
+  pub later : before.failures ≤ after.failures
+
+-- the store wasn't asked, and what the line says with what follows is what it said at first
+abbrev pub IsWaiting : PartLine → List ℕ → PartLine → List ℕ → StoreState → StoreState → Type 0
+IsWaiting old unread new left before after =
+    (after ≡ before) × ((rest : List ℕ) → says_on old (unread ++ rest) ≡ says_on new (left ++ rest))
 
 -- the line goes on: what it says with the bytes ahead is what it said at first
 pub record GoesOn (old : PartLine) (unread : List ℕ) (new : PartLine) (left : List ℕ) (before after : StoreState) : Type 0 where
@@ -86,10 +93,12 @@ pub record GoesOn (old : PartLine) (unread : List ℕ) (new : PartLine) (left : 
   pub width : new.width ≡ old.width
   pub limit : new.limit ≡ old.limit
   pub moves : HasMoved (reading_of old unread) (reading_of new left) before after
-  pub late : AskedLate (reading_of old unread) (reading_of new left) before after
+  pub open_ : front_of old ≡ [] → IsWaiting old unread new left before after ⊎ AskedOpen (reading_of old unread) before after
+  pub reads : IfSome (rest_of before) (λ told. (rest : List ℕ) →
+      says_on old ((unread ++ take moves.count told) ++ rest) ≡ says_on new (left ++ rest))
   pub from : old.at ≤ new.at
   pub onward : (new.shown ≡ old.shown) ⊎ ((old.at < new.at) × (new.at ≤ new.limit))
   pub contents : after.contents ≡ before.contents
   pub asked : after.asked ≡ before.asked
-  pub later : before.faults ≤ after.faults
+  pub later : before.failures ≤ after.failures
   pub current : IsSome after.current

@@ -1,14 +1,9 @@
 -- Covers as tables of 64 cells, looked up by the bits of at most six inputs.
 use Rattle.std.specs.Prelude.{◌≡◌, ℕ, ◌+◌, ◌*◌, ◌/◌, ◌%◌, ◌==◌, ◌<◌, ◌≤◌, List, [], ◌∷◌, Bool, false, Option, None, Some, if◌then◌else◌, not, length, take, slice_index_or}
 use Rattle.netlist.specs.declared.draft.Cover.{Cover}
-use Rattle.netlist.specs.declared.draft.Lit.{Lit}
 use Rattle.netlist.specs.Covers.{cover_at, some_matches, truth, IsCoverOver}
 use Rattle.netlist_eval.specs.declared.tables.Table.{Table}
 use Rattle.netlist_eval.specs.Bits.{AreBelow}
-
--- a cover of these rows over these signals
-abbrev pub cover_of : List (List Lit) → Bool → List ℕ → Cover
-cover_of rows off ins = record { out = 0; ins = ins; rows = rows; off = off; line = 0 }
 
 -- a cover's truth, by the bits of its inputs
 abbrev pub truth_at : Cover → List Bool → Bool

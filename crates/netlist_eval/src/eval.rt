@@ -45,7 +45,7 @@ impl<'a> Eval<'a> {
         let draft = netlist.parts();
         let wiring = wiring_of(alloc, draft)?;
         let tables = tables_of(alloc, draft.covers.as_slice())?;
-        let values = vec![in alloc; false; draft.names.as_slice().len()]?;
+        let values = vec![in alloc; false; draft.names.len()]?;
         let state = first_bits(alloc, draft.latches.as_slice())?;
         Ok(Eval {
             netlist,

@@ -65,7 +65,7 @@ impl Feed {
         requires current { IsSome (S.store_state store.old).current }
 
         ensures contents { (S.store_state store.new).contents ≡ (S.store_state store.old).contents }
-        ensures later { (S.store_state store.old).faults ≤ (S.store_state store.new).faults }
+        ensures later { (S.store_state store.old).failures ≤ (S.store_state store.new).failures }
         ensures asked { (S.store_state store.new).asked ≡ (S.store_state store.old).asked }
         ensures room { length self.new ≤ 65536 }
         ensures count { IfOk result (λ n. length self.new ≡ n) }

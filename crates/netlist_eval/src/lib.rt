@@ -3,15 +3,11 @@
 
 mod bits;
 mod eval;
-#[cfg(test)]
-mod eval_tests;
 mod feed;
 mod line;
 mod reading;
 mod row_text;
 mod tables;
-#[cfg(test)]
-mod vector_tests;
 mod vectors;
 mod wiring;
 

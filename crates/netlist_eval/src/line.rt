@@ -64,7 +64,7 @@ fn is_blank(byte: u8) -> bool
 }
 
 impl Line {
-    ghost use Rattle.netlist_eval.specs.Lines.{PartLine, HasRead, EndsAs, EndSays, begun};
+    ghost use Rattle.netlist_eval.specs.Lines.{PartLine, IsSound, HasRead, EndsAs, EndSays, begun};
 
     /// The first line, with room for the bytes of a vector.
     pub fn first(alloc: Global, width: u32, limit: u64) -> Result<Self, AllocError>
@@ -84,9 +84,10 @@ impl Line {
         })
     }
 
-    /// Its number, from 1.
+    /// Its number, from 1. What was read of the line is right so far.
     pub fn number(&self) -> u64
-        ensures { result ≡ self.now.number }
+        ensures value { result ≡ self.now.number }
+        ensures sound { IsSound self.now }
     {
         self.number
     }

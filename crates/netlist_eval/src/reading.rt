@@ -1,8 +1,8 @@
 //! Vector files, read from a store.
 
-ghost use Rattle.std.specs.Prelude.{◌≡◌, ◌-◌, ◌^◌, ◌<◌, ◌≤◌, length, IfOk, IfErr, OnErr, OnOk, IsSome};
+ghost use Rattle.std.specs.Prelude.{◌≡◌, ◌⊎◌, ◌-◌, ◌^◌, ◌<◌, ◌≤◌, length, IfOk, IfErr, OnErr, OnOk, IsSome, []};
 ghost use Rattle.netlist_eval.specs.Steps.{IsRefilled, IsStoreFail, HasReadOn, answer_of, HasAnswered};
-ghost use Rattle.netlist_eval.specs.Readings.{new_reading, NextGives, NextFails, HasMoved, AskedLate, GoesFurther, StopsWithin};
+ghost use Rattle.netlist_eval.specs.Readings.{new_reading, NextGives, NextFails, HasMoved, AskedOpen, GoesFurther, StopsWithin};
 
 use crate::feed::Feed;
 use crate::line::{Line, Step};
@@ -51,7 +51,8 @@ impl VectorText {
     /// Reads the next vector of the store's current file into `row`, which has one place for each input. False
     /// says that the file has no more vectors. Takes no memory.
     ///
-    /// The store has to stand where the last call left it. After a false or an error nothing is left to read.
+    /// The store has to stand where the last call left it, and is asked for bytes only while those before, unread
+    /// ones included, end no vector's line and have no fault. After a false or an error nothing is left to read.
     ///
     /// # Errors
     ///
@@ -68,13 +69,15 @@ impl VectorText {
         ensures limit { self.new.limit ≡ self.old.limit }
         ensures unread { length self.new.unread ≤ 65536 }
         ensures moved { OnOk result (HasMoved self.old self.new (S.store_state store.old) (S.store_state store.new)) }
-        ensures late { OnOk result (AskedLate self.old self.new (S.store_state store.old) (S.store_state store.new)) }
+        ensures undecided { let before = S.store_state store.old in
+            let after = S.store_state store.new in
+            (after ≡ before) ⊎ AskedOpen self.old before after }
         ensures onward { IfOk result (λ more. GoesFurther more self.old self.new) }
         ensures stopped { IfErr result (λ e. StopsWithin e (S.store_state store.old) (S.store_state store.new)) }
         ensures current { OnOk result (IsSome (S.store_state store.new).current) }
         ensures contents { (S.store_state store.new).contents ≡ (S.store_state store.old).contents }
         ensures asked { (S.store_state store.new).asked ≡ (S.store_state store.old).asked }
-        ensures later { (S.store_state store.old).faults ≤ (S.store_state store.new).faults }
+        ensures later { (S.store_state store.old).failures ≤ (S.store_state store.new).failures }
     {
         self.line.begin();
         let more = read_vector(&mut self.line, &mut self.feed, store)?;
@@ -92,9 +95,10 @@ fn refill<S: Store>(feed: &mut Feed, store: &mut S) -> Result<bool, VectorsFail>
     ensures gives { IfOk result (λ more. IsRefilled more feed.old feed.new (S.store_state store.old) (S.store_state store.new)) }
     ensures room { length feed.new ≤ 65536 }
     ensures refused { IfErr result (λ e. IsStoreFail e (S.store_state store.old) (S.store_state store.new)) }
+    ensures late { OnErr result (feed.old ≡ []) }
     ensures contents { (S.store_state store.new).contents ≡ (S.store_state store.old).contents }
     ensures asked { (S.store_state store.new).asked ≡ (S.store_state store.old).asked }
-    ensures later { (S.store_state store.old).faults ≤ (S.store_state store.new).faults }
+    ensures later { (S.store_state store.old).failures ≤ (S.store_state store.new).failures }
 {
     if !feed.unread().is_empty() {
         return Ok(true);
@@ -136,8 +140,9 @@ fn read_vector<S: Store>(
     ensures answered { HasAnswered result line.old feed.old line.new feed.new (S.store_state store.old) (S.store_state store.new) }
 {
     'pieces: loop {
+        let number = line.number();
         if !refill(feed, store)? {
-            return answer(line.end(), line.number());
+            return answer(line.end(), number);
         }
         match read_unread(line, feed) {
             Step::Onward => {}

@@ -59,19 +59,3 @@ fn fill_line(line: &mut Vec<u8>, bits: &[bool])
     let last = line.len() - 1;
     line[last] = b'\n';
 }
-
-#[cfg(test)]
-mod tests {
-    use super::*;
-    use std::test::Fail;
-
-    #[test]
-    fn lines_of_rows(rt: HostRuntime) -> Result<(), Fail> {
-        let mut two = RowText::new(rt.alloc(), 2)?;
-        assert_eq!(rt; two.line(&[true, false]), b"10\n".as_slice());
-        assert_eq!(rt; two.line(&[false, true]), b"01\n".as_slice());
-        let mut none = RowText::new(rt.alloc(), 0)?;
-        assert_eq!(rt; none.line(&[]), b".\n".as_slice());
-        Ok(())
-    }
-}

@@ -1,12 +1,12 @@
 //! Covers as tables, and covers given their truths in order.
 
 ghost use Rattle.std.specs.Prelude.{◌≡◌, ◌+◌, ◌<◌, ◌≤◌, ℕ, [], map, length, slice_index_or, IfOk};
-ghost use Rattle.netlist.specs.Covers.{cover_at, fits, matches, truth, IsCoverOver};
+ghost use Rattle.netlist.specs.Covers.{cover_at, truth, IsCoverOver};
 ghost use Rattle.netlist.specs.Valuations.{bit_at, IsOrder, IsSettled};
 ghost use Rattle.netlist_eval.specs.Bits.{AreBelow};
-ghost use Rattle.netlist_eval.specs.Tables.{address, cover_of, six_bits, AreCells, AreWires, IsTableOf, AreTables};
+ghost use Rattle.netlist_eval.specs.Tables.{address, six_bits, AreCells, AreWires, IsTableOf, AreTables};
 
-use netlist::{Cover, Cube, Lit};
+use netlist::{Cover, truth_of};
 use std::alloc::{AllocError, Global};
 
 /// The most inputs of a cover that gets a table.
@@ -22,46 +22,6 @@ pub struct Table {
     pub wires: [u32; 6],
     /// The cover's truths: bit j of a cell's place is the bit of input j.
     pub cells: [bool; 64],
-}
-
-// Whether a row matches the bits of its inputs.
-fn row_matches(row: &[Lit], ins: &[u32], values: &[bool]) -> bool
-    requires len { length row.now ≡ length ins.now }
-    requires within { AreBelow (length values.now) ins.now }
-    ensures { result ≡ matches row.now (map (bit_at values.now) ins.now) }
-{
-    'places: for k in 0..row.len() {
-        let bit = values[ins[k] as usize];
-        if !fits(row[k], bit) {
-            return false;
-        }
-    }
-    true
-}
-
-// Whether the bit is what the row wants.
-fn fits(lit: Lit, bit: bool) -> bool
-    ensures { result ≡ fits lit bit }
-{
-    match lit {
-        Lit::Zero => !bit,
-        Lit::One => bit,
-        Lit::Any => true,
-    }
-}
-
-// The truth of a cover of these rows over these signals.
-fn truth_of(rows: &[Cube], off: bool, ins: &[u32], values: &[bool]) -> bool
-    requires within { AreBelow (length values.now) ins.now }
-    requires rows { (k : ℕ) → k < length rows.now → length (slice_index_or rows.now k []) ≡ length ins.now }
-    ensures { result ≡ truth (bit_at values.now) (cover_of rows.now off ins.now) }
-{
-    'rows: for k in 0..rows.len() {
-        if row_matches(rows[k].as_slice(), ins, values) {
-            return !off;
-        }
-    }
-    off
 }
 
 // The lowest six bits of a number.

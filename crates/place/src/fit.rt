@@ -1,21 +1,18 @@
 //! Whether a plan fits, and the in-order plan where it does.
-ghost use Rattle.std.specs.Prelude.{◌≡◌, ◌↔◌, [], IfOk, IfErr, IfSome, IfNone, IsTrue};
+ghost use Rattle.std.specs.Prelude.{◌↔◌, IfOk, IfErr, IfSome, IfNone, IsTrue};
 ghost use Rattle.place.specs.Plans.{Fits, FitsInOrder, IsPlaceFail, IsPlan};
 ghost use Rattle.place.specs.Laying.{FitsWith, IsLaid};
-ghost use Rattle.place.specs.declared.short.PlaceFail.TheVariants as fail;
 ghost use Rattle.table_map.specs.Networks.{IsNetwork};
 
 use crate::layout::{Laid, Layout};
 use crate::order::{free_pins, free_tables, pins_wanted, sit, tables_wanted};
 use crate::plan::Plan;
 use crate::room::look_for_room;
-use crate::short::{Need, PlaceFail, Resource, Room, Short};
+use crate::short::{Need, PlaceFail, Resource, Room, short_of};
 use crate::terminals::nets_of_plan;
 use defect_db::Defects;
-use hierarchy::Node;
 use std::alloc::{AllocError, Global};
 use table_map::Network;
-use tm_items::Items;
 
 // The layout of a plan, or the first short resource.
 fn laid(
@@ -92,19 +89,6 @@ pub fn fits(
     }
 }
 
-// That a resource of the root is short.
-fn short_of(alloc: Global, resource: Resource, need: Need) -> PlaceFail
-    ensures { result ≡ fail.Short (record { resource = resource; node = record { 0 = 0 }; need = need.need; have = need.have; nets = [] }) }
-{
-    PlaceFail::Short(Short {
-        resource,
-        node: Node(0),
-        need: need.need,
-        have: need.have,
-        nets: Items::empty(alloc),
-    })
-}
-
 /// The in-order plan: the k-th table of the network on the k-th free table, the inputs and then the outputs on the free
 /// pins in order.
 ///
@@ -122,10 +106,10 @@ pub fn in_order(alloc: Global, network: &Network, defects: &Defects) -> Result<P
     let tables = tables_wanted(network, free_tables.as_slice());
     let pins = pins_wanted(network, free_pins.as_slice());
     if tables.have < tables.need {
-        return Err(short_of(alloc, Resource::Tables, tables));
+        return Err(PlaceFail::Short(short_of(alloc, Resource::Tables, tables)));
     }
     if pins.have < pins.need {
-        return Err(short_of(alloc, Resource::Pins, pins));
+        return Err(PlaceFail::Short(short_of(alloc, Resource::Pins, pins)));
     }
     let plan = sit(alloc, network, free_tables.as_slice(), free_pins.as_slice())?;
     match laid(alloc, network, &plan, defects, tables, pins)? {

@@ -19,8 +19,6 @@ mod short;
 mod strand;
 mod taps;
 mod terminals;
-#[cfg(test)]
-mod tests;
 mod touch;
 mod tree;
 

@@ -1,15 +1,14 @@
 //! Whether there is room for nets, node by node.
-ghost use Rattle.std.specs.Prelude.{◌≡◌, ◌<◌, ◌≤◌, ◌^◌, ◌++◌, ℕ, [], map, OnOk, IfOk, IfSome, IfNone, All, length};
+ghost use Rattle.std.specs.Prelude.{◌≡◌, ◌<◌, ◌≤◌, ◌^◌, ◌++◌, map, OnOk, IfOk, IfSome, IfNone, All, length};
 ghost use Rattle.hierarchy.specs.Shape.{nodes_of};
 ghost use Rattle.place.specs.Choices.{AreWires};
 ghost use Rattle.place.specs.Layouts.{GoOn, HoldOn, IsBoardOf, IsLackOf, IsNodesRoom, IsRoom, IsRoomAt, LinesAreShort, NodeIsShort, net_in, visit_by};
 ghost use Rattle.place.specs.Room.{HasTerminal};
-ghost use Rattle.place.specs.declared.short.Room.TheVariants.{Lacks};
 
 use crate::assign::assign;
 use crate::board::{Board, board_of};
 use crate::search::{Ask, Assigned, Hold};
-use crate::short::{Need, Port, Resource, Room, Short, Visit};
+use crate::short::{Need, Port, Resource, Room, Short, Visit, short_of};
 use crate::taps::{asks_at, free_lines};
 use defect_db::Defects;
 use hierarchy::Node;
@@ -175,23 +174,13 @@ fn rooms(
     Ok(Room::Enough { ports, visits })
 }
 
-// That this resource of the root is short.
-fn lack_of(alloc: Global, resource: Resource, need: Need) -> Room
-    ensures { result ≡ Lacks (record { resource = resource; node = record { 0 = 0 }; need = need.need; have = need.have; nets = [] }) }
-{
-    Room::Lacks(Short {
-        resource,
-        node: Node(0),
-        need: need.need,
-        have: need.have,
-        nets: Items::empty(alloc),
-    })
-}
-
-/// Looks for room for nets, each given by its terminals, on what is free; tables and pins go by these needs.
+/// Looks for room for nets, each given by its terminals, on what a list of defects leaves free. Tables and pins suffice
+/// where these needs are met. Then each node is looked at in turn: whether it has a free port for each net that crosses
+/// it, and whether some choice gives each net that visits it a line that serves it, no line to two.
 ///
-/// A net without terminals asks for nothing, so that some of numbered nets can be looked at alone; wires on which others
-/// lie are kept from the nets by listing them.
+/// The answer is the port of each net at each node that it crosses and its line at each node that it visits, or the first
+/// short resource. A net without terminals crosses and visits no node, so some of numbered nets can be looked at alone. A
+/// port or a line that others have is kept from these nets by listing it.
 ///
 /// # Errors
 ///
@@ -208,10 +197,10 @@ pub fn look_for_room(
     ensures { IfOk result (IsRoom defects.now.shape defects.now.list (length nets.now) (HasTerminal nets.now) tables pins) }
 {
     if tables.have < tables.need {
-        return Ok(lack_of(alloc, Resource::Tables, tables));
+        return Ok(Room::Lacks(short_of(alloc, Resource::Tables, tables)));
     }
     if pins.have < pins.need {
-        return Ok(lack_of(alloc, Resource::Pins, pins));
+        return Ok(Room::Lacks(short_of(alloc, Resource::Pins, pins)));
     }
     let board = board_of(alloc, defects, nets)?;
     let room = rooms(alloc, defects, nets, &board)?;

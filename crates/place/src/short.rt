@@ -1,9 +1,9 @@
 //! Needs, and what is said of the first one that isn't met.
-ghost use Rattle.std.specs.Prelude.{◌≡◌};
+ghost use Rattle.std.specs.Prelude.{◌≡◌, []};
 ghost use Rattle.place.specs.declared.short.PlaceFail.TheVariants.{Memory};
 
 use hierarchy::Node;
-use std::alloc::AllocError;
+use std::alloc::{AllocError, Global};
 use tm_items::Items;
 
 /// How many of a resource are wanted, and how many there are.
@@ -79,5 +79,18 @@ impl From<AllocError> for PlaceFail {
 
     fn from(_e: AllocError) -> PlaceFail {
         PlaceFail::Memory
+    }
+}
+
+/// That a resource of the root is short.
+pub fn short_of(alloc: Global, resource: Resource, need: Need) -> Short
+    ensures { result ≡ record { resource = resource; node = record { 0 = 0 }; need = need.need; have = need.have; nets = [] } }
+{
+    Short {
+        resource,
+        node: Node(0),
+        need: need.need,
+        have: need.have,
+        nets: Items::empty(alloc),
     }
 }

@@ -3,21 +3,21 @@ use Rattle.std.specs.Prelude.{ℕ, ◌+◌, ◌-◌, ◌^◌, min, Bool, List, N
 use Rattle.tm_outside.specs.Counts.{next_count}
 use Rattle.rig.specs.Rig.{Asked, RigState}
 
--- two counts of faults as one, which stops at the last value of u64
+-- two counts of failures as one, which stops at the last value of u64
 abbrev pub both_counts : ℕ → ℕ → ℕ
 both_counts n m = min (n + m) (2 ^ 64 - 1)
 
 -- what it means as a rig: it tells what its inner rig tells, and has what it asked of it, but only while a machine
 -- is attached to it and a session stands
 abbrev pub flaky_state : RigState → List Asked → Bool → Bool → ℕ → RigState
-flaky_state inner asked is_attached in_session faults = record {
+flaky_state inner asked is_attached in_session failures = record {
   machine = record inner.machine {
     asked = asked;
     attached = if is_attached then inner.machine.attached else None;
   };
   session = if in_session then inner.session else None;
   loads = inner.loads;
-  faults = both_counts faults inner.faults;
+  failures = both_counts failures inner.failures;
 }
 
 -- the call after so many calls is one of those that are to fail

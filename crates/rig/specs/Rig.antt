@@ -57,7 +57,7 @@ pub record RigState : Type 0 where
   -- the loads since the rig was made, up to the last value of u64
   pub loads : ℕ
   -- a count that never falls
-  pub faults : ℕ
+  pub failures : ℕ
 
 abbrev pub drives_of : List Exchange → List Pins
 drives_of cycles = map (λ c. c.drive) cycles
@@ -89,6 +89,10 @@ spare_of rig = option_map_or (λ s. s.spare) rig.session 0
 abbrev pub IsTold : RigState → Type 0
 IsTold rig = IfSome rig.machine.faults (λ f. IfSome (config_of rig) (λ g. IsRun f g (drives_of (cycles_of rig)) (readings_of (cycles_of rig))))
 
+-- the faults, where they are told, are faults of a machine of this shape
+abbrev pub HasFaultsOf : Shape → RigState → Type 0
+HasFaultsOf m rig = IfSome rig.machine.faults (AreFaultsOf m)
+
 -- nothing is attached, and there is no session
 pub record IsDetached (rig : RigState) : Type 0 where
   pub attached : rig.machine.attached ≡ None
@@ -116,7 +120,7 @@ RefusesText text.Memory m told old new = ⊥
 -- what a refusal of `attach` says
 abbrev pub AttachFails : AttachFail → Asked → RigState → RigState → Type 0
 AttachFails attach.Failed machine old new =
-    Rose old.faults new.faults × (new.machine.asked ≡ old.machine.asked ++ machine ∷ []) × (new.machine.refused ≡ old.machine.refused)
+    Rose old.failures new.failures × (new.machine.asked ≡ old.machine.asked ++ machine ∷ []) × (new.machine.refused ≡ old.machine.refused)
 AttachFails (attach.Faults fault) machine old new =
     (new.machine.asked ≡ old.machine.asked ++ machine ∷ []) × RefusesText fault machine.shape (old.machine.texts machine.name) old.machine.refused new.machine.refused
 AttachFails attach.Memory machine old new = (new.machine.asked ≡ old.machine.asked) × (new.machine.refused ≡ old.machine.refused)
@@ -129,7 +133,7 @@ pub record Begins (g : Configuration) (room : ℕ) (rig : RigState) : Type 0 whe
 
 -- what a refusal of `load` says
 abbrev pub LoadFails : RigFail → RigState → RigState → Type 0
-LoadFails work.Failed old new = Rose old.faults new.faults
+LoadFails work.Failed old new = Rose old.failures new.failures
 LoadFails work.Memory old new = Unit {0}
 
 -- the session goes on by one cycle
@@ -141,5 +145,5 @@ pub record GoesOn (drive reading : Pins) (old new : RigState) : Type 0 where
 
 -- what a refusal of `cycle` says
 abbrev pub CycleFails : RigFail → RigState → RigState → Type 0
-CycleFails work.Failed old new = Rose old.faults new.faults × (new.session ≡ None)
+CycleFails work.Failed old new = Rose old.failures new.failures × (new.session ≡ None)
 CycleFails work.Memory old new = (spare_of old ≡ 0) × (new.session ≡ old.session)

@@ -1,7 +1,7 @@
 //! A rig that fails at chosen calls.
-ghost use Rattle.std.specs.Prelude.{◌≡◌, ◌⊎◌, ◌-◌, ◌^◌, ◌≤◌, [], None, Some, min, length, IfErr, OnOk, OnErr, IsErrOf};
+ghost use Rattle.std.specs.Prelude.{◌≡◌, ◌⊎◌, ◌-◌, ◌^◌, ◌<◌, ◌≤◌, [], None, Some, min, length, IfErr, OnOk, OnErr, IsErrOf};
 ghost use Rattle.tm_outside.specs.Counts.{Rose, next_count};
-ghost use Rattle.rig.specs.Rig.{RigState, shape_of, width_of, IsDetached, Attaches, AttachFails, Begins, LoadFails, GoesOn, CycleFails};
+ghost use Rattle.rig.specs.Rig.{RigState, shape_of, width_of, IsDetached, Attaches, AttachFails, HasFaultsOf, Begins, LoadFails, GoesOn, CycleFails};
 ghost use Rattle.rig.specs.Flaky.{flaky_state, IsChosen};
 
 use crate::{AskedMachines, AttachFail, PinBits, Rig, RigFail};
@@ -13,7 +13,7 @@ use std::alloc::Global;
 ///
 /// A chosen call answers `Failed` and doesn't reach the inner rig; every other call is passed on. It keeps the
 /// machines asked itself, and an `attach` that finds no room for one more answers `Memory` and doesn't reach the
-/// inner rig either, chosen or not. Its count of faults rises at each chosen call that fails, and where that of
+/// inner rig either, chosen or not. Its count of failures rises at each chosen call that fails, and where that of
 /// the inner rig does.
 #[derive(Drop)]
 pub struct FlakyRig<R: Rig> {
@@ -24,7 +24,7 @@ pub struct FlakyRig<R: Rig> {
     // Whether what is attached to the inner rig is attached, and whether its session stands.
     is_attached: bool,
     in_session: bool,
-    faults: u64,
+    failures: u64,
 }
 
 impl<R: Rig> FlakyRig<R> {
@@ -39,7 +39,7 @@ impl<R: Rig> FlakyRig<R> {
         ensures refused { (⟦<FlakyRig<R> as Rig>⟧.rig_state result).machine.refused ≡ (R.rig_state inner).machine.refused }
         ensures detached { IsDetached (⟦<FlakyRig<R> as Rig>⟧.rig_state result) }
         ensures loads { (⟦<FlakyRig<R> as Rig>⟧.rig_state result).loads ≡ (R.rig_state inner).loads }
-        ensures faults { (⟦<FlakyRig<R> as Rig>⟧.rig_state result).faults ≡ min (R.rig_state inner).faults (2 ^ 64 - 1) }
+        ensures failures { (⟦<FlakyRig<R> as Rig>⟧.rig_state result).failures ≡ min (R.rig_state inner).failures (2 ^ 64 - 1) }
     {
         FlakyRig {
             inner,
@@ -48,18 +48,19 @@ impl<R: Rig> FlakyRig<R> {
             asked: AskedMachines::new(alloc),
             is_attached: false,
             in_session: false,
-            faults: 0,
+            failures: 0,
         }
     }
 }
 
 impl<R: Rig> Rig for FlakyRig<R> {
-    ghost rig_state = { λ s. flaky_state (R.rig_state s.inner) s.asked s.is_attached s.in_session s.faults };
+    ghost rig_state = { λ s. flaky_state (R.rig_state s.inner) s.asked s.is_attached s.in_session s.failures };
 
     fn attach(&mut self, shape: &Shape, name: &str) -> Result<(), AttachFail>
         ensures texts { (⟦<FlakyRig<R> as Rig>⟧.rig_state self.new).machine.texts ≡ (⟦<FlakyRig<R> as Rig>⟧.rig_state self.old).machine.texts }
         ensures loads { (⟦<FlakyRig<R> as Rig>⟧.rig_state self.new).loads ≡ (⟦<FlakyRig<R> as Rig>⟧.rig_state self.old).loads }
-        ensures later { (⟦<FlakyRig<R> as Rig>⟧.rig_state self.old).faults ≤ (⟦<FlakyRig<R> as Rig>⟧.rig_state self.new).faults }
+        ensures later { (⟦<FlakyRig<R> as Rig>⟧.rig_state self.old).failures ≤ (⟦<FlakyRig<R> as Rig>⟧.rig_state self.new).failures }
+        ensures count { (⟦<FlakyRig<R> as Rig>⟧.rig_state self.new).failures < 2 ^ 64 }
         ensures attached { OnOk result (Attaches (record { shape = shape.now; name = name.now }) (⟦<FlakyRig<R> as Rig>⟧.rig_state self.old) (⟦<FlakyRig<R> as Rig>⟧.rig_state self.new)) }
         ensures detached { OnErr result (IsDetached (⟦<FlakyRig<R> as Rig>⟧.rig_state self.new)) }
         ensures refused { IfErr result (λ e. AttachFails e (record { shape = shape.now; name = name.now }) (⟦<FlakyRig<R> as Rig>⟧.rig_state self.old) (⟦<FlakyRig<R> as Rig>⟧.rig_state self.new)) }
@@ -69,7 +70,7 @@ impl<R: Rig> Rig for FlakyRig<R> {
         ensures calls { self.new.calls ≡ next_count self.old.calls }
         ensures chosen { IsChosen self.old.fails.items self.old.calls → IsErrOf result AttachFail.Failed ⊎ IsErrOf result AttachFail.Memory }
         ensures unreached { IsChosen self.old.fails.items self.old.calls → R.rig_state self.new.inner ≡ R.rig_state self.old.inner }
-        ensures failed { IsErrOf result AttachFail.Failed → IsChosen self.old.fails.items self.old.calls ⊎ Rose (R.rig_state self.old.inner).faults (R.rig_state self.new.inner).faults }
+        ensures failed { IsErrOf result AttachFail.Failed → IsChosen self.old.fails.items self.old.calls ⊎ Rose (R.rig_state self.old.inner).failures (R.rig_state self.new.inner).failures }
     {
         self.is_attached = false;
         self.in_session = false;
@@ -78,7 +79,7 @@ impl<R: Rig> Rig for FlakyRig<R> {
             return Err(AttachFail::Memory);
         }
         if self.fails.contains(&self.calls) {
-            self.faults = self.faults.saturating_add(1);
+            self.failures = self.failures.saturating_add(1);
             return Err(AttachFail::Failed);
         }
         match self.inner.attach(shape, name) {
@@ -98,8 +99,10 @@ impl<R: Rig> Rig for FlakyRig<R> {
         requires { shape_of (⟦<FlakyRig<R> as Rig>⟧.rig_state self.old) ≡ Some config.now.config.shape }
 
         ensures machine { (⟦<FlakyRig<R> as Rig>⟧.rig_state self.new).machine ≡ (⟦<FlakyRig<R> as Rig>⟧.rig_state self.old).machine }
-        ensures later { (⟦<FlakyRig<R> as Rig>⟧.rig_state self.old).faults ≤ (⟦<FlakyRig<R> as Rig>⟧.rig_state self.new).faults }
+        ensures later { (⟦<FlakyRig<R> as Rig>⟧.rig_state self.old).failures ≤ (⟦<FlakyRig<R> as Rig>⟧.rig_state self.new).failures }
+        ensures count { (⟦<FlakyRig<R> as Rig>⟧.rig_state self.new).failures < 2 ^ 64 }
         ensures begins { OnOk result (Begins config.now.config room (⟦<FlakyRig<R> as Rig>⟧.rig_state self.new)) }
+        ensures told { OnOk result (HasFaultsOf config.now.config.shape (⟦<FlakyRig<R> as Rig>⟧.rig_state self.new)) }
         ensures counted { OnOk result ((⟦<FlakyRig<R> as Rig>⟧.rig_state self.new).loads ≡ next_count (⟦<FlakyRig<R> as Rig>⟧.rig_state self.old).loads) }
         ensures ended { OnErr result ((⟦<FlakyRig<R> as Rig>⟧.rig_state self.new).session ≡ None) }
         ensures not_counted { OnErr result ((⟦<FlakyRig<R> as Rig>⟧.rig_state self.new).loads ≡ (⟦<FlakyRig<R> as Rig>⟧.rig_state self.old).loads) }
@@ -110,12 +113,12 @@ impl<R: Rig> Rig for FlakyRig<R> {
         ensures calls { self.new.calls ≡ next_count self.old.calls }
         ensures chosen { IsChosen self.old.fails.items self.old.calls → IsErrOf result RigFail.Failed }
         ensures unreached { IsChosen self.old.fails.items self.old.calls → R.rig_state self.new.inner ≡ R.rig_state self.old.inner }
-        ensures failed { IsErrOf result RigFail.Failed → IsChosen self.old.fails.items self.old.calls ⊎ Rose (R.rig_state self.old.inner).faults (R.rig_state self.new.inner).faults }
+        ensures failed { IsErrOf result RigFail.Failed → IsChosen self.old.fails.items self.old.calls ⊎ Rose (R.rig_state self.old.inner).failures (R.rig_state self.new.inner).failures }
     {
         self.in_session = false;
         self.calls = self.calls.saturating_add(1);
         if self.fails.contains(&self.calls) {
-            self.faults = self.faults.saturating_add(1);
+            self.failures = self.failures.saturating_add(1);
             return Err(RigFail::Failed);
         }
         self.inner.load(config, room)?;
@@ -129,7 +132,8 @@ impl<R: Rig> Rig for FlakyRig<R> {
 
         ensures machine { (⟦<FlakyRig<R> as Rig>⟧.rig_state self.new).machine ≡ (⟦<FlakyRig<R> as Rig>⟧.rig_state self.old).machine }
         ensures loads { (⟦<FlakyRig<R> as Rig>⟧.rig_state self.new).loads ≡ (⟦<FlakyRig<R> as Rig>⟧.rig_state self.old).loads }
-        ensures later { (⟦<FlakyRig<R> as Rig>⟧.rig_state self.old).faults ≤ (⟦<FlakyRig<R> as Rig>⟧.rig_state self.new).faults }
+        ensures later { (⟦<FlakyRig<R> as Rig>⟧.rig_state self.old).failures ≤ (⟦<FlakyRig<R> as Rig>⟧.rig_state self.new).failures }
+        ensures count { (⟦<FlakyRig<R> as Rig>⟧.rig_state self.new).failures < 2 ^ 64 }
         ensures length { length read.new ≡ length read.old }
         ensures cycles { OnOk result (GoesOn drive.now read.new (⟦<FlakyRig<R> as Rig>⟧.rig_state self.old) (⟦<FlakyRig<R> as Rig>⟧.rig_state self.new)) }
         ensures kept { OnErr result (read.new ≡ read.old) }
@@ -140,12 +144,12 @@ impl<R: Rig> Rig for FlakyRig<R> {
         ensures calls { self.new.calls ≡ next_count self.old.calls }
         ensures chosen { IsChosen self.old.fails.items self.old.calls → IsErrOf result RigFail.Failed }
         ensures unreached { IsChosen self.old.fails.items self.old.calls → R.rig_state self.new.inner ≡ R.rig_state self.old.inner }
-        ensures failed { IsErrOf result RigFail.Failed → IsChosen self.old.fails.items self.old.calls ⊎ Rose (R.rig_state self.old.inner).faults (R.rig_state self.new.inner).faults }
+        ensures failed { IsErrOf result RigFail.Failed → IsChosen self.old.fails.items self.old.calls ⊎ Rose (R.rig_state self.old.inner).failures (R.rig_state self.new.inner).failures }
     {
         self.calls = self.calls.saturating_add(1);
         if self.fails.contains(&self.calls) {
             self.in_session = false;
-            self.faults = self.faults.saturating_add(1);
+            self.failures = self.failures.saturating_add(1);
             return Err(RigFail::Failed);
         }
         self.inner.cycle(drive, read)

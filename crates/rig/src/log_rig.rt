@@ -1,6 +1,7 @@
 //! A rig that counts its loads.
-ghost use Rattle.std.specs.Prelude.{◌≡◌};
-ghost use Rattle.rig.specs.Rig.{RigState};
+ghost use Rattle.std.specs.Prelude.{◌≡◌, ◌^◌, ◌<◌, ◌≤◌, None, Some, IfErr, OnOk, OnErr};
+ghost use Rattle.tm_outside.specs.Counts.{next_count};
+ghost use Rattle.rig.specs.Rig.{RigState, shape_of, HasFaultsOf, Begins, LoadFails};
 
 use crate::{AttachFail, PinBits, Rig, RigFail};
 use config_set::Config;
@@ -28,7 +29,23 @@ impl<R: Rig> Rig for LogRig<R> {
         self.inner.attach(shape, name)
     }
 
-    fn load(&mut self, config: &Config, room: u32) -> Result<(), RigFail> {
+    /// The inner rig loads once where this one does, and not at all where it refuses.
+    fn load(&mut self, config: &Config, room: u32) -> Result<(), RigFail>
+        requires { shape_of (⟦<LogRig<R> as Rig>⟧.rig_state self.old) ≡ Some config.now.config.shape }
+
+        ensures machine { (⟦<LogRig<R> as Rig>⟧.rig_state self.new).machine ≡ (⟦<LogRig<R> as Rig>⟧.rig_state self.old).machine }
+        ensures later { (⟦<LogRig<R> as Rig>⟧.rig_state self.old).failures ≤ (⟦<LogRig<R> as Rig>⟧.rig_state self.new).failures }
+        ensures count { (⟦<LogRig<R> as Rig>⟧.rig_state self.new).failures < 2 ^ 64 }
+        ensures begins { OnOk result (Begins config.now.config room (⟦<LogRig<R> as Rig>⟧.rig_state self.new)) }
+        ensures told { OnOk result (HasFaultsOf config.now.config.shape (⟦<LogRig<R> as Rig>⟧.rig_state self.new)) }
+        ensures counted { OnOk result ((⟦<LogRig<R> as Rig>⟧.rig_state self.new).loads ≡ next_count (⟦<LogRig<R> as Rig>⟧.rig_state self.old).loads) }
+        ensures ended { OnErr result ((⟦<LogRig<R> as Rig>⟧.rig_state self.new).session ≡ None) }
+        ensures not_counted { OnErr result ((⟦<LogRig<R> as Rig>⟧.rig_state self.new).loads ≡ (⟦<LogRig<R> as Rig>⟧.rig_state self.old).loads) }
+        ensures refused { IfErr result (λ e. LoadFails e (⟦<LogRig<R> as Rig>⟧.rig_state self.old) (⟦<LogRig<R> as Rig>⟧.rig_state self.new)) }
+
+        ensures passed_on { OnOk result ((R.rig_state self.new.inner).loads ≡ next_count (R.rig_state self.old.inner).loads) }
+        ensures not_passed_on { OnErr result ((R.rig_state self.new.inner).loads ≡ (R.rig_state self.old.inner).loads) }
+    {
         self.inner.load(config, room)?;
         self.loads = self.loads.saturating_add(1);
         Ok(())

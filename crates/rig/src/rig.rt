@@ -1,7 +1,7 @@
 //! A rig as a trait.
-ghost use Rattle.std.specs.Prelude.{◌≡◌, ◌≤◌, None, Some, IfErr, OnOk, OnErr, length};
+ghost use Rattle.std.specs.Prelude.{◌≡◌, ◌^◌, ◌<◌, ◌≤◌, None, Some, IfErr, OnOk, OnErr, length};
 ghost use Rattle.tm_outside.specs.Counts.{next_count};
-ghost use Rattle.rig.specs.Rig.{RigState, shape_of, width_of, IsDetached, Attaches, AttachFails, Begins, LoadFails, GoesOn, CycleFails};
+ghost use Rattle.rig.specs.Rig.{RigState, shape_of, width_of, IsDetached, Attaches, AttachFails, HasFaultsOf, Begins, LoadFails, GoesOn, CycleFails};
 
 use crate::PinBits;
 use config_set::Config;
@@ -32,7 +32,7 @@ pub enum RigFail {
 ///
 /// Contracts see the machines that were asked for, the one that is attached, its faults and the fault text of
 /// each name where the rig tells them, how often a fault text was refused, the session, the number of loads, and
-/// a count of faults, which is a `u64` and never falls. A session is what was loaded, the cycles since, and for how
+/// a count of failures, which is a `u64` and never falls. A session is what was loaded, the cycles since, and for how
 /// many further cycles there is room. No call changes the fault texts.
 pub trait Rig: Drop {
     ghost rig_state: { Self → RigState };
@@ -45,19 +45,22 @@ pub trait Rig: Drop {
     fn attach(&mut self, shape: &Shape, name: &str) -> Result<(), AttachFail>
         ensures texts { (rig_state self.new).machine.texts ≡ (rig_state self.old).machine.texts }
         ensures loads { (rig_state self.new).loads ≡ (rig_state self.old).loads }
-        ensures later { (rig_state self.old).faults ≤ (rig_state self.new).faults }
+        ensures later { (rig_state self.old).failures ≤ (rig_state self.new).failures }
+        ensures count { (rig_state self.new).failures < 2 ^ 64 }
         ensures attached { OnOk result (Attaches (record { shape = shape.now; name = name.now }) (rig_state self.old) (rig_state self.new)) }
         ensures detached { OnErr result (IsDetached (rig_state self.new)) }
         ensures refused { IfErr result (λ e. AttachFails e (record { shape = shape.now; name = name.now }) (rig_state self.old) (rig_state self.new)) };
 
-    /// Begins a session with this configuration, no cycles, and room for at least `room` of them. A refusal leaves
-    /// no session. After `Failed` the count rose.
+    /// Begins a session with this configuration, no cycles, and room for at least `room` of them. Where the faults
+    /// are told, they are faults of its shape. A refusal leaves no session. After `Failed` the count rose.
     fn load(&mut self, config: &Config, room: u32) -> Result<(), RigFail>
         requires { shape_of (rig_state self.old) ≡ Some config.now.config.shape }
 
         ensures machine { (rig_state self.new).machine ≡ (rig_state self.old).machine }
-        ensures later { (rig_state self.old).faults ≤ (rig_state self.new).faults }
+        ensures later { (rig_state self.old).failures ≤ (rig_state self.new).failures }
+        ensures count { (rig_state self.new).failures < 2 ^ 64 }
         ensures begins { OnOk result (Begins config.now.config room (rig_state self.new)) }
+        ensures told { OnOk result (HasFaultsOf config.now.config.shape (rig_state self.new)) }
         ensures counted { OnOk result ((rig_state self.new).loads ≡ next_count (rig_state self.old).loads) }
         ensures ended { OnErr result ((rig_state self.new).session ≡ None) }
         ensures not_counted { OnErr result ((rig_state self.new).loads ≡ (rig_state self.old).loads) }
@@ -74,7 +77,8 @@ pub trait Rig: Drop {
 
         ensures machine { (rig_state self.new).machine ≡ (rig_state self.old).machine }
         ensures loads { (rig_state self.new).loads ≡ (rig_state self.old).loads }
-        ensures later { (rig_state self.old).faults ≤ (rig_state self.new).faults }
+        ensures later { (rig_state self.old).failures ≤ (rig_state self.new).failures }
+        ensures count { (rig_state self.new).failures < 2 ^ 64 }
         ensures length { length read.new ≡ length read.old }
         ensures cycles { OnOk result (GoesOn drive.now read.new (rig_state self.old) (rig_state self.new)) }
         ensures kept { OnErr result (read.new ≡ read.old) }

@@ -63,7 +63,7 @@ pub fn origins_of(alloc: Global, draft: &Draft) -> Result<Origins, AllocError>
     ensures len { IfOk result (λ origins. length origins.sources.items ≡ length draft.now.names) }
     ensures sources { IfOk result (λ origins. (s : ℕ) → source_in origins.sources.items s ≡ source_of draft.now s) }
 {
-    let mut sources = vec![in alloc; Source::Input(0); draft.names.as_slice().len()]?;
+    let mut sources = vec![in alloc; Source::Input(0); draft.names.len()]?;
     put_inputs(&mut sources, draft.inputs.as_slice());
     let count = put_covers(alloc, &mut sources, draft.covers.as_slice())?;
     put_latches(&mut sources, draft.latches.as_slice(), count);

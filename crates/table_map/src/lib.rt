@@ -10,8 +10,6 @@ mod longest;
 mod names;
 mod network;
 mod source;
-#[cfg(test)]
-mod tests;
 mod trees;
 mod want;
 

@@ -1,17 +1,28 @@
 -- The words of the command line, and what they ask.
-use Rattle.std.specs.Prelude.{ℕ, Bool, false, List, [], ◌∷◌, length, Option, None, Some, if◌then◌else◌, ◌==◌, ◌&&◌, codes, bytes_eq, slice_index_or}
+use Rattle.std.specs.Prelude.{ℕ, Bool, false, List, [], ◌∷◌, length, Option, None, Some}
+use Rattle.std.specs.Prelude.{if◌then◌else◌, ◌==◌, ◌&&◌, codes, bytes_eq, slice_index_or}
 use Rattle.std.specs.List.{list_any}
+use Rattle.steps.specs.Jobs.{Job, wrong_words}
+use Rattle.tera_eval.specs.Eval.{eval_job}
+use Rattle.tera_compile.specs.Compile.{compile_job}
+use Rattle.tera_run.specs.Run.{run_job}
 use Rattle.tera_top.specs.declared.task.Task.{Task}
-use Rattle.tera_top.specs.declared.task.Task.TheVariants.{Eval, Run, Compile}
+use Rattle.tera_top.specs.declared.task.Task.TheVariants.{Eval, Compile, Run}
 
--- what a command is asked to do
-pub data Job : Type 0 where
+-- what a command is asked to do: one line for each command
+pub data Request : Type 0 where
   -- the rows of a design for vectors: the names of the two files
-  eval : (design vectors : List ℕ) → Job
-  -- the rows of an image on a machine: the names of the files, and the rig's name of the machine behind the first
-  run : (machine name image vectors : List ℕ) → Job
+  eval : (design vectors : List ℕ) → Request
   -- an image of a design on a machine with defects: the names of the files
-  compile : (machine defects design : List ℕ) → Job
+  compile : (machine defects design : List ℕ) → Request
+  -- the rows of an image on a machine of the rig: the names of the machine's file, of the rig's machine, and of the other files
+  run : (machine name image vectors : List ℕ) → Request
+
+-- and so its job
+abbrev pub job_of : Request → Job
+job_of (eval design vectors) = eval_job design vectors
+job_of (compile machine defects design) = compile_job machine defects design
+job_of (run machine name image vectors) = run_job machine name image vectors
 
 -- the word begins with `-`
 abbrev pub is_dashed : List ℕ → Bool
@@ -27,29 +38,24 @@ abbrev pub begins_with : List (List ℕ) → ℕ → List ℕ → Bool
 begins_with words count first = (length words == count) && bytes_eq (word_at words 0) first
 
 -- what words ask of which none begins with `-`
-abbrev pub job_in : List (List ℕ) → Option Job
-job_in words =
+abbrev pub request_in : List (List ℕ) → Option Request
+request_in words =
     if begins_with words 3 (codes "eval") then Some (eval (word_at words 1) (word_at words 2))
+    else if begins_with words 4 (codes "compile") then Some (compile (word_at words 1) (word_at words 2) (word_at words 3))
     else if begins_with words 5 (codes "run") then Some (run (word_at words 1) (word_at words 2) (word_at words 3) (word_at words 4))
-    else if begins_with words 4 (codes "compile") then Some (compile (word_at words 1) (word_at words 2) (word_at words 3)) else None
+    else None
 
 -- what words ask: they are right where that is something
-abbrev pub job_of : List (List ℕ) → Option Job
-job_of words = if list_any is_dashed words then None else job_in words
+abbrev pub request_of : List (List ℕ) → Option Request
+request_of words = if list_any is_dashed words then None else request_in words
 
--- the files of a job, in the order of work
-abbrev pub files_of : Job → List (List ℕ)
-files_of (eval design vectors) = design ∷ vectors ∷ []
-files_of (run machine name image vectors) = machine ∷ image ∷ vectors ∷ []
-files_of (compile machine defects design) = machine ∷ defects ∷ design ∷ []
+-- the job of words, right or wrong
+abbrev pub job_for : Option Request → Job
+job_for None = wrong_words
+job_for (Some request) = job_of request
 
--- the files that words ask for: none where they aren't right
-abbrev pub job_files : Option Job → List (List ℕ)
-job_files None = []
-job_files (Some job) = files_of job
-
--- a job, as the code holds it
-abbrev pub job_view : Task → Job
-job_view (Eval design vectors) = eval design.now vectors.now
-job_view (Run machine name image vectors) = run machine.now name.now image.now vectors.now
-job_view (Compile machine defects design) = compile machine.now defects.now design.now
+-- a request, as the code holds it
+abbrev pub request_view : Task → Request
+request_view (Eval design vectors) = eval design.now vectors.now
+request_view (Compile machine defects design) = compile machine.now defects.now design.now
+request_view (Run machine name image vectors) = run machine.now name.now image.now vectors.now

@@ -1,7 +1,7 @@
 //! The words of the command line.
 ghost use Rattle.std.specs.Prelude.{◌≡◌, map, string_bytes, option_map};
 ghost use Rattle.std.specs.List.{list_any};
-ghost use Rattle.tera_top.specs.Words.{job_of, job_in, job_view, is_dashed};
+ghost use Rattle.tera_top.specs.Words.{request_of, request_in, request_view, is_dashed};
 
 /// What the words ask.
 pub enum Task<'a> {
@@ -10,18 +10,19 @@ pub enum Task<'a> {
         design: &'a str,
         vectors: &'a str,
     },
-    /// The rows of an image on a machine: the names of the files, and the name of the machine of the first for the rig.
-    Run {
-        machine: &'a str,
-        name: &'a str,
-        image: &'a str,
-        vectors: &'a str,
-    },
     /// An image of a design on a machine with defects: the names of the files.
     Compile {
         machine: &'a str,
         defects: &'a str,
         design: &'a str,
+    },
+    /// The rows of an image on a machine of the rig: the names of the machine's file, of the rig's machine, and of the
+    /// other files.
+    Run {
+        machine: &'a str,
+        name: &'a str,
+        image: &'a str,
+        vectors: &'a str,
     },
 }
 
@@ -44,12 +45,19 @@ fn some_begins_dashed(words: &[String]) -> bool
 
 // What words ask of which none begins with `-`.
 fn task_in(words: &[String]) -> Option<Task<'_>>
-    ensures { option_map job_view result ≡ job_in (map string_bytes words.now) }
+    ensures { option_map request_view result ≡ request_in (map string_bytes words.now) }
 {
     if words.len() == 3 && words[0].as_str() == "eval" {
         return Some(Task::Eval {
             design: words[1].as_str(),
             vectors: words[2].as_str(),
+        });
+    }
+    if words.len() == 4 && words[0].as_str() == "compile" {
+        return Some(Task::Compile {
+            machine: words[1].as_str(),
+            defects: words[2].as_str(),
+            design: words[3].as_str(),
         });
     }
     if words.len() == 5 && words[0].as_str() == "run" {
@@ -60,20 +68,13 @@ fn task_in(words: &[String]) -> Option<Task<'_>>
             vectors: words[4].as_str(),
         });
     }
-    if words.len() == 4 && words[0].as_str() == "compile" {
-        return Some(Task::Compile {
-            machine: words[1].as_str(),
-            defects: words[2].as_str(),
-            design: words[3].as_str(),
-        });
-    }
     None
 }
 
 /// What these words ask, where they are right: the first is a command, and it has as many words as
 /// that takes, none of which begins with `-`.
 pub fn task_of(words: &[String]) -> Option<Task<'_>>
-    ensures { option_map job_view result ≡ job_of (map string_bytes words.now) }
+    ensures { option_map request_view result ≡ request_of (map string_bytes words.now) }
 {
     if some_begins_dashed(words) {
         return None;

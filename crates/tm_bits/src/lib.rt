@@ -4,8 +4,6 @@
 mod bit_set;
 mod bits;
 mod pair_set;
-#[cfg(test)]
-mod tests;
 
 pub use bit_set::{BitSet, sets_hold_what_was_put_in};
 pub use pair_set::{PairSet, pairs_have_no_order};

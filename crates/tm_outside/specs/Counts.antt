@@ -1,4 +1,4 @@
--- A count of faults: a u64 that never falls.
+-- A count of failures: a u64 that never falls.
 use Rattle.std.specs.Prelude.{ℕ, ◌+◌, ◌-◌, ◌^◌, ◌≤◌, min}
 
 -- the count rose, or stands at the last value of u64

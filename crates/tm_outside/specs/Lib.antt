@@ -1,5 +1,6 @@
 -- What a store and a sink are to the code above them.
 pub mod Counts
+pub mod Told
 pub mod Store
 pub mod Sink
 pub mod Whole

@@ -9,8 +9,8 @@ pub record MemoryBytes : Type 0 where
   pub fails : List ℕ
   -- how many calls there were
   pub calls : ℕ
-  pub faults : ℕ
+  pub failures : ℕ
 
 -- what it means as a sink: its bytes are told
 abbrev pub memory_sink_state : MemoryBytes → SinkState
-memory_sink_state s = record { written = Some s.bytes; faults = s.faults; can_lack = true }
+memory_sink_state s = record { written = Some s.bytes; failures = s.failures; can_lack = true }

@@ -1,5 +1,6 @@
 -- Files in memory.
 use Rattle.std.specs.Prelude.{ℕ, List, Option, None, Some, find, min, option_map, string_bytes, bytes_eq}
+use Rattle.tm_outside.specs.Told.{Told, absent, holds}
 use Rattle.tm_outside.specs.Store.{Place, StoreState}
 use Rattle.tm_outside.specs.declared.memory_store.File.{File}
 
@@ -14,19 +15,24 @@ pub record MemoryFiles : Type 0 where
   pub calls : ℕ
   pub asked : List (List ℕ)
   pub current : Option Place
-  pub faults : ℕ
+  pub failures : ℕ
 
 -- the bytes of the first file of this name
 abbrev pub bytes_named : List File → List ℕ → Option (List ℕ)
 bytes_named files name = option_map (λ f. f.bytes.items) (find (λ f. bytes_eq (string_bytes f.name) name) files)
 
+-- a name is told: its bytes, or that no file has it
+abbrev pub told_as : Option (List ℕ) → Told
+told_as None = absent
+told_as (Some bytes) = holds bytes
+
 -- what it means as a store: its contents are told
 abbrev pub memory_store_state : MemoryFiles → StoreState
 memory_store_state s = record {
-  contents = bytes_named s.files;
+  contents = λ name. told_as (bytes_named s.files name);
   asked = s.asked;
   current = s.current;
-  faults = s.faults;
+  failures = s.failures;
 }
 
 -- how many bytes one read has room for

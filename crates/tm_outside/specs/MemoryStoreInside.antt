@@ -11,7 +11,7 @@ memory_files a = record {
   calls = a.calls;
   asked = map string_bytes a.asked.items;
   current = option_map (λ o. record { name = string_bytes o.name; at = o.at }) a.current;
-  faults = a.faults;
+  failures = a.failures;
 }
 
 pub record IsKept (a : Inside) : Type 0 where

@@ -14,7 +14,7 @@ use std::marker::Model;
 pub struct CutSink {
     buffer: Vec<u8>,
     used: usize,
-    faults: u64,
+    failures: u64,
 }
 
 impl Model for CutSink {
@@ -23,7 +23,7 @@ impl Model for CutSink {
 
     ghost Value = { CutBytes };
 
-    ghost view = { λ a. record { bytes = take a.used a.buffer.items; most = length a.buffer.items; faults = a.faults } };
+    ghost view = { λ a. record { bytes = take a.used a.buffer.items; most = length a.buffer.items; failures = a.failures } };
 
     ghost invariant = { λ a. a.used ≤ length a.buffer.items };
 }
@@ -31,13 +31,13 @@ impl Model for CutSink {
 impl CutSink {
     /// A sink with nothing written and room for `most` bytes, which is taken at once.
     pub fn new(alloc: Global, most: usize) -> Result<CutSink, AllocError>
-        ensures { IfOk result (λ s. s ≡ record { bytes = []; most = most; faults = 0 }) }
+        ensures { IfOk result (λ s. s ≡ record { bytes = []; most = most; failures = 0 }) }
     {
         let buffer = vec![in alloc; 0u8; most]?;
         Ok(CutSink {
             buffer,
             used: 0,
-            faults: 0,
+            failures: 0,
         })
     }
 
@@ -54,8 +54,8 @@ impl Sink for CutSink {
 
     fn put(&mut self, bytes: &[u8]) -> Result<(), SinkFail>
         ensures kind { (cut_sink_state self.new).can_lack ≡ (cut_sink_state self.old).can_lack }
-        ensures later { self.old.faults ≤ self.new.faults }
-        ensures count { self.new.faults < 2 ^ 64 }
+        ensures later { self.old.failures ≤ self.new.failures }
+        ensures count { self.new.failures < 2 ^ 64 }
         ensures wrote { OnOk result (Wrote (cut_sink_state self.old).written (cut_sink_state self.new).written bytes.now) }
         ensures refused { IfErr result (λ e. PutFails e bytes.now (cut_sink_state self.old) (cut_sink_state self.new)) }
 
@@ -69,7 +69,7 @@ impl Sink for CutSink {
         self.buffer[self.used..end].copy_from_slice(&bytes[..count]);
         self.used = end;
         if count < bytes.len() {
-            self.faults = self.faults.saturating_add(1);
+            self.failures = self.failures.saturating_add(1);
             return Err(SinkFail::Failed);
         }
         Ok(())

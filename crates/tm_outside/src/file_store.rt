@@ -22,14 +22,14 @@ struct Opened<F: Drop> {
 
 /// Files of the system. It tells none of their bytes.
 ///
-/// A file that can't be opened or read is a fault.
+/// A file that can't be opened or read is a failure.
 #[derive(Drop)]
 pub struct FileStore<R: Files + Drop> {
     rt: R,
     alloc: Global,
     asked: Vec<String>,
     current: Option<Opened<R::File>>,
-    faults: u64,
+    failures: u64,
 }
 
 impl<R: Files + Drop> Model for FileStore<R> {
@@ -41,23 +41,23 @@ impl<R: Files + Drop> Model for FileStore<R> {
     ghost view = { λ a. record {
       asked = map string_bytes a.asked.items;
       current = option_map (λ o. record { name = string_bytes o.name; at = o.at }) a.current;
-      faults = a.faults;
+      failures = a.failures;
     } };
 
-    ghost invariant = { λ a. a.faults < 2 ^ 64 };
+    ghost invariant = { λ a. a.failures < 2 ^ 64 };
 }
 
 impl<R: Files + Drop> FileStore<R> {
     /// The files of this runtime, of which none is current.
     pub fn new(alloc: Global, rt: R) -> Self
-        ensures { result ≡ record { asked = []; current = None; faults = 0 } }
+        ensures { result ≡ record { asked = []; current = None; failures = 0 } }
     {
         FileStore {
             rt,
             alloc,
             asked: Vec::new(alloc),
             current: None,
-            faults: 0,
+            failures: 0,
         }
     }
 }
@@ -85,7 +85,7 @@ impl<R: Files + Drop> Store for FileStore<R> {
                 Ok(())
             }
             Err(_) => {
-                self.faults = self.faults.saturating_add(1);
+                self.failures = self.failures.saturating_add(1);
                 self.current = None;
                 Err(StoreFail::Failed)
             }
@@ -107,7 +107,7 @@ impl<R: Files + Drop> Store for FileStore<R> {
                 return Ok(count);
             }
         }
-        self.faults = self.faults.saturating_add(1);
+        self.failures = self.failures.saturating_add(1);
         Err(StoreFail::Failed)
     }
 }

@@ -11,8 +11,6 @@ mod memory_store;
 mod sink;
 mod std_sink;
 mod store;
-#[cfg(test)]
-mod tests;
 mod whole;
 
 pub use cut_sink::CutSink;

@@ -17,7 +17,7 @@ pub struct MemorySink {
     bytes: Vec<u8>,
     fails: Vec<u64>,
     calls: u64,
-    faults: u64,
+    failures: u64,
 }
 
 impl Model for MemorySink {
@@ -26,21 +26,21 @@ impl Model for MemorySink {
 
     ghost Value = { MemoryBytes };
 
-    ghost view = { λ a. record { bytes = a.bytes.items; fails = a.fails.items; calls = a.calls; faults = a.faults } };
+    ghost view = { λ a. record { bytes = a.bytes.items; fails = a.fails.items; calls = a.calls; failures = a.failures } };
 
-    ghost invariant = { λ a. a.faults < 2 ^ 64 };
+    ghost invariant = { λ a. a.failures < 2 ^ 64 };
 }
 
 impl MemorySink {
     /// A sink with nothing written.
     pub fn new(alloc: Global, fails: Vec<u64>) -> Self
-        ensures { result ≡ record { bytes = []; fails = fails.items; calls = 0; faults = 0 } }
+        ensures { result ≡ record { bytes = []; fails = fails.items; calls = 0; failures = 0 } }
     {
         MemorySink {
             bytes: Vec::new(alloc),
             fails,
             calls: 0,
-            faults: 0,
+            failures: 0,
         }
     }
 
@@ -57,8 +57,8 @@ impl Sink for MemorySink {
 
     fn put(&mut self, bytes: &[u8]) -> Result<(), SinkFail>
         ensures kind { (memory_sink_state self.new).can_lack ≡ (memory_sink_state self.old).can_lack }
-        ensures later { self.old.faults ≤ self.new.faults }
-        ensures count { self.new.faults < 2 ^ 64 }
+        ensures later { self.old.failures ≤ self.new.failures }
+        ensures count { self.new.failures < 2 ^ 64 }
         ensures wrote { OnOk result (Wrote (memory_sink_state self.old).written (memory_sink_state self.new).written bytes.now) }
         ensures refused { IfErr result (λ e. PutFails e bytes.now (memory_sink_state self.old) (memory_sink_state self.new)) }
 
@@ -72,7 +72,7 @@ impl Sink for MemorySink {
         let call = self.calls.saturating_add(1);
         if self.fails.contains(&call) {
             self.calls = call;
-            self.faults = self.faults.saturating_add(1);
+            self.failures = self.failures.saturating_add(1);
             return Err(SinkFail::Failed);
         }
         if self.bytes.extend_from_slice(bytes).is_err() {

@@ -1,6 +1,7 @@
 //! Files in memory as a store.
 ghost use Rattle.std.specs.Prelude.{◌≡◌, ◌⊎◌, ◌↔◌, ◌+◌, ◌^◌, ◌<◌, ◌≤◌, [], ◌∷◌, ◌++◌, Some, None, length, drop, min, option_copied, find, string_bytes, bytes_eq, is_some, IsSome, IsNone, IfSome, IfOk, IfErr, OnOk, IsErrOf, Contains};
 ghost use Rattle.tm_outside.specs.Counts.{next_count};
+ghost use Rattle.tm_outside.specs.Told.{IsPresent};
 ghost use Rattle.tm_outside.specs.Store.{StartFails, ReadFails, AreNext, moved, rest_of};
 ghost use Rattle.tm_outside.specs.MemoryStore.{bytes_named, memory_store_state, room_of};
 
@@ -38,7 +39,7 @@ pub struct MemoryStore {
     calls: u64,
     asked: Vec<String>,
     current: Option<Opened>,
-    faults: u64,
+    failures: u64,
 }
 
 impl Model for MemoryStore {
@@ -56,7 +57,7 @@ impl Model for MemoryStore {
 impl MemoryStore {
     /// A store of these files, whose reads give as many bytes as the slice takes and the file has.
     pub fn new(alloc: Global, files: Vec<File>, fails: Vec<u64>) -> Self
-        ensures { result ≡ record { files = files.items; fails = fails.items; most = None; calls = 0; asked = []; current = None; faults = 0 } }
+        ensures { result ≡ record { files = files.items; fails = fails.items; most = None; calls = 0; asked = []; current = None; failures = 0 } }
     {
         MemoryStore {
             alloc,
@@ -66,14 +67,14 @@ impl MemoryStore {
             calls: 0,
             asked: Vec::new(alloc),
             current: None,
-            faults: 0,
+            failures: 0,
         }
     }
 
     /// The same, but a read gives at most `most` bytes, which isn't 0.
     pub fn in_pieces(alloc: Global, files: Vec<File>, fails: Vec<u64>, most: usize) -> Self
         requires { 0 < most }
-        ensures { result ≡ record { files = files.items; fails = fails.items; most = Some most; calls = 0; asked = []; current = None; faults = 0 } }
+        ensures { result ≡ record { files = files.items; fails = fails.items; most = Some most; calls = 0; asked = []; current = None; failures = 0 } }
     {
         MemoryStore {
             alloc,
@@ -83,7 +84,7 @@ impl MemoryStore {
             calls: 0,
             asked: Vec::new(alloc),
             current: None,
-            faults: 0,
+            failures: 0,
         }
     }
 }
@@ -134,10 +135,11 @@ impl Store for MemoryStore {
 
     fn start(&mut self, name: &str) -> Result<(), StoreFail>
         ensures contents { (memory_store_state self.new).contents ≡ (memory_store_state self.old).contents }
-        ensures later { self.old.faults ≤ self.new.faults }
-        ensures count { self.new.faults < 2 ^ 64 }
+        ensures later { self.old.failures ≤ self.new.failures }
+        ensures count { self.new.failures < 2 ^ 64 }
         ensures opened { OnOk result (self.new.current ≡ Some (record { name = name.now; at = 0 })) }
         ensures asked { OnOk result (self.new.asked ≡ self.old.asked ++ name.now ∷ []) }
+        ensures present { OnOk result (IsPresent ((memory_store_state self.old).contents name.now)) }
         ensures refused { IfErr result (λ e. StartFails e name.now (memory_store_state self.old) (memory_store_state self.new)) }
 
         // The chosen calls fail, and so does the start of a name that isn't there; no other does.
@@ -161,11 +163,11 @@ impl Store for MemoryStore {
         self.calls = self.calls.saturating_add(1);
         self.current = None;
         if self.fails.contains(&self.calls) {
-            self.faults = self.faults.saturating_add(1);
+            self.failures = self.failures.saturating_add(1);
             return Err(StoreFail::Failed);
         }
         if !has_file(&self.files, name) {
-            self.faults = self.faults.saturating_add(1);
+            self.failures = self.failures.saturating_add(1);
             return Err(StoreFail::Failed);
         }
         self.current = Some(Opened {
@@ -180,8 +182,8 @@ impl Store for MemoryStore {
         requires open { IsSome self.old.current }
 
         ensures contents { (memory_store_state self.new).contents ≡ (memory_store_state self.old).contents }
-        ensures later { self.old.faults ≤ self.new.faults }
-        ensures count { self.new.faults < 2 ^ 64 }
+        ensures later { self.old.failures ≤ self.new.failures }
+        ensures count { self.new.failures < 2 ^ 64 }
         ensures asked { self.new.asked ≡ self.old.asked }
         ensures room { IfOk result (λ n. n ≤ length into.new) }
         ensures place { IfOk result (λ n. self.new.current ≡ moved self.old.current n) }
@@ -202,7 +204,7 @@ impl Store for MemoryStore {
             unreachable!()
         };
         if self.fails.contains(&self.calls) {
-            self.faults = self.faults.saturating_add(1);
+            self.failures = self.failures.saturating_add(1);
             return Err(StoreFail::Failed);
         }
         let Some(file) = find_file(&self.files, opened.name.as_str()) else {

@@ -13,7 +13,7 @@ pub enum SinkFail {
 
 /// Bytes that are written, one piece after another.
 ///
-/// Contracts see the bytes written where a sink tells them, a count of faults, which is a `u64` and
+/// Contracts see the bytes written where a sink tells them, a count of failures, which is a `u64` and
 /// never falls, and whether the sink can answer `Memory` at all, which no call changes.
 pub trait Sink {
     ghost sink_state: { Self → SinkState };
@@ -24,8 +24,8 @@ pub trait Sink {
     /// was; a sink that can't answer it doesn't.
     fn put(&mut self, bytes: &[u8]) -> Result<(), SinkFail>
         ensures kind { (sink_state self.new).can_lack ≡ (sink_state self.old).can_lack }
-        ensures later { (sink_state self.old).faults ≤ (sink_state self.new).faults }
-        ensures count { (sink_state self.new).faults < 2 ^ 64 }
+        ensures later { (sink_state self.old).failures ≤ (sink_state self.new).failures }
+        ensures count { (sink_state self.new).failures < 2 ^ 64 }
         ensures wrote { OnOk result (Wrote (sink_state self.old).written (sink_state self.new).written bytes.now) }
         ensures refused { IfErr result (λ e. PutFails e bytes.now (sink_state self.old) (sink_state self.new)) };
 }

@@ -5,12 +5,12 @@ ghost use Rattle.tm_outside.specs.StdSink.{std_sink_state};
 use crate::{Sink, SinkFail};
 use std::marker::Model;
 
-/// Standard output, seen by contracts as its count of faults. It tells none of its bytes, and never
+/// Standard output, seen by contracts as its count of failures. It tells none of its bytes, and never
 /// answers `Memory`.
 #[derive(Drop)]
 pub struct StdSink<R: Print + Drop> {
     rt: R,
-    faults: u64,
+    failures: u64,
 }
 
 impl<R: Print + Drop> Model for StdSink<R> {
@@ -18,9 +18,9 @@ impl<R: Print + Drop> Model for StdSink<R> {
 
     ghost Value = { ℕ };
 
-    ghost view = { λ a. a.faults };
+    ghost view = { λ a. a.failures };
 
-    ghost invariant = { λ a. a.faults < 2 ^ 64 };
+    ghost invariant = { λ a. a.failures < 2 ^ 64 };
 }
 
 impl<R: Print + Drop> StdSink<R> {
@@ -28,7 +28,7 @@ impl<R: Print + Drop> StdSink<R> {
     pub fn new(rt: R) -> Self
         ensures { result ≡ 0 }
     {
-        StdSink { rt, faults: 0 }
+        StdSink { rt, failures: 0 }
     }
 }
 
@@ -39,7 +39,7 @@ impl<R: Print + Drop> Sink for StdSink<R> {
         match self.rt.write_all(bytes) {
             Ok(()) => Ok(()),
             Err(_) => {
-                self.faults = self.faults.saturating_add(1);
+                self.failures = self.failures.saturating_add(1);
                 Err(SinkFail::Failed)
             }
         }

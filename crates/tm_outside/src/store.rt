@@ -1,5 +1,6 @@
 //! Files that are read by name.
 ghost use Rattle.std.specs.Prelude.{◌≡◌, ◌^◌, ◌<◌, ◌≤◌, [], ◌∷◌, ◌++◌, Some, length, IsSome, IfSome, IfOk, IfErr, OnOk};
+ghost use Rattle.tm_outside.specs.Told.{IsPresent};
 ghost use Rattle.tm_outside.specs.Store.{StoreState, StartFails, ReadFails, AreNext, moved, rest_of};
 
 /// Why a store refuses.
@@ -13,22 +14,23 @@ pub enum StoreFail {
 
 /// Files that are read by name, each from its first byte on.
 ///
-/// Contracts see which names were asked, which file is current and where in it the next byte is, and
-/// a count of faults, which is a `u64` and never falls. What a file holds is seen where a store tells
-/// it. No call changes the contents.
+/// Contracts see which names were asked, which file is current and where in it the next byte is, and a count of
+/// failures, which is a `u64` and never falls. A store may tell of a name what its file holds, or that there is no
+/// such file. No call changes that.
 pub trait Store {
     ghost store_state: { Self → StoreState };
 
     /// Makes the file of this name current, at its first byte.
     ///
-    /// The name is added to the names asked, also after `Failed`, where no file is current and the
-    /// count rose. After `Memory` all is as it was.
+    /// A file that is told to be absent isn't started. The name is added to the names asked, also after `Failed`,
+    /// where no file is current and the count rose. After `Memory` all is as it was.
     fn start(&mut self, name: &str) -> Result<(), StoreFail>
         ensures contents { (store_state self.new).contents ≡ (store_state self.old).contents }
-        ensures later { (store_state self.old).faults ≤ (store_state self.new).faults }
-        ensures count { (store_state self.new).faults < 2 ^ 64 }
+        ensures later { (store_state self.old).failures ≤ (store_state self.new).failures }
+        ensures count { (store_state self.new).failures < 2 ^ 64 }
         ensures opened { OnOk result ((store_state self.new).current ≡ Some (record { name = name.now; at = 0 })) }
         ensures asked { OnOk result ((store_state self.new).asked ≡ (store_state self.old).asked ++ name.now ∷ []) }
+        ensures present { OnOk result (IsPresent ((store_state self.old).contents name.now)) }
         ensures refused { IfErr result (λ e. StartFails e name.now (store_state self.old) (store_state self.new)) };
 
     /// Reads the next bytes of the current file to the front of `into`, and gives their number.
@@ -40,8 +42,8 @@ pub trait Store {
         requires open { IsSome (store_state self.old).current }
 
         ensures contents { (store_state self.new).contents ≡ (store_state self.old).contents }
-        ensures later { (store_state self.old).faults ≤ (store_state self.new).faults }
-        ensures count { (store_state self.new).faults < 2 ^ 64 }
+        ensures later { (store_state self.old).failures ≤ (store_state self.new).failures }
+        ensures count { (store_state self.new).failures < 2 ^ 64 }
         ensures asked { (store_state self.new).asked ≡ (store_state self.old).asked }
         ensures room { IfOk result (λ n. n ≤ length into.new) }
         ensures place { IfOk result (λ n. (store_state self.new).current ≡ moved (store_state self.old).current n) }

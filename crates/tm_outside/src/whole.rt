@@ -1,6 +1,7 @@
 //! A file read whole.
 ghost use Rattle.std.specs.Prelude.{◌≡◌, ◌+◌, ◌^◌, ◌<◌, ◌≤◌, [], ◌∷◌, ◌++◌, Some, length, take, IfSome, IfOk, IfErr, OnOk};
-ghost use Rattle.tm_outside.specs.Whole.{WholeFails, IsWithin, read_of};
+ghost use Rattle.tm_outside.specs.Told.{IfTold};
+ghost use Rattle.tm_outside.specs.Whole.{WholeFails, IsWithin, ReadsWithin, read_of};
 
 use crate::{Store, StoreFail};
 use std::alloc::Global;
@@ -18,11 +19,12 @@ fn read_whole<S: Store>(
     requires { most < 2 ^ 63 }
 
     ensures contents { (S.store_state store.new).contents ≡ (S.store_state store.old).contents }
-    ensures later { (S.store_state store.old).faults ≤ (S.store_state store.new).faults }
+    ensures later { (S.store_state store.old).failures ≤ (S.store_state store.new).failures }
     ensures asked { OnOk result ((S.store_state store.new).asked ≡ (S.store_state store.old).asked ++ name.now ∷ []) }
     ensures place { IfOk result (λ text. (S.store_state store.new).current ≡ Some (record { name = name.now; at = length text.items })) }
     ensures short { IfOk result (λ text. length text.items ≤ most + 1) }
-    ensures text { IfOk result (λ text. IfSome ((S.store_state store.old).contents name.now) (λ bytes. text.items ≡ take (most + 1) bytes)) }
+    ensures text { IfOk result (λ text. IfTold ((S.store_state store.old).contents name.now) (λ bytes. text.items ≡ take (most + 1) bytes)) }
+    ensures within { ReadsWithin most (S.store_state store.old) (S.store_state store.new) }
     ensures refused { IfErr result (λ e. WholeFails e name.now (S.store_state store.old) (S.store_state store.new)) }
 {
     let mut text = Vec::new(alloc);
@@ -55,11 +57,12 @@ pub fn read_within<S: Store>(
     requires { most < 2 ^ 63 }
 
     ensures contents { (S.store_state store.new).contents ≡ (S.store_state store.old).contents }
-    ensures later { (S.store_state store.old).faults ≤ (S.store_state store.new).faults }
+    ensures later { (S.store_state store.old).failures ≤ (S.store_state store.new).failures }
     ensures asked { OnOk result ((S.store_state store.new).asked ≡ (S.store_state store.old).asked ++ name.now ∷ []) }
     ensures place { IfOk result (λ found. (S.store_state store.new).current ≡ Some (record { name = name.now; at = read_of most found })) }
     ensures short { IfOk result (λ found. IfSome found (λ text. length text.items ≤ most)) }
     ensures text { IfOk result (IsWithin most ((S.store_state store.old).contents name.now)) }
+    ensures within { ReadsWithin most (S.store_state store.old) (S.store_state store.new) }
     ensures refused { IfErr result (λ e. WholeFails e name.now (S.store_state store.old) (S.store_state store.new)) }
 {
     let text = read_whole(alloc, store, name, most)?;

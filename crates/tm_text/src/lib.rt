@@ -8,8 +8,6 @@
 mod bytes;
 mod lines;
 mod number;
-#[cfg(test)]
-mod tests;
 
 pub use bytes::place_of;
 pub use lines::{Line, LineFault, Lines, written_lines_are_read};

@@ -1,16 +1,21 @@
-use Rattle.std.proofs.Common.{refl, sym, ◌∙◌, arith}
-use Rattle.std.proofs.lemmas.Bool.{false≢true, leb-true, le-leb}
-use Rattle.bench_gen.proofs.Hitting.{early_is_kept, table_pin_is_hit, other_is_hit}
+use Rattle.std.proofs.Common.{arith}
+use Rattle.bench_gen.proofs.Hitting.{hit_by_test}
 use Rattle.bench_gen.proofs.hits.may_be_hit.Goals as goal
 
-pub returns-then-is_early : goal.returns-then-is_early
-returns-then-is_early c = (λ t. absurd (false≢true t), λ h. absurd (early_is_kept c.args.shape.now c.args.wire.0 (c.the_numbering_is_sound.ensures.meanings c.args.shape.now) (c.is_early.ensures.0 c.if-is_early.true) h))
+pub returns-in-Pin : goal.returns-in-Pin
+returns-in-Pin c = hit_by_test c.args.shape.now c.args.wire.0 _ 20 c.in-Pin.position
+    (c.the_numbering_is_sound.ensures.meanings c.args.shape.now) c.in-Pin.ensures (λ h. h, λ h. h)
 
-pub returns-in-Some : goal.returns-in-Some
-returns-in-Some c =
-    let h = table_pin_is_hit c.args.shape.now c.in-Some.table.0 c.args.wire.0 (c.the_numbering_is_sound.ensures.meanings c.args.shape.now) c.in-Some.ensures.some.1 in
+pub returns-in-Line : goal.returns-in-Line
+returns-in-Line c = hit_by_test c.args.shape.now c.args.wire.0 _ 20 c.in-Line.position
+    (c.the_numbering_is_sound.ensures.meanings c.args.shape.now) c.in-Line.ensures (λ h. h, λ h. h)
+
+pub returns-in-Port : goal.returns-in-Port
+returns-in-Port c = hit_by_test c.args.shape.now c.args.wire.0 _ 20 c.in-Port.position
+    (c.the_numbering_is_sound.ensures.meanings c.args.shape.now) c.in-Port.ensures (λ h. h, λ h. h)
+
+pub returns-in-TablePin : goal.returns-in-TablePin
+returns-in-TablePin c =
     let e = c.table_position.ensures in
-    (λ t. h.1 (let b = leb-true 4 c.table_position.result t in omega arith), λ k. le-leb 4 c.table_position.result (let b = h.0 k in omega arith))
-
-pub returns-in-None : goal.returns-in-None
-returns-in-None c = (λ _. other_is_hit c.args.shape.now c.args.wire.0 (c.the_numbering_is_sound.ensures.meanings c.args.shape.now) c.requires (λ e. false≢true (sym c.if-is_early.false ∙ c.is_early.ensures.1 e)) c.in-None.ensures.none, λ _. refl)
+    hit_by_test c.args.shape.now c.args.wire.0 _ 4 c.table_position.result
+    (c.the_numbering_is_sound.ensures.meanings c.args.shape.now) c.in-TablePin.ensures (λ h. omega arith, λ h. omega arith)

@@ -27,6 +27,7 @@ invariant_of-self-then-not-has c =
       right = record {
         crosses = λ x is. insert_within (set_of c.self.inside.closed.items) c.args.c.0 (crosses_of c.self.inside.shape) c.self.invariant.right.crosses within x (ap (λ s. set.contains s x) (sym both.1) ∙ is);
         tables = c.self.invariant.right.tables;
+        cells = c.self.invariant.right.cells;
         some_ticks = c.self.invariant.right.some_ticks;
         few_ticks = c.self.invariant.right.few_ticks;
       };

@@ -1,7 +1,9 @@
 use Rattle.std.proofs.Common.{◌≡◌, ◌<◌, ◌+◌, ℕ, true, false, None, ap, ◌∙◌, sym, subst, length, get_or, eqb-true, arith}
 use Rattle.std.specs.Prelude.{◌==◌, is_some}
 use Rattle.std.proofs.lemmas.List.{length-set}
+use Rattle.std.proofs.lemmas.List.Elements.{All-set}
 use Rattle.hierarchy.specs.Shape.{tables_of}
+use Rattle.config_set.specs.Configuration.{CellsFit}
 use Rattle.config_set.specs.Kept.{times_on, once_if}
 use Rattle.config_set.proofs.Members.{AreListed-less, counted_after, some_read, times_on-swap_remove, unlisted_on}
 use Rattle.config_set.proofs.Config.switch_off.Goals as goal
@@ -16,7 +18,7 @@ invariant_of-self c =
     let count = counted_after c.self.inside.tables.items c.args.t.0 None low in
     let one : once_if (is_some (get_or c.self.inside.tables.items c.args.t.0 None)) ≡ 1 = ap once_if is in
     record {
-      right = record { crosses = c.self.invariant.right.crosses; tables = length-set c.self.inside.tables.items c.args.t.0 None ∙ c.self.invariant.right.tables; some_ticks = c.self.invariant.right.some_ticks; few_ticks = c.self.invariant.right.few_ticks };
+      right = record { crosses = c.self.invariant.right.crosses; tables = length-set c.self.inside.tables.items c.args.t.0 None ∙ c.self.invariant.right.tables; cells = All-set CellsFit c.self.inside.tables.items c.args.t.0 None tt c.self.invariant.right.cells; some_ticks = c.self.invariant.right.some_ticks; few_ticks = c.self.invariant.right.few_ticks };
       marked = c.self.invariant.marked;
       wide = c.self.invariant.wide;
       listed = AreListed-less c.self.inside.tables.items c.self.inside.on.items c.swap_remove.new.self.items c.args.t.0 c.self.invariant.listed low counts;

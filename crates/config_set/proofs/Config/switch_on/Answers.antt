@@ -1,8 +1,10 @@
-use Rattle.std.proofs.Common.{◌≡◌, ◌<◌, true, false, None, Some, ap, ◌∙◌, sym, subst, length, get_or, set, arith}
+use Rattle.std.proofs.Common.{rules, ◌≡◌, ◌<◌, true, false, None, Some, ap, ◌∙◌, sym, subst, length, get_or, set, arith}
 use Rattle.std.specs.Prelude.{is_some}
 use Rattle.std.specs.Vec.{with_item}
 use Rattle.std.proofs.lemmas.List.{length-set}
+use Rattle.std.proofs.lemmas.List.Elements.{All-set}
 use Rattle.hierarchy.specs.Shape.{tables_of}
+use Rattle.config_set.specs.Configuration.{CellsFit}
 use Rattle.config_set.specs.Kept.{IsKept, AreListed, once_if}
 use Rattle.config_set.proofs.Members.{AreListed-push, AreListed-same, counted_after, some_off, some_read}
 use Rattle.config_set.proofs.Config.switch_on.Goals as goal
@@ -24,7 +26,7 @@ invariant_of-self c =
           let count = counted_after c.self.inside.tables.items c.args.t.0 (Some c.args.s) low in
           let none : once_if (is_some (get_or c.self.inside.tables.items c.args.t.0 None)) ≡ 0 = ap once_if off in
           let kept : IsKept record { shape = c.self.inside.shape; marks = c.self.inside.marks; closed = c.self.inside.closed; tables = with_item c.self.inside.tables c.args.t.0 (Some c.args.s); on = w.push_reserved.new.self; ticks = c.self.inside.ticks } = record {
-            right = record { crosses = c.self.invariant.right.crosses; tables = length-set c.self.inside.tables.items c.args.t.0 (Some c.args.s) ∙ c.self.invariant.right.tables; some_ticks = c.self.invariant.right.some_ticks; few_ticks = c.self.invariant.right.few_ticks };
+            right = record { crosses = c.self.invariant.right.crosses; tables = length-set c.self.inside.tables.items c.args.t.0 (Some c.args.s) ∙ c.self.invariant.right.tables; cells = All-set CellsFit c.self.inside.tables.items c.args.t.0 (Some c.args.s) (search rules) c.self.invariant.right.cells; some_ticks = c.self.invariant.right.some_ticks; few_ticks = c.self.invariant.right.few_ticks };
             marked = c.self.invariant.marked;
             wide = c.self.invariant.wide;
             listed = subst (AreListed (set c.self.inside.tables.items c.args.t.0 (Some c.args.s))) (sym w.push_reserved.ensures.items) (AreListed-push c.self.inside.tables.items c.self.inside.on.items c.args.t c.args.s c.self.invariant.listed low off);
@@ -37,7 +39,7 @@ invariant_of-self c =
           let count = counted_after c.self.inside.tables.items c.args.t.0 (Some c.args.s) low in
           let one : once_if (is_some (get_or c.self.inside.tables.items c.args.t.0 None)) ≡ 1 = ap once_if is in
           let kept : IsKept (record c.self.inside { tables = with_item c.self.inside.tables c.args.t.0 (Some c.args.s) }) = record {
-            right = record { crosses = c.self.invariant.right.crosses; tables = length-set c.self.inside.tables.items c.args.t.0 (Some c.args.s) ∙ c.self.invariant.right.tables; some_ticks = c.self.invariant.right.some_ticks; few_ticks = c.self.invariant.right.few_ticks };
+            right = record { crosses = c.self.invariant.right.crosses; tables = length-set c.self.inside.tables.items c.args.t.0 (Some c.args.s) ∙ c.self.invariant.right.tables; cells = All-set CellsFit c.self.inside.tables.items c.args.t.0 (Some c.args.s) (search rules) c.self.invariant.right.cells; some_ticks = c.self.invariant.right.some_ticks; few_ticks = c.self.invariant.right.few_ticks };
             marked = c.self.invariant.marked;
             wide = c.self.invariant.wide;
             listed = AreListed-same c.self.inside.tables.items c.self.inside.on.items c.args.t.0 c.args.s c.self.invariant.listed low is;

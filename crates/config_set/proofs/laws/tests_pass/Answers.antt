@@ -1,6 +1,7 @@
 use Rattle.config_set.proofs.Passing.{apart_passes, swing_passes}
 use Rattle.config_set.proofs.Loops.{loop_toggles}
 use Rattle.config_set.proofs.Cells.{cell_reads}
+use Rattle.config_set.proofs.FirstReadings.{register_reads}
 use Rattle.config_set.proofs.laws.tests_pass.Goals as goal
 
 pub returns : goal.returns
@@ -9,4 +10,5 @@ returns c = record {
   swing = swing_passes;
   toggle = loop_toggles;
   cell = λ f g t a k l s left right bits drive r p driven h run. cell_reads f g t a k l s left right bits drive p driven r h run;
+  register = λ f g t l s left right drive r p h run. register_reads f g t l s left right drive p r h run;
 }

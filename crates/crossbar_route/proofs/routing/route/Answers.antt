@@ -10,7 +10,7 @@ use Rattle.place.specs.declared.short.Port.{Port}
 use Rattle.place.specs.declared.short.Visit.{Visit}
 use Rattle.place.specs.Layouts.{IsRoom}
 use Rattle.place.specs.Room.{HasTerminal}
-use Rattle.crossbar_route.specs.RightImages.{IsRightImage}
+use Rattle.crossbar_route.specs.RightImages.{IsRightForNetwork, IsRightImage}
 use Rattle.crossbar_route.specs.Routed.{IsLaidBy, IsRouteOf}
 use Rattle.crossbar_route.proofs.Making.{nothing, laid_by, never_lacks}
 use Rattle.crossbar_route.proofs.Reading.{route_is_free, route_reads, right_image}
@@ -40,6 +40,17 @@ pub returns-clause-free : goal.returns-clause-free
 returns-clause-free c =
     IfOk-weaker c.draw.result (IsRouteOf c.args.defects.now.shape c.args.defects.now.list c.args.network.now c.args.plan.now) (IsFreeImage c.args.defects.now.list)
     (λ i r. route_is_free c.the_numbering_is_sound.ensures.numbered c.the_numbering_is_sound.ensures.tree c.args.defects.now.shape c.args.defects.now.list c.args.network.now c.args.plan.now i c.requires.plan r) c.draw.ensures
+
+pub returns-clause-rows : goal.returns-clause-rows
+returns-clause-rows c =
+    let m = c.args.defects.now.shape in
+    let d = c.args.defects.now.list in
+    let n = c.args.network.now in
+    let p = c.args.plan.now in
+    let numbered = c.the_numbering_is_sound.ensures.numbered in
+    let tree = c.the_numbering_is_sound.ensures.tree in
+    IfOk-weaker c.draw.result (IsRouteOf m d n p) (λ i. (f : Faults) → Covers m d f → IsRightForNetwork f i n)
+    (λ i r f covers. route_reads numbered tree m d n p i c.requires.plan r c.requires.network f covers) c.draw.ensures
 
 pub returns-clause-right : goal.returns-clause-right
 returns-clause-right c =

@@ -2,7 +2,7 @@ use Rattle.std.proofs.Common.{◌≡◌, ◌++◌, ◌∙◌, map, sym, subst}
 use Rattle.std.specs.Prelude.{All}
 use Rattle.hierarchy.specs.declared.Shape.{Shape}
 use Rattle.tm_text.specs.Written.{written}
-use Rattle.fault_model.specs.Adding.{IsFaultOf}
+use Rattle.fault_model.specs.Adding.{CanHave}
 use Rattle.fault_model.specs.Text.{words_of}
 use Rattle.fault_model.proofs.Words.{IsTold}
 use Rattle.fault_model.proofs.Writing.{each_of_shape, text_is, few_bytes}
@@ -12,8 +12,8 @@ use Rattle.fault_model.proofs.write.faults_text.Goals.{After-drop-faults-2}
 pub put_faults-requires : goal.put_faults-requires
 put_faults-requires c =
     let s = c.args.set.now in
-    subst (λ m. All (IsFaultOf m) c.deref.result.now) (sym c.shape-shape.ensures.shape)
-    (subst (All (IsFaultOf s.shape)) (sym c.deref.ensures.value) (each_of_shape s.shape s.faults c.shape-shape.ensures.kept c.in_ok-faults.faults.items c.in_ok-faults.ensures))
+    subst (λ m. All (CanHave m) c.deref.result.now) (sym c.shape-shape.ensures.shape)
+    (subst (All (CanHave s.shape)) (sym c.deref.ensures.value) (each_of_shape s.shape s.faults c.shape-shape.ensures.kept c.in_ok-faults.faults.items c.in_ok-faults.ensures))
 
 told : (c : After-drop-faults-2) → IsTold c.args.set.now.shape
 told c =

@@ -1,13 +1,11 @@
-use Rattle.std.proofs.Common.{◌∙◌, ◌++◌, ◌∷◌, [], ap, sym, map, take}
-use Rattle.std.proofs.lemmas.List.{map_push, take_more}
-use Rattle.flatten.specs.Netlists.{printed}
+use Rattle.std.proofs.Common.{◌∙◌, ap, map}
+use Rattle.netlist.specs.Names.{texts_of, whole}
+use Rattle.flatten.proofs.PrintLemmas.{all_ways, names_are}
 use Rattle.flatten.proofs.printed.printed_names.Goals as goal
 
-pub signals-preserved : goal.signals-preserved
-signals-preserved c ms all first =
-    let P = printed ms in
-    let ss = c.args.signals.now in
-    let i = c.signals.signal-index in
-    c.in_ok-push.ensures.items
-    ∙ (λ j. c.signals.invariant ms all first j ++ (c.new.ensures ∙ c.in_ok-text.ensures ms all first) j ∷ [])
-    ∙ sym (map_push P (take i ss) _) ∙ ap (map P) (sym (take_more ss i _ c.signals-test.true))
+pub returns : goal.returns
+returns c ms all first =
+    let ts = texts_of c.in_ok-ways.ways.items in
+    c.sharing.ensures
+    ∙ ap (map (whole ts)) (c.in_ok-all.ensures ms all first)
+    ∙ names_are ms ts (all_ways ms c.args.origins.now ts all c.in_ok-ways.ensures.len (c.in_ok-ways.ensures.ways ms all.0)) c.args.signals.now

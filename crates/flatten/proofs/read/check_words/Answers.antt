@@ -1,4 +1,6 @@
-use Rattle.std.proofs.Common.{◌<◌, ◌∙◌, ap, map, arith, length, Some, None}
+use Rattle.std.proofs.Common.{◌<◌, ◌∙◌, ap, map, arith, length, Some, None, [], get_or}
+use Rattle.std.proofs.lemmas.List.{length-map}
+use Rattle.flatten.specs.Netlists.{printed}
 use Rattle.netlist.specs.declared.draft.PortDef.{PortDef}
 use Rattle.netlist.specs.Drafts.{word, signal_at}
 use Rattle.flatten.specs.declared.words.Wrong.TheVariants.{Doubled, Undriven}
@@ -13,21 +15,21 @@ use Rattle.flatten.proofs.WordLemmas.{answer_of}
 use Rattle.flatten.proofs.ReadLemmas.{word_fault, read_fault}
 use Rattle.flatten.proofs.read.check_words.Goals as goal
 
-pub name_of-requires-clause-known : goal.name_of-requires-clause-known
-name_of-requires-clause-known c =
+pub get-requires : goal.get-requires
+get-requires c =
     let lines = lines_in c.args.found.now.sink in
     let w = c.in-Ok-Some-Doubled.word in
     let a : IsWordAnswer lines (Some (Doubled w)) = answer_of (map placed_line c.deref.result.now) lines c.in-Ok-Some-Doubled.field-0 (Some (Doubled w)) (ap (map placed_line) c.deref.ensures.value) (c.in-Ok-Some-Doubled.field-0-is ∙ ap Some c.in-Ok-Some-Doubled.field-0-0-is) c.in-Ok-Some-Doubled.ensures in
     let below : signal_at (drives_in lines) a.0 < length (signals_of lines) = drives_below lines a.0 (word 0 0) a.1.0 in
-    omega (arith, below, ap (λ (x : PortDef). x.signal) a.2, ap length c.requires.kept.sink.signals)
+    omega (arith, below, ap (λ (x : PortDef). x.signal) a.2, ap length c.requires.names, length-map (signals_of lines) (printed c.args.models.now))
 
-pub name_of-requires-in-Ok-Some-Undriven-clause-known : goal.name_of-requires-in-Ok-Some-Undriven-clause-known
-name_of-requires-in-Ok-Some-Undriven-clause-known c =
+pub get-requires-in-Ok-Some-Undriven : goal.get-requires-in-Ok-Some-Undriven
+get-requires-in-Ok-Some-Undriven c =
     let lines = lines_in c.args.found.now.sink in
     let w = c.in-Ok-Some-Undriven.word in
     let a : IsWordAnswer lines (Some (Undriven w)) = answer_of (map placed_line c.deref.result.now) lines c.in-Ok-Some-Undriven.field-0 (Some (Undriven w)) (ap (map placed_line) c.deref.ensures.value) (c.in-Ok-Some-Undriven.field-0-is ∙ ap Some c.in-Ok-Some-Undriven.field-0-0-is) c.in-Ok-Some-Undriven.ensures in
     let below : signal_at (reads_in lines) a.1.0 < length (signals_of lines) = reads_below lines a.1.0 (word 0 0) a.1.1.0 in
-    omega (arith, below, ap (λ (x : PortDef). x.signal) a.1.2, ap length c.requires.kept.sink.signals)
+    omega (arith, below, ap (λ (x : PortDef). x.signal) a.1.2, ap length c.requires.names, length-map (signals_of lines) (printed c.args.models.now))
 
 pub returns-in-Ok-None-clause-undoubled : goal.returns-in-Ok-None-clause-undoubled
 returns-in-Ok-None-clause-undoubled c =
@@ -44,7 +46,7 @@ returns-in_ok-name-in-Ok-Some-Doubled-clause-refused c =
     let w = c.in-Ok-Some-Doubled.word in
     let a : IsWordAnswer lines (Some (Doubled w)) = answer_of (map placed_line c.deref.result.now) lines c.in-Ok-Some-Doubled.field-0 (Some (Doubled w)) (ap (map placed_line) c.deref.ensures.value) (c.in-Ok-Some-Doubled.field-0-is ∙ ap Some c.in-Ok-Some-Doubled.field-0-0-is) c.in-Ok-Some-Doubled.ensures in
     word_fault ms lines w.line c.in_ok-name-in-Ok-Some-Doubled.name a.0 c.requires.clean a.1 (ap (λ (x : PortDef). x.line) a.2)
-    (c.in_ok-name-in-Ok-Some-Doubled.ensures ∙ ap (λ (x : PortDef). name_in ms lines x.signal) a.2)
+    (c.in_ok-name-in-Ok-Some-Doubled.ensures ∙ ap (λ ns. get_or ns w.signal []) c.requires.names ∙ ap (λ (x : PortDef). name_in ms lines x.signal) a.2)
 
 pub returns-in_ok-name-in-Ok-Some-Doubled-clause-only : goal.returns-in_ok-name-in-Ok-Some-Doubled-clause-only
 returns-in_ok-name-in-Ok-Some-Doubled-clause-only c undoubled driven =
@@ -60,7 +62,7 @@ returns-in_ok-name-in-Ok-Some-Undriven-clause-refused c =
     let w = c.in-Ok-Some-Undriven.word in
     let a : IsWordAnswer lines (Some (Undriven w)) = answer_of (map placed_line c.deref.result.now) lines c.in-Ok-Some-Undriven.field-0 (Some (Undriven w)) (ap (map placed_line) c.deref.ensures.value) (c.in-Ok-Some-Undriven.field-0-is ∙ ap Some c.in-Ok-Some-Undriven.field-0-0-is) c.in-Ok-Some-Undriven.ensures in
     read_fault ms lines w.line c.in_ok-name-in-Ok-Some-Undriven.name a.1.0 c.requires.clean a.0 a.1.1 (ap (λ (x : PortDef). x.line) a.1.2)
-    (c.in_ok-name-in-Ok-Some-Undriven.ensures ∙ ap (λ (x : PortDef). name_in ms lines x.signal) a.1.2)
+    (c.in_ok-name-in-Ok-Some-Undriven.ensures ∙ ap (λ ns. get_or ns w.signal []) c.requires.names ∙ ap (λ (x : PortDef). name_in ms lines x.signal) a.1.2)
 
 pub returns-in_ok-name-in-Ok-Some-Undriven-clause-only : goal.returns-in_ok-name-in-Ok-Some-Undriven-clause-only
 returns-in_ok-name-in-Ok-Some-Undriven-clause-only c undoubled driven =

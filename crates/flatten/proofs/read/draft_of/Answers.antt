@@ -1,28 +1,23 @@
-use Rattle.std.proofs.Common.{◌≡◌, ◌∙◌, ap, sym, subst, map}
+use Rattle.std.proofs.Common.{◌≡◌, ◌∙◌, ap, map}
 use Rattle.std.specs.List.{flat_map}
 use Rattle.flatten.specs.Placed.{placed_line}
 use Rattle.flatten.specs.Signals.{signals_of}
 use Rattle.flatten.specs.Sinks.{lines_in}
-use Rattle.flatten.specs.Netlists.{printed, input_on, output_on, cover_on, latch_on}
-use Rattle.flatten.specs.Origins.{AreAllOrigins}
-use Rattle.flatten.proofs.PrintLemmas.{all_origins}
+use Rattle.flatten.specs.Netlists.{input_on, output_on, cover_on, latch_on}
 use Rattle.flatten.proofs.read.draft_of.Goals as goal
 
 pub returns-clause-ok : goal.returns-clause-ok
 returns-clause-ok c =
-    let ms = c.args.models.now in
     let s = c.args.found.now in
     let h = c.requires.kept in
     let lines = lines_in s.sink in
     let S : s.sink.signals ≡ signals_of lines = h.sink.signals in
     let lists = c.in_ok-lists.ensures in
     let placed : map placed_line c.deref.result.now ≡ lines = ap (map placed_line) c.deref.ensures.value in
-    let all = all_origins ms s.origins.items h.replaced lines h.count h.origins h.substituted in
-    let names = c.in_ok-names.ensures.ok ms (subst (AreAllOrigins ms) (sym c.deref-2.ensures.value) all) c.first_names-first.ensures in
     record {
-      names = c.new.ensures ∙ names ∙ ap (map (printed ms)) (c.requires.signals ∙ S);
-      inputs = c.new-2.ensures ∙ lists.inputs ∙ (λ i. flat_map (input_on (S i)) (placed i));
-      outputs = c.new-3.ensures ∙ lists.outputs ∙ (λ i. flat_map (output_on (S i)) (placed i));
-      covers = c.new-4.ensures ∙ lists.covers ∙ (λ i. flat_map (cover_on (S i)) (placed i));
-      latches = c.new-5.ensures ∙ lists.latches ∙ (λ i. flat_map (latch_on (S i)) (placed i));
+      names = c.requires.names;
+      inputs = c.new.ensures ∙ lists.inputs ∙ (λ i. flat_map (input_on (S i)) (placed i));
+      outputs = c.new-2.ensures ∙ lists.outputs ∙ (λ i. flat_map (output_on (S i)) (placed i));
+      covers = c.new-3.ensures ∙ lists.covers ∙ (λ i. flat_map (cover_on (S i)) (placed i));
+      latches = c.new-4.ensures ∙ lists.latches ∙ (λ i. flat_map (latch_on (S i)) (placed i));
     }

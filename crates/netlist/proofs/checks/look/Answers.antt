@@ -13,12 +13,12 @@ returns-in-Some c =
 
 pub returns-in-Some-first_undriven : goal.returns-in-Some-first_undriven
 returns-in-Some-first_undriven c =
-    found_undriven c.args.draft.now c.requires c.in_ok-firsts.firsts.items c.deref.result.now (c.deref.ensures.value ∙ c.in_ok-words.ensures) (length c.as_slice.result.now) (ap length c.as_slice.ensures) c.in_ok-firsts.ensures.firsts c.in-Some-first_undriven.word
+    found_undriven c.args.draft.now c.requires c.in_ok-firsts.firsts.items c.deref.result.now (c.deref.ensures.value ∙ c.in_ok-words.ensures) c.len.result c.len.ensures c.in_ok-firsts.ensures.firsts c.in-Some-first_undriven.word
     (c.in-Some-first_undriven.ensures ∙ ap (λ firsts. fold (sooner firsts) None (reads_of c.args.draft.now)) c.deref-4.ensures.value)
     (none_doubled c.args.draft.now c.deref-2.result.now (c.deref-2.ensures.value ∙ c.in_ok-words.ensures) c.in_default.ensures)
 
 pub sort-requires : goal.sort-requires
 sort-requires c =
-    driven_once c.args.draft.now c.requires c.in_ok-firsts.firsts.items c.deref.result.now (c.deref.ensures.value ∙ c.in_ok-words.ensures) (length c.as_slice.result.now) (ap length c.as_slice.ensures) c.in_ok-firsts.ensures.firsts
+    driven_once c.args.draft.now c.requires c.in_ok-firsts.firsts.items c.deref.result.now (c.deref.ensures.value ∙ c.in_ok-words.ensures) c.len.result c.len.ensures c.in_ok-firsts.ensures.firsts
     (none_doubled c.args.draft.now c.deref-2.result.now (c.deref-2.ensures.value ∙ c.in_ok-words.ensures) c.in_default.ensures)
     (c.in_default-first_undriven.ensures ∙ ap (λ firsts. fold (sooner firsts) None (reads_of c.args.draft.now)) c.deref-4.ensures.value)

@@ -4,4 +4,4 @@ use Rattle.netlist.specs.Valuations.{bit_at}
 use Rattle.netlist.proofs.eval.truth_of.Given as goal
 
 abbrev pub invariant-rows : goal.invariant-rows
-invariant-rows l = (j : ℕ) → j < l.k → matches (get_or l.cover.rows j []) (map (bit_at l.values) l.cover.ins) ≡ false
+invariant-rows l = (j : ℕ) → j < l.k → matches (get_or l.rows j []) (map (bit_at l.values) l.ins) ≡ false

@@ -9,50 +9,50 @@ use Rattle.table_map.proofs.drives.origins_of.Goals as goal
 
 pub put_inputs-requires-clause-within : goal.put_inputs-requires-clause-within
 put_inputs-requires-clause-within c =
-    let ex : c.in_ok-sources.sources.items ≡ replicate (length c.args.draft.now.names) (Input 0) = c.in_ok-sources.ensures.items_if_clones_equal (λ y e. e) ∙ ap (λ (ns : List (List ℕ)). replicate (length ns) (Input 0)) c.as_slice.ensures in
-    subst (λ ps. ArePorts ps (length c.in_ok-sources.sources.items)) (sym c.as_slice-2.ensures) (subst (λ m. ArePorts c.args.draft.now.inputs m) (sym (ap length ex ∙ length-replicate (length c.args.draft.now.names) (Input 0))) (inputs_are c.args.draft.now c.requires))
+    let ex : c.in_ok-sources.sources.items ≡ replicate (length c.args.draft.now.names) (Input 0) = c.in_ok-sources.ensures.items_if_clones_equal (λ y e. e) ∙ ap (λ (n : ℕ). replicate n (Input 0)) c.len.ensures in
+    subst (λ ps. ArePorts ps (length c.in_ok-sources.sources.items)) (sym c.as_slice.ensures) (subst (λ m. ArePorts c.args.draft.now.inputs m) (sym (ap length ex ∙ length-replicate (length c.args.draft.now.names) (Input 0))) (inputs_are c.args.draft.now c.requires))
 
 pub put_inputs-requires-clause-few : goal.put_inputs-requires-clause-few
 put_inputs-requires-clause-few c =
-    omega (arith, few_inputs c.args.draft.now c.requires, ap length c.as_slice-2.ensures)
+    omega (arith, few_inputs c.args.draft.now c.requires, ap length c.as_slice.ensures)
 
 pub put_covers-requires : goal.put_covers-requires
 put_covers-requires c =
-    let ex : c.in_ok-sources.sources.items ≡ replicate (length c.args.draft.now.names) (Input 0) = c.in_ok-sources.ensures.items_if_clones_equal (λ y e. e) ∙ ap (λ (ns : List (List ℕ)). replicate (length ns) (Input 0)) c.as_slice.ensures in
-    let ea : c.put_inputs.new.sources.items ≡ written c.in_ok-sources.sources.items (input_drives 0 c.args.draft.now.inputs) = c.put_inputs.ensures ∙ ap (λ ps. written c.in_ok-sources.sources.items (input_drives 0 ps)) c.as_slice-2.ensures in
-    subst (λ cs. AreCovers cs (length c.put_inputs.new.sources.items)) (sym c.as_slice-3.ensures) (subst (λ m. AreCovers c.args.draft.now.covers m) (sym (length_inputs c.args.draft.now c.requires c.in_ok-sources.sources.items c.put_inputs.new.sources.items c.put_inputs.new.sources.items c.put_inputs.new.sources.items 0 ex ea)) (covers_are c.args.draft.now c.requires))
+    let ex : c.in_ok-sources.sources.items ≡ replicate (length c.args.draft.now.names) (Input 0) = c.in_ok-sources.ensures.items_if_clones_equal (λ y e. e) ∙ ap (λ (n : ℕ). replicate n (Input 0)) c.len.ensures in
+    let ea : c.put_inputs.new.sources.items ≡ written c.in_ok-sources.sources.items (input_drives 0 c.args.draft.now.inputs) = c.put_inputs.ensures ∙ ap (λ ps. written c.in_ok-sources.sources.items (input_drives 0 ps)) c.as_slice.ensures in
+    subst (λ cs. AreCovers cs (length c.put_inputs.new.sources.items)) (sym c.as_slice-2.ensures) (subst (λ m. AreCovers c.args.draft.now.covers m) (sym (length_inputs c.args.draft.now c.requires c.in_ok-sources.sources.items c.put_inputs.new.sources.items c.put_inputs.new.sources.items c.put_inputs.new.sources.items 0 ex ea)) (covers_are c.args.draft.now c.requires))
 
 pub put_latches-requires-clause-within : goal.put_latches-requires-clause-within
 put_latches-requires-clause-within c =
-    let ex : c.in_ok-sources.sources.items ≡ replicate (length c.args.draft.now.names) (Input 0) = c.in_ok-sources.ensures.items_if_clones_equal (λ y e. e) ∙ ap (λ (ns : List (List ℕ)). replicate (length ns) (Input 0)) c.as_slice.ensures in
-    let ea : c.put_inputs.new.sources.items ≡ written c.in_ok-sources.sources.items (input_drives 0 c.args.draft.now.inputs) = c.put_inputs.ensures ∙ ap (λ ps. written c.in_ok-sources.sources.items (input_drives 0 ps)) c.as_slice-2.ensures in
-    let eb : c.put_covers.new.sources.items ≡ written c.put_inputs.new.sources.items (cover_drives 0 c.args.draft.now.covers) = c.in_ok-count.ensures.sources ∙ ap (λ cs. written c.put_inputs.new.sources.items (cover_drives 0 cs)) c.as_slice-3.ensures in
-    subst (λ ls. AreLatches ls (length c.put_covers.new.sources.items)) (sym c.as_slice-4.ensures) (subst (λ m. AreLatches c.args.draft.now.latches m) (sym (length_covers c.args.draft.now c.requires c.in_ok-sources.sources.items c.put_inputs.new.sources.items c.put_covers.new.sources.items c.put_covers.new.sources.items 0 ex ea eb)) (latches_are c.args.draft.now c.requires))
+    let ex : c.in_ok-sources.sources.items ≡ replicate (length c.args.draft.now.names) (Input 0) = c.in_ok-sources.ensures.items_if_clones_equal (λ y e. e) ∙ ap (λ (n : ℕ). replicate n (Input 0)) c.len.ensures in
+    let ea : c.put_inputs.new.sources.items ≡ written c.in_ok-sources.sources.items (input_drives 0 c.args.draft.now.inputs) = c.put_inputs.ensures ∙ ap (λ ps. written c.in_ok-sources.sources.items (input_drives 0 ps)) c.as_slice.ensures in
+    let eb : c.put_covers.new.sources.items ≡ written c.put_inputs.new.sources.items (cover_drives 0 c.args.draft.now.covers) = c.in_ok-count.ensures.sources ∙ ap (λ cs. written c.put_inputs.new.sources.items (cover_drives 0 cs)) c.as_slice-2.ensures in
+    subst (λ ls. AreLatches ls (length c.put_covers.new.sources.items)) (sym c.as_slice-3.ensures) (subst (λ m. AreLatches c.args.draft.now.latches m) (sym (length_covers c.args.draft.now c.requires c.in_ok-sources.sources.items c.put_inputs.new.sources.items c.put_covers.new.sources.items c.put_covers.new.sources.items 0 ex ea eb)) (latches_are c.args.draft.now c.requires))
 
 pub put_latches-requires-clause-few : goal.put_latches-requires-clause-few
 put_latches-requires-clause-few c =
-    let ec : c.in_ok-count.count ≡ sum_by cover_size c.args.draft.now.covers = c.in_ok-count.ensures.count ∙ ap (λ cs. sum_by cover_size cs) c.as_slice-3.ensures in
-    omega (arith, all_tables c.args.draft.now c.requires, ap length c.as_slice-4.ensures)
+    let ec : c.in_ok-count.count ≡ sum_by cover_size c.args.draft.now.covers = c.in_ok-count.ensures.count ∙ ap (λ cs. sum_by cover_size cs) c.as_slice-2.ensures in
+    omega (arith, all_tables c.args.draft.now c.requires, ap length c.as_slice-3.ensures)
 
 pub returns-clause-len : goal.returns-clause-len
 returns-clause-len c =
-    let ex : c.in_ok-sources.sources.items ≡ replicate (length c.args.draft.now.names) (Input 0) = c.in_ok-sources.ensures.items_if_clones_equal (λ y e. e) ∙ ap (λ (ns : List (List ℕ)). replicate (length ns) (Input 0)) c.as_slice.ensures in
-    let ea : c.put_inputs.new.sources.items ≡ written c.in_ok-sources.sources.items (input_drives 0 c.args.draft.now.inputs) = c.put_inputs.ensures ∙ ap (λ ps. written c.in_ok-sources.sources.items (input_drives 0 ps)) c.as_slice-2.ensures in
-    let eb : c.put_covers.new.sources.items ≡ written c.put_inputs.new.sources.items (cover_drives 0 c.args.draft.now.covers) = c.in_ok-count.ensures.sources ∙ ap (λ cs. written c.put_inputs.new.sources.items (cover_drives 0 cs)) c.as_slice-3.ensures in
-    let ec : c.in_ok-count.count ≡ sum_by cover_size c.args.draft.now.covers = c.in_ok-count.ensures.count ∙ ap (λ cs. sum_by cover_size cs) c.as_slice-3.ensures in
-    let ee : c.put_latches.new.sources.items ≡ written c.put_covers.new.sources.items (latch_drives c.in_ok-count.count c.args.draft.now.latches) = c.put_latches.ensures ∙ ap (λ ls. written c.put_covers.new.sources.items (latch_drives c.in_ok-count.count ls)) c.as_slice-4.ensures in
+    let ex : c.in_ok-sources.sources.items ≡ replicate (length c.args.draft.now.names) (Input 0) = c.in_ok-sources.ensures.items_if_clones_equal (λ y e. e) ∙ ap (λ (n : ℕ). replicate n (Input 0)) c.len.ensures in
+    let ea : c.put_inputs.new.sources.items ≡ written c.in_ok-sources.sources.items (input_drives 0 c.args.draft.now.inputs) = c.put_inputs.ensures ∙ ap (λ ps. written c.in_ok-sources.sources.items (input_drives 0 ps)) c.as_slice.ensures in
+    let eb : c.put_covers.new.sources.items ≡ written c.put_inputs.new.sources.items (cover_drives 0 c.args.draft.now.covers) = c.in_ok-count.ensures.sources ∙ ap (λ cs. written c.put_inputs.new.sources.items (cover_drives 0 cs)) c.as_slice-2.ensures in
+    let ec : c.in_ok-count.count ≡ sum_by cover_size c.args.draft.now.covers = c.in_ok-count.ensures.count ∙ ap (λ cs. sum_by cover_size cs) c.as_slice-2.ensures in
+    let ee : c.put_latches.new.sources.items ≡ written c.put_covers.new.sources.items (latch_drives c.in_ok-count.count c.args.draft.now.latches) = c.put_latches.ensures ∙ ap (λ ls. written c.put_covers.new.sources.items (latch_drives c.in_ok-count.count ls)) c.as_slice-3.ensures in
     length_latches c.args.draft.now c.requires c.in_ok-sources.sources.items c.put_inputs.new.sources.items c.put_covers.new.sources.items c.put_latches.new.sources.items c.in_ok-count.count ex ea eb ec ee
 
 pub returns-clause-sources : goal.returns-clause-sources
 returns-clause-sources c =
-    let ex : c.in_ok-sources.sources.items ≡ replicate (length c.args.draft.now.names) (Input 0) = c.in_ok-sources.ensures.items_if_clones_equal (λ y e. e) ∙ ap (λ (ns : List (List ℕ)). replicate (length ns) (Input 0)) c.as_slice.ensures in
-    let ea : c.put_inputs.new.sources.items ≡ written c.in_ok-sources.sources.items (input_drives 0 c.args.draft.now.inputs) = c.put_inputs.ensures ∙ ap (λ ps. written c.in_ok-sources.sources.items (input_drives 0 ps)) c.as_slice-2.ensures in
-    let eb : c.put_covers.new.sources.items ≡ written c.put_inputs.new.sources.items (cover_drives 0 c.args.draft.now.covers) = c.in_ok-count.ensures.sources ∙ ap (λ cs. written c.put_inputs.new.sources.items (cover_drives 0 cs)) c.as_slice-3.ensures in
-    let ec : c.in_ok-count.count ≡ sum_by cover_size c.args.draft.now.covers = c.in_ok-count.ensures.count ∙ ap (λ cs. sum_by cover_size cs) c.as_slice-3.ensures in
-    let ee : c.put_latches.new.sources.items ≡ written c.put_covers.new.sources.items (latch_drives c.in_ok-count.count c.args.draft.now.latches) = c.put_latches.ensures ∙ ap (λ ls. written c.put_covers.new.sources.items (latch_drives c.in_ok-count.count ls)) c.as_slice-4.ensures in
+    let ex : c.in_ok-sources.sources.items ≡ replicate (length c.args.draft.now.names) (Input 0) = c.in_ok-sources.ensures.items_if_clones_equal (λ y e. e) ∙ ap (λ (n : ℕ). replicate n (Input 0)) c.len.ensures in
+    let ea : c.put_inputs.new.sources.items ≡ written c.in_ok-sources.sources.items (input_drives 0 c.args.draft.now.inputs) = c.put_inputs.ensures ∙ ap (λ ps. written c.in_ok-sources.sources.items (input_drives 0 ps)) c.as_slice.ensures in
+    let eb : c.put_covers.new.sources.items ≡ written c.put_inputs.new.sources.items (cover_drives 0 c.args.draft.now.covers) = c.in_ok-count.ensures.sources ∙ ap (λ cs. written c.put_inputs.new.sources.items (cover_drives 0 cs)) c.as_slice-2.ensures in
+    let ec : c.in_ok-count.count ≡ sum_by cover_size c.args.draft.now.covers = c.in_ok-count.ensures.count ∙ ap (λ cs. sum_by cover_size cs) c.as_slice-2.ensures in
+    let ee : c.put_latches.new.sources.items ≡ written c.put_covers.new.sources.items (latch_drives c.in_ok-count.count c.args.draft.now.latches) = c.put_latches.ensures ∙ ap (λ ls. written c.put_covers.new.sources.items (latch_drives c.in_ok-count.count ls)) c.as_slice-3.ensures in
     all_written c.args.draft.now c.requires c.in_ok-sources.sources.items c.put_inputs.new.sources.items c.put_covers.new.sources.items c.put_latches.new.sources.items c.in_ok-count.count ex ea eb ec ee
 
 pub overflow_add-result : goal.overflow_add-result
 overflow_add-result c =
-    let ec : c.in_ok-count.count ≡ sum_by cover_size c.args.draft.now.covers = c.in_ok-count.ensures.count ∙ ap (λ cs. sum_by cover_size cs) c.as_slice-3.ensures in
-    omega (arith, all_tables c.args.draft.now c.requires, ap length c.as_slice-5.ensures)
+    let ec : c.in_ok-count.count ≡ sum_by cover_size c.args.draft.now.covers = c.in_ok-count.ensures.count ∙ ap (λ cs. sum_by cover_size cs) c.as_slice-2.ensures in
+    omega (arith, all_tables c.args.draft.now c.requires, ap length c.as_slice-4.ensures)

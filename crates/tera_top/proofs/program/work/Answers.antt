@@ -1,3 +1,8 @@
-use Rattle.std.proofs.Common.{◌≡◌, ◌∙◌, Some, None, sym, refl}
-use Rattle.tera_top.proofs.WriteLemmas.{Wrote-none}
+use Rattle.std.proofs.Common.{sym, refl}
+use Rattle.steps.proofs.JobLemmas.{wrong-lawful}
 use Rattle.tera_top.proofs.program.work.Goals as goal
+
+pub returns-in-None-clause-lawful : goal.returns-in-None-clause-lawful
+returns-in-None-clause-lawful g c =
+    let is = rw c.in-None.is at c.task_of.ensures in
+    rw (← is) wrong-lawful

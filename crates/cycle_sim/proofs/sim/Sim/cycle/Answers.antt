@@ -69,6 +69,7 @@ invariant_of-self-2 c =
     let long : length c.push_pins-2.new.log.bits ≡ length c.self.inside.log.bits + length c.args.drive.now + length c.cycle.new.read =
     ap length (log c) ∙ length-append (c.self.inside.log.bits ++ c.args.drive.now) c.cycle.new.read ∙ ap (λ n. n + length c.cycle.new.read) (length-append c.self.inside.log.bits c.args.drive.now) in
     record {
+      sound = c.self.invariant.sound;
       prepared = c.cycle.ensures.prepared;
       pins = c.self.invariant.pins;
       few_pins = c.self.invariant.few_pins;

@@ -31,6 +31,7 @@ invariant_of-self-2 c =
     let r1 : c.from.result ≡ c.from-self-inside.result = c.from.ensures ∙ sym c.from-self-inside.ensures in
     let r2 : c.from-2.result ≡ pins_of c.self.inside.faults.shape = c.from-2.ensures ∙ c.self.invariant.pins in
     record {
+      sound = c.self.invariant.sound;
       prepared = c.in_ok-load.ensures.prepared;
       pins = c.self.invariant.pins;
       few_pins = c.self.invariant.few_pins;

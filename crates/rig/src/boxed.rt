@@ -1,0 +1,41 @@
+//! Calls of a rig in a box.
+ghost use Rattle.std.specs.Prelude.{◌≡◌, ◌^◌, ◌<◌, ◌≤◌, None, Some, IfErr, OnOk, OnErr, length};
+ghost use Rattle.tm_outside.specs.Counts.{next_count};
+ghost use Rattle.rig.specs.Rig.{shape_of, width_of, HasFaultsOf, Begins, LoadFails, GoesOn, CycleFails};
+
+use crate::{PinBits, Rig, RigFail};
+use config_set::Config;
+
+/// Loads a configuration, as [`Rig::load`] does. What it says has names here, which proofs cite.
+pub fn load(rig: &mut Box<dyn Rig>, config: &Config, room: u32) -> Result<(), RigFail>
+    requires { shape_of (rig_state rig.old) ≡ Some config.now.config.shape }
+
+    ensures machine { (rig_state rig.new).machine ≡ (rig_state rig.old).machine }
+    ensures later { (rig_state rig.old).failures ≤ (rig_state rig.new).failures }
+    ensures count { (rig_state rig.new).failures < 2 ^ 64 }
+    ensures begins { OnOk result (Begins config.now.config room (rig_state rig.new)) }
+    ensures told { OnOk result (HasFaultsOf config.now.config.shape (rig_state rig.new)) }
+    ensures counted { OnOk result ((rig_state rig.new).loads ≡ next_count (rig_state rig.old).loads) }
+    ensures ended { OnErr result ((rig_state rig.new).session ≡ None) }
+    ensures not_counted { OnErr result ((rig_state rig.new).loads ≡ (rig_state rig.old).loads) }
+    ensures refused { IfErr result (λ e. LoadFails e (rig_state rig.old) (rig_state rig.new)) }
+{
+    rig.load(config, room)
+}
+
+/// Makes a cycle, as [`Rig::cycle`] does. What it says has names here, which proofs cite.
+pub fn cycle(rig: &mut Box<dyn Rig>, drive: &PinBits, read: &mut PinBits) -> Result<(), RigFail>
+    requires drive_pins { width_of (rig_state rig.old) ≡ Some (length drive.now) }
+    requires read_pins { width_of (rig_state rig.old) ≡ Some (length read.old) }
+
+    ensures machine { (rig_state rig.new).machine ≡ (rig_state rig.old).machine }
+    ensures loads { (rig_state rig.new).loads ≡ (rig_state rig.old).loads }
+    ensures later { (rig_state rig.old).failures ≤ (rig_state rig.new).failures }
+    ensures count { (rig_state rig.new).failures < 2 ^ 64 }
+    ensures length { length read.new ≡ length read.old }
+    ensures cycles { OnOk result (GoesOn drive.now read.new (rig_state rig.old) (rig_state rig.new)) }
+    ensures kept { OnErr result (read.new ≡ read.old) }
+    ensures refused { IfErr result (λ e. CycleFails e (rig_state rig.old) (rig_state rig.new)) }
+{
+    rig.cycle(drive, read)
+}

@@ -1,0 +1,108 @@
+-- Jobs that are done for words.
+use Rattle.std.proofs.Common.{◌≡◌, ◌⊎◌, ℕ, ◌≤◌, List, [], ◌++◌, take, Option, Bool, IsTrue, refl, sym, subst, inl, inr, ◌∙◌, arith}
+use Rattle.std.specs.Prelude.{Result, Ok, Err, IfErr, OnOk}
+use Rattle.tm_outside.specs.Counts.{Rose}
+use Rattle.tm_outside.specs.Sink.{Wrote}
+use Rattle.tm_outside.specs.declared.sink.SinkFail.TheVariants.{Failed, Memory}
+use Rattle.steps.specs.Outside.{Outside, around}
+use Rattle.steps.specs.Courses.{Course, ends, refuses, writes}
+use Rattle.steps.specs.Stops.{IsCounted, Asks, AsksSome, IsWritten, status_of}
+use Rattle.steps.specs.Jobs.{Job, wrong_words, IsLawful, Does}
+use Rattle.steps.specs.Ends.{EndWrote, Stands, Finishes, whole, refused, cut_line, no_line, cut}
+use Rattle.steps.specs.declared.refusal.Refusal.{Refusal}
+use Rattle.steps.specs.declared.refusal.Refusal.TheVariants as refused
+use Rattle.steps.specs.declared.refusal.Stop.{Stop}
+use Rattle.steps.specs.declared.refusal.Stop.TheVariants.{Refused, Sink}
+use Rattle.steps.proofs.WriteLemmas.{Wrote-none, asks-all}
+use Rattle.steps.proofs.EndLemmas.{end-stop}
+
+counted-words : (words : Type 0) (stop : Stop) (old new : Outside) → IsCounted ⊥ stop old new → IsCounted words stop old new
+counted-words words (Refused refused.Words) old new why = absurd why
+counted-words words (Refused refused.Rig) old new why = why
+counted-words words (Refused refused.Store) old new why = why
+counted-words words (Refused refused.Memory) old new why = tt
+counted-words words (Refused (refused.Machine line kind)) old new why = tt
+counted-words words (Refused (refused.Faults line kind)) old new why = tt
+counted-words words (Refused (refused.Defects line kind)) old new why = tt
+counted-words words (Refused (refused.Image line kind)) old new why = tt
+counted-words words (Refused (refused.Design place)) old new why = tt
+counted-words words (Refused (refused.Vectors line kind)) old new why = tt
+counted-words words (Refused (refused.Room place)) old new why = tt
+counted-words words (Sink Failed) old new why = why
+counted-words words (Sink Memory) old new why = why
+
+counted-word : {T : Type 0} (words : Type 0) (result : Result T Stop) (old new : Outside) → IfErr result (λ stop. IsCounted ⊥ stop old new) → IfErr result (λ stop. IsCounted words stop old new)
+counted-word words (Ok x) old new why = tt
+counted-word words (Err stop) old new why = counted-words words stop old new why
+
+-- a command never refuses the words
+pub does-words : {T : Type 0} (words : Type 0) (job : Job) (result : Result T Stop) (old new : Outside) → Does ⊥ job result old new → Does words job result old new
+does-words words job result old new d = record {
+  contents = d.contents;
+  store_later = d.store_later;
+  rig_later = d.rig_later;
+  sink_later = d.sink_later;
+  kind = d.kind;
+  asked = d.asked;
+  machines = d.machines;
+  written = d.written;
+  counted = counted-word words result old new d.counted;
+}
+
+-- wrong words are refused at once
+pub does-wrong : {T : Type 0} (words : Type 0) (result : Result T Stop) (old : Outside) → result ≡ Err (Refused refused.Words) → words → Does words wrong_words result old old
+does-wrong {T} words result old is why = rw is (record {
+  contents = refl;
+  store_later = omega arith;
+  rig_later = omega arith;
+  sink_later = omega arith;
+  kind = refl;
+  asked = record { all = tt; some = refl };
+  machines = refl;
+  written = ([], (refl, refl), Wrote-none old.sink.written);
+  counted = why;
+})
+
+pub wrong-lawful : IsLawful wrong_words
+wrong-lawful = record {
+  right = λ old new text next is at. absurd (is [] text refl);
+  short = λ old new text next is at. absurd (is [] text refl);
+  few = λ old new few text begun at. begun;
+}
+
+-- the names that were asked
+asked-some : {T : Type 0} (names : List (List ℕ)) (result : Result T Stop) (old new : Outside) → Asks names result old.store new.store → AsksSome names old.store.asked new.store.asked
+asked-some names (Ok x) old new asks = asks-all names old.store.asked new.store.asked asks.all
+asked-some names (Err stop) old new asks = asks.some
+
+pub does-asked : {T : Type 0} (words : Type 0) (job : Job) (result : Result T Stop) (old new : Outside) → Does words job result old new → AsksSome job.files old.store.asked new.store.asked
+does-asked words job result old new d = asked-some job.files result old new d.asked
+
+-- ---- the end of the program
+
+-- a job that is done
+pub ends-done : (words : Type 0) (job : Job) (old new : Outside) → (text : List ℕ) × job.course (around old) (around new) text ends × Wrote old.sink.written new.sink.written text → EndWrote words (job.course (around old) (around new)) old new 0
+ends-done words job old new w = whole w.0 w.1 w.2
+
+-- a job that stopped, and what followed: the store and the rig stay
+pub ends-stopped : {T : Type 0} (words : Type 0) (job : Job) (stop : Stop) (result : Result T Stop) (old mid new : Outside) (status : ℕ) → result ≡ Err stop → new.store ≡ mid.store → new.rig ≡ mid.rig → Does words job result old mid → Finishes stop mid.sink new.sink status → EndWrote words (job.course (around old) (around mid)) old new status
+ends-stopped words job stop result old mid new status is store rig d fin =
+    let written = rw is at d.written in
+    let counted = rw is at d.counted in
+    end-stop words (job.course (around old) (around mid)) stop old mid new status d.sink_later d.kind store rig counted written fin
+
+-- wrong words
+wrong-status : (refusal : Refusal) → refuses refusal ≡ refuses refused.Words → status_of refusal ≡ 2
+wrong-status refused.Words is = refl
+wrong-status refusal is = absurd cc
+
+wrong-stands : (words : Type 0) (old new : Outside) (refusal : Refusal) (text : List ℕ) → Stands words (wrong_words.course (around old) (around new)) old new refusal text → status_of refusal ≡ 2
+wrong-stands words old new refusal text (inl s) = wrong-status refusal s.1.1
+wrong-stands words old new refusal text (inr s) = let line = s.2.1.1 in absurd (cc)
+
+pub end-wrong : (words : Type 0) (old new : Outside) (status : ℕ) → EndWrote words (wrong_words.course (around old) (around new)) old new status → (status ≡ 2) ⊎ (((status ≡ 5) × Rose old.sink.failures new.sink.failures) ⊎ ((status ≡ 6) × IsTrue old.sink.can_lack))
+end-wrong words old new _ (whole text f w) = let none = f.1 in absurd (cc)
+end-wrong words old new _ (refused refusal text s w) = inl (wrong-stands words old new refusal text s)
+end-wrong words old new _ (cut_line refusal text n s r w) = inr (inl (refl, r))
+end-wrong words old new _ (no_line refusal text s l w) = inr (inr (refl, l))
+end-wrong words old new _ (cut text line n p r w) = let none = p.1 in absurd (cc)

@@ -1,0 +1,13 @@
+pub mod WriteLemmas
+pub mod TextLemmas
+pub mod VectorLemmas
+pub mod InputLemmas
+pub mod Following
+pub mod Leading
+pub mod EndLemmas
+pub mod AttachLemmas
+pub mod ShapeLemmas
+pub mod StartLemmas
+pub mod Excused
+pub mod Counting
+pub mod JobLemmas

@@ -1,0 +1,71 @@
+-- How the program ends.
+use Rattle.std.specs.Prelude.{◌≡◌, ◌⊎◌, ℕ, List, ◌++◌, take, Bool, IsTrue}
+use Rattle.tm_outside.specs.Counts.{Rose}
+use Rattle.tm_outside.specs.Sink.{SinkState, Wrote}
+use Rattle.tm_outside.specs.declared.sink.SinkFail.TheVariants.{Failed as SinkFailed, Memory as SinkMemory}
+use Rattle.steps.specs.Outside.{Outside, SomethingRose, around}
+use Rattle.steps.specs.Jobs.{Job}
+use Rattle.steps.specs.Courses.{Course, Next, ends, refuses, writes}
+use Rattle.steps.specs.Stops.{IsCounted, refusal_text, status_of}
+use Rattle.steps.specs.declared.refusal.Refusal.{Refusal}
+use Rattle.steps.specs.declared.refusal.Refusal.TheVariants.{Memory}
+use Rattle.steps.specs.declared.refusal.Stop.{Stop}
+use Rattle.steps.specs.declared.refusal.Stop.TheVariants.{Refused, Sink}
+
+-- what stands before the line of a refusal: what the course has before it, or before a line at which the sink answered want of memory
+abbrev pub Stands : (words : Type 0) → Course → Outside → Outside → Refusal → List ℕ → Type 0
+Stands words course old new refusal text =
+    (IsCounted words (Refused refusal) old new × course text (refuses refusal))
+    ⊎ ((refusal ≡ Memory) × IsTrue old.sink.can_lack × ((line : List ℕ) × course text (writes line)))
+
+-- what the sink got, by the status. Wrong words have a cause of their own
+pub data EndWrote (words : Type 0) (course : List ℕ → Next → Type 0) (old new : Outside) : ℕ → Type 0 where
+  -- all of the output
+  whole : (text : List ℕ) → course text ends → Wrote old.sink.written new.sink.written text → EndWrote words course old new 0
+  -- what stands before a refusal, and its line
+  refused : (refusal : Refusal) (text : List ℕ) → Stands words course old new refusal text
+      → Wrote old.sink.written new.sink.written (text ++ refusal_text refusal) → EndWrote words course old new (status_of refusal)
+  -- the sink failed within that line
+  cut_line : (refusal : Refusal) (text : List ℕ) (n : ℕ)
+      → Stands words course old new refusal text → Rose old.sink.failures new.sink.failures
+      → Wrote old.sink.written new.sink.written (text ++ take n (refusal_text refusal)) → EndWrote words course old new 5
+  -- the sink answered want of memory at that line
+  no_line : (refusal : Refusal) (text : List ℕ) → Stands words course old new refusal text → IsTrue old.sink.can_lack
+      → Wrote old.sink.written new.sink.written text → EndWrote words course old new 6
+  -- the sink failed within a line of the output
+  cut : (text line : List ℕ) (n : ℕ) → course text (writes line) → Rose old.sink.failures new.sink.failures
+      → Wrote old.sink.written new.sink.written (text ++ take n line) → EndWrote words course old new 5
+
+-- what a refusal is followed by: its line and its status, or a failure or want of memory of the sink
+abbrev pub Refuses : Refusal → SinkState → SinkState → ℕ → Type 0
+Refuses refusal old new status =
+    ((status ≡ status_of refusal) × Wrote old.written new.written (refusal_text refusal))
+    ⊎ (((status ≡ 5) × Rose old.failures new.failures × ((n : ℕ) × Wrote old.written new.written (take n (refusal_text refusal))))
+    ⊎ ((status ≡ 6) × IsTrue old.can_lack × (new ≡ old)))
+
+-- what a stop is followed by
+abbrev pub Finishes : Stop → SinkState → SinkState → ℕ → Type 0
+Finishes (Refused refusal) old new status = Refuses refusal old new status
+Finishes (Sink SinkFailed) old new status = (status ≡ 5) × (new ≡ old)
+Finishes (Sink SinkMemory) old new status = Refuses Memory old new status
+
+-- ---- what the statuses say
+
+-- the refusal came, after a text that the course has before it
+abbrev pub IsRefused : Course → Outside → Outside → Refusal → Type 0
+IsRefused course old new refusal =
+    (text : List ℕ) × course text (refuses refusal) × Wrote old.sink.written new.sink.written (text ++ refusal_text refusal)
+
+-- each front of what was written is such
+abbrev pub IsOfFronts : (List ℕ → Type 0) → SinkState → SinkState → Type 0
+IsOfFronts P old new = (front rest : List ℕ) → Wrote old.written new.written (front ++ rest) → P front
+
+-- want of memory came before the line `outputs`
+abbrev pub LacksBefore : Job → Outside → Outside → Type 0
+LacksBefore job old new =
+    (text : List ℕ) × (job.has_begun (around old) (around new) text → ⊥)
+    × Wrote old.sink.written new.sink.written (text ++ refusal_text Memory)
+
+-- that, or a count rose
+abbrev pub Unless : Type 0 → Outside → Outside → Type 0
+Unless end old new = end ⊎ SomethingRose old new

@@ -1,0 +1,34 @@
+-- What a command has around it: the store, the rig and the sink.
+use Rattle.std.specs.Prelude.{◌≡◌, ◌⊎◌, ℕ, ◌+◌, ◌≤◌, Option, IfSome}
+use Rattle.tm_outside.specs.Counts.{Rose}
+use Rattle.tm_outside.specs.Store.{StoreState}
+use Rattle.tm_outside.specs.Sink.{SinkState}
+use Rattle.rig.specs.Rig.{RigState}
+use Rattle.steps.specs.Files.{most_bytes}
+
+-- the store and the rig
+pub record Around : Type 0 where
+  pub store : StoreState
+  pub rig : RigState
+
+-- and the sink
+pub record Outside : Type 0 where
+  pub store : StoreState
+  pub rig : RigState
+  pub sink : SinkState
+
+abbrev pub outside : StoreState → RigState → SinkState → Outside
+outside store rig sink = record { store = store; rig = rig; sink = sink }
+
+abbrev pub around : Outside → Around
+around o = record { store = o.store; rig = o.rig }
+
+-- a count of failed calls rose, or the rig refused a text of faults
+abbrev pub SomethingRose : Outside → Outside → Type 0
+SomethingRose old new =
+    (Rose old.store.failures new.store.failures ⊎ Rose old.sink.failures new.sink.failures)
+    ⊎ (Rose old.rig.failures new.rig.failures ⊎ Rose old.rig.machine.refused.times new.rig.machine.refused.times)
+
+-- the store stands no further than one byte beyond the limit of a file that is read whole, or nothing was read
+abbrev pub StaysNear : StoreState → StoreState → Type 0
+StaysNear old new = (new.current ≡ old.current) ⊎ IfSome new.current (λ p. p.at ≤ most_bytes + 1)

@@ -1,0 +1,190 @@
+-- The steps that read a file into a value, and those that attach a machine and open the vectors.
+use Rattle.std.specs.Prelude.{◌≡◌, ◌⊎◌, ℕ, ◌≤◌, List, ◌∷◌, [], ◌++◌, length, Some, IsTrue}
+use Rattle.tm_outside.specs.Counts.{Rose, next_count}
+use Rattle.tm_outside.specs.Told.{Told, IfTold, IsPresent}
+use Rattle.tm_outside.specs.Store.{StoreState}
+use Rattle.tm_outside.specs.Sink.{SinkState}
+use Rattle.tm_outside.specs.declared.sink.SinkFail.TheVariants.{Failed as SinkFailed, Memory as SinkMemory}
+use Rattle.hierarchy.specs.declared.Counts.{Counts}
+use Rattle.hierarchy.specs.declared.Shape.{Shape}
+use Rattle.machine_file.specs.Machine.{IsMachine}
+use Rattle.machine_file.specs.Faults.{IsFault}
+use Rattle.fault_model.specs.declared.kind.FaultsFault.TheVariants.{At}
+use Rattle.defect_db.specs.Lists.{DefectList}
+use Rattle.defect_db.specs.Faults.{IsText, IsFaultAt}
+use Rattle.netlist.specs.declared.draft.Draft.{Draft}
+use Rattle.netlist.specs.declared.fault.DesignKind.{DesignKind}
+use Rattle.blif_read.specs.Designs.{IsDesign, IsDesignFault}
+use Rattle.config_image.specs.Images.{ImageValue, IsImage, image_bytes, IsImageFault, Reads}
+use Rattle.rig.specs.Rig.{RigState, Asked, RefusesText}
+use Rattle.steps.specs.Files.{most_bytes}
+use Rattle.steps.specs.Courses.{Step}
+use Rattle.steps.specs.declared.design_file.DesignFile.{DesignFile}
+use Rattle.steps.specs.declared.refusal.Refusal.{Refusal}
+use Rattle.steps.specs.declared.refusal.Refusal.TheVariants as refused
+use Rattle.steps.specs.declared.refusal.Stop.{Stop}
+use Rattle.steps.specs.declared.refusal.Stop.TheVariants.{Refused, Sink}
+
+-- ---- machines
+
+-- the bytes are the text of a machine of this shape, and of no other
+pub record IsMachineText (bytes : List ℕ) (m : Shape) : Type 0 where
+  pub text : IsMachine bytes m.counts
+  pub within : length bytes ≤ most_bytes
+  pub only : (c : Counts) → IsMachine bytes c → c ≡ m.counts
+
+-- the bytes are the text of no machine
+abbrev pub IsNoMachine : List ℕ → Type 0
+IsNoMachine bytes = (c : Counts) → IsMachine bytes c → length bytes ≤ most_bytes → ⊥
+
+abbrev pub NoMachine : Told → Refusal → Type 0
+NoMachine told (refused.Machine line kind) = IfTold told (λ bytes. IsFault bytes line kind × IsNoMachine bytes)
+NoMachine told refused.Store = Unit {0}
+NoMachine told refused.Memory = Unit {0}
+NoMachine told refusal = ⊥
+
+abbrev pub reads_machine : Told → Step Shape
+reads_machine told = record { stops = NoMachine told; gives = λ m. IfTold told (λ bytes. IsMachineText bytes m) }
+
+-- ---- lists of a machine's defects
+
+-- the bytes are the text of this list of the machine's defects, and of no other
+pub record IsDefectsText (m : Shape) (bytes : List ℕ) (d : DefectList) : Type 0 where
+  pub text : IsText m bytes d
+  pub within : length bytes ≤ most_bytes
+  pub only : (other : DefectList) → IsText m bytes other → other ≡ d
+
+-- the bytes are the text of no list of the machine's defects
+abbrev pub IsNoDefects : Shape → List ℕ → Type 0
+IsNoDefects m bytes = (d : DefectList) → IsText m bytes d → length bytes ≤ most_bytes → ⊥
+
+abbrev pub NoDefects : Told → Shape → Refusal → Type 0
+NoDefects told m (refused.Defects line kind) = IfTold told (λ bytes. IsFaultAt m bytes line kind × IsNoDefects m bytes)
+NoDefects told m refused.Store = Unit {0}
+NoDefects told m refused.Memory = Unit {0}
+NoDefects told m refusal = ⊥
+
+abbrev pub reads_defects : Told → Shape → Step DefectList
+reads_defects told m = record { stops = NoDefects told m; gives = λ d. (d.shape ≡ m) × IfTold told (λ bytes. IsDefectsText m bytes d) }
+
+-- ---- designs
+
+-- the bytes are the text of this design, and of no other
+pub record IsDesignText (bytes : List ℕ) (draft : Draft) : Type 0 where
+  pub text : IsDesign bytes draft
+  pub within : length bytes ≤ most_bytes
+  pub only : (other : Draft) → IsDesign bytes other → other ≡ draft
+
+-- the bytes are the text of no design
+abbrev pub IsNoDesign : List ℕ → Type 0
+IsNoDesign bytes = (draft : Draft) → IsDesign bytes draft → length bytes ≤ most_bytes → ⊥
+
+abbrev pub NoDesign : DesignFile → Told → Refusal → Type 0
+NoDesign file told (refused.Design place) =
+    (place.file ≡ file) × IfTold told (λ bytes. IsDesignFault bytes place.line place.kind × IsNoDesign bytes)
+NoDesign file told refused.Store = Unit {0}
+NoDesign file told refused.Memory = Unit {0}
+NoDesign file told refusal = ⊥
+
+abbrev pub reads_design : DesignFile → Told → Step Draft
+reads_design file told = record { stops = NoDesign file told; gives = λ draft. IfTold told (λ bytes. IsDesignText bytes draft) }
+
+-- ---- images of a machine
+
+-- the bytes are those of no image of the machine
+abbrev pub IsNoImage : Shape → List ℕ → Type 0
+IsNoImage m bytes = (i : ImageValue) → IsImage i → i.config.shape ≡ m → image_bytes i ≡ bytes → length bytes ≤ most_bytes → ⊥
+
+abbrev pub NoImage : Told → Shape → Refusal → Type 0
+NoImage told m (refused.Image line kind) = IfTold told (λ bytes. IsImageFault m bytes line kind × IsNoImage m bytes)
+NoImage told m refused.Store = Unit {0}
+NoImage told m refused.Memory = Unit {0}
+NoImage told m refusal = ⊥
+
+abbrev pub reads_image : Told → Shape → Step ImageValue
+reads_image told m = record { stops = NoImage told m; gives = λ i. (i.config.shape ≡ m) × IfTold told (λ bytes. Reads m bytes i) }
+
+-- ---- the machine is attached
+
+-- the rig refuses its text of faults
+abbrev pub NotAttached : Asked → RigState → RigState → Refusal → Type 0
+NotAttached machine old new (refused.Faults line kind) =
+    RefusesText (At line kind) machine.shape (old.machine.texts machine.name) old.machine.refused new.machine.refused
+NotAttached machine old new refused.Rig = Unit {0}
+NotAttached machine old new refused.Memory = Unit {0}
+NotAttached machine old new refusal = ⊥
+
+-- it is attached, and so it stays
+abbrev pub attaches : Asked → RigState → RigState → Step (Unit {0})
+attaches machine old new = record { stops = NotAttached machine old new; gives = λ _. new.machine.attached ≡ Some machine }
+
+-- the machine was asked for, or memory was wanting before that
+abbrev pub MayAsk : Asked → List Asked → List Asked → Type 0
+MayAsk machine old new = (new ≡ old) ⊎ (new ≡ old ++ machine ∷ [])
+
+-- ---- memory is taken, and the file of vectors is opened
+
+abbrev pub NotOpened : Refusal → Type 0
+NotOpened refused.Store = Unit {0}
+NotOpened refused.Memory = Unit {0}
+NotOpened refusal = ⊥
+
+abbrev pub opens : Told → Step (Unit {0})
+opens told = record { stops = NotOpened; gives = λ _. IsPresent told }
+
+-- ---- what is asked of the rig
+
+-- no machine was asked for, or one of such a shape under this name
+abbrev pub AsksMachine : (is_shape : Shape → Type 0) → (name : List ℕ) → List Asked → List Asked → Type 0
+AsksMachine is_shape name old new =
+    (new ≡ old) ⊎ ((m : Shape) × is_shape m × (new ≡ old ++ record { shape = m; name = name } ∷ []))
+
+-- no more than one machine, and so many loads
+pub record AsksRig (is_shape : Shape → Type 0) (name : List ℕ) (loads_are : (old new : ℕ) → Type 0) (old new : RigState) : Type 0 where
+  pub machines : AsksMachine is_shape name old.machine.asked new.machine.asked
+  pub loads : loads_are old.loads new.loads
+
+-- no more than one load
+abbrev pub LoadsOnce : (old new : ℕ) → Type 0
+LoadsOnce old new = (new ≡ old) ⊎ (new ≡ next_count old)
+
+-- ---- counts
+
+-- a step that uses the store alone refuses for its count
+abbrev pub StoreCounts : Stop → StoreState → StoreState → Type 0
+StoreCounts (Refused refused.Store) old new = Rose old.failures new.failures
+StoreCounts (Refused refused.Rig) old new = ⊥
+StoreCounts (Refused refused.Words) old new = ⊥
+StoreCounts (Refused refusal) old new = Unit {0}
+StoreCounts (Sink fail) old new = ⊥
+
+-- and one that uses the rig alone for the rig's
+abbrev pub RigCounts : Stop → RigState → RigState → Type 0
+RigCounts (Refused refused.Rig) old new = Rose old.failures new.failures
+RigCounts (Refused refused.Store) old new = ⊥
+RigCounts (Refused refused.Words) old new = ⊥
+RigCounts (Refused refusal) old new = Unit {0}
+RigCounts (Sink fail) old new = ⊥
+
+-- a stop of a step that reads a text: the text is refused, or memory is wanting
+abbrev pub IsOfText : Stop → Type 0
+IsOfText (Refused refused.Store) = ⊥
+IsOfText (Refused refused.Rig) = ⊥
+IsOfText (Refused refused.Words) = ⊥
+IsOfText (Refused refusal) = Unit {0}
+IsOfText (Sink fail) = ⊥
+
+-- a fault of a design is refused, or there was no memory for its line
+abbrev pub IsRefusedAt : DesignFile → ℕ → DesignKind → Stop → Type 0
+IsRefusedAt file line kind (Refused (refused.Design place)) = place ≡ record { file = file; line = line; kind = kind }
+IsRefusedAt file line kind (Refused refused.Memory) = Unit {0}
+IsRefusedAt file line kind stop = ⊥
+
+-- and one that uses the store and the sink for one of theirs
+abbrev pub FlowCounts : Stop → StoreState → StoreState → SinkState → SinkState → Type 0
+FlowCounts (Refused refused.Store) old new a b = Rose old.failures new.failures
+FlowCounts (Refused refused.Rig) old new a b = ⊥
+FlowCounts (Refused refused.Words) old new a b = ⊥
+FlowCounts (Refused refusal) old new a b = Unit {0}
+FlowCounts (Sink SinkFailed) old new a b = Rose a.failures b.failures
+FlowCounts (Sink SinkMemory) old new a b = IsTrue a.can_lack

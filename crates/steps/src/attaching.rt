@@ -1,0 +1,41 @@
+//! Machines that are attached.
+ghost use Rattle.std.specs.Prelude.{◌≡◌, ◌≤◌, OnOk, IfErr};
+ghost use Rattle.rig.specs.Rig.{Asked, Attaches, AttachFails};
+ghost use Rattle.steps.specs.Stops.{StepStops};
+ghost use Rattle.steps.specs.Texts.{attaches, MayAsk, RigCounts};
+
+use crate::refusal::Stop;
+use hierarchy::Shape;
+use rig::{AttachFail, Rig};
+
+// Attaches a machine, as the trait says, with clauses that bear names.
+fn attach_boxed(rig: &mut Box<dyn Rig>, shape: &Shape, name: &str) -> Result<(), AttachFail>
+    ensures texts { (rig_state rig.new).machine.texts ≡ (rig_state rig.old).machine.texts }
+    ensures later { (rig_state rig.old).failures ≤ (rig_state rig.new).failures }
+    ensures loads { (rig_state rig.new).loads ≡ (rig_state rig.old).loads }
+    ensures attached { OnOk result (Attaches (record { shape = shape.now; name = name.now }) (rig_state rig.old) (rig_state rig.new)) }
+    ensures refused { let machine : Asked = record { shape = shape.now; name = name.now } in
+        IfErr result (λ e. AttachFails e machine (rig_state rig.old) (rig_state rig.new)) }
+{
+    rig.attach(shape, name)
+}
+
+/// Attaches a machine under a name.
+// The condition always holds. A function of another crate that takes a rig and has none counts as one that may put a
+// rig of its own in its place.
+pub fn attach(rig: &mut Box<dyn Rig>, shape: &Shape, name: &str) -> Result<(), Stop>
+    requires always { name.now ≡ name.now }
+
+    ensures texts { (rig_state rig.new).machine.texts ≡ (rig_state rig.old).machine.texts }
+    ensures later { (rig_state rig.old).failures ≤ (rig_state rig.new).failures }
+    ensures loads { (rig_state rig.new).loads ≡ (rig_state rig.old).loads }
+    ensures attached { OnOk result (Attaches (record { shape = shape.now; name = name.now }) (rig_state rig.old) (rig_state rig.new)) }
+    ensures asked { let machine : Asked = record { shape = shape.now; name = name.now } in
+        MayAsk machine (rig_state rig.old).machine.asked (rig_state rig.new).machine.asked }
+    ensures refused { let machine : Asked = record { shape = shape.now; name = name.now } in
+        IfErr result (StepStops (attaches machine (rig_state rig.old) (rig_state rig.new))) }
+    ensures counted { IfErr result (λ stop. RigCounts stop (rig_state rig.old) (rig_state rig.new)) }
+{
+    attach_boxed(rig, shape, name)?;
+    Ok(())
+}

@@ -1,0 +1,55 @@
+//! Lists of defects that are read.
+ghost use Rattle.std.specs.Prelude.{◌≡◌, ◌≤◌, ◌∷◌, [], IfOk, IfErr};
+ghost use Rattle.tm_outside.specs.Told.{holds};
+ghost use Rattle.steps.specs.Outside.{StaysNear};
+ghost use Rattle.steps.specs.Stops.{Asks, StepStops};
+ghost use Rattle.steps.specs.Texts.{reads_defects, IsDefectsText, IsOfText, StoreCounts};
+
+use crate::refusal::{Refusal, Stop};
+use defect_db::{Defects, DefectsFault, DefectsKind, read_defects};
+use hierarchy::Shape;
+use std::alloc::Global;
+use tm_outside::{Store, read_within};
+
+/// The most bytes of the text of a list of defects.
+const MOST_BYTES: usize = 16_777_216;
+
+// The list of a text.
+fn list_of_text(alloc: Global, shape: &Shape, text: &[u8]) -> Result<Defects, Stop>
+    ensures shape { IfOk result (λ d. d.shape ≡ shape.now) }
+    ensures found { IfOk result (IsDefectsText shape.now text.now) }
+    ensures refused { IfErr result (StepStops (reads_defects (holds text.now) shape.now)) }
+    ensures of_text { IfErr result IsOfText }
+{
+    match read_defects(alloc, shape, text) {
+        Ok(list) => Ok(list),
+        Err(DefectsFault::At { line, kind }) => {
+            Err(Stop::Refused(Refusal::Defects { line, kind }))
+        }
+        Err(DefectsFault::Memory) => Err(Stop::Refused(Refusal::Memory)),
+    }
+}
+
+/// Reads the list of defects of a machine: its file up to one byte more than it may have.
+pub fn read_list<S: Store>(
+    alloc: Global,
+    shape: &Shape,
+    name: &str,
+    store: &mut S,
+) -> Result<Defects, Stop>
+    ensures contents { (S.store_state store.new).contents ≡ (S.store_state store.old).contents }
+    ensures later { (S.store_state store.old).failures ≤ (S.store_state store.new).failures }
+    ensures asked { Asks (name.now ∷ []) result (S.store_state store.old) (S.store_state store.new) }
+    ensures place { StaysNear (S.store_state store.old) (S.store_state store.new) }
+    ensures found { IfOk result (reads_defects ((S.store_state store.old).contents name.now) shape.now).gives }
+    ensures refused { IfErr result (StepStops (reads_defects ((S.store_state store.old).contents name.now) shape.now)) }
+    ensures counted { IfErr result (λ stop. StoreCounts stop (S.store_state store.old) (S.store_state store.new)) }
+{
+    match read_within(alloc, store, name, MOST_BYTES)? {
+        Some(text) => list_of_text(alloc, shape, &text),
+        None => Err(Stop::Refused(Refusal::Defects {
+            line: 0,
+            kind: DefectsKind::Limit,
+        })),
+    }
+}

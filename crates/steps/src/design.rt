@@ -1,0 +1,60 @@
+//! Designs that are read.
+ghost use Rattle.std.specs.Prelude.{◌≡◌, ◌≤◌, ◌∷◌, [], IfOk, IfErr};
+ghost use Rattle.tm_outside.specs.Told.{holds};
+ghost use Rattle.steps.specs.Outside.{StaysNear};
+ghost use Rattle.steps.specs.Stops.{Asks, StepStops};
+ghost use Rattle.steps.specs.Texts.{IsRefusedAt, reads_design, IsDesignText, IsOfText, StoreCounts};
+
+use crate::design_file::DesignFile;
+use crate::refusal::{Refusal, RefusedDesign, Stop};
+use blif_read::read_blif;
+use netlist::{DesignFault, DesignKind, Netlist};
+use std::alloc::Global;
+use tm_outside::{Store, read_within};
+
+/// The most bytes of a file of a design.
+const MOST_BYTES: usize = 16_777_216;
+
+// The refusal of a design.
+fn refused(alloc: Global, file: DesignFile, line: u64, kind: DesignKind) -> Stop
+    ensures { IsRefusedAt file line kind result }
+{
+    match RefusedDesign::new(alloc, file, line, kind) {
+        Ok(fault) => Stop::Refused(Refusal::Design(fault)),
+        Err(_) => Stop::Refused(Refusal::Memory),
+    }
+}
+
+// The netlist of a text.
+fn netlist_of(alloc: Global, file: DesignFile, text: &[u8]) -> Result<Netlist, Stop>
+    ensures found { IfOk result (IsDesignText text.now) }
+    ensures refused { IfErr result (StepStops (reads_design file (holds text.now))) }
+    ensures of_text { IfErr result IsOfText }
+{
+    match read_blif(alloc, text) {
+        Ok(netlist) => Ok(netlist),
+        Err(DesignFault::At { line, kind }) => Err(refused(alloc, file, line, kind)),
+        Err(DesignFault::Memory) => Err(Stop::Refused(Refusal::Memory)),
+    }
+}
+
+/// Reads a design: its file up to one byte more than it may have.
+pub fn read_design<S: Store>(
+    alloc: Global,
+    file: DesignFile,
+    store: &mut S,
+    name: &str,
+) -> Result<Netlist, Stop>
+    ensures contents { (S.store_state store.new).contents ≡ (S.store_state store.old).contents }
+    ensures later { (S.store_state store.old).failures ≤ (S.store_state store.new).failures }
+    ensures asked { Asks (name.now ∷ []) result (S.store_state store.old) (S.store_state store.new) }
+    ensures place { StaysNear (S.store_state store.old) (S.store_state store.new) }
+    ensures found { IfOk result (reads_design file ((S.store_state store.old).contents name.now)).gives }
+    ensures refused { IfErr result (StepStops (reads_design file ((S.store_state store.old).contents name.now))) }
+    ensures counted { IfErr result (λ stop. StoreCounts stop (S.store_state store.old) (S.store_state store.new)) }
+{
+    match read_within(alloc, store, name, MOST_BYTES)? {
+        Some(text) => netlist_of(alloc, file, &text),
+        None => Err(refused(alloc, file, 0, DesignKind::Limit)),
+    }
+}

@@ -1,0 +1,53 @@
+//! Images that are read.
+ghost use Rattle.std.specs.Prelude.{◌≡◌, ◌≤◌, ◌∷◌, [], IfOk, IfErr};
+ghost use Rattle.tm_outside.specs.Told.{holds};
+ghost use Rattle.config_image.specs.Images.{Reads};
+ghost use Rattle.steps.specs.Outside.{StaysNear};
+ghost use Rattle.steps.specs.Stops.{Asks, StepStops};
+ghost use Rattle.steps.specs.Texts.{reads_image, IsOfText, StoreCounts};
+
+use crate::refusal::{Refusal, Stop};
+use config_image::{Image, ImageFault, ImageKind, read_image};
+use hierarchy::Shape;
+use std::alloc::Global;
+use tm_outside::{Store, read_within};
+
+/// The most bytes of an image.
+const MOST_BYTES: usize = 16_777_216;
+
+// The image of these bytes.
+fn image_of_text(alloc: Global, shape: &Shape, text: &[u8]) -> Result<Image, Stop>
+    ensures found { IfOk result (Reads shape.now text.now) }
+    ensures refused { IfErr result (StepStops (reads_image (holds text.now) shape.now)) }
+    ensures of_text { IfErr result IsOfText }
+{
+    match read_image(alloc, shape, text) {
+        Ok(image) => Ok(image),
+        Err(ImageFault::At { line, kind }) => Err(Stop::Refused(Refusal::Image { line, kind })),
+        Err(ImageFault::Memory) => Err(Stop::Refused(Refusal::Memory)),
+    }
+}
+
+/// Reads an image of a machine: its file up to one byte more than it may have.
+pub fn read_image_file<S: Store>(
+    alloc: Global,
+    shape: &Shape,
+    name: &str,
+    store: &mut S,
+) -> Result<Image, Stop>
+    ensures contents { (S.store_state store.new).contents ≡ (S.store_state store.old).contents }
+    ensures later { (S.store_state store.old).failures ≤ (S.store_state store.new).failures }
+    ensures asked { Asks (name.now ∷ []) result (S.store_state store.old) (S.store_state store.new) }
+    ensures place { StaysNear (S.store_state store.old) (S.store_state store.new) }
+    ensures found { IfOk result (reads_image ((S.store_state store.old).contents name.now) shape.now).gives }
+    ensures refused { IfErr result (StepStops (reads_image ((S.store_state store.old).contents name.now) shape.now)) }
+    ensures counted { IfErr result (λ stop. StoreCounts stop (S.store_state store.old) (S.store_state store.new)) }
+{
+    match read_within(alloc, store, name, MOST_BYTES)? {
+        Some(text) => image_of_text(alloc, shape, &text),
+        None => Err(Stop::Refused(Refusal::Image {
+            line: 0,
+            kind: ImageKind::Limit,
+        })),
+    }
+}

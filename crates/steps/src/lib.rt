@@ -1,0 +1,23 @@
+//! What commands are made of: steps, why one stops, and how the program ends then.
+#![tactic(auto)]
+
+mod attaching;
+mod defects;
+mod design;
+mod design_file;
+mod ending;
+mod image;
+mod line;
+mod machine;
+mod output;
+mod refusal;
+
+pub use attaching::attach;
+pub use defects::read_list;
+pub use design::read_design;
+pub use design_file::DesignFile;
+pub use ending::finish;
+pub use image::read_image_file;
+pub use machine::read_shape;
+pub use output::write;
+pub use refusal::{Refusal, RefusedDesign, RefusedRoom, Stop};

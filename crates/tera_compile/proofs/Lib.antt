@@ -1,0 +1,3 @@
+mod LayLemmas
+mod Following
+mod CompileLaws

@@ -1,0 +1,60 @@
+-- What the command `eval` comes to, and how its steps follow one another.
+use Rattle.std.proofs.Common.{◌≡◌, ℕ, ◌≤◌, List, [], ◌∷◌, ◌++◌, length, Option, None, Some, refl, sym, subst, ap, ◌∙◌, inl, inr}
+use Rattle.tm_outside.specs.Told.{Told, holds, IfTold}
+use Rattle.tm_outside.specs.Store.{StoreState}
+use Rattle.netlist.specs.declared.draft.Draft.{Draft}
+use Rattle.blif_read.specs.Designs.{IsDesign}
+use Rattle.steps.specs.Files.{says_at}
+use Rattle.steps.specs.Lines.{outputs_line}
+use Rattle.steps.specs.Outside.{Around, StaysNear}
+use Rattle.steps.specs.Courses.{Next, all_rows, after, write, ends, refuses, writes}
+use Rattle.steps.specs.Texts.{reads_design, opens, IsDesignText}
+use Rattle.steps.specs.Jobs.{IsLawful, Leads, Fronts, EndsWell, EndsShort}
+use Rattle.steps.specs.declared.refusal.Refusal.{Refusal}
+use Rattle.steps.specs.declared.refusal.Refusal.TheVariants.{Memory}
+use Rattle.steps.specs.declared.design_file.DesignFile.TheVariants.{Design}
+use Rattle.steps.proofs.Leading.{after-leads, write-leads, whole-front}
+use Rattle.steps.proofs.Excused.{design-excused, open-excused, rows-well}
+use Rattle.tera_eval.specs.Eval.{eval_rows, eval_course, eval_job, EvalRight}
+
+module _ (design vectors : List ℕ) (old new : Around) where
+  abbrev text_is : List ℕ → Type 0
+  text_is = Fronts (λ front. EvalRight (old.store.contents design) (old.store.contents vectors))
+
+  -- vectors of the right design have no fault
+  same-fault : (right : EvalRight (old.store.contents design) (old.store.contents vectors)) (draft : Draft) → IfTold (old.store.contents design) (λ bytes. IsDesignText bytes draft) → (says_at (length draft.inputs) right.vectors_file).fault ≡ None
+  same-fault right draft is =
+      let only = rw right.design_told at is in
+      let same : right.draft ≡ draft = only.only right.draft right.is_design in
+      subst (λ d. (says_at (length d.inputs) right.vectors_file).fault ≡ None) same right.no_fault
+
+  right-of : text_is [] → EvalRight (old.store.contents design) (old.store.contents vectors)
+  right-of is = is [] [] refl
+
+  design-well : (right : EvalRight (old.store.contents design) (old.store.contents vectors)) → (refusal : Refusal) → (reads_design Design (old.store.contents design)).stops refusal → EndsWell old new (refuses refusal)
+  design-well right refusal stops =
+      design-excused old new Design right.design_file right.draft right.is_design right.within refusal (rw right.design_told at stops)
+
+  eval-right : Leads text_is (eval_course design vectors old.store new.store) (EndsWell old new)
+  eval-right text next is at =
+      let right = is [] text refl in
+      after-leads (reads_design Design (old.store.contents design)) (StaysNear old.store new.store) _ (λ _. Unit {0}) (EndsWell old new)
+      (λ _ refusal stops. design-well right refusal stops)
+      (λ draft gives. after-leads (opens (old.store.contents vectors)) (StaysNear old.store new.store) _ (λ _. Unit {0}) (EndsWell old new)
+      (λ _ refusal stops. open-excused old new refusal stops)
+      (λ _ _. write-leads outputs_line _ _ (λ _. Unit {0}) (EndsWell old new) tt
+      (rows-well old new (eval_rows draft (old.store.contents vectors) new.store.current) right.vectors_file (λ _. Unit {0}) right.vectors_told (same-fault right draft gives))))
+      text next tt at
+
+  eval-few : (text : List ℕ) → (more : List ℕ) × (text ≡ outputs_line ++ more) → eval_course design vectors old.store new.store text (refuses Memory) → ⊥
+  eval-few text begun (inl h) = let begins = begun.1 in let empty = h.0 in absurd (cc)
+  eval-few text begun (inr (draft, gives, inl h)) = let begins = begun.1 in let empty = h.0 in absurd (cc)
+  eval-few text begun (inr (draft, gives, inr (u, opened, inl h))) = let line = h.1 in absurd (cc)
+  eval-few text begun (inr (draft, gives, inr (u, opened, inr (more, is, h)))) = h.1
+
+pub eval-lawful : (design vectors : List ℕ) → IsLawful (eval_job design vectors)
+eval-lawful design vectors = record {
+  right = λ old new. eval-right design vectors old new;
+  short = λ old new text next is at. absurd (is [] text refl);
+  few = λ old new few text begun at. eval-few design vectors old new text begun at;
+}

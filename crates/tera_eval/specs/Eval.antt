@@ -1,0 +1,55 @@
+-- What the command `eval` is.
+use Rattle.std.specs.Prelude.{◌≡◌, ℕ, ◌≤◌, List, [], ◌∷◌, ◌++◌, length, Option, Some, None}
+use Rattle.tm_outside.specs.Told.{Told, holds}
+use Rattle.tm_outside.specs.Store.{StoreState, Place}
+use Rattle.netlist.specs.declared.draft.Draft.{Draft}
+use Rattle.netlist.specs.Rows.{AreRows}
+use Rattle.blif_read.specs.Designs.{IsDesign}
+use Rattle.steps.specs.Files.{most_bytes, says_at}
+use Rattle.steps.specs.Lines.{outputs_line}
+use Rattle.steps.specs.Outside.{StaysNear}
+use Rattle.steps.specs.Courses.{Course, RowWork, after, write, all_rows}
+use Rattle.steps.specs.Texts.{reads_design, opens}
+use Rattle.steps.specs.Jobs.{Job}
+use Rattle.steps.specs.declared.design_file.DesignFile.TheVariants.{Design}
+
+-- the rows of a design, for which no memory is wanted
+abbrev pub eval_rows : Draft → Told → Option Place → RowWork
+eval_rows draft told place = record {
+  width = length draft.inputs;
+  told = told;
+  place = place;
+  are = λ vectors rows. AreRows draft vectors rows;
+  session = λ vectors rows. Unit {0};
+  lacks = λ count. ⊥;
+}
+
+-- the design is read, the vectors are opened, the line `outputs` is written before the first of them is read, and then the rows
+abbrev pub eval_course : (design vectors : List ℕ) → StoreState → StoreState → Course
+eval_course design vectors old new =
+    after (reads_design Design (old.contents design)) (StaysNear old new) (λ draft.
+    after (opens (old.contents vectors)) (StaysNear old new) (λ _.
+    write outputs_line (new.current ≡ Some (record { name = vectors; at = 0 }))
+    (all_rows (eval_rows draft (old.contents vectors) new.current))))
+
+-- both texts are told and right
+pub record EvalRight (design vectors : Told) : Type 0 where
+  pub draft : Draft
+  pub design_file : List ℕ
+  pub vectors_file : List ℕ
+  pub design_told : design ≡ holds design_file
+  pub is_design : IsDesign design_file draft
+  pub within : length design_file ≤ most_bytes
+  pub vectors_told : vectors ≡ holds vectors_file
+  pub no_fault : (says_at (length draft.inputs) vectors_file).fault ≡ None
+
+abbrev pub eval_job : (design vectors : List ℕ) → Job
+eval_job design vectors = record {
+  files = design ∷ vectors ∷ [];
+  asks = λ old new. new.rig ≡ old.rig;
+  course = λ old new. eval_course design vectors old.store new.store;
+  right = λ old new front. EvalRight (old.store.contents design) (old.store.contents vectors);
+  short = λ old new front. ⊥;
+  few = λ old new. Unit {0};
+  has_begun = λ old new text. (more : List ℕ) × (text ≡ outputs_line ++ more);
+}

@@ -1,0 +1,157 @@
+//! The command that writes the rows of a design.
+ghost use Rattle.std.specs.Prelude.{◌≡◌, ◌≤◌, ◌∷◌, [], ◌++◌, OnOk, IfOk, IfErr, IsSome};
+ghost use Rattle.tm_outside.specs.Sink.{Wrote};
+ghost use Rattle.rig.specs.Rig.{RigState};
+ghost use Rattle.netlist_eval.specs.Rows.{row_line};
+ghost use Rattle.steps.specs.Outside.{outside};
+ghost use Rattle.steps.specs.Files.{IsBegun, file_of};
+ghost use Rattle.steps.specs.Courses.{all_rows};
+ghost use Rattle.steps.specs.Stops.{Asks, IsWritten, WriteStops};
+ghost use Rattle.steps.specs.Texts.{FlowCounts};
+ghost use Rattle.steps.specs.Jobs.{Does, IsLawful};
+ghost use Rattle.tera_eval.specs.Eval.{eval_rows, eval_course, eval_job};
+ghost use Rattle.tera_eval.specs.Evaluations.{IsReady, IsSized, RowGives, RowFails};
+
+use netlist::Netlist;
+use netlist_eval::{Eval, RowText, VectorText, VectorsFail};
+use std::alloc::{AllocError, Global};
+use steps::{DesignFile, Stop, read_design, write};
+use tm_outside::{Sink, Store};
+
+// All that the rows need: no memory is taken after this.
+#[derive(Drop)]
+struct Evaluation<'a> {
+    eval: Eval<'a>,
+    vectors: VectorText,
+    vector: Vec<bool>,
+    row: Vec<bool>,
+    line: RowText,
+}
+
+// Takes all memory for the rows of a netlist.
+fn prepare(alloc: Global, netlist: &Netlist) -> Result<Evaluation<'_>, AllocError>
+    ensures { IfOk result (IsReady netlist.now) }
+{
+    let inputs = netlist.parts().inputs.as_slice().len();
+    let outputs = netlist.parts().outputs.as_slice().len();
+    let eval = Eval::start(alloc, netlist)?;
+    let vectors = VectorText::new(alloc, inputs as u32)?;
+    let vector = vec![in alloc; false; inputs]?;
+    let row = vec![in alloc; false; outputs]?;
+    let line = RowText::new(alloc, outputs as u32)?;
+    Ok(Evaluation {
+        eval,
+        vectors,
+        vector,
+        row,
+        line,
+    })
+}
+
+// Reads the next vector and makes its row. False is the end of the file.
+fn next_row<S: Store>(rows: &mut Evaluation, store: &mut S) -> Result<bool, VectorsFail>
+    requires open { IsSome (S.store_state store.old).current }
+    requires sized { IsSized rows.old }
+
+    ensures contents { (S.store_state store.new).contents ≡ (S.store_state store.old).contents }
+    ensures later { (S.store_state store.old).failures ≤ (S.store_state store.new).failures }
+    ensures asked { (S.store_state store.new).asked ≡ (S.store_state store.old).asked }
+    ensures sized { OnOk result (IsSized rows.new) }
+    ensures gives { IfOk result (λ more. RowGives more rows.old rows.new (S.store_state store.old) (S.store_state store.new)) }
+    ensures refused { IfErr result (λ e. RowFails e rows.old (S.store_state store.old) (S.store_state store.new)) }
+{
+    if !rows.vectors.next(store, &mut rows.vector)? {
+        return Ok(false);
+    }
+    rows.eval.step(&rows.vector, &mut rows.row);
+    Ok(true)
+}
+
+// Writes the line of the row that was made.
+fn write_row<K: Sink>(rows: &mut Evaluation, sink: &mut K) -> Result<(), Stop>
+    requires { IsSized rows.old }
+    ensures same { rows.new ≡ rows.old }
+    ensures kind { (K.sink_state sink.new).can_lack ≡ (K.sink_state sink.old).can_lack }
+    ensures later { (K.sink_state sink.old).failures ≤ (K.sink_state sink.new).failures }
+    ensures wrote { OnOk result (Wrote (K.sink_state sink.old).written (K.sink_state sink.new).written (row_line rows.old.row.items)) }
+    ensures refused { IfErr result (λ stop. WriteStops (row_line rows.old.row.items) stop (K.sink_state sink.old) (K.sink_state sink.new)) }
+{
+    write(sink, rows.line.line(&rows.row))
+}
+
+// Writes a row for each vector of the file, and each row before the next vector is read.
+fn write_rows<S: Store, K: Sink>(
+    rows: &mut Evaluation,
+    store: &mut S,
+    sink: &mut K,
+) -> Result<(), Stop>
+    requires open { IsBegun (S.store_state store.old) }
+    requires ready { IsReady rows.old.eval.netlist rows.old }
+
+    ensures contents { (S.store_state store.new).contents ≡ (S.store_state store.old).contents }
+    ensures store_later { (S.store_state store.old).failures ≤ (S.store_state store.new).failures }
+    ensures asked { (S.store_state store.new).asked ≡ (S.store_state store.old).asked }
+    ensures kind { (K.sink_state sink.new).can_lack ≡ (K.sink_state sink.old).can_lack }
+    ensures sink_later { (K.sink_state sink.old).failures ≤ (K.sink_state sink.new).failures }
+
+    ensures written { let old = S.store_state store.old in let new = S.store_state store.new in
+        let work = eval_rows rows.old.eval.netlist (file_of old) new.current in
+        IsWritten (all_rows work) result (K.sink_state sink.old) (K.sink_state sink.new) }
+    ensures counted { let old = S.store_state store.old in let new = S.store_state store.new in
+        IfErr result (λ stop. FlowCounts stop old new (K.sink_state sink.old) (K.sink_state sink.new)) }
+{
+    'file: while next_row(rows, store)? {
+        write_row(rows, sink)?;
+    }
+    Ok(())
+}
+
+// Reads a design and vectors, and writes the line `outputs` and a row for each vector.
+fn evaluate<S: Store, K: Sink>(
+    alloc: Global,
+    design: &str,
+    vectors: &str,
+    store: &mut S,
+    sink: &mut K,
+) -> Result<(), Stop>
+    ensures contents { (S.store_state store.new).contents ≡ (S.store_state store.old).contents }
+    ensures store_later { (S.store_state store.old).failures ≤ (S.store_state store.new).failures }
+    ensures kind { (K.sink_state sink.new).can_lack ≡ (K.sink_state sink.old).can_lack }
+    ensures sink_later { (K.sink_state sink.old).failures ≤ (K.sink_state sink.new).failures }
+    ensures asked { Asks (design.now ∷ vectors.now ∷ []) result (S.store_state store.old) (S.store_state store.new) }
+
+    ensures written { let old = S.store_state store.old in let new = S.store_state store.new in
+        IsWritten (eval_course design.now vectors.now old new) result (K.sink_state sink.old) (K.sink_state sink.new) }
+    ensures counted { let old = S.store_state store.old in let new = S.store_state store.new in
+        IfErr result (λ stop. FlowCounts stop old new (K.sink_state sink.old) (K.sink_state sink.new)) }
+{
+    let netlist = read_design(alloc, DesignFile::Design, store, design)?;
+    let mut rows = prepare(alloc, &netlist)?;
+    store.start(vectors)?;
+    write(sink, b"outputs\n")?;
+    write_rows(&mut rows, store, sink)?;
+    Ok(())
+}
+
+/// Reads a design and vectors, and writes the line `outputs` and a row for each vector.
+///
+/// All memory is taken before that line is written, and no vector is read before it.
+///
+/// # Errors
+///
+/// The first step that refuses, in this order: the design is read, the file of vectors is started,
+/// the line is written, and then each vector is read and its row written.
+pub fn eval<S: Store, K: Sink>(
+    alloc: Global,
+    design: &str,
+    vectors: &str,
+    store: &mut S,
+    sink: &mut K,
+) -> Result<(), Stop>
+    ensures lawful { IsLawful (eval_job design.now vectors.now) }
+    // The rig isn't touched.
+    ensures does { (rig : RigState) → Does ⊥ (eval_job design.now vectors.now) result
+        (outside (S.store_state store.old) rig (K.sink_state sink.old)) (outside (S.store_state store.new) rig (K.sink_state sink.new)) }
+{
+    evaluate(alloc, design, vectors, store, sink)
+}

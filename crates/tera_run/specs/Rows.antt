@@ -1,0 +1,70 @@
+-- The rows of an image that is loaded, wherever it comes from.
+use Rattle.std.specs.Prelude.{◌≡◌, ℕ, ◌+◌, ◌≤◌, Bool, List, [], map, length, Option, Some, IfSome}
+use Rattle.tm_outside.specs.Told.{Told, IfTold}
+use Rattle.tm_outside.specs.Store.{Place}
+use Rattle.hierarchy.specs.Circuit.{Pins}
+use Rattle.hierarchy.specs.Faults.{Faults}
+use Rattle.config_set.specs.Faulty.{IsRun}
+use Rattle.config_image.specs.Images.{ImageValue, drive_of, row_of}
+use Rattle.rig.specs.Rig.{RigState, config_of, cycles_of, drives_of, readings_of, spare_of}
+use Rattle.steps.specs.Lines.{outputs_line}
+use Rattle.steps.specs.Outside.{Around}
+use Rattle.steps.specs.Courses.{Course, Step, RowWork, after, write, all_rows}
+use Rattle.steps.specs.Texts.{opens}
+use Rattle.steps.specs.declared.refusal.Refusal.{Refusal}
+use Rattle.steps.specs.declared.refusal.Refusal.TheVariants as refused
+
+-- for how many rows the rig is asked for room
+abbrev pub most_rows : ℕ
+most_rows = 4096
+
+-- what a machine with these faults reads at the output pins of an image that it runs under these vectors
+abbrev pub AreRunRows : Faults → ImageValue → (vectors rows : List (List Bool)) → Type 0
+AreRunRows f i vectors rows = (reads : List Pins) × IsRun f i.config (map (drive_of i) vectors) reads × (rows ≡ map (row_of i) reads)
+
+-- a row for each vector; where the faults of the machine are told, they are what it reads
+pub record AreRowsOf (rig : RigState) (i : ImageValue) (vectors rows : List (List Bool)) : Type 0 where
+  pub count : length rows ≡ length vectors
+  pub read : IfSome rig.machine.faults (λ f. AreRunRows f i vectors rows)
+
+-- the rig's session: it has loaded the image, and has a cycle for each vector, which it drove; the rows are what it read, and
+-- with those that it still has room for they are as many as it was asked for
+pub record IsSession (rig : RigState) (i : ImageValue) (vectors rows : List (List Bool)) : Type 0 where
+  pub config : config_of rig ≡ Some i.config
+  pub drives : drives_of (cycles_of rig) ≡ map (drive_of i) vectors
+  pub rows_are : rows ≡ map (row_of i) (readings_of (cycles_of rig))
+  pub room : most_rows ≤ spare_of rig + length rows
+
+-- the rows of an image
+abbrev pub image_rows : ImageValue → Told → Option Place → RigState → RowWork
+image_rows i told place rig = record {
+  width = length i.inputs;
+  told = told;
+  place = place;
+  are = AreRowsOf rig i;
+  session = IsSession rig i;
+  lacks = λ count. most_rows ≤ count;
+}
+
+-- ---- an image is loaded, and all memory for its rows is taken
+
+abbrev pub NotLoaded : Refusal → Type 0
+NotLoaded refused.Rig = Unit {0}
+NotLoaded refused.Memory = Unit {0}
+NotLoaded refusal = ⊥
+
+abbrev pub loads : Step (Unit {0})
+loads = record { stops = NotLoaded; gives = λ _. Unit {0} }
+
+-- while the line `outputs` is written the vectors were opened and none was read, and the session has no cycles
+abbrev pub IsAtOutputs : ImageValue → (vectors : List ℕ) → Around → Type 0
+IsAtOutputs i vectors new = (new.store.current ≡ Some (record { name = vectors; at = 0 })) × IsSession new.rig i [] []
+
+-- the image is loaded, the vectors are opened, and the rows are written behind the line `outputs`. Before that line the
+-- store stands here
+abbrev pub image_course : ImageValue → (vectors : List ℕ) → (here : Type 0) → Told → (new : Around) → Course
+image_course i vectors here told new =
+    after loads here (λ _.
+    after (opens told) here (λ _.
+    write outputs_line (IsAtOutputs i vectors new)
+    (all_rows (image_rows i told new.store.current new.rig))))

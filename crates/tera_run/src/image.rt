@@ -1,0 +1,193 @@
+//! The rows of an image.
+ghost use Rattle.std.specs.Prelude.{◌≡◌, ◌≤◌, ◌∷◌, [], Some, OnOk, IfOk, IfErr, IsSome, length};
+ghost use Rattle.tm_outside.specs.Sink.{Wrote};
+ghost use Rattle.hierarchy.specs.Shape.{pins_of};
+ghost use Rattle.rig.specs.Rig.{shape_of, width_of};
+ghost use Rattle.netlist_eval.specs.Rows.{row_line};
+ghost use Rattle.steps.specs.Files.{IsBegun, file_of};
+ghost use Rattle.steps.specs.Outside.{StaysNear, outside, around};
+ghost use Rattle.steps.specs.Courses.{all_rows};
+ghost use Rattle.steps.specs.Stops.{Asks, IsWritten, IsCounted, StepStops, WriteStops};
+ghost use Rattle.steps.specs.Texts.{LoadsOnce, RigCounts};
+ghost use Rattle.tera_run.specs.Rows.{image_rows, image_course, loads};
+ghost use Rattle.tera_run.specs.Running.{IsFitting, IsLoaded, CycleGives, CycleStops};
+
+use config_image::Image;
+use loader::{Run, begin};
+use netlist_eval::{RowText, VectorText};
+use rig::Rig;
+use std::alloc::Global;
+use steps::{Stop, write};
+use tm_outside::{Sink, Store};
+
+/// For how many rows the rig is asked for room.
+const ROOM: u32 = 4_096;
+
+// All that the rows need: but for the rig's, no memory is taken after this.
+#[derive(Drop)]
+struct Running {
+    image: Image,
+    run: Run,
+    vectors: VectorText,
+    vector: Vec<bool>,
+    row: Vec<bool>,
+    line: RowText,
+}
+
+// How many input pins an image has, and how many output pins: they are different pins of the machine.
+fn widths(image: &Image) -> (u32, u32)
+    ensures inputs { result.0 ≡ length image.now.inputs }
+    ensures outputs { result.1 ≡ length image.now.outputs }
+{
+    let pins = image.config().shape().pins() as usize;
+    let inputs = image.inputs().len();
+    let outputs = image.outputs().len();
+    prove!(inputs <= pins);
+    prove!(outputs <= pins);
+    (inputs as u32, outputs as u32)
+}
+
+// Loads an image, and takes all memory for its rows.
+fn prepare(alloc: Global, image: Image, rig: &mut Box<dyn Rig>) -> Result<Running, Stop>
+    requires { shape_of (rig_state rig.old) ≡ Some image.config.shape }
+
+    ensures machine { (rig_state rig.new).machine ≡ (rig_state rig.old).machine }
+    ensures later { (rig_state rig.old).failures ≤ (rig_state rig.new).failures }
+    ensures loads { LoadsOnce (rig_state rig.old).loads (rig_state rig.new).loads }
+    ensures image { IfOk result (λ rows. rows.image ≡ image) }
+    ensures loaded { IfOk result (λ rows. IsLoaded rows (rig_state rig.new)) }
+    ensures refused { IfErr result (StepStops loads) }
+    ensures counted { IfErr result (λ stop. RigCounts stop (rig_state rig.old) (rig_state rig.new)) }
+{
+    let (inputs, outputs) = widths(&image);
+    let vectors = VectorText::new(alloc, inputs)?;
+    let vector = vec![in alloc; false; inputs as usize]?;
+    let row = vec![in alloc; false; outputs as usize]?;
+    let line = RowText::new(alloc, outputs)?;
+    let run = begin(alloc, rig, &image, ROOM)?;
+    Ok(Running {
+        image,
+        run,
+        vectors,
+        vector,
+        row,
+        line,
+    })
+}
+
+// Reads the next vector and makes its cycle. False is the end of the file.
+fn next_row<S: Store>(
+    rows: &mut Running,
+    store: &mut S,
+    rig: &mut Box<dyn Rig>,
+) -> Result<bool, Stop>
+    requires open { IsSome (S.store_state store.old).current }
+    requires fits { IsFitting rows.old }
+    requires pins { width_of (rig_state rig.old) ≡ Some (pins_of rows.old.image.config.shape) }
+
+    ensures contents { (S.store_state store.new).contents ≡ (S.store_state store.old).contents }
+    ensures later { (S.store_state store.old).failures ≤ (S.store_state store.new).failures }
+    ensures asked { (S.store_state store.new).asked ≡ (S.store_state store.old).asked }
+    ensures machine { (rig_state rig.new).machine ≡ (rig_state rig.old).machine }
+    ensures loads { (rig_state rig.new).loads ≡ (rig_state rig.old).loads }
+    ensures rig_later { (rig_state rig.old).failures ≤ (rig_state rig.new).failures }
+    ensures image { rows.new.image ≡ rows.old.image }
+    ensures fits { OnOk result (IsFitting rows.new) }
+    ensures gives { let old = S.store_state store.old in let new = S.store_state store.new in
+        IfOk result (λ more. CycleGives more rows.old rows.new old new (rig_state rig.old) (rig_state rig.new)) }
+    ensures refused { let old = S.store_state store.old in let new = S.store_state store.new in
+        IfErr result (λ stop. CycleStops stop rows.old rows.new old new (rig_state rig.old) (rig_state rig.new)) }
+{
+    if !rows.vectors.next(store, &mut rows.vector)? {
+        return Ok(false);
+    }
+    rows.run.row(rig, &rows.vector, &mut rows.row)?;
+    Ok(true)
+}
+
+// Writes the line of the row that was made.
+fn write_row<K: Sink>(rows: &mut Running, sink: &mut K) -> Result<(), Stop>
+    requires { IsFitting rows.old }
+    ensures same { rows.new ≡ rows.old }
+    ensures kind { (K.sink_state sink.new).can_lack ≡ (K.sink_state sink.old).can_lack }
+    ensures later { (K.sink_state sink.old).failures ≤ (K.sink_state sink.new).failures }
+    ensures wrote { OnOk result (Wrote (K.sink_state sink.old).written (K.sink_state sink.new).written (row_line rows.old.row.items)) }
+    ensures refused { IfErr result (λ stop. WriteStops (row_line rows.old.row.items) stop (K.sink_state sink.old) (K.sink_state sink.new)) }
+{
+    write(sink, rows.line.line(&rows.row))
+}
+
+// Makes a cycle for each vector of the current file, and writes its row before the next is read.
+fn write_rows<S: Store, K: Sink>(
+    rows: &mut Running,
+    store: &mut S,
+    rig: &mut Box<dyn Rig>,
+    sink: &mut K,
+) -> Result<(), Stop>
+    requires begun { IsBegun (S.store_state store.old) }
+    requires loaded { IsLoaded rows.old (rig_state rig.old) }
+
+    ensures contents { (S.store_state store.new).contents ≡ (S.store_state store.old).contents }
+    ensures store_later { (S.store_state store.old).failures ≤ (S.store_state store.new).failures }
+    ensures asked { (S.store_state store.new).asked ≡ (S.store_state store.old).asked }
+    ensures machine { (rig_state rig.new).machine ≡ (rig_state rig.old).machine }
+    ensures loads { (rig_state rig.new).loads ≡ (rig_state rig.old).loads }
+    ensures rig_later { (rig_state rig.old).failures ≤ (rig_state rig.new).failures }
+    ensures kind { (K.sink_state sink.new).can_lack ≡ (K.sink_state sink.old).can_lack }
+    ensures sink_later { (K.sink_state sink.old).failures ≤ (K.sink_state sink.new).failures }
+
+    ensures written { let old = S.store_state store.old in let new = S.store_state store.new in
+        let work = image_rows rows.old.image (file_of old) new.current (rig_state rig.new) in
+        IsWritten (all_rows work) result (K.sink_state sink.old) (K.sink_state sink.new) }
+    ensures counted { let old = outside (S.store_state store.old) (rig_state rig.old) (K.sink_state sink.old) in
+        let new = outside (S.store_state store.new) (rig_state rig.new) (K.sink_state sink.new) in
+        IfErr result (λ stop. IsCounted ⊥ stop old new) }
+{
+    'file: while next_row(rows, store, rig)? {
+        write_row(rows, sink)?;
+    }
+    Ok(())
+}
+
+/// Loads an image on the machine that is attached, and writes the line `outputs` and, for each vector of a file, what
+/// the image's output pins read.
+///
+/// All memory of its own is taken before that line is written, and the rig is asked for room for 4,096 rows. No
+/// vector is read or driven before it.
+///
+/// # Errors
+///
+/// The first step that refuses, in this order: the image is loaded, the file of vectors is started, the line is
+/// written, and then each vector is read and driven and its row written.
+pub fn run_image<S: Store, K: Sink>(
+    alloc: Global,
+    image: Image,
+    vectors: &str,
+    store: &mut S,
+    rig: &mut Box<dyn Rig>,
+    sink: &mut K,
+) -> Result<(), Stop>
+    requires { shape_of (rig_state rig.old) ≡ Some image.config.shape }
+
+    ensures contents { (S.store_state store.new).contents ≡ (S.store_state store.old).contents }
+    ensures store_later { (S.store_state store.old).failures ≤ (S.store_state store.new).failures }
+    ensures asked { Asks (vectors.now ∷ []) result (S.store_state store.old) (S.store_state store.new) }
+    ensures machine { (rig_state rig.new).machine ≡ (rig_state rig.old).machine }
+    ensures loads { LoadsOnce (rig_state rig.old).loads (rig_state rig.new).loads }
+    ensures rig_later { (rig_state rig.old).failures ≤ (rig_state rig.new).failures }
+    ensures kind { (K.sink_state sink.new).can_lack ≡ (K.sink_state sink.old).can_lack }
+    ensures sink_later { (K.sink_state sink.old).failures ≤ (K.sink_state sink.new).failures }
+
+    ensures written { let old = outside (S.store_state store.old) (rig_state rig.old) (K.sink_state sink.old) in
+        let new = outside (S.store_state store.new) (rig_state rig.new) (K.sink_state sink.new) in
+        let course = image_course image vectors.now (StaysNear old.store new.store) (old.store.contents vectors.now) (around new) in
+        IsWritten course result old.sink new.sink }
+    ensures counted { let old = outside (S.store_state store.old) (rig_state rig.old) (K.sink_state sink.old) in
+        let new = outside (S.store_state store.new) (rig_state rig.new) (K.sink_state sink.new) in
+        IfErr result (λ stop. IsCounted ⊥ stop old new) }
+{
+    let mut rows = prepare(alloc, image, rig)?;
+    store.start(vectors)?;
+    write(sink, b"outputs\n")?;
+    write_rows(&mut rows, store, rig, sink)
+}

@@ -1,0 +1,93 @@
+//! A command to be tried: its words, what is given besides, and which calls fail.
+
+use std::alloc::{AllocError, Global};
+
+/// Which calls fail in turn, the first, the second and so on, until none is left that can.
+#[derive(Clone, Copy, Drop)]
+pub enum Turn {
+    /// Those of the store.
+    Store,
+    /// Those of the rig.
+    Rig,
+    /// Those of the store of the rig.
+    Faults,
+    /// Those of the sink.
+    Sink,
+}
+
+/// What every end has to be where calls fail in turn.
+#[derive(Drop)]
+pub struct Each {
+    pub turn: Turn,
+    pub status: u8,
+    pub last: Vec<u8>,
+}
+
+/// The numbers of the calls that fail.
+#[derive(Drop)]
+pub struct Fails {
+    pub store: Vec<u64>,
+    pub rig: Vec<u64>,
+    pub faults: Vec<u64>,
+    pub sink: Vec<u64>,
+}
+
+/// A command to be tried.
+#[derive(Drop)]
+pub struct Step {
+    pub words: Vec<String>,
+    pub fails: Fails,
+    /// The bytes that the sink takes, where it takes so many and no more.
+    pub takes: Option<usize>,
+    /// Whether it is tried over each sink that takes too few bytes.
+    pub cuts: bool,
+    /// The sizes of the pieces in which the store gives its files, besides whole.
+    pub pieces: Vec<usize>,
+    pub each: Option<Each>,
+    /// How many of the first lines are written at once.
+    pub together: usize,
+    pub most_loads: Option<u64>,
+    /// The name under which what is written is kept for later steps.
+    pub keep: Option<String>,
+}
+
+impl Fails {
+    /// None fails.
+    pub fn new(alloc: Global) -> Fails {
+        Fails {
+            store: Vec::new(alloc),
+            rig: Vec::new(alloc),
+            faults: Vec::new(alloc),
+            sink: Vec::new(alloc),
+        }
+    }
+
+    /// One of them fails.
+    pub fn one(alloc: Global, turn: Turn, call: u64) -> Result<Fails, AllocError> {
+        let mut fails = Fails::new(alloc);
+        match turn {
+            Turn::Store => fails.store.push(call)?,
+            Turn::Rig => fails.rig.push(call)?,
+            Turn::Faults => fails.faults.push(call)?,
+            Turn::Sink => fails.sink.push(call)?,
+        }
+        Ok(fails)
+    }
+}
+
+impl Step {
+    /// A command of these words, and nothing else said.
+    pub fn new(alloc: Global, words: Vec<String>) -> Step {
+        Step {
+            words,
+            fails: Fails::new(alloc),
+            takes: None,
+            cuts: false,
+            pieces: Vec::new(alloc),
+            each: None,
+            together: 0,
+            most_loads: None,
+            keep: None,
+        }
+    }
+}

@@ -1,0 +1,116 @@
+//! A command over files, a rig and a sink in memory.
+
+use crate::step::Fails;
+use cycle_sim::SimRig;
+use rig::{FlakyRig, LogRig, Rig};
+use std::alloc::{AllocError, Global};
+use tera_top::teramac;
+use tm_outside::{CutSink, File, MemorySink, MemoryStore, Sink};
+
+/// The files that a command finds.
+#[derive(Drop)]
+pub struct Given<'a> {
+    /// Those of the store that this case has.
+    pub files: &'a [File],
+    /// Those of the store that all cases have.
+    pub texts: &'a [File],
+    /// Those of the store of the rig.
+    pub faults: &'a [File],
+}
+
+/// What came of a command.
+#[derive(Drop)]
+pub struct Outcome {
+    pub status: u8,
+    pub bytes: Vec<u8>,
+    pub loads: u64,
+}
+
+// How a command is tried.
+#[derive(Drop)]
+pub struct Manner<'a> {
+    pub words: &'a [String],
+    pub fails: &'a Fails,
+    pub piece: Option<usize>,
+    pub takes: Option<usize>,
+}
+
+// Adds copies of files.
+fn add_copies(alloc: Global, copies: &mut Vec<File>, files: &[File]) -> Result<(), AllocError> {
+    for file in files {
+        let name = String::from_str(alloc, file.name.as_str())?;
+        let bytes = Vec::from_slice(alloc, &file.bytes)?;
+        copies.push(File { name, bytes })?;
+    }
+    Ok(())
+}
+
+// The store of a command.
+fn store_of(
+    alloc: Global,
+    given: &Given<'_>,
+    fails: &Fails,
+    piece: Option<usize>,
+) -> Result<MemoryStore, AllocError> {
+    let mut files = Vec::new(alloc);
+    add_copies(alloc, &mut files, given.files)?;
+    add_copies(alloc, &mut files, given.texts)?;
+    let fails = Vec::from_slice(alloc, &fails.store)?;
+    Ok(match piece {
+        Some(most) if most > 0 => MemoryStore::in_pieces(alloc, files, fails, most),
+        _ => MemoryStore::new(alloc, files, fails),
+    })
+}
+
+// The rig of a command.
+fn sim_of(
+    alloc: Global,
+    faults: &[File],
+    fails: &Fails,
+) -> Result<FlakyRig<SimRig<MemoryStore>>, AllocError> {
+    let mut files = Vec::new(alloc);
+    add_copies(alloc, &mut files, faults)?;
+    let store = MemoryStore::new(alloc, files, Vec::from_slice(alloc, &fails.faults)?);
+    let sim = SimRig::new(alloc, store);
+    Ok(FlakyRig::new(alloc, sim, Vec::from_slice(alloc, &fails.rig)?))
+}
+
+// The status of a command over a sink, and by how much the loads rose.
+fn end_over<K: Sink>(
+    alloc: Global,
+    manner: &Manner<'_>,
+    given: &Given<'_>,
+    sink: &mut K,
+) -> Result<(u8, u64), AllocError> {
+    let mut store = store_of(alloc, given, manner.fails, manner.piece)?;
+    let sim = sim_of(alloc, given.faults, manner.fails)?;
+    let mut rig: Box<dyn Rig> = Box::new(alloc, LogRig::new(sim))?;
+    let status = teramac(alloc, manner.words, &mut store, &mut rig, sink);
+    Ok((status, rig.loads()))
+}
+
+/// Does a command, and tells what came of it.
+pub fn outcome_of(
+    alloc: Global,
+    manner: &Manner<'_>,
+    given: &Given<'_>,
+) -> Result<Outcome, AllocError> {
+    if let Some(most) = manner.takes {
+        let mut sink = CutSink::new(alloc, most)?;
+        let (status, loads) = end_over(alloc, manner, given, &mut sink)?;
+        let bytes = Vec::from_slice(alloc, sink.bytes())?;
+        return Ok(Outcome {
+            status,
+            bytes,
+            loads,
+        });
+    }
+    let mut sink = MemorySink::new(alloc, Vec::from_slice(alloc, &manner.fails.sink)?);
+    let (status, loads) = end_over(alloc, manner, given, &mut sink)?;
+    let bytes = Vec::from_slice(alloc, sink.bytes())?;
+    Ok(Outcome {
+        status,
+        bytes,
+        loads,
+    })
+}
