@@ -1,0 +1,133 @@
+//! All crossbars of a machine, from the root down.
+ghost use Rattle.std.specs.Prelude.{◌≡◌, ◌<◌, ◌+◌, ◌++◌, ◌∷◌, [], Some, None, IfOk, IfSome, IfNone, OnOk, IsTrue, length};
+ghost use Rattle.hierarchy.specs.Shape.{parent_of};
+ghost use Rattle.rig.specs.Rig.{shape_of};
+ghost use Rattle.evidence.specs.Kept.{Advances};
+ghost use Rattle.evidence.specs.Held.{IsHeld};
+ghost use Rattle.crossbar_test.specs.Stages.{FullIf};
+ghost use Rattle.crossbar_loads.specs.Found.{AreFound};
+
+use crossbar_test::{find_trunk, test_crossbar};
+use evidence::{Proof, Tested};
+use hierarchy::{Node, Shape};
+use rig::{Rig, RigFail};
+use std::alloc::Global;
+
+// Finds a trunk of a node, and tests its crossbar. None where there is no trunk.
+fn test_node(
+    alloc: Global,
+    rig: &mut Box<dyn Rig>,
+    proof: &mut Proof,
+    shape: &Shape,
+    parent: Option<&Tested>,
+    node: Node,
+) -> Result<Option<Tested>, RigFail>
+    requires attached { shape_of (rig_state rig.old) ≡ Some shape.now }
+    requires shape { proof.old.shape ≡ shape.now }
+    requires root { IfNone parent (node.0 ≡ 0) }
+    requires child { IfSome parent (λ tested. parent_of shape.now node.0 ≡ Some tested.now.node) }
+    requires held { IfSome parent (λ tested. IsHeld proof.old tested.now) }
+    requires full { IfSome parent (λ tested. FullIf (rig_state rig.old).machine.faults proof.old proof.old tested.now) }
+
+    ensures advances { Advances (rig_state rig.old) (rig_state rig.new) proof.old proof.new }
+    ensures node { IfOk result (λ found. IfSome found (λ tested. tested.node ≡ node.0)) }
+    ensures held { IfOk result (λ found. IfSome found (IsHeld proof.new)) }
+    ensures full { IfOk result (λ found. IfSome found (FullIf (rig_state rig.old).machine.faults proof.old proof.new)) }
+{
+    let Some(trunk) = find_trunk(alloc, rig, proof, shape, parent, node)? else {
+        return Ok(None);
+    };
+    let tested = test_crossbar(alloc, rig, proof, shape, trunk)?;
+    Ok(Some(tested))
+}
+
+// The number of the parent of a node, which is below this number.
+fn parent_below(shape: &Shape, node: Node, below: usize) -> Option<usize>
+    ensures child { IfSome result (λ i. parent_of shape.now node.0 ≡ Some i) }
+    ensures below { IfSome result (λ i. i < below) }
+{
+    if node.0 >= shape.nodes() {
+        return None;
+    }
+    let parent = shape.parent(node)?;
+    let place = parent.0 as usize;
+    if place < below { Some(place) } else { None }
+}
+
+// Finds a trunk of the next node, and tests its crossbar. None where there is no trunk.
+fn test_one(
+    alloc: Global,
+    rig: &mut Box<dyn Rig>,
+    proof: &mut Proof,
+    shape: &Shape,
+    found: &[Tested],
+    node: Node,
+) -> Result<Option<Tested>, RigFail>
+    requires attached { shape_of (rig_state rig.old) ≡ Some shape.now }
+    requires shape { proof.old.shape ≡ shape.now }
+    requires found { AreFound (rig_state rig.old).machine.faults proof.old found.now }
+
+    ensures advances { Advances (rig_state rig.old) (rig_state rig.new) proof.old proof.new }
+    ensures node { IfOk result (λ next. IfSome next (λ tested. tested.node ≡ node.0)) }
+    ensures held { IfOk result (λ next. IfSome next (IsHeld proof.new)) }
+    ensures full { IfOk result (λ next. IfSome next (FullIf (rig_state rig.old).machine.faults proof.old proof.new)) }
+{
+    if node.0 == 0 {
+        return test_node(alloc, rig, proof, shape, None, node);
+    }
+    let Some(place) = parent_below(shape, node, found.len()) else {
+        return Ok(None);
+    };
+    test_node(alloc, rig, proof, shape, Some(&found[place]), node)
+}
+
+// Adds a tested crossbar.
+fn add(found: &mut Vec<Tested>, tested: Tested) -> Result<(), RigFail>
+    ensures { OnOk result (found.new.items ≡ found.old.items ++ tested ∷ []) }
+{
+    match found.push(tested) {
+        Ok(()) => Ok(()),
+        Err(_) => Err(RigFail::Memory),
+    }
+}
+
+// Adds the tested crossbar of the next node. False where it has no trunk.
+fn test_next(
+    alloc: Global,
+    rig: &mut Box<dyn Rig>,
+    proof: &mut Proof,
+    shape: &Shape,
+    found: &mut Vec<Tested>,
+    node: Node,
+) -> Result<bool, RigFail>
+    requires attached { shape_of (rig_state rig.old) ≡ Some shape.now }
+    requires shape { proof.old.shape ≡ shape.now }
+    requires found { AreFound (rig_state rig.old).machine.faults proof.old found.old.items }
+    requires node { node.0 ≡ length found.old.items }
+
+    ensures advances { Advances (rig_state rig.old) (rig_state rig.new) proof.old proof.new }
+    ensures found { IfOk result (λ yes. IsTrue yes → AreFound (rig_state rig.old).machine.faults proof.new found.new.items) }
+    ensures length { IfOk result (λ yes. IsTrue yes → length found.new.items ≡ node.0 + 1) }
+{
+    let Some(tested) = test_one(alloc, rig, proof, shape, found, node)? else {
+        return Ok(false);
+    };
+    add(found, tested)?;
+    Ok(true)
+}
+
+/// Tests all crossbars of the machine that is attached. It gives the loads that this took, and none where it didn't work.
+pub fn test_all(alloc: Global, rig: &mut Box<dyn Rig>, shape: &Shape) -> Option<u64>
+    requires { shape_of (rig_state rig.old) ≡ Some shape.now }
+{
+    let before = rig.loads();
+    let mut proof = Proof::new(alloc, *shape).ok()?;
+    let mut found = Vec::new(alloc);
+    'nodes: for n in 0..shape.nodes() {
+        match test_next(alloc, rig, &mut proof, shape, &mut found, Node(n)) {
+            Ok(true) => {}
+            _ => return None,
+        }
+    }
+    Some(rig.loads().saturating_sub(before))
+}

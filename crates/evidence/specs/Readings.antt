@@ -1,0 +1,81 @@
+-- What tests read, and where they are bound to pass. `told` is the faults of the machine, where they are told.
+use Rattle.std.specs.Prelude.{◌≡◌, ◌≢◌, ◌↔◌, ℕ, Bool, true, false, Option, Some, None, IsTrue, [], ◌∷◌, slice_index_or}
+use Rattle.hierarchy.specs.Circuit.{Pins}
+use Rattle.hierarchy.specs.Faults.{Faults}
+use Rattle.hierarchy.specs.Shape.{pin_wire}
+use Rattle.config_set.specs.declared.Setting.{Setting}
+use Rattle.config_set.specs.Configuration.{Configuration, is_closed}
+use Rattle.config_set.specs.Faulty.{IsRun}
+use Rattle.config_set.specs.Groups.{AreGroups, among}
+use Rattle.config_set.specs.Tests.{AreOff, IsLoop, IsCellTest, IsRegisterTest, IsDrivenAlone, AreReleased}
+use Rattle.test_configs.specs.Routes.{Walk, IsRoute}
+use Rattle.evidence.specs.Kept.{Kept, keeps_cross}
+
+-- the first reading after a load, where the faults are told
+pub record ReadsOnce (told : Option Faults) (g : Configuration) (drive reading : Pins) : Type 0 where
+  pub run : (f : Faults) → told ≡ Some f → IsRun f g (drive ∷ []) (reading ∷ [])
+
+-- a pin, two pins at one time, and a pin in two cycles read these bits after a load
+pub record Reads (told : Option Faults) (g : Configuration) (drive : Pins) (pin : ℕ) (bit : Bool) : Type 0 where
+  pub reading : Pins
+  pub run : (f : Faults) → told ≡ Some f → IsRun f g (drive ∷ []) (reading ∷ [])
+  pub bit_is : bit ≡ slice_index_or reading pin true
+
+pub record ReadsPins (told : Option Faults) (g : Configuration) (drive : Pins) (k l : ℕ) (first second : Bool) : Type 0 where
+  pub reading : Pins
+  pub run : (f : Faults) → told ≡ Some f → IsRun f g (drive ∷ []) (reading ∷ [])
+  pub first_is : first ≡ slice_index_or reading k true
+  pub second_is : second ≡ slice_index_or reading l true
+
+pub record ReadsTwice (told : Option Faults) (g : Configuration) (low high : Pins) (pin : ℕ) (first second : Bool) : Type 0 where
+  pub reading : Pins
+  pub later : Pins
+  pub run : (f : Faults) → told ≡ Some f → IsRun f g (low ∷ high ∷ []) (reading ∷ later ∷ [])
+  pub first_is : first ≡ slice_index_or reading pin true
+  pub second_is : second ≡ slice_index_or later pin true
+
+-- yes exactly where the first readings under two configurations differ at a pin
+pub record TellsApart (told : Option Faults) (g h : Configuration) (drive : Pins) (pin : ℕ) (yes : Bool) : Type 0 where
+  pub exact : (f : Faults) (r q : Pins) → told ≡ Some f → IsRun f g (drive ∷ []) (r ∷ []) → IsRun f h (drive ∷ []) (q ∷ []) →
+      (IsTrue yes ↔ (slice_index_or r pin true ≢ slice_index_or q pin true))
+
+-- yes exactly where a pin reads 0 under one drive and 1 under the other, in one session
+pub record TellsSwing (told : Option Faults) (g : Configuration) (low high : Pins) (pin : ℕ) (yes : Bool) : Type 0 where
+  pub exact : (f : Faults) (r q : Pins) → told ≡ Some f → IsRun f g (low ∷ high ∷ []) (r ∷ q ∷ []) →
+      (IsTrue yes ↔ (slice_index_or r pin true ≢ slice_index_or q pin true))
+
+-- yes exactly where two pins read different values at one time
+pub record TellsPins (told : Option Faults) (g : Configuration) (drive : Pins) (k l : ℕ) (yes : Bool) : Type 0 where
+  pub exact : (f : Faults) (r : Pins) → told ≡ Some f → IsRun f g (drive ∷ []) (r ∷ []) →
+      (IsTrue yes ↔ (slice_index_or r k true ≢ slice_index_or r l true))
+
+-- The route is one of the machine, and its crosspoints are closed and kept.
+pub record IsReady (k : Kept) (g : Configuration) (r : Walk) : Type 0 where
+  pub route : IsRoute k.shape r
+  pub closed : (x : ℕ) → among r.crosses x ≡ true → is_closed g x ≡ true
+  pub kept : (x : ℕ) → among r.crosses x ≡ true → keeps_cross k x ≡ true
+
+-- Where the faults are told, the answer is yes if ..
+
+-- .. the crosspoint closes a loop of two groups, and the pin of the one alone is driven
+pub record CrossPasses (told : Option Faults) (g : Configuration) (x : ℕ) (drive : Pins) (pin : ℕ) (yes : Bool) : Type 0 where
+  pub at : (f : Faults) (left right : ℕ → Bool) (k : ℕ) → told ≡ Some f → IsLoop f g x left right k pin → IsDrivenAlone drive k → IsTrue yes
+
+-- .. the cell is tested by two groups, and the pin of the one alone is driven
+pub record CellPasses (told : Option Faults) (g : Configuration) (t a : ℕ) (drive : Pins) (pin : ℕ) (yes : Bool) : Type 0 where
+  pub at : (f : Faults) (s : Setting) (left right bits : ℕ → Bool) (k : ℕ) → told ≡ Some f → IsCellTest f g t a s left right bits k pin → IsDrivenAlone drive k → IsTrue yes
+
+-- .. the register is tested by two groups
+pub record RegisterPasses (told : Option Faults) (g : Configuration) (t : ℕ) (drive : Pins) (pin : ℕ) (yes : Bool) : Type 0 where
+  pub at : (f : Faults) (s : Setting) (left right : ℕ → Bool) → told ≡ Some f → IsRegisterTest f g t s left right drive pin → IsTrue yes
+
+-- .. all tables are off, and the pin is in a group that is apart from another and is driven 0 by the first drive, where
+-- the second drives nothing
+pub record SwingPasses (told : Option Faults) (g : Configuration) (low high : Pins) (k : ℕ) (yes : Bool) : Type 0 where
+  pub at : (f : Faults) (left right : ℕ → Bool) → told ≡ Some f → AreOff g → AreGroups g.shape f (is_closed g) left right →
+      left (pin_wire g.shape k) ≡ true → slice_index_or low k true ≡ false → AreReleased high → IsTrue yes
+
+-- .. all tables are off, and the pins are in two groups that are apart, of which the one pin alone is driven
+pub record ApartPasses (told : Option Faults) (g : Configuration) (drive : Pins) (k l : ℕ) (yes : Bool) : Type 0 where
+  pub at : (f : Faults) (left right : ℕ → Bool) → told ≡ Some f → AreOff g → AreGroups g.shape f (is_closed g) left right →
+      left (pin_wire g.shape k) ≡ true → right (pin_wire g.shape l) ≡ true → IsDrivenAlone drive k → IsTrue yes

@@ -1,0 +1,188 @@
+//! Facts about one rig's faults.
+ghost use Rattle.std.specs.Prelude.{◌≡◌, ◌≢◌, ◌<◌, ◌||◌, ℕ, IfOk, length, true, false, [], ◌∷◌};
+ghost use Rattle.tm_bits.specs.Numbers.{has_number};
+ghost use Rattle.tm_bits.specs.Pairs.{has_pair};
+ghost use Rattle.hierarchy.specs.Shape.{crosses_of, wires_of, tables_of};
+ghost use Rattle.config_set.specs.Groups.{among};
+ghost use Rattle.test_configs.specs.Routes.{IsRoute};
+ghost use Rattle.evidence.specs.Kept.{KeepsNothing, Gains, keeps_cross, keeps_wire, keeps_pair, keeps_cell, keeps_register, one_cross, these_wires, these_pairs, one_cell, one_register, is_between};
+
+use config_set::Config;
+use hierarchy::{Cross, Shape, Table, Wire};
+use std::alloc::{AllocError, Global};
+use std::marker::Model;
+use test_configs::Route;
+use tm_bits::{BitSet, PairSet};
+
+/// Facts about the faults of one rig's machine: kept crosspoints aren't stuck, kept wires are shorted to no stuck wire,
+/// kept pairs of wires aren't shorted, kept cells aren't wrong, and kept registers aren't stuck. Only the five tests
+/// add one.
+#[derive(Drop)]
+pub struct Proof {
+    pub(crate) alloc: Global,
+    pub(crate) shape: Shape,
+    // A configuration that a test was done with, for the next one.
+    pub(crate) done: Option<Config>,
+    crosses: BitSet,
+    wires: BitSet,
+    pairs: PairSet,
+    cells: BitSet,
+    registers: BitSet,
+}
+
+impl Model for Proof {
+    ghost use Rattle.std.specs.Prelude.{◌≡◌, IfSome};
+    ghost use Rattle.evidence.specs.Kept.{Kept, coded_kept, AreMarksOf};
+
+    ghost Value = { Kept };
+
+    ghost coded = { coded_kept };
+
+    ghost view = { λ p. record { shape = p.shape; crosses = p.crosses; wires = p.wires; pairs = p.pairs; cells = p.cells; registers = p.registers } };
+
+    ghost invariant = { λ p. AreMarksOf (record { shape = p.shape; crosses = p.crosses; wires = p.wires; pairs = p.pairs; cells = p.cells; registers = p.registers }) × IfSome p.done (λ g. g.config.shape ≡ p.shape) };
+}
+
+impl Proof {
+    /// Keeps nothing.
+    pub fn new(alloc: Global, shape: Shape) -> Result<Proof, AllocError>
+        ensures shape { IfOk result (λ p. p.shape ≡ shape) }
+        ensures nothing { IfOk result KeepsNothing }
+    {
+        Ok(Proof {
+            alloc,
+            shape,
+            done: None,
+            crosses: BitSet::new(alloc, shape.crosses())?,
+            wires: BitSet::new(alloc, shape.wires())?,
+            pairs: PairSet::new(alloc, shape.wires())?,
+            cells: BitSet::new(alloc, 64 * shape.tables())?,
+            registers: BitSet::new(alloc, shape.tables())?,
+        })
+    }
+
+    /// The shape of the machine.
+    pub fn shape(&self) -> Shape
+        ensures { result ≡ self.now.shape }
+    {
+        self.shape
+    }
+
+    /// Whether a crosspoint is kept.
+    pub fn keeps_cross(&self, c: Cross) -> bool
+        requires { c.0 < crosses_of self.now.shape }
+        ensures { result ≡ keeps_cross self.now c.0 }
+    {
+        self.crosses.has(c.0)
+    }
+
+    /// Whether a wire is kept.
+    pub fn keeps_wire(&self, w: Wire) -> bool
+        requires { w.0 < wires_of self.now.shape }
+        ensures { result ≡ keeps_wire self.now w.0 }
+    {
+        self.wires.has(w.0)
+    }
+
+    /// Whether a pair of wires is kept, in either order.
+    pub fn keeps_pair(&self, a: Wire, b: Wire) -> bool
+        requires a { a.0 < wires_of self.now.shape }
+        requires b { b.0 < wires_of self.now.shape }
+        requires differ { a.0 ≢ b.0 }
+        ensures { result ≡ keeps_pair self.now a.0 b.0 }
+    {
+        self.pairs.has(a.0, b.0)
+    }
+
+    /// Whether a cell of a table is kept.
+    pub fn keeps_cell(&self, t: Table, address: u8) -> bool
+        requires table { t.0 < tables_of self.now.shape }
+        requires address { address < 64 }
+        ensures { result ≡ keeps_cell self.now t.0 address }
+    {
+        self.cells.has(64 * t.0 + u32::from(address))
+    }
+
+    /// Whether the register of a table is kept.
+    pub fn keeps_register(&self, t: Table) -> bool
+        requires { t.0 < tables_of self.now.shape }
+        ensures { result ≡ keeps_register self.now t.0 }
+    {
+        self.registers.has(t.0)
+    }
+
+    pub(crate) fn keep_cross(&mut self, c: Cross)
+        requires { c.0 < crosses_of self.old.shape }
+        ensures { Gains (one_cross c.0) self.old self.new }
+    {
+        self.crosses.insert(c.0);
+    }
+
+    pub(crate) fn keep_cell(&mut self, t: Table, address: u8)
+        requires table { t.0 < tables_of self.old.shape }
+        requires address { address < 64 }
+        ensures { Gains (one_cell t.0 address) self.old self.new }
+    {
+        self.cells.insert(64 * t.0 + u32::from(address));
+    }
+
+    pub(crate) fn keep_register(&mut self, t: Table)
+        requires { t.0 < tables_of self.old.shape }
+        ensures { Gains (one_register t.0) self.old self.new }
+    {
+        self.registers.insert(t.0);
+    }
+
+    pub(crate) fn keep_wires(&mut self, route: &Route)
+        requires { IsRoute self.old.shape route.now }
+        ensures { Gains (these_wires route.now.wires) self.old self.new }
+    {
+        mark_wires(&mut self.wires, route);
+    }
+
+    pub(crate) fn keep_pairs(&mut self, left: &Route, right: &Route)
+        requires left { IsRoute self.old.shape left.now }
+        requires right { IsRoute self.old.shape right.now }
+        requires apart { (w : ℕ) → among left.now.wires w ≡ true → among right.now.wires w ≡ false }
+        ensures { Gains (these_pairs left.now.wires right.now.wires) self.old self.new }
+    {
+        mark_pairs(&mut self.pairs, left, right);
+    }
+}
+
+// Marks the wires of a route.
+fn mark_wires(wires: &mut BitSet, route: &Route)
+    requires { (w : ℕ) → among route.now.wires w ≡ true → w < length wires.old }
+    ensures marked { (w : ℕ) → has_number wires.new w ≡ (among route.now.wires w || has_number wires.old w) }
+    ensures len { length wires.new ≡ length wires.old }
+{
+    'wires: for k in 0..=route.len() {
+        wires.insert(route.wire_at(k).0);
+    }
+}
+
+// Marks a wire with each wire of a route.
+fn mark_with(pairs: &mut PairSet, w: Wire, route: &Route)
+    requires wire { w.0 < pairs.old.n }
+    requires wires { (u : ℕ) → among route.now.wires u ≡ true → u < pairs.old.n }
+    requires apart { among route.now.wires w.0 ≡ false }
+    ensures marked { (a b : ℕ) → has_pair pairs.new a b ≡ (is_between (w.0 ∷ []) route.now.wires a b || has_pair pairs.old a b) }
+    ensures n { pairs.new.n ≡ pairs.old.n }
+{
+    'wires: for k in 0..=route.len() {
+        pairs.mark(w.0, route.wire_at(k).0);
+    }
+}
+
+// Marks each wire of one route with each of the other.
+fn mark_pairs(pairs: &mut PairSet, left: &Route, right: &Route)
+    requires left { (w : ℕ) → among left.now.wires w ≡ true → w < pairs.old.n }
+    requires right { (w : ℕ) → among right.now.wires w ≡ true → w < pairs.old.n }
+    requires apart { (w : ℕ) → among left.now.wires w ≡ true → among right.now.wires w ≡ false }
+    ensures marked { (a b : ℕ) → has_pair pairs.new a b ≡ (is_between left.now.wires right.now.wires a b || has_pair pairs.old a b) }
+    ensures n { pairs.new.n ≡ pairs.old.n }
+{
+    'wires: for k in 0..=left.len() {
+        mark_with(pairs, left.wire_at(k), right);
+    }
+}

@@ -1,0 +1,83 @@
+//! Tests of the wires of routes.
+ghost use Rattle.std.specs.Prelude.{◌≡◌, ◌≤◌, ◌<◌, ◌+◌, ℕ, true, false, Some, length, IfOk, IsTrue, OnErr, IsErrOf};
+ghost use Rattle.tm_outside.specs.Counts.{Rose};
+ghost use Rattle.hierarchy.specs.Shape.{pins_of};
+ghost use Rattle.config_set.specs.Groups.{among};
+ghost use Rattle.rig.specs.Rig.{shape_of};
+ghost use Rattle.evidence.specs.Kept.{Gains, Advances, these_wires, these_pairs};
+ghost use Rattle.evidence.specs.Readings.{IsReady, TellsSwing, TellsPins, SwingPasses, ApartPasses};
+
+use crate::Proof;
+use crate::readings::{read_pins, read_twice};
+use config_set::Config;
+use rig::{PinBits, Rig, RigFail};
+use test_configs::Route;
+
+impl Proof {
+    /// Reads the pin of a route under two drives, in one session. True exactly where it reads 0 under one and 1 under the
+    /// other, and then all wires of the route are kept.
+    pub fn swing(
+        &mut self,
+        rig: &mut Box<dyn Rig>,
+        config: &Config,
+        low: &PinBits,
+        high: &PinBits,
+        route: &Route,
+    ) -> Result<bool, RigFail>
+        requires attached { shape_of (rig_state rig.old) ≡ Some self.old.shape }
+        requires shape { config.now.config.shape ≡ self.old.shape }
+        requires low { length low.now ≡ pins_of self.old.shape }
+        requires high { length high.now ≡ pins_of self.old.shape }
+        requires ready { IsReady self.old config.now.config route.now }
+
+        ensures exact { IfOk result (TellsSwing (rig_state rig.old).machine.faults config.now.config low.now high.now route.now.pin) }
+        ensures passes { IfOk result (SwingPasses (rig_state rig.old).machine.faults config.now.config low.now high.now route.now.pin) }
+        ensures gains { IfOk result (λ yes. IsTrue yes → Gains (these_wires route.now.wires) self.old self.new) }
+        ensures same { IfOk result (λ yes. yes ≡ false → self.new ≡ self.old) }
+        ensures refused { OnErr result (self.new ≡ self.old) }
+        ensures advances { Advances (rig_state rig.old) (rig_state rig.new) self.old self.new }
+        ensures loads { (rig_state rig.new).loads ≤ (rig_state rig.old).loads + 1 }
+        ensures cause { IsErrOf result RigFail.Failed → Rose (rig_state rig.old).failures (rig_state rig.new).failures }
+    {
+        let (first, second) = read_twice(self.alloc, rig, config, low, high, route.pin())?;
+        if first == second {
+            return Ok(false);
+        }
+        self.keep_wires(route);
+        Ok(true)
+    }
+
+    /// Reads the pins of two routes at one time. True exactly where they read different values, and then each wire of the
+    /// left route and each of the right are a kept pair.
+    pub fn apart(
+        &mut self,
+        rig: &mut Box<dyn Rig>,
+        config: &Config,
+        drive: &PinBits,
+        left: &Route,
+        right: &Route,
+    ) -> Result<bool, RigFail>
+        requires attached { shape_of (rig_state rig.old) ≡ Some self.old.shape }
+        requires shape { config.now.config.shape ≡ self.old.shape }
+        requires drive { length drive.now ≡ pins_of self.old.shape }
+        requires left { IsReady self.old config.now.config left.now }
+        requires right { IsReady self.old config.now.config right.now }
+        requires disjoint { (w : ℕ) → among left.now.wires w ≡ true → among right.now.wires w ≡ false }
+
+        ensures exact { IfOk result (TellsPins (rig_state rig.old).machine.faults config.now.config drive.now left.now.pin right.now.pin) }
+        ensures passes { IfOk result (ApartPasses (rig_state rig.old).machine.faults config.now.config drive.now left.now.pin right.now.pin) }
+        ensures gains { IfOk result (λ yes. IsTrue yes → Gains (these_pairs left.now.wires right.now.wires) self.old self.new) }
+        ensures same { IfOk result (λ yes. yes ≡ false → self.new ≡ self.old) }
+        ensures refused { OnErr result (self.new ≡ self.old) }
+        ensures advances { Advances (rig_state rig.old) (rig_state rig.new) self.old self.new }
+        ensures loads { (rig_state rig.new).loads ≤ (rig_state rig.old).loads + 1 }
+        ensures cause { IsErrOf result RigFail.Failed → Rose (rig_state rig.old).failures (rig_state rig.new).failures }
+    {
+        let (near, far) = read_pins(self.alloc, rig, config, drive, left.pin(), right.pin())?;
+        if near == far {
+            return Ok(false);
+        }
+        self.keep_pairs(left, right);
+        Ok(true)
+    }
+}
