@@ -7,6 +7,7 @@ deep     a chain of models, each of which adds a signal and uses the next
 tree     models that use the next one twice: 65,534 replaced lines
 empty    a model of COUNT covers without rows, used COUNT times
 given    a model with a line of COUNT pairs, used COUNT times
+uses     600 instances of a model that uses one of 600 ports 100 times
 outputs  COUNT words of .outputs
 """
 import sys
@@ -50,6 +51,16 @@ def models(own):
     out(".model m%d\n.inputs a\n.outputs y\n.names a y\n0 1\n.end\n" % most)
 
 
+def uses():
+    pairs = " ".join("p%d=i" % k for k in range(599))
+    out(".model top\n.inputs x\n.outputs y\n" + ".subckt mid i=x\n" * 600 + ".names x y\n1 1\n.end\n")
+    out(".model mid\n.inputs i\n")
+    for k in range(100):
+        out(".subckt leaf %s o=z%d\n" % (pairs, k))
+    ports = " ".join("p%d" % k for k in range(599))
+    out(".end\n.model leaf\n.inputs %s\n.outputs o\n.names p0 o\n1 1\n.end\n" % ports)
+
+
 def tree():
     most = count or 15
     out(".model top\n.inputs a\n.outputs y\n.subckt m1 a=a y=t\n.subckt m1 a=t y=y\n.end\n")
@@ -90,6 +101,8 @@ elif kind == "empty":
     empty()
 elif kind == "given":
     given()
+elif kind == "uses":
+    uses()
 elif kind == "outputs":
     outputs()
 else:
