@@ -17,7 +17,7 @@ use crate::text::{TextReader, keep, new_reader, take_line};
 use flatten::{Model, flatten};
 use netlist::{DesignFault, DesignKind, Netlist};
 use std::alloc::Global;
-use tm_text::{LineFault, Lines};
+use tm_text::{LineFault, Lines, MOST_BYTES};
 
 fn new_text<'a>(alloc: Global) -> TextReader<'a>
     ensures { text_of result ≡ text_start }
@@ -74,9 +74,6 @@ fn read_whole(alloc: Global, bytes: &[u8]) -> Result<Vec<Model>, DesignFault>
     keep(alloc, &mut done, name, this)?;
     Ok(done)
 }
-
-/// The most bytes of a design's text.
-const MOST_BYTES: usize = 16_777_216;
 
 /// Reads the models of a text, unless a line is faulty or memory runs out.
 fn read_models(alloc: Global, bytes: &[u8]) -> Result<Vec<Model>, DesignFault>

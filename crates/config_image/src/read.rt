@@ -19,9 +19,7 @@ use crate::kind::{ImageFault, ImageKind};
 use config_set::{Config, Setting};
 use hierarchy::{Cross, Shape, Table};
 use std::alloc::Global;
-
-/// The most bytes of an image.
-const MOST_BYTES: usize = 16_777_216;
+use tm_text::MOST_BYTES;
 
 /// What stands before the pins.
 #[derive(Clone, Copy, Debug)]

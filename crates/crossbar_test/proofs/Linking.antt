@@ -1,24 +1,26 @@
 -- Where a crosspoint is a link of a trunk's two sides, what is closed is a loop of two groups.
 use Rattle.std.proofs.Common.{◌≡◌, ◌≢◌, ◌⊎◌, ◌<◌, ℕ, Bool, true, false, ◌||◌, None, List, [], ◌∷◌, ◌++◌, refl, sym, ap, ◌∙◌, subst, inl, inr}
+use Rattle.std.proofs.lemmas.Bool.{false≢true}
 use Rattle.std.specs.List.{AllByRecursion}
 use Rattle.hierarchy.specs.declared.Shape.{Shape}
 use Rattle.hierarchy.specs.Laws.{HasCrosses}
 use Rattle.hierarchy.specs.Shape.{Ends, in_order, turned, ends_of, pin_wire, pins_of, crosses_of}
 use Rattle.hierarchy.specs.Faults.{Faults, stuck_cross}
 use Rattle.hierarchy.specs.Joined.{here}
-use Rattle.hierarchy.proofs.Clear.{clear_of_sound}
 use Rattle.config_set.specs.Groups.{among, both, IsWithin, AreGroups, AreClear, AreUnshorted}
 use Rattle.config_set.specs.Route.{LeadsTo, ends, goes}
 use Rattle.config_set.specs.Configuration.{Configuration, is_closed, with_open}
 use Rattle.config_set.specs.Tests.{AreOff, IsLed, IsLoop}
 use Rattle.config_set.proofs.Grouped.{LeadsTo-within, LeadsTo-start, LeadsTo-end, LeadsTo-then}
 use Rattle.config_set.proofs.Loops.{closed_before}
-use Rattle.config_set.proofs.Parts.{clear_both, clear_one, unshorted_turned, unshorted_left, unshorted_right, unshorted_sound}
+use Rattle.config_set.proofs.Parts.{clear_both, clear_one, unshorted_left, unshorted_right}
 use Rattle.test_configs.specs.Routes.{Walk, IsRoute}
 use Rattle.test_configs.specs.Configs.{IsLoopConfig}
+use Rattle.evidence.specs.Kept.{Kept, keeps_cross}
+use Rattle.crossbar_test.specs.Sides.{KeepsEnds}
 use Rattle.crossbar_test.proofs.Laid.{on_route}
 use Rattle.crossbar_test.specs.Links.{IsFree, IsNear, is_end, over_line, IsFar, directly, over_tap, IsLink, IsTie, itself, near_tie, far_tie, AreTies}
-use Rattle.crossbar_test.proofs.Walking.{all_append, all_among, still_closed, not_itself, grown, within_at, ends_at, ends_back, in_left, in_right, it_is, it_isnt}
+use Rattle.crossbar_test.proofs.Walking.{all_append, all_among, still_closed, not_itself, grown, within_at, ends_at, ends_back, in_left, in_right, it_is}
 
 -- a route whose crosspoints are closed and not stuck
 pub record IsClosedSide (g : Configuration) (f : Faults) (s : Walk) : Type 0 where
@@ -77,15 +79,12 @@ module _ (f : Faults) (g : Configuration) (near far : Walk) (via taps lines ties
   near_clear = clear_both g.shape f base (among (t ∷ [])) p.near_clear (clear_one g.shape f t p.tap_clear)
 
   far_clear : AreClear g.shape f far_group
-  far_clear = clear_both g.shape f back (among (l ∷ [])) p.far_clear (clear_one g.shape f l (clear_of_sound p.sound))
-
-  line_out : near_group l ≡ false
-  line_out = rw (p.out, it_isnt t l p.differ) refl
+  far_clear = clear_both g.shape f back (among (l ∷ [])) p.far_clear (clear_one g.shape f l p.line_clear)
 
   groups_apart : AreUnshorted g.shape f near_group far_group
   groups_apart = unshorted_right g.shape f near_group back (among (l ∷ []))
       (unshorted_left g.shape f base (among (t ∷ [])) back p.apart p.tap_apart)
-      (unshorted_turned g.shape f (among (l ∷ [])) near_group (unshorted_sound g.shape f l near_group p.sound line_out))
+      p.line_apart
 
   near_in : (w : ℕ) → among near.wires w ≡ true → near_group w ≡ true
   near_in w is = in_left base (among (t ∷ [])) w (in_left (among near.wires) via w is)
@@ -260,3 +259,7 @@ config_loops m f g near far via taps lines ties t l x laws laid near_route far_r
     third true b c e = refl
     third false true c e = refl
     third false false c e = e
+
+-- where the crosspoint of a tap and a line isn't kept, none of them is
+pub not_kept : (k : Kept) (t l x : ℕ) → HasCrosses k.shape → x < crosses_of k.shape → ends_of k.shape x ≡ (t, l) → keeps_cross k x ≡ false → KeepsEnds k t l → ⊥
+not_kept k t l x laws within at isnt e = false≢true (sym isnt ∙ subst (λ y. keeps_cross k y ≡ true) (laws.one e.cross x e.within within (e.at ∙ sym at)) e.kept)

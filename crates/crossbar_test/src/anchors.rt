@@ -54,7 +54,7 @@ fn is_anchor(
     let near_on = over_line(alloc, proof, node, near, lines.0)?;
     let far_on = over_line(alloc, proof, node, far, lines.1)?;
     let far_tap = to_tap(alloc, proof, node, &far_on, tap)?;
-    are_apart(alloc, rig, proof, &near_on, &far_tap)
+    are_apart(rig, proof, &near_on, &far_tap)
 }
 
 /// The anchors among these taps.

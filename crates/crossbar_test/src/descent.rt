@@ -74,5 +74,5 @@ pub(crate) fn join_lines(
     }
     let near_on = over_line(alloc, proof, node, near, first)?;
     let far_on = over_line(alloc, proof, node, far, second)?;
-    are_apart(alloc, rig, proof, &near_on, &far_on)
+    are_apart(rig, proof, &near_on, &far_on)
 }

@@ -69,12 +69,12 @@ pub(crate) fn is_tied(
         return Ok(false);
     }
     let near_on = over_line(alloc, proof, node, near, line)?;
-    if !swings(alloc, rig, proof, &near_on)? {
+    if !swings(rig, proof, &near_on)? {
         return Ok(false);
     }
-    if !are_apart(alloc, rig, proof, &near_on, far)? {
+    if !are_apart(rig, proof, &near_on, far)? {
         return Ok(false);
     }
     let far_on = over_line(alloc, proof, node, far, line)?;
-    are_apart(alloc, rig, proof, near, &far_on)
+    are_apart(rig, proof, near, &far_on)
 }

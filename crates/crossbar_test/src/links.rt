@@ -20,7 +20,7 @@ use test_configs::Route;
 
 /// Toggles the crosspoint of a tap and a line, unless it is kept. The tap hangs on the near route over the lines of `via`,
 /// and the line on the far one over these taps and lines. True exactly where it is kept then.
-pub(crate) fn link(
+pub fn link(
     alloc: Global,
     rig: &mut Box<dyn Rig>,
     proof: &mut Proof,
@@ -45,6 +45,7 @@ pub(crate) fn link(
     ensures passes { IfOk result (LinksIf (rig_state rig.old).machine.faults proof.old near.now far.now (wire_numbers via.now) (wire_numbers taps.now) (wire_numbers lines.now) tap.0 line.0) }
     ensures advances { Advances (rig_state rig.old) (rig_state rig.new) proof.old proof.new }
     ensures loads { (rig_state rig.new).loads ≤ (rig_state rig.old).loads + 2 }
+    ensures none { KeepsEnds proof.old tap.0 line.0 → (rig_state rig.new).loads ≡ (rig_state rig.old).loads }
     ensures cause { IsErrOf result RigFail.Failed → Rose (rig_state rig.old).failures (rig_state rig.new).failures }
 {
     the_laws_hold();
@@ -66,11 +67,12 @@ pub(crate) fn link(
     ) else {
         return Err(RigFail::Memory);
     };
-    let drive = driven(alloc, shape, near.pin())?;
     let Ok(mut config) = proof.loop_config(near, far, &ties) else {
         return Err(RigFail::Memory);
     };
+    let drive = driven(proof, near.pin())?;
     let answer = proof.toggle_cross(rig, &mut config, cross, &drive, far.pin());
     proof.give_back(config);
+    proof.give_back_drive(drive);
     answer
 }

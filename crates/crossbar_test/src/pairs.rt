@@ -19,8 +19,8 @@ use rig::{Rig, RigFail};
 use std::alloc::Global;
 use test_configs::Route;
 
-// Whether the crosspoints of a line with all these taps are kept.
-fn keeps_all(proof: &Proof, node: Node, taps: &[Wire], line: Wire) -> bool
+/// Whether the crosspoints of a line with all these taps are kept.
+pub fn keeps_all(proof: &Proof, node: Node, taps: &[Wire], line: Wire) -> bool
     requires node { node.0 < nodes_of proof.now.shape }
     requires taps { AreTaps proof.now.shape node.0 (wire_numbers taps.now) }
     requires line { IsLine proof.now.shape node.0 line.0 }
@@ -68,7 +68,7 @@ fn are_open(
     }
     let near_on = over_line(alloc, proof, node, near, first)?;
     let far_on = over_line(alloc, proof, node, far, second)?;
-    are_apart(alloc, rig, proof, &near_on, &far_on)
+    are_apart(rig, proof, &near_on, &far_on)
 }
 
 // The first of the tied lines that is good at all taps.

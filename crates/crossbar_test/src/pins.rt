@@ -34,7 +34,7 @@ fn swings_pin(
     let Ok(route) = route_at(alloc, &shape, pin) else {
         return Err(RigFail::Memory);
     };
-    swings(alloc, rig, proof, &route)
+    swings(rig, proof, &route)
 }
 
 /// The first pin that swings: none below it is clear.
@@ -94,7 +94,7 @@ fn joins_pin(
     let Ok(right) = route_at(alloc, &shape, pin) else {
         return Err(RigFail::Memory);
     };
-    are_apart(alloc, rig, proof, &left, &right)
+    are_apart(rig, proof, &left, &right)
 }
 
 /// The next pin that swings and is apart from the first.

@@ -69,7 +69,7 @@ fn try_ports(
     }
     let left_on = to_tap(alloc, proof, node, left, first)?;
     let right_on = to_tap(alloc, proof, node, right, second)?;
-    if !are_apart(alloc, rig, proof, &left_on, &right_on)? {
+    if !are_apart(rig, proof, &left_on, &right_on)? {
         return Ok(None);
     }
     Ok(Some(Trunk {

@@ -199,7 +199,7 @@ fn swing_line(
     let over = over_line(alloc, proof, node, near, lines.0)?;
     let to = to_tap(alloc, proof, node, &over, tap)?;
     let onto = over_line(alloc, proof, node, &to, line)?;
-    swings(alloc, rig, proof, &onto)?;
+    swings(rig, proof, &onto)?;
     Ok(())
 }
 

@@ -11,12 +11,10 @@ ghost use Rattle.crossbar_test.specs.Sides.{IsKeptRoute, KeepsPairs};
 use crate::drives::{driven, released};
 use evidence::Proof;
 use rig::{Rig, RigFail};
-use std::alloc::Global;
 use test_configs::Route;
 
 /// Whether a route swings. Then its wires are kept.
 pub(crate) fn swings(
-    alloc: Global,
     rig: &mut Box<dyn Rig>,
     proof: &mut Proof,
     route: &Route,
@@ -29,20 +27,20 @@ pub(crate) fn swings(
     ensures loads { (rig_state rig.new).loads ≤ (rig_state rig.old).loads + 1 }
     ensures cause { IsErrOf result RigFail.Failed → Rose (rig_state rig.old).failures (rig_state rig.new).failures }
 {
-    let shape = proof.shape();
-    let low = driven(alloc, shape, route.pin())?;
-    let high = released(alloc, shape)?;
     let Ok(config) = proof.loop_config(route, route, &[]) else {
         return Err(RigFail::Memory);
     };
+    let low = driven(proof, route.pin())?;
+    let high = released(proof)?;
     let answer = proof.swing(rig, &config, &low, &high, route);
     proof.give_back(config);
+    proof.give_back_drive(low);
+    proof.give_back_drive(high);
     answer
 }
 
 /// Whether two routes are apart. Then each wire of the one with each of the other is a kept pair.
 pub(crate) fn are_apart(
-    alloc: Global,
     rig: &mut Box<dyn Rig>,
     proof: &mut Proof,
     left: &Route,
@@ -58,12 +56,12 @@ pub(crate) fn are_apart(
     ensures loads { (rig_state rig.new).loads ≤ (rig_state rig.old).loads + 1 }
     ensures cause { IsErrOf result RigFail.Failed → Rose (rig_state rig.old).failures (rig_state rig.new).failures }
 {
-    let shape = proof.shape();
-    let drive = driven(alloc, shape, left.pin())?;
     let Ok(config) = proof.loop_config(left, right, &[]) else {
         return Err(RigFail::Memory);
     };
+    let drive = driven(proof, left.pin())?;
     let answer = proof.apart(rig, &config, &drive, left, right);
     proof.give_back(config);
+    proof.give_back_drive(drive);
     answer
 }

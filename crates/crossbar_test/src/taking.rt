@@ -17,7 +17,7 @@ use std::alloc::Global;
 use test_configs::Route;
 
 /// Adds a wire, if so.
-pub(crate) fn keep_if(wires: &mut Vec<Wire>, good: bool, wire: Wire) -> Result<(), RigFail>
+pub fn keep_if(wires: &mut Vec<Wire>, good: bool, wire: Wire) -> Result<(), RigFail>
     ensures pushed { OnOk result (wire_numbers wires.new.items ≡ pushed_if good wire.0 (wire_numbers wires.old.items)) }
     ensures memory { result ≡ Err RigFail.Failed → ⊥ }
 {

@@ -163,5 +163,5 @@ pub(crate) fn swings_tap(
     };
     let over = over_line(alloc, proof, node, near, line)?;
     let to = to_tap(alloc, proof, node, &over, tap)?;
-    swings(alloc, rig, proof, &to)
+    swings(rig, proof, &to)
 }

@@ -10,7 +10,8 @@ use Rattle.hierarchy.specs.Faults.{Faults}
 use Rattle.tm_text.specs.Number.{read_on}
 use Rattle.tm_text.proofs.NumberLemmas.{own}
 use Rattle.fault_model.specs.Text.{IsFaultText}
-use Rattle.fault_model.specs.Refusals.{most_bytes, IsFaultAt}
+use Rattle.tm_text.specs.Size.{most_bytes}
+use Rattle.fault_model.specs.Refusals.{IsFaultAt}
 use Rattle.fault_model.specs.declared.kind.FaultsKind.{FaultsKind}
 use Rattle.tm_outside.specs.Told.{Told, untold, absent, holds, bytes_of, IfTold}
 use Rattle.rig.specs.Rig.{IsNoText}

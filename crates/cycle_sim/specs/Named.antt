@@ -8,7 +8,7 @@ use Rattle.tm_outside.specs.Counts.{Rose}
 use Rattle.tm_outside.specs.Told.{Told, bytes_of, IfTold}
 use Rattle.tm_outside.specs.Store.{StoreState}
 use Rattle.fault_model.specs.Text.{IsFaultText}
-use Rattle.fault_model.specs.Refusals.{most_bytes}
+use Rattle.tm_text.specs.Size.{most_bytes}
 use Rattle.fault_model.specs.declared.kind.FaultsFault.{FaultsFault}
 use Rattle.fault_model.specs.declared.kind.FaultsFault.TheVariants as text
 use Rattle.bench_gen.specs.Faults.{AreBenchFaults}

@@ -10,10 +10,7 @@ use hierarchy::Shape;
 use rig::AttachFail;
 use std::alloc::Global;
 use tm_outside::{Store, StoreFail, read_within};
-use tm_text::read_number;
-
-/// The most bytes of a fault text.
-const MOST_BYTES: usize = 16_777_216;
+use tm_text::{MOST_BYTES, read_number};
 
 /// The number of at most 4,294,967,295 whose numeral the word is.
 fn number_of_word(word: &[u8]) -> Option<u32>

@@ -3,6 +3,7 @@ use Rattle.std.specs.Prelude.{◌≡◌, ◌≢◌, ◌⊎◌, ℕ, ◌+◌, ◌
 use Rattle.std.specs.List.{list_all, AllByRecursion}
 use Rattle.hierarchy.specs.declared.Shape.{Shape}
 use Rattle.tm_text.specs.Written.{written, written_line}
+use Rattle.tm_text.specs.Size.{most_bytes}
 use Rattle.defect_db.specs.declared.entry.Entry.{Entry}
 use Rattle.defect_db.specs.declared.kind.DefectsKind.{DefectsKind}
 use Rattle.defect_db.specs.declared.kind.DefectsKind.TheVariants.{Word, Order, Name, WrongMachine, Doubled, After, Limit}
@@ -10,10 +11,6 @@ use Rattle.defect_db.specs.declared.kind.DefectsFault.{DefectsFault}
 use Rattle.defect_db.specs.declared.kind.DefectsFault.TheVariants.{At, Memory}
 use Rattle.defect_db.specs.Lists.{DefectList, IsDefectList, no_defects}
 use Rattle.defect_db.specs.Text.{IsEntryOf, IsFreeEntry, words_of, is_before, entries_of, counts_of, first_row, shape_row, end_row, rows_of, text_of}
-
--- the most bytes of a text
-abbrev pub most_bytes : ℕ
-most_bytes = 16777216
 
 -- a byte that is neither a space nor the end of a line
 abbrev pub is_inner : ℕ → Bool

@@ -4,7 +4,8 @@ ghost use Rattle.std.specs.Prelude.{◌≡◌, ◌≢◌, ◌↔◌, ◌<◌, �
 ghost use Rattle.tm_text.specs.Written.{written_line};
 ghost use Rattle.defect_db.specs.Lists.{IsDefectList, DefectList, no_defects};
 ghost use Rattle.defect_db.specs.Text.{IsEntryOf, IsFreeEntry, words_of, counts_of, entries_of, is_before, first_row, shape_row};
-ghost use Rattle.defect_db.specs.Faults.{most_bytes, AreCounts, IsBeforeLast, IsLineFault, IsRefusedAs, IsText, GivesOrLacks};
+ghost use Rattle.tm_text.specs.Size.{most_bytes};
+ghost use Rattle.defect_db.specs.Faults.{AreCounts, IsBeforeLast, IsLineFault, IsRefusedAs, IsText, GivesOrLacks};
 ghost use Rattle.defect_db.specs.Steps.{row_of, IsLast, IsReadTo, Steps, IsFirst, IsAdded, IsBeyond, is_behind};
 ghost use Rattle.defect_db.specs.declared.entry.Entry.{Entry};
 
@@ -14,9 +15,7 @@ use crate::kind::{DefectsFault, DefectsKind};
 use crate::list::Defects;
 use hierarchy::{Counts, Shape};
 use std::alloc::Global;
-
-/// The most bytes of a text of defects.
-const MOST_BYTES: usize = 16_777_216;
+use tm_text::MOST_BYTES;
 
 /// What a line of the list comes to.
 #[derive(Clone, Copy, Debug)]

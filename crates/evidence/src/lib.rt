@@ -7,6 +7,7 @@
 
 mod again;
 pub mod laws;
+mod pins;
 mod proof;
 mod readings;
 mod routes;

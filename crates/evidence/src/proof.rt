@@ -7,6 +7,7 @@ ghost use Rattle.config_set.specs.Groups.{among};
 ghost use Rattle.test_configs.specs.Routes.{IsRoute};
 ghost use Rattle.evidence.specs.Kept.{KeepsNothing, Gains, keeps_cross, keeps_wire, keeps_pair, keeps_cell, keeps_register, one_cross, these_wires, these_pairs, one_cell, one_register, is_between};
 
+use crate::pins::Pins;
 use config_set::Config;
 use hierarchy::{Cross, Shape, Table, Wire};
 use std::alloc::{AllocError, Global};
@@ -23,6 +24,7 @@ pub struct Proof {
     pub(crate) shape: Shape,
     // A configuration that a test was done with, for the next one.
     pub(crate) done: Option<Config>,
+    pub(crate) pins: Pins,
     crosses: BitSet,
     wires: BitSet,
     pairs: PairSet,
@@ -32,6 +34,7 @@ pub struct Proof {
 
 impl Model for Proof {
     ghost use Rattle.std.specs.Prelude.{◌≡◌, IfSome};
+    ghost use Rattle.hierarchy.specs.Shape.{pins_of};
     ghost use Rattle.evidence.specs.Kept.{Kept, coded_kept, AreMarksOf};
 
     ghost Value = { Kept };
@@ -40,7 +43,7 @@ impl Model for Proof {
 
     ghost view = { λ p. record { shape = p.shape; crosses = p.crosses; wires = p.wires; pairs = p.pairs; cells = p.cells; registers = p.registers } };
 
-    ghost invariant = { λ p. AreMarksOf (record { shape = p.shape; crosses = p.crosses; wires = p.wires; pairs = p.pairs; cells = p.cells; registers = p.registers }) × IfSome p.done (λ g. g.config.shape ≡ p.shape) };
+    ghost invariant = { λ p. AreMarksOf (record { shape = p.shape; crosses = p.crosses; wires = p.wires; pairs = p.pairs; cells = p.cells; registers = p.registers }) × IfSome p.done (λ g. g.config.shape ≡ p.shape) × (p.pins ≡ pins_of p.shape) };
 }
 
 impl Proof {
@@ -53,6 +56,7 @@ impl Proof {
             alloc,
             shape,
             done: None,
+            pins: Pins::new(alloc, shape.pins()),
             crosses: BitSet::new(alloc, shape.crosses())?,
             wires: BitSet::new(alloc, shape.wires())?,
             pairs: PairSet::new(alloc, shape.wires())?,

@@ -5,9 +5,9 @@ ghost use Rattle.hierarchy.specs.Shape.{pins_of};
 ghost use Rattle.rig.specs.Rig.{shape_of};
 ghost use Rattle.evidence.specs.Readings.{ReadsOnce, Reads, ReadsPins, ReadsTwice};
 
+use crate::pins::Pins;
 use config_set::Config;
 use rig::{PinBits, Rig, RigFail, cycle, load};
-use std::alloc::Global;
 
 // One reading after a load.
 fn read_once(
@@ -32,79 +32,91 @@ fn read_once(
 
 // What a pin reads after a load.
 pub(crate) fn read_pin(
-    alloc: Global,
+    pins: &mut Pins,
     rig: &mut Box<dyn Rig>,
     config: &Config,
     drive: &PinBits,
     at: u32,
 ) -> Result<bool, RigFail>
+    requires pins { pins.old ≡ pins_of config.now.config.shape }
     requires attached { shape_of (rig_state rig.old) ≡ Some config.now.config.shape }
     requires drive { length drive.now ≡ pins_of config.now.config.shape }
     requires at { at < pins_of config.now.config.shape }
+    ensures pins { pins.new ≡ pins.old }
     ensures machine { (rig_state rig.new).machine ≡ (rig_state rig.old).machine }
     ensures later { (rig_state rig.old).failures ≤ (rig_state rig.new).failures }
     ensures loads { (rig_state rig.new).loads ≤ (rig_state rig.old).loads + 1 }
     ensures cause { IsErrOf result RigFail.Failed → Rose (rig_state rig.old).failures (rig_state rig.new).failures }
     ensures reads { IfOk result (λ bit. Reads (rig_state rig.old).machine.faults config.now.config drive.now at bit) }
 {
-    let Ok(mut read) = PinBits::new(alloc, drive.len()) else {
+    let Ok(mut read) = pins.take() else {
         return Err(RigFail::Memory);
     };
     read_once(rig, config, drive, &mut read)?;
-    Ok(read.get(at))
+    let bit = read.get(at);
+    pins.put(read);
+    Ok(bit)
 }
 
 // What two pins read at one time after a load.
 pub(crate) fn read_pins(
-    alloc: Global,
+    pins: &mut Pins,
     rig: &mut Box<dyn Rig>,
     config: &Config,
     drive: &PinBits,
     first: u32,
     second: u32,
 ) -> Result<(bool, bool), RigFail>
+    requires pins { pins.old ≡ pins_of config.now.config.shape }
     requires attached { shape_of (rig_state rig.old) ≡ Some config.now.config.shape }
     requires drive { length drive.now ≡ pins_of config.now.config.shape }
     requires first { first < pins_of config.now.config.shape }
     requires second { second < pins_of config.now.config.shape }
+    ensures pins { pins.new ≡ pins.old }
     ensures machine { (rig_state rig.new).machine ≡ (rig_state rig.old).machine }
     ensures later { (rig_state rig.old).failures ≤ (rig_state rig.new).failures }
     ensures loads { (rig_state rig.new).loads ≤ (rig_state rig.old).loads + 1 }
     ensures cause { IsErrOf result RigFail.Failed → Rose (rig_state rig.old).failures (rig_state rig.new).failures }
     ensures reads { IfOk result (λ bits. ReadsPins (rig_state rig.old).machine.faults config.now.config drive.now first second bits.0 bits.1) }
 {
-    let Ok(mut read) = PinBits::new(alloc, drive.len()) else {
+    let Ok(mut read) = pins.take() else {
         return Err(RigFail::Memory);
     };
     read_once(rig, config, drive, &mut read)?;
-    Ok((read.get(first), read.get(second)))
+    let bits = (read.get(first), read.get(second));
+    pins.put(read);
+    Ok(bits)
 }
 
 // What a pin reads in two cycles after a load.
 pub(crate) fn read_twice(
-    alloc: Global,
+    pins: &mut Pins,
     rig: &mut Box<dyn Rig>,
     config: &Config,
     low: &PinBits,
     high: &PinBits,
     at: u32,
 ) -> Result<(bool, bool), RigFail>
+    requires pins { pins.old ≡ pins_of config.now.config.shape }
     requires attached { shape_of (rig_state rig.old) ≡ Some config.now.config.shape }
     requires low { length low.now ≡ pins_of config.now.config.shape }
     requires high { length high.now ≡ pins_of config.now.config.shape }
     requires at { at < pins_of config.now.config.shape }
+    ensures pins { pins.new ≡ pins.old }
     ensures machine { (rig_state rig.new).machine ≡ (rig_state rig.old).machine }
     ensures later { (rig_state rig.old).failures ≤ (rig_state rig.new).failures }
     ensures loads { (rig_state rig.new).loads ≤ (rig_state rig.old).loads + 1 }
     ensures cause { IsErrOf result RigFail.Failed → Rose (rig_state rig.old).failures (rig_state rig.new).failures }
     ensures reads { IfOk result (λ bits. ReadsTwice (rig_state rig.old).machine.faults config.now.config low.now high.now at bits.0 bits.1) }
 {
-    let Ok(mut read) = PinBits::new(alloc, low.len()) else {
+    let Ok(mut read) = pins.take() else {
         return Err(RigFail::Memory);
     };
     load(rig, config, 2)?;
     cycle(rig, low, &mut read)?;
     let first = read.get(at);
     cycle(rig, high, &mut read)?;
-    Ok((first, read.get(at)))
+    let second = read.get(at);
+    pins.put(read);
+    Ok((first, second))
 }

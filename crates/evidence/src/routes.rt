@@ -39,7 +39,7 @@ impl Proof {
         ensures loads { (rig_state rig.new).loads ≤ (rig_state rig.old).loads + 1 }
         ensures cause { IsErrOf result RigFail.Failed → Rose (rig_state rig.old).failures (rig_state rig.new).failures }
     {
-        let (first, second) = read_twice(self.alloc, rig, config, low, high, route.pin())?;
+        let (first, second) = read_twice(&mut self.pins, rig, config, low, high, route.pin())?;
         if first == second {
             return Ok(false);
         }
@@ -73,7 +73,7 @@ impl Proof {
         ensures loads { (rig_state rig.new).loads ≤ (rig_state rig.old).loads + 1 }
         ensures cause { IsErrOf result RigFail.Failed → Rose (rig_state rig.old).failures (rig_state rig.new).failures }
     {
-        let (near, far) = read_pins(self.alloc, rig, config, drive, left.pin(), right.pin())?;
+        let (near, far) = read_pins(&mut self.pins, rig, config, drive, left.pin(), right.pin())?;
         if near == far {
             return Ok(false);
         }

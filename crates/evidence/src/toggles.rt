@@ -8,26 +8,28 @@ ghost use Rattle.evidence.specs.Kept.{Gains, Advances, one_cross, one_cell, one_
 ghost use Rattle.evidence.specs.Readings.{Reads, TellsApart, CrossPasses, CellPasses, RegisterPasses};
 
 use crate::Proof;
+use crate::pins::Pins;
 use crate::readings::read_pin;
 use config_set::{Config, Setting};
 use hierarchy::{Cross, Table};
 use rig::{PinBits, Rig, RigFail};
-use std::alloc::Global;
 
 // What a pin reads with a closed crosspoint open. It is closed again after it.
 fn read_without(
-    alloc: Global,
+    pins: &mut Pins,
     rig: &mut Box<dyn Rig>,
     config: &mut Config,
     c: Cross,
     drive: &PinBits,
     at: u32,
 ) -> Result<bool, RigFail>
+    requires pins { pins.old ≡ pins_of config.old.config.shape }
     requires attached { shape_of (rig_state rig.old) ≡ Some config.old.config.shape }
     requires cross { c.0 < crosses_of config.old.config.shape }
     requires closed { is_closed config.old.config c.0 ≡ true }
     requires drive { length drive.now ≡ pins_of config.old.config.shape }
     requires at { at < pins_of config.old.config.shape }
+    ensures pins { pins.new ≡ pins.old }
     ensures machine { (rig_state rig.new).machine ≡ (rig_state rig.old).machine }
     ensures later { (rig_state rig.old).failures ≤ (rig_state rig.new).failures }
     ensures loads { (rig_state rig.new).loads ≤ (rig_state rig.old).loads + 1 }
@@ -36,7 +38,7 @@ fn read_without(
     ensures config { config.new.config ≡ config.old.config }
 {
     config.open_cross(c);
-    let bit = read_pin(alloc, rig, config, drive, at);
+    let bit = read_pin(pins, rig, config, drive, at);
     let _ = config.close_cross(c);
     bit
 }
@@ -58,7 +60,7 @@ fn with_cell(s: Setting, address: u8, bit: bool) -> Setting
 
 // What a pin reads with a table that is on at another setting. It is set back after it.
 fn read_with(
-    alloc: Global,
+    pins: &mut Pins,
     rig: &mut Box<dyn Rig>,
     config: &mut Config,
     t: Table,
@@ -66,11 +68,13 @@ fn read_with(
     drive: &PinBits,
     at: u32,
 ) -> Result<bool, RigFail>
+    requires pins { pins.old ≡ pins_of config.old.config.shape }
     requires attached { shape_of (rig_state rig.old) ≡ Some config.old.config.shape }
     requires table { t.0 < tables_of config.old.config.shape }
     requires on { IsSome (setting_of config.old.config t.0) }
     requires drive { length drive.now ≡ pins_of config.old.config.shape }
     requires at { at < pins_of config.old.config.shape }
+    ensures pins { pins.new ≡ pins.old }
     ensures machine { (rig_state rig.new).machine ≡ (rig_state rig.old).machine }
     ensures later { (rig_state rig.old).failures ≤ (rig_state rig.new).failures }
     ensures loads { (rig_state rig.new).loads ≤ (rig_state rig.old).loads + 1 }
@@ -82,7 +86,7 @@ fn read_with(
         return Ok(false);
     };
     config.switch_on(t, s);
-    let bit = read_pin(alloc, rig, config, drive, at);
+    let bit = read_pin(pins, rig, config, drive, at);
     config.switch_on(t, was);
     bit
 }
@@ -115,8 +119,8 @@ impl Proof {
         ensures cause { IsErrOf result RigFail.Failed → Rose (rig_state rig.old).failures (rig_state rig.new).failures }
         ensures config { config.new.config ≡ config.old.config }
     {
-        let closed = read_pin(self.alloc, rig, config, drive, at)?;
-        let open = read_without(self.alloc, rig, config, c, drive, at)?;
+        let closed = read_pin(&mut self.pins, rig, config, drive, at)?;
+        let open = read_without(&mut self.pins, rig, config, c, drive, at)?;
         if closed == open {
             return Ok(false);
         }
@@ -159,9 +163,9 @@ impl Proof {
             return Ok(false);
         };
         let off = with_cell(setting, address, false);
-        let low = read_with(self.alloc, rig, config, t, off, drive, at)?;
+        let low = read_with(&mut self.pins, rig, config, t, off, drive, at)?;
         let on = with_cell(setting, address, true);
-        let high = read_with(self.alloc, rig, config, t, on, drive, at)?;
+        let high = read_with(&mut self.pins, rig, config, t, on, drive, at)?;
         if low == high {
             return Ok(false);
         }
@@ -207,12 +211,12 @@ impl Proof {
             init: false,
             ..setting
         };
-        let low = read_with(self.alloc, rig, config, t, off, drive, at)?;
+        let low = read_with(&mut self.pins, rig, config, t, off, drive, at)?;
         let on = Setting {
             init: true,
             ..setting
         };
-        let high = read_with(self.alloc, rig, config, t, on, drive, at)?;
+        let high = read_with(&mut self.pins, rig, config, t, on, drive, at)?;
         if low == high {
             return Ok(false);
         }

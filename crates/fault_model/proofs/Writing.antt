@@ -15,12 +15,13 @@ use Rattle.tm_text.proofs.WrittenLemmas.{lines_back}
 use Rattle.fault_model.specs.declared.fault.Fault.{Fault}
 use Rattle.fault_model.specs.declared.fault.AddFault.TheVariants.{Same, Limit}
 use Rattle.fault_model.specs.Adding.{IsFaultSet, CanHave, no_faults, with_fault, value_at, value_of, is_loop, lower_first, refusal_at, refusal_of, count_of}
-use Rattle.fault_model.specs.Refusals.{most_bytes}
+use Rattle.tm_text.specs.Size.{most_bytes}
 use Rattle.fault_model.specs.Text.{words_of, with_all, AreAdded, IsFaultText}
 use Rattle.fault_model.specs.Written.{Kinds, AreAscending, AreInOrder, grouped, faults_of, stuck_wire_at, stuck_cross_at, wrong_cell_at, stuck_register_at, bridge_of}
 use Rattle.fault_model.proofs.Adding.{count_more, count_none}
 use Rattle.fault_model.proofs.Keeping.{pairs_total, pairs_exact}
-use Rattle.fault_model.proofs.Names.{AllPlain, AreWords, entry_words}
+use Rattle.hierarchy.proofs.PlainNames.{AllPlain}
+use Rattle.fault_model.proofs.Names.{AreWords, entry_words}
 use Rattle.fault_model.proofs.Words.{IsTold}
 use Rattle.fault_model.proofs.Lengths.{short_text}
 use Rattle.fault_model.proofs.Parts.{put_all, AreNew, put_each, AreNewIn, all_filtered, all_weaker, all_new, all_put, failing_new, passing_new, parts_put, found_each, each_put_in, each_new_in, each_in}

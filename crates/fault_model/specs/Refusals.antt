@@ -7,6 +7,7 @@ use Rattle.hierarchy.specs.Faults.{Faults}
 use Rattle.tm_text.specs.declared.lines.LineFault.{LineFault}
 use Rattle.tm_text.specs.declared.lines.LineFault.TheVariants as line
 use Rattle.tm_text.specs.Lines.{LogicalLine, lines_of, is_bad_line}
+use Rattle.tm_text.specs.Size.{most_bytes}
 use Rattle.fault_model.specs.declared.fault.Fault.{Fault}
 use Rattle.fault_model.specs.declared.fault.AddFault.{AddFault}
 use Rattle.fault_model.specs.declared.fault.AddFault.TheVariants as add
@@ -19,10 +20,6 @@ use Rattle.fault_model.specs.declared.kind.FaultsFault.TheVariants.{At, Memory}
 use Rattle.fault_model.specs.Adding.{Faulty, no_faults, with_fault, refusal_of, CanHave}
 use Rattle.fault_model.specs.Heads.{word_of, follow_of, has_wires, has_cross}
 use Rattle.fault_model.specs.Text.{end_names, words_of, with_all, AreAdded}
-
--- the most bytes of a text
-abbrev pub most_bytes : ℕ
-most_bytes = 16777216
 
 abbrev pub IsWireName : Shape → List ℕ → Type 0
 IsWireName m word = (w : ℕ) × (w < wires_of m) × (wire_name m w ≡ word)

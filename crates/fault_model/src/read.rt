@@ -4,7 +4,8 @@ ghost use Rattle.std.specs.Prelude.{◌≡◌, ◌<◌, ◌≤◌, ℕ, false, l
 ghost use Rattle.hierarchy.specs.Faults.{Faults};
 ghost use Rattle.tm_text.specs.Lines.{lines_of, is_bad_line};
 ghost use Rattle.fault_model.specs.Text.{IsFaultText};
-ghost use Rattle.fault_model.specs.Refusals.{most_bytes, IsRefusedAs, GivesOrLacks, IsFirst, Takes, told_of, line_told};
+ghost use Rattle.tm_text.specs.Size.{most_bytes};
+ghost use Rattle.fault_model.specs.Refusals.{IsRefusedAs, GivesOrLacks, IsFirst, Takes, told_of, line_told};
 
 use crate::fault::AddFault;
 use crate::kind::{FaultsFault, FaultsKind};
@@ -12,10 +13,7 @@ use crate::line::entry_of;
 use crate::set::FaultSet;
 use hierarchy::Shape;
 use std::alloc::Global;
-use tm_text::{Line, LineFault, Lines};
-
-/// The most bytes of a text of faults.
-const MOST_BYTES: usize = 16_777_216;
+use tm_text::{Line, LineFault, Lines, MOST_BYTES};
 
 /// What the text is told where a set refuses the entry of a line.
 fn told(line: u64, why: AddFault) -> FaultsFault

@@ -8,7 +8,7 @@ ghost use Rattle.hierarchy.specs.Faults.{pair_cmp};
 ghost use Rattle.tm_text.specs.Written.{written, written_line};
 ghost use Rattle.fault_model.specs.Adding.{CanHave};
 ghost use Rattle.fault_model.specs.Stored.{kinds_in};
-ghost use Rattle.fault_model.specs.Refusals.{most_bytes};
+ghost use Rattle.tm_text.specs.Size.{most_bytes};
 ghost use Rattle.fault_model.specs.Text.{words_of, bit_word, IsFaultText};
 ghost use Rattle.fault_model.specs.Written.{stuck_wire_at, stuck_cross_at, wrong_cell_at, stuck_register_at, bridge_of, grouped, AreAscending, IsWritten};
 

@@ -14,6 +14,7 @@ pub mod Whereabouts
 pub mod Meeting
 pub mod Decimals
 pub mod Naming
+pub mod PlainNames
 pub mod NumeralLemmas
 pub mod Dotted
 pub mod Readable

@@ -57,9 +57,9 @@ pub record IsFirstPassed (c : Counts) (which : Which) : Type 0 where
   pub first : (other : Which) → place_of_limit other < place_of_limit which → amount_of c other ≤ most_of other
 
 -- the counts make no shape, for this reason
-abbrev pub IsFaultOf : Counts → ShapeFault → Type 0
-IsFaultOf c (Zero field) = IsFirstZero c field
-IsFaultOf c (Limit which value) = IsFull c × IsFirstPassed c which × (value ≡ amount_of c which)
+abbrev pub IsShapeFault : Counts → ShapeFault → Type 0
+IsShapeFault c (Zero field) = IsFirstZero c field
+IsShapeFault c (Limit which value) = IsFull c × IsFirstPassed c which × (value ≡ amount_of c which)
 
 -- the counts make a shape
 pub record MakeShape (c : Counts) : Type 0 where

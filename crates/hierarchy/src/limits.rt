@@ -1,7 +1,7 @@
 //! Which counts make a shape.
 ghost use Rattle.std.specs.Prelude.{◌≡◌, ◌+◌, ◌*◌, ◌<◌, ◌≤◌, ◌^◌, IfOk, IfErr, IfSome, IfNone, slice_index_or};
 ghost use Rattle.hierarchy.specs.Counts.{IsFull, levels_from};
-ghost use Rattle.hierarchy.specs.Limits.{HasZero, IsFaultOf, IsFirstZero, MakeShape};
+ghost use Rattle.hierarchy.specs.Limits.{HasZero, IsShapeFault, IsFirstZero, MakeShape};
 ghost use Rattle.hierarchy.specs.Walk.{size, wires_in, crosses_in, tables_in};
 ghost use Rattle.hierarchy.specs.declared.Field.{Field};
 
@@ -98,7 +98,7 @@ fn crosses_from(c: Counts) -> u128
 /// The first limit that is passed, and by which number.
 fn first_passed(counts: Counts) -> Option<ShapeFault>
     requires { IsFull counts }
-    ensures found { IfSome result (λ fault. IsFaultOf counts fault) }
+    ensures found { IfSome result (λ fault. IsShapeFault counts fault) }
     ensures none { IfNone result ((size tables_in (levels_from counts) ≤ 4096) × (size wires_in (levels_from counts) ≤ 16384) × (size crosses_in (levels_from counts) ≤ 4194304)) }
 {
     let tables = tables_from(counts);
@@ -130,7 +130,7 @@ impl Shape {
     /// field, or where none is and a limit is passed, with the first such limit and the number that passes it.
     pub fn new(counts: Counts) -> Result<Shape, ShapeFault>
         ensures made { IfOk result (λ shape. (shape.counts ≡ counts) × MakeShape counts) }
-        ensures refused { IfErr result (λ fault. IsFaultOf counts fault) }
+        ensures refused { IfErr result (λ fault. IsShapeFault counts fault) }
     {
         if let Some(field) = first_zero(counts) {
             return Err(ShapeFault::Zero { field });

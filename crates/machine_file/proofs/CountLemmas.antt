@@ -26,7 +26,7 @@ use Rattle.hierarchy.specs.declared.Which.{Which}
 use Rattle.hierarchy.specs.declared.Which.TheVariants as which
 use Rattle.hierarchy.specs.declared.ShapeFault.{ShapeFault}
 use Rattle.hierarchy.specs.declared.ShapeFault.TheVariants.{Zero, Limit}
-use Rattle.hierarchy.specs.Limits.{HasZero, IsFaultOf, MakeShape, amount_of, most_of}
+use Rattle.hierarchy.specs.Limits.{HasZero, IsShapeFault, MakeShape, amount_of, most_of}
 
 abbrev IsCount : List ℕ → Type 0
 IsCount w = (w ≡ decimal (value_of w)) × ((0 < value_of w) × (value_of w < 65536))
@@ -152,7 +152,7 @@ module _ (c : Counts) where
   no_zero s field.Lines e = omega (arith, s.lines e.0 0 e.1, e.2)
   no_zero s field.Pins e = let k = s.single 4 0 (omega arith) in omega arith
 
-  no_fault : Shapely c → (fault : ShapeFault) → IsFaultOf c fault → ⊥
+  no_fault : Shapely c → (fault : ShapeFault) → IsShapeFault c fault → ⊥
   no_fault s (Zero f) h = no_zero s f h.zero
   no_fault s (Limit which.Tables n) h = omega (arith, s.tables, h.1.passed)
   no_fault s (Limit which.Wires n) h = omega (arith, s.wires, h.1.passed)
@@ -177,7 +177,7 @@ module _ (c : Counts) where
       by (yes t) (yes w) (yes x) = absurd (false≢true (sym unshaped ∙ shape_from (record { single = single; ports = ports; lines = lines; tables = t; wires = w; crosses = x })))
 
   -- counts that are refused make no shape, and others do
-  pub limit_fault : (fault : ShapeFault) → IsFaultOf c fault → is_shape c ≡ false
+  pub limit_fault : (fault : ShapeFault) → IsShapeFault c fault → is_shape c ≡ false
   limit_fault fault h = elim (cases_Bool (is_shape c)) [ inl is ↦ absurd (no_fault (shapely is) fault h) | inr other ↦ other ]
 
   pub is_shape-made : MakeShape c → is_shape c ≡ true

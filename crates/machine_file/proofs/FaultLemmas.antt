@@ -18,7 +18,8 @@ use Rattle.machine_file.specs.declared.kind.MachineKind.{MachineKind}
 use Rattle.machine_file.specs.declared.kind.MachineKind.TheVariants as kind
 use Rattle.machine_file.specs.declared.kind.MachineFault.{MachineFault}
 use Rattle.machine_file.specs.declared.kind.MachineFault.TheVariants.{At, Memory}
-use Rattle.machine_file.specs.Faults.{most_bytes, AreCounts, HasCounts, AreFirstLines, PassesLimit, IsRestFault, size, format, number, limit, IsWordsFault, over, unknown, not_due, due, IsLineFault, bad, words, IsFirstFault, at_line, at_end, IsRefusedAs}
+use Rattle.tm_text.specs.Size.{most_bytes}
+use Rattle.machine_file.specs.Faults.{AreCounts, HasCounts, AreFirstLines, PassesLimit, IsRestFault, size, format, number, limit, IsWordsFault, over, unknown, not_due, due, IsLineFault, bad, words, IsFirstFault, at_line, at_end, IsRefusedAs}
 use Rattle.machine_file.specs.Heads.{heads, word_of, place_of, follow_of, head_of}
 use Rattle.machine_file.specs.Machine.{numbers_of, row_of}
 use Rattle.machine_file.specs.Readers.{IsReadFault}

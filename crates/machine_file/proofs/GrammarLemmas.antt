@@ -23,7 +23,8 @@ use Rattle.tm_text.proofs.WrittenLemmas.{decimal_word, sound_words, lines_back}
 use Rattle.hierarchy.specs.declared.Shape.{Shape}
 use Rattle.machine_file.specs.declared.kind.MachineFault.{MachineFault}
 use Rattle.machine_file.specs.declared.kind.MachineFault.TheVariants.{At, Memory}
-use Rattle.machine_file.specs.Faults.{most_bytes, GivesOrLacks}
+use Rattle.tm_text.specs.Size.{most_bytes}
+use Rattle.machine_file.specs.Faults.{GivesOrLacks}
 use Rattle.machine_file.specs.Readers.{IsReadFault}
 use Rattle.machine_file.specs.declared.head.Head.{Head}
 use Rattle.machine_file.specs.declared.head.Head.TheVariants as head

@@ -7,6 +7,7 @@ use Rattle.hierarchy.specs.declared.Shape.{Shape}
 use Rattle.hierarchy.specs.declared.Which.{Which}
 use Rattle.hierarchy.specs.Limits.{MakeShape, amount_of, most_of}
 use Rattle.tm_text.specs.Lines.{LogicalLine, lines_of, is_bad_line}
+use Rattle.tm_text.specs.Size.{most_bytes}
 use Rattle.machine_file.specs.declared.head.Head.{Head}
 use Rattle.machine_file.specs.declared.head.Head.TheVariants as head
 use Rattle.machine_file.specs.declared.kind.MachineKind.{MachineKind}
@@ -15,10 +16,6 @@ use Rattle.machine_file.specs.declared.kind.MachineFault.{MachineFault}
 use Rattle.machine_file.specs.declared.kind.MachineFault.TheVariants.{At, Memory}
 use Rattle.machine_file.specs.Heads.{heads, word_of, place_of, follow_of}
 use Rattle.machine_file.specs.Machine.{numbers_of, row_of}
-
--- the most bytes of a machine's text
-abbrev pub most_bytes : ℕ
-most_bytes = 16777216
 
 abbrev pub AreCounts : List ℕ → Type 0
 AreCounts ns = All (λ n. (0 < n) × (n ≤ 65535)) ns

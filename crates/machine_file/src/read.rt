@@ -4,7 +4,8 @@ ghost use Rattle.std.specs.Prelude.{◌≡◌, ◌≤◌, ◌∷◌, [], ℕ, Bo
 ghost use Rattle.hierarchy.specs.declared.Counts.{Counts};
 ghost use Rattle.hierarchy.specs.Limits.{MakeShape};
 ghost use Rattle.tm_text.specs.Lines.{lines_of};
-ghost use Rattle.machine_file.specs.Faults.{most_bytes, IsRefusedAs, GivesOrLacks};
+ghost use Rattle.tm_text.specs.Size.{most_bytes};
+ghost use Rattle.machine_file.specs.Faults.{IsRefusedAs, GivesOrLacks};
 ghost use Rattle.machine_file.specs.Machine.{IsMachine};
 ghost use Rattle.machine_file.specs.Readers.{state_of, IsReader, IsReadFault};
 ghost use Rattle.machine_file.specs.Reading.{reading, start};
@@ -13,10 +14,7 @@ use crate::kind::{MachineFault, MachineKind};
 use crate::reader::{Reader, take_line};
 use hierarchy::{Counts, Shape};
 use std::alloc::Global;
-use tm_text::{LineFault, Lines};
-
-/// The most bytes of a machine's text.
-const MOST_BYTES: usize = 16_777_216;
+use tm_text::{LineFault, Lines, MOST_BYTES};
 
 /// No line was read.
 fn new_reader() -> Reader

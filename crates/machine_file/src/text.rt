@@ -3,7 +3,7 @@
 ghost use Rattle.std.specs.Prelude.{◌≡◌, ◌≤◌, ◌++◌, ◌∷◌, [], ◌<◌, List, length, map, OnOk, IfOk, All};
 ghost use Rattle.std.specs.Fmt.{decimal};
 ghost use Rattle.tm_text.specs.Written.{written_line};
-ghost use Rattle.machine_file.specs.Faults.{most_bytes};
+ghost use Rattle.tm_text.specs.Size.{most_bytes};
 ghost use Rattle.machine_file.specs.Heads.{heads};
 ghost use Rattle.machine_file.specs.Machine.{IsMachine, numbers_of, row_of, text_of};
 

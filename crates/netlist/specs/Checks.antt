@@ -40,13 +40,13 @@ IsFirstCyclic d found = IsFirst (cover_line d.covers) (length d.covers) (IsOnCyc
 
 -- the fault that comes first: of all kinds by the order of these lines, of one kind by line and place.
 -- The name is the signal's
-abbrev pub IsFaultOf : Draft → ℕ → DesignKind → Type 0
-IsFaultOf d line (Doubled name) = (k : ℕ) × IsFirstDoubled d (Some k) × (line ≡ line_at (drives_of d) k) × (name ≡ name_at d (signal_at (drives_of d) k))
-IsFaultOf d line (Undriven name) = IsFirstDoubled d None × (k : ℕ) × IsFirstUndriven d (Some k) × (line ≡ line_at (reads_of d) k) × (name ≡ name_at d (signal_at (reads_of d) k))
-IsFaultOf d line (Cyclic name) = IsFirstDoubled d None × IsFirstUndriven d None × (k : ℕ) × IsFirstCyclic d (Some k) × (line ≡ cover_line d.covers k) × (name ≡ name_at d (cover_at d.covers k).out)
-IsFaultOf d line _ = ⊥
+abbrev pub IsDesignFault : Draft → ℕ → DesignKind → Type 0
+IsDesignFault d line (Doubled name) = (k : ℕ) × IsFirstDoubled d (Some k) × (line ≡ line_at (drives_of d) k) × (name ≡ name_at d (signal_at (drives_of d) k))
+IsDesignFault d line (Undriven name) = IsFirstDoubled d None × (k : ℕ) × IsFirstUndriven d (Some k) × (line ≡ line_at (reads_of d) k) × (name ≡ name_at d (signal_at (reads_of d) k))
+IsDesignFault d line (Cyclic name) = IsFirstDoubled d None × IsFirstUndriven d None × (k : ℕ) × IsFirstCyclic d (Some k) × (line ≡ cover_line d.covers k) × (name ≡ name_at d (cover_at d.covers k).out)
+IsDesignFault d line _ = ⊥
 
 -- what a refusal says of the design. Want of memory says nothing
 abbrev pub IsRefusalOf : Draft → DesignFault → Type 0
-IsRefusalOf d (At line kind) = IsFaultOf d line kind
+IsRefusalOf d (At line kind) = IsDesignFault d line kind
 IsRefusalOf d Memory = Unit {0}

@@ -11,7 +11,8 @@ use Rattle.fault_model.specs.declared.kind.FaultsKind.{FaultsKind}
 use Rattle.fault_model.specs.declared.kind.FaultsFault.{FaultsFault}
 use Rattle.fault_model.specs.declared.kind.FaultsFault.TheVariants as text
 use Rattle.fault_model.specs.Text.{IsFaultText}
-use Rattle.fault_model.specs.Refusals.{most_bytes, IsFaultAt}
+use Rattle.tm_text.specs.Size.{most_bytes}
+use Rattle.fault_model.specs.Refusals.{IsFaultAt}
 use Rattle.rig.specs.declared.rig.AttachFail.{AttachFail}
 use Rattle.rig.specs.declared.rig.AttachFail.TheVariants as attach
 use Rattle.rig.specs.declared.rig.RigFail.{RigFail}

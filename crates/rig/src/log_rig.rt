@@ -1,7 +1,7 @@
 //! A rig that counts its loads.
-ghost use Rattle.std.specs.Prelude.{◌≡◌, ◌^◌, ◌<◌, ◌≤◌, None, Some, IfErr, OnOk, OnErr};
+ghost use Rattle.std.specs.Prelude.{◌≡◌, ◌^◌, ◌<◌, ◌≤◌, None, Some, IfErr, OnOk, OnErr, length};
 ghost use Rattle.tm_outside.specs.Counts.{next_count};
-ghost use Rattle.rig.specs.Rig.{RigState, shape_of, HasFaultsOf, Begins, LoadFails};
+ghost use Rattle.rig.specs.Rig.{RigState, shape_of, width_of, IsDetached, Attaches, AttachFails, HasFaultsOf, Begins, LoadFails, GoesOn, CycleFails};
 
 use crate::{AttachFail, PinBits, Rig, RigFail};
 use config_set::Config;
@@ -25,7 +25,18 @@ impl<R: Rig> LogRig<R> {
 impl<R: Rig> Rig for LogRig<R> {
     ghost rig_state = { λ s. record (R.rig_state s.inner) { loads = s.loads } };
 
-    fn attach(&mut self, shape: &Shape, name: &str) -> Result<(), AttachFail> {
+    /// The inner rig's loads stay as they are.
+    fn attach(&mut self, shape: &Shape, name: &str) -> Result<(), AttachFail>
+        ensures texts { (⟦<LogRig<R> as Rig>⟧.rig_state self.new).machine.texts ≡ (⟦<LogRig<R> as Rig>⟧.rig_state self.old).machine.texts }
+        ensures loads { (⟦<LogRig<R> as Rig>⟧.rig_state self.new).loads ≡ (⟦<LogRig<R> as Rig>⟧.rig_state self.old).loads }
+        ensures later { (⟦<LogRig<R> as Rig>⟧.rig_state self.old).failures ≤ (⟦<LogRig<R> as Rig>⟧.rig_state self.new).failures }
+        ensures count { (⟦<LogRig<R> as Rig>⟧.rig_state self.new).failures < 2 ^ 64 }
+        ensures attached { OnOk result (Attaches (record { shape = shape.now; name = name.now }) (⟦<LogRig<R> as Rig>⟧.rig_state self.old) (⟦<LogRig<R> as Rig>⟧.rig_state self.new)) }
+        ensures detached { OnErr result (IsDetached (⟦<LogRig<R> as Rig>⟧.rig_state self.new)) }
+        ensures refused { IfErr result (λ e. AttachFails e (record { shape = shape.now; name = name.now }) (⟦<LogRig<R> as Rig>⟧.rig_state self.old) (⟦<LogRig<R> as Rig>⟧.rig_state self.new)) }
+
+        ensures inner_loads { (R.rig_state self.new.inner).loads ≡ (R.rig_state self.old.inner).loads }
+    {
         self.inner.attach(shape, name)
     }
 
@@ -51,7 +62,22 @@ impl<R: Rig> Rig for LogRig<R> {
         Ok(())
     }
 
-    fn cycle(&mut self, drive: &PinBits, read: &mut PinBits) -> Result<(), RigFail> {
+    /// The inner rig's loads stay as they are.
+    fn cycle(&mut self, drive: &PinBits, read: &mut PinBits) -> Result<(), RigFail>
+        requires drive_pins { width_of (⟦<LogRig<R> as Rig>⟧.rig_state self.old) ≡ Some (length drive.now) }
+        requires read_pins { width_of (⟦<LogRig<R> as Rig>⟧.rig_state self.old) ≡ Some (length read.old) }
+
+        ensures machine { (⟦<LogRig<R> as Rig>⟧.rig_state self.new).machine ≡ (⟦<LogRig<R> as Rig>⟧.rig_state self.old).machine }
+        ensures loads { (⟦<LogRig<R> as Rig>⟧.rig_state self.new).loads ≡ (⟦<LogRig<R> as Rig>⟧.rig_state self.old).loads }
+        ensures later { (⟦<LogRig<R> as Rig>⟧.rig_state self.old).failures ≤ (⟦<LogRig<R> as Rig>⟧.rig_state self.new).failures }
+        ensures count { (⟦<LogRig<R> as Rig>⟧.rig_state self.new).failures < 2 ^ 64 }
+        ensures length { length read.new ≡ length read.old }
+        ensures cycles { OnOk result (GoesOn drive.now read.new (⟦<LogRig<R> as Rig>⟧.rig_state self.old) (⟦<LogRig<R> as Rig>⟧.rig_state self.new)) }
+        ensures kept { OnErr result (read.new ≡ read.old) }
+        ensures refused { IfErr result (λ e. CycleFails e (⟦<LogRig<R> as Rig>⟧.rig_state self.old) (⟦<LogRig<R> as Rig>⟧.rig_state self.new)) }
+
+        ensures inner_loads { (R.rig_state self.new.inner).loads ≡ (R.rig_state self.old.inner).loads }
+    {
         self.inner.cycle(drive, read)
     }
 

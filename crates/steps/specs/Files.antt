@@ -6,10 +6,6 @@ use Rattle.tm_outside.specs.Store.{Place, StoreState}
 use Rattle.netlist_eval.specs.Vectors.{SaidVectors, VectorLine, file_says}
 use Rattle.netlist_eval.specs.declared.vectors.VectorKind.{VectorKind}
 
--- the most bytes of a file that is read whole
-abbrev pub most_bytes : ℕ
-most_bytes = 16777216
-
 -- the most bytes of a file of vectors
 abbrev pub most_vector_bytes : ℕ
 most_vector_bytes = 1099511627776

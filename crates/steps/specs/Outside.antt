@@ -4,7 +4,7 @@ use Rattle.tm_outside.specs.Counts.{Rose}
 use Rattle.tm_outside.specs.Store.{StoreState}
 use Rattle.tm_outside.specs.Sink.{SinkState}
 use Rattle.rig.specs.Rig.{RigState}
-use Rattle.steps.specs.Files.{most_bytes}
+use Rattle.tm_text.specs.Size.{most_bytes}
 
 -- the store and the rig
 pub record Around : Type 0 where

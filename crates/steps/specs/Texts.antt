@@ -17,7 +17,7 @@ use Rattle.netlist.specs.declared.fault.DesignKind.{DesignKind}
 use Rattle.blif_read.specs.Designs.{IsDesign, IsDesignFault}
 use Rattle.config_image.specs.Images.{ImageValue, IsImage, image_bytes, IsImageFault, Reads}
 use Rattle.rig.specs.Rig.{RigState, Asked, RefusesText}
-use Rattle.steps.specs.Files.{most_bytes}
+use Rattle.tm_text.specs.Size.{most_bytes}
 use Rattle.steps.specs.Courses.{Step}
 use Rattle.steps.specs.declared.design_file.DesignFile.{DesignFile}
 use Rattle.steps.specs.declared.refusal.Refusal.{Refusal}

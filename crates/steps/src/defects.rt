@@ -10,9 +10,7 @@ use defect_db::{Defects, DefectsFault, DefectsKind, read_defects};
 use hierarchy::Shape;
 use std::alloc::Global;
 use tm_outside::{Store, read_within};
-
-/// The most bytes of the text of a list of defects.
-const MOST_BYTES: usize = 16_777_216;
+use tm_text::MOST_BYTES;
 
 // The list of a text.
 fn list_of_text(alloc: Global, shape: &Shape, text: &[u8]) -> Result<Defects, Stop>

@@ -11,9 +11,7 @@ use blif_read::read_blif;
 use netlist::{DesignFault, DesignKind, Netlist};
 use std::alloc::Global;
 use tm_outside::{Store, read_within};
-
-/// The most bytes of a file of a design.
-const MOST_BYTES: usize = 16_777_216;
+use tm_text::MOST_BYTES;
 
 // The refusal of a design.
 fn refused(alloc: Global, file: DesignFile, line: u64, kind: DesignKind) -> Stop

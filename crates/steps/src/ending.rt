@@ -1,17 +1,14 @@
 //! How a command that stopped ends.
-ghost use Rattle.std.specs.Prelude.{◌≡◌, ◌≤◌, OnOk, IfErr};
+ghost use Rattle.std.specs.Prelude.{◌≡◌, ◌≤◌, length, OnOk, IfErr};
 ghost use Rattle.tm_outside.specs.Sink.{Wrote, PutFails};
-ghost use Rattle.steps.specs.Lines.{machine_line, faults_line, defects_line, image_line, vectors_line};
+ghost use Rattle.steps.specs.Lines.{text_line};
 ghost use Rattle.steps.specs.Stops.{status_of, refusal_text};
 ghost use Rattle.steps.specs.Ends.{Finishes, Refuses};
 
-use crate::line::{defects_text, faults_text, image_text, machine_text, vectors_text};
+use crate::line::{
+    text_of, word_of_defects, word_of_faults, word_of_image, word_of_machine, word_of_vectors,
+};
 use crate::refusal::{Refusal, Stop};
-use config_image::ImageKind;
-use defect_db::DefectsKind;
-use fault_model::FaultsKind;
-use machine_file::MachineKind;
-use netlist_eval::VectorKind;
 use tm_outside::{Sink, SinkFail};
 
 // The status of a refusal.
@@ -33,58 +30,17 @@ fn status(refusal: &Refusal) -> u8
     }
 }
 
-// Writes the line that refuses a machine.
-fn put_machine<K: Sink>(sink: &mut K, line: u64, kind: MachineKind) -> Result<(), SinkFail>
-    ensures kind { (K.sink_state sink.new).can_lack ≡ (K.sink_state sink.old).can_lack }
-    ensures later { (K.sink_state sink.old).failures ≤ (K.sink_state sink.new).failures }
-    ensures wrote { OnOk result (Wrote (K.sink_state sink.old).written (K.sink_state sink.new).written (machine_line line kind)) }
-    ensures refused { IfErr result (λ e. PutFails e (machine_line line kind) (K.sink_state sink.old) (K.sink_state sink.new)) }
-{
-    let text = machine_text(line, kind);
-    sink.put(text.as_bytes())
-}
+// Writes the line that refuses a text.
+fn put_text<K: Sink>(sink: &mut K, file: &str, line: u64, kind: &str) -> Result<(), SinkFail>
+    requires file { length file.now ≤ 8 }
+    requires kind { length kind.now ≤ 8 }
 
-// Writes the line that refuses faults.
-fn put_faults<K: Sink>(sink: &mut K, line: u64, kind: FaultsKind) -> Result<(), SinkFail>
-    ensures kind { (K.sink_state sink.new).can_lack ≡ (K.sink_state sink.old).can_lack }
+    ensures lack { (K.sink_state sink.new).can_lack ≡ (K.sink_state sink.old).can_lack }
     ensures later { (K.sink_state sink.old).failures ≤ (K.sink_state sink.new).failures }
-    ensures wrote { OnOk result (Wrote (K.sink_state sink.old).written (K.sink_state sink.new).written (faults_line line kind)) }
-    ensures refused { IfErr result (λ e. PutFails e (faults_line line kind) (K.sink_state sink.old) (K.sink_state sink.new)) }
+    ensures wrote { OnOk result (Wrote (K.sink_state sink.old).written (K.sink_state sink.new).written (text_line file.now line kind.now)) }
+    ensures refused { IfErr result (λ e. PutFails e (text_line file.now line kind.now) (K.sink_state sink.old) (K.sink_state sink.new)) }
 {
-    let text = faults_text(line, kind);
-    sink.put(text.as_bytes())
-}
-
-// Writes the line that refuses a list of defects.
-fn put_defects<K: Sink>(sink: &mut K, line: u64, kind: DefectsKind) -> Result<(), SinkFail>
-    ensures kind { (K.sink_state sink.new).can_lack ≡ (K.sink_state sink.old).can_lack }
-    ensures later { (K.sink_state sink.old).failures ≤ (K.sink_state sink.new).failures }
-    ensures wrote { OnOk result (Wrote (K.sink_state sink.old).written (K.sink_state sink.new).written (defects_line line kind)) }
-    ensures refused { IfErr result (λ e. PutFails e (defects_line line kind) (K.sink_state sink.old) (K.sink_state sink.new)) }
-{
-    let text = defects_text(line, kind);
-    sink.put(text.as_bytes())
-}
-
-// Writes the line that refuses an image.
-fn put_image<K: Sink>(sink: &mut K, line: u64, kind: ImageKind) -> Result<(), SinkFail>
-    ensures kind { (K.sink_state sink.new).can_lack ≡ (K.sink_state sink.old).can_lack }
-    ensures later { (K.sink_state sink.old).failures ≤ (K.sink_state sink.new).failures }
-    ensures wrote { OnOk result (Wrote (K.sink_state sink.old).written (K.sink_state sink.new).written (image_line line kind)) }
-    ensures refused { IfErr result (λ e. PutFails e (image_line line kind) (K.sink_state sink.old) (K.sink_state sink.new)) }
-{
-    let text = image_text(line, kind);
-    sink.put(text.as_bytes())
-}
-
-// Writes the line that refuses vectors.
-fn put_vectors<K: Sink>(sink: &mut K, line: u64, kind: VectorKind) -> Result<(), SinkFail>
-    ensures kind { (K.sink_state sink.new).can_lack ≡ (K.sink_state sink.old).can_lack }
-    ensures later { (K.sink_state sink.old).failures ≤ (K.sink_state sink.new).failures }
-    ensures wrote { OnOk result (Wrote (K.sink_state sink.old).written (K.sink_state sink.new).written (vectors_line line kind)) }
-    ensures refused { IfErr result (λ e. PutFails e (vectors_line line kind) (K.sink_state sink.old) (K.sink_state sink.new)) }
-{
-    let text = vectors_text(line, kind);
+    let text = text_of(file, line, kind);
     sink.put(text.as_bytes())
 }
 
@@ -97,12 +53,12 @@ fn put_line<K: Sink>(sink: &mut K, refusal: &Refusal) -> Result<(), SinkFail>
 {
     match refusal {
         Refusal::Words => sink.put(b"refused words\n"),
-        Refusal::Machine { line, kind } => put_machine(sink, *line, *kind),
-        Refusal::Faults { line, kind } => put_faults(sink, *line, *kind),
-        Refusal::Defects { line, kind } => put_defects(sink, *line, *kind),
-        Refusal::Image { line, kind } => put_image(sink, *line, *kind),
+        Refusal::Machine { line, kind } => put_text(sink, "machine", *line, word_of_machine(*kind)),
+        Refusal::Faults { line, kind } => put_text(sink, "faults", *line, word_of_faults(*kind)),
+        Refusal::Defects { line, kind } => put_text(sink, "defects", *line, word_of_defects(*kind)),
+        Refusal::Image { line, kind } => put_text(sink, "image", *line, word_of_image(*kind)),
         Refusal::Design(fault) => sink.put(fault.text()),
-        Refusal::Vectors { line, kind } => put_vectors(sink, *line, *kind),
+        Refusal::Vectors { line, kind } => put_text(sink, "vectors", *line, word_of_vectors(*kind)),
         Refusal::Room(place) => sink.put(place.text()),
         Refusal::Rig => sink.put(b"refused rig\n"),
         Refusal::Store => sink.put(b"refused store\n"),

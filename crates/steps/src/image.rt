@@ -11,9 +11,7 @@ use config_image::{Image, ImageFault, ImageKind, read_image};
 use hierarchy::Shape;
 use std::alloc::Global;
 use tm_outside::{Store, read_within};
-
-/// The most bytes of an image.
-const MOST_BYTES: usize = 16_777_216;
+use tm_text::MOST_BYTES;
 
 // The image of these bytes.
 fn image_of_text(alloc: Global, shape: &Shape, text: &[u8]) -> Result<Image, Stop>

@@ -3,8 +3,7 @@ ghost use Rattle.std.specs.Prelude.{◌≡◌, ◌≤◌, ◌<◌, ◌++◌, len
 ghost use Rattle.hierarchy.specs.Shape.{nodes_of};
 ghost use Rattle.steps.specs.Lines.{file_word, machine_word, faults_word, defects_word, image_word};
 ghost use Rattle.steps.specs.Lines.{design_word, vectors_word, resource_word};
-ghost use Rattle.steps.specs.Lines.{design_name, nets_text, text_line, machine_line, faults_line, defects_line, image_line};
-ghost use Rattle.steps.specs.Lines.{design_line, vectors_line, room_line};
+ghost use Rattle.steps.specs.Lines.{design_name, nets_text, text_line, design_line, room_line};
 
 use crate::design_file::DesignFile;
 use arrayvec::ArrayString;
@@ -134,7 +133,8 @@ pub fn room_text(alloc: Global, shape: &Shape, short: &Short) -> Result<Vec<u8>,
     Ok(text)
 }
 
-fn word_of_vectors(kind: VectorKind) -> &'static str
+/// The word for a fault of this kind.
+pub fn word_of_vectors(kind: VectorKind) -> &'static str
     ensures word { result.now ≡ vectors_word kind }
     ensures bounded { length result.now ≤ 8 }
 {
@@ -145,7 +145,8 @@ fn word_of_vectors(kind: VectorKind) -> &'static str
     }
 }
 
-fn word_of_machine(kind: MachineKind) -> &'static str
+/// The word for a fault of this kind.
+pub fn word_of_machine(kind: MachineKind) -> &'static str
     ensures word { result.now ≡ machine_word kind }
     ensures bounded { length result.now ≤ 8 }
 {
@@ -160,7 +161,8 @@ fn word_of_machine(kind: MachineKind) -> &'static str
     }
 }
 
-fn word_of_faults(kind: FaultsKind) -> &'static str
+/// The word for a fault of this kind.
+pub fn word_of_faults(kind: FaultsKind) -> &'static str
     ensures word { result.now ≡ faults_word kind }
     ensures bounded { length result.now ≤ 8 }
 {
@@ -178,7 +180,8 @@ fn word_of_faults(kind: FaultsKind) -> &'static str
     }
 }
 
-fn word_of_defects(kind: DefectsKind) -> &'static str
+/// The word for a fault of this kind.
+pub fn word_of_defects(kind: DefectsKind) -> &'static str
     ensures word { result.now ≡ defects_word kind }
     ensures bounded { length result.now ≤ 8 }
 {
@@ -193,7 +196,8 @@ fn word_of_defects(kind: DefectsKind) -> &'static str
     }
 }
 
-fn word_of_image(kind: ImageKind) -> &'static str
+/// The word for a fault of this kind.
+pub fn word_of_image(kind: ImageKind) -> &'static str
     ensures word { result.now ≡ image_word kind }
     ensures bounded { length result.now ≤ 8 }
 {
@@ -208,8 +212,9 @@ fn word_of_image(kind: ImageKind) -> &'static str
     }
 }
 
-// The line that refuses a text: the word for its file, the number of the line, and the word for what is wrong.
-fn text_of(file: &str, line: u64, kind: &str) -> ArrayString<64>
+/// The line that refuses a text: the word for its file, the number of the line (of an image the place of a byte), and the
+/// word for what is wrong. Takes no memory.
+pub fn text_of(file: &str, line: u64, kind: &str) -> ArrayString<64>
     requires file { length file.now ≤ 8 }
     requires kind { length kind.now ≤ 8 }
     ensures { result.bytes ≡ text_line file.now line kind.now }
@@ -224,39 +229,4 @@ fn text_of(file: &str, line: u64, kind: &str) -> ArrayString<64>
     text.push_str(kind);
     text.push_str("\n");
     text
-}
-
-/// The line that refuses a machine. Takes no memory.
-pub fn machine_text(line: u64, kind: MachineKind) -> ArrayString<64>
-    ensures { result.bytes ≡ machine_line line kind }
-{
-    text_of("machine", line, word_of_machine(kind))
-}
-
-/// The line that refuses faults. Takes no memory.
-pub fn faults_text(line: u64, kind: FaultsKind) -> ArrayString<64>
-    ensures { result.bytes ≡ faults_line line kind }
-{
-    text_of("faults", line, word_of_faults(kind))
-}
-
-/// The line that refuses a list of defects. Takes no memory.
-pub fn defects_text(line: u64, kind: DefectsKind) -> ArrayString<64>
-    ensures { result.bytes ≡ defects_line line kind }
-{
-    text_of("defects", line, word_of_defects(kind))
-}
-
-/// The line that refuses an image, whose faults have the place of a byte for a line. Takes no memory.
-pub fn image_text(line: u64, kind: ImageKind) -> ArrayString<64>
-    ensures { result.bytes ≡ image_line line kind }
-{
-    text_of("image", line, word_of_image(kind))
-}
-
-/// The line that refuses vectors. Takes no memory.
-pub fn vectors_text(line: u64, kind: VectorKind) -> ArrayString<64>
-    ensures { result.bytes ≡ vectors_line line kind }
-{
-    text_of("vectors", line, word_of_vectors(kind))
 }

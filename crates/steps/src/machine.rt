@@ -10,9 +10,7 @@ use hierarchy::Shape;
 use machine_file::{MachineFault, MachineKind, read_machine};
 use std::alloc::Global;
 use tm_outside::{Store, read_within};
-
-/// The most bytes of the text of a machine.
-const MOST_BYTES: usize = 16_777_216;
+use tm_text::MOST_BYTES;
 
 // The machine of a text.
 fn shape_of_text(alloc: Global, text: &[u8]) -> Result<Shape, Stop>

@@ -18,7 +18,7 @@ use Rattle.config_image.specs.Images.{ImageValue, IsImage, image_bytes}
 use Rattle.config_image.specs.Parts.{IsFreeImage}
 use Rattle.crossbar_route.specs.RightImages.{IsRightImage}
 use Rattle.steps.specs.Faults.{ShortPlace}
-use Rattle.steps.specs.Files.{most_bytes}
+use Rattle.tm_text.specs.Size.{most_bytes}
 use Rattle.steps.specs.Outside.{StaysNear}
 use Rattle.steps.specs.Courses.{Course, Step, after, write, done}
 use Rattle.steps.specs.Texts.{reads_machine, reads_defects, reads_design}
@@ -36,8 +36,8 @@ pub record IsNoRoom (d : DefectList) (draft : Draft) (place : ShortPlace) : Type
   pub shape : place.shape ≡ d.shape
   pub short : IsShortInOrder d.shape d.list network place.short
 
--- The image is of the machine, touches only what the list leaves free, and is right for the design under all faults
--- that the list covers. The plain network of the design fits in order.
+-- The image is of the machine, has a pin for each input and output of the design, touches only what the list leaves free, and
+-- is right for the design under all faults that the list covers. The plain network of the design fits in order.
 pub record IsImageFor (d : DefectList) (draft : Draft) (i : ImageValue) : Type 0 where
   pub network : Network
   pub plan : Plan
@@ -45,6 +45,8 @@ pub record IsImageFor (d : DefectList) (draft : Draft) (i : ImageValue) : Type 0
   pub fits : FitsInOrder d.shape d.list network plan
   pub image : IsImage i
   pub shape : i.config.shape ≡ d.shape
+  pub inputs : length i.inputs ≡ length draft.inputs
+  pub outputs : length i.outputs ≡ length draft.outputs
   pub free : IsFreeImage d.list i
   pub right : (f : Faults) → Covers d.shape d.list f → IsRightImage f i draft
 

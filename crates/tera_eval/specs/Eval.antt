@@ -5,7 +5,8 @@ use Rattle.tm_outside.specs.Store.{StoreState, Place}
 use Rattle.netlist.specs.declared.draft.Draft.{Draft}
 use Rattle.netlist.specs.Rows.{AreRows}
 use Rattle.blif_read.specs.Designs.{IsDesign}
-use Rattle.steps.specs.Files.{most_bytes, says_at}
+use Rattle.tm_text.specs.Size.{most_bytes}
+use Rattle.steps.specs.Files.{says_at}
 use Rattle.steps.specs.Lines.{outputs_line}
 use Rattle.steps.specs.Outside.{StaysNear}
 use Rattle.steps.specs.Courses.{Course, RowWork, after, write, all_rows}

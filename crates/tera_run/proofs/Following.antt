@@ -66,7 +66,7 @@ module _ (i : ImageValue) (vectors : List ℕ) (here : Type 0) (told : Told) (ne
       opened result a c present (write-then outputs_line (IsAtOutputs i vectors new) (all_rows (image_rows i told new.store.current new.rig)) result a b c first w')
 
 -- where the store stands before the line `outputs`, said otherwise
-near-text : (i : ImageValue) (vectors : List ℕ) (here here' : Type 0) (told : Told) (new : Around) → (here → here') → (text : List ℕ) (next : Next) → image_course i vectors here told new text next → image_course i vectors here' told new text next
+pub near-text : (i : ImageValue) (vectors : List ℕ) (here here' : Type 0) (told : Told) (new : Around) → (here → here') → (text : List ℕ) (next : Next) → image_course i vectors here told new text next → image_course i vectors here' told new text next
 near-text i vectors here here' told new f text next (inl h) = inl (h.0, h.1, f h.2)
 near-text i vectors here here' told new f text next (inr (u, given, inl h)) = inr (u, given, inl (h.0, h.1, f h.2))
 near-text i vectors here here' told new f text next (inr (u, given, inr h)) = inr (u, given, inr h)

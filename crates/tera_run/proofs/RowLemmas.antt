@@ -1,6 +1,8 @@
 -- How the rows of an image go on, and how they stop.
-use Rattle.std.proofs.Common.{◌≡◌, ℕ, ◌+◌, ◌<◌, ◌≤◌, Bool, true, false, List, [], ◌∷◌, ◌++◌, length, take, map, flat_map, Option, None, Some, IfSome, IsTrue, arith, refl, sym, ap, subst, ◌∙◌, length-append}
+use Rattle.std.proofs.Common.{◌≡◌, ℕ, zero, suc, ◌+◌, ◌<◌, ◌≤◌, Bool, true, false, List, [], ◌∷◌, ◌++◌, length, take, map, flat_map, Option, None, Some, IfSome, IsTrue, arith, refl, sym, ap, subst, ◌∙◌, length-append}
+use Rattle.std.specs.List.{All}
 use Rattle.std.proofs.lemmas.List.{map-append}
+use Rattle.std.proofs.lemmas.List.Elements.{All-append}
 use Rattle.tm_outside.specs.Told.{Told}
 use Rattle.tm_outside.specs.Store.{StoreState}
 use Rattle.tm_outside.specs.Sink.{SinkState, Wrote}
@@ -28,6 +30,17 @@ use Rattle.tera_run.specs.Rows.{most_rows, image_rows, AreRunRows, AreRowsOf, Is
 use Rattle.tera_run.specs.Running.{IsFitting, IsLoaded, IsRead, IsDriven, CycleGives, CycleStops, pins_in}
 use Rattle.tera_run.specs.declared.image.Running.{Running}
 
+-- the vector has a bit for each input pin
+abbrev pub HasWidth : ImageValue → List Bool → Type 0
+HasWidth image vector = length vector ≡ length image.inputs
+
+no-widths : (image : ImageValue) → All (HasWidth image) []
+no-widths image k e lt = absurd (let no : ⊥ = omega (arith, lt) in no)
+
+one-width : (image : ImageValue) (vector : List Bool) → HasWidth image vector → All (HasWidth image) (vector ∷ [])
+one-width image vector is zero e lt = is
+one-width image vector is (suc k) e lt = absurd (let no : ⊥ = omega (arith, lt) in no)
+
 -- the rows so far
 pub record IsDriving (image : ImageValue) (before : StoreState) (rig0 : RigState) (old : SinkState) (rows : Running) (store : StoreState) (rig : RigState) (sink : SinkState) : Type 0 where
   pub image_is : rows.image ≡ image
@@ -35,6 +48,7 @@ pub record IsDriving (image : ImageValue) (before : StoreState) (rig0 : RigState
   pub vectors : List (List Bool)
   pub done : List (List Bool)
   pub count : length done ≡ length vectors
+  pub widths : All (HasWidth image) vectors
   pub taking : IsTaking (length image.inputs) before store rows.vectors vectors
   pub machine : rig.machine ≡ rig0.machine
   pub loads : rig.loads ≡ rig0.loads
@@ -60,15 +74,16 @@ read-told (Some f) config cycles i vectors rows is drives rows_are told =
     (readings_of cycles, subst (λ (d : List Pins). IsRun f i.config d (readings_of cycles)) drives run, rows_are)
 
 -- the rows of a session are those of the machine
-session-rows : (rig : RigState) (i : ImageValue) (vectors rows : List (List Bool)) → length rows ≡ length vectors → IsSession rig i vectors rows → IsTold rig → AreRowsOf rig i vectors rows
-session-rows rig i vectors rows count session is = record {
+session-rows : (rig : RigState) (i : ImageValue) (vectors rows : List (List Bool)) → length rows ≡ length vectors → All (HasWidth i) vectors → IsSession rig i vectors rows → IsTold rig → AreRowsOf rig i vectors rows
+session-rows rig i vectors rows count widths session is = record {
   count = count;
+  widths = widths;
   read = read-told rig.machine.faults (config_of rig) (cycles_of rig) i vectors rows session.config session.drives session.rows_are is;
 }
 
 -- also where the session has ended since
 rows-kept : (rig rig' : RigState) (i : ImageValue) (vectors rows : List (List Bool)) → rig'.machine ≡ rig.machine → AreRowsOf rig i vectors rows → AreRowsOf rig' i vectors rows
-rows-kept rig rig' i vectors rows same are = record { count = are.count; read = rw same are.read }
+rows-kept rig rig' i vectors rows same are = record { count = are.count; widths = are.widths; read = rw same are.read }
 
 session-kept : (rig rig' : RigState) (i : ImageValue) (vectors rows : List (List Bool)) → rig'.session ≡ rig.session → IsSession rig i vectors rows → IsSession rig' i vectors rows
 session-kept rig rig' i vectors rows same is = record {
@@ -107,6 +122,7 @@ IsDriving-start rows store rig sink loaded begun = record {
   vectors = [];
   done = [];
   count = refl;
+  widths = no-widths rows.image;
   taking = rw loaded.vectors (IsTaking-start (length rows.image.inputs) store begun);
   machine = refl;
   loads = refl;
@@ -132,6 +148,11 @@ module _ (image : ImageValue) (before : StoreState) (rig0 : RigState) (old : Sin
   driven-taking so_far read contents later asked =
       IsTaking-more (length image.inputs) before store store' rows.vectors rows'.vectors rows'.vector.items so_far.vectors so_far.taking contents later asked read.next read.moves
 
+  driven-widths : (so_far : IsDriving image before rig0 old rows store rig sink) → rows'.image ≡ rows.image → IsFitting rows' → All (HasWidth image) (so_far.vectors ++ rows'.vector.items ∷ [])
+  driven-widths so_far same fits =
+      let width : HasWidth image rows'.vector.items = fits.vector ∙ ap (λ (i : ImageValue). length i.inputs) (same ∙ so_far.image_is) in
+      All-append (HasWidth image) so_far.vectors (rows'.vector.items ∷ []) so_far.widths (one-width image rows'.vector.items width)
+
   -- the vector stands in the file, and the store isn't far beyond its line
   read-near : (so_far : IsDriving image before rig0 old rows store rig sink) → IsRead rows rows' store store' → store'.contents ≡ store.contents → IsNearNext (length image.inputs) (file_of before) store'.current (length so_far.done)
   read-near so_far read contents =
@@ -144,7 +165,7 @@ module _ (image : ImageValue) (before : StoreState) (rig0 : RigState) (old : Sin
     rows = so_far.done;
     text_is = refl;
     first = taken-first (length image.inputs) before store rows.vectors so_far.vectors so_far.taking;
-    are = rows-kept rig rig' image so_far.vectors so_far.done machine (session-rows rig image so_far.vectors so_far.done so_far.count so_far.session so_far.told);
+    are = rows-kept rig rig' image so_far.vectors so_far.done machine (session-rows rig image so_far.vectors so_far.done so_far.count so_far.widths so_far.session so_far.told);
   }
 
   abbrev has-read : (so_far : IsDriving image before rig0 old rows store rig sink) → rig'.machine ≡ rig.machine → rig'.session ≡ rig.session → HasReadRows (image_rows image (file_of before) store'.current rig') (flat_map row_line so_far.done)
@@ -160,6 +181,7 @@ module _ (image : ImageValue) (before : StoreState) (rig0 : RigState) (old : Sin
     vectors = so_far.vectors ++ rows'.vector.items ∷ [];
     done = so_far.done ++ rows'.row.items ∷ [];
     count = driven-count so_far;
+    widths = driven-widths so_far same fits;
     taking = driven-taking so_far driven.read contents later asked;
     machine = machine ∙ so_far.machine;
     loads = loads ∙ so_far.loads;
@@ -172,8 +194,8 @@ module _ (image : ImageValue) (before : StoreState) (rig0 : RigState) (old : Sin
   }
 
   -- a row comes next
-  before-row : (so_far : IsDriving image before rig0 old rows store rig sink) → IsDriven rows rows' store store' rig rig' → store'.contents ≡ store.contents → store.failures ≤ store'.failures → store'.asked ≡ store.asked → IsBeforeRow (image_rows image (file_of before) store'.current rig') (flat_map row_line so_far.done) (row_line rows'.row.items)
-  before-row so_far driven contents later asked =
+  before-row : (so_far : IsDriving image before rig0 old rows store rig sink) → IsDriven rows rows' store store' rig rig' → rows'.image ≡ rows.image → IsFitting rows' → store'.contents ≡ store.contents → store.failures ≤ store'.failures → store'.asked ≡ store.asked → IsBeforeRow (image_rows image (file_of before) store'.current rig') (flat_map row_line so_far.done) (row_line rows'.row.items)
+  before-row so_far driven same fits contents later asked =
       let vectors = so_far.vectors ++ rows'.vector.items ∷ [] in
       let taking = driven-taking so_far driven.read contents later asked in
       record {
@@ -183,17 +205,17 @@ module _ (image : ImageValue) (before : StoreState) (rig0 : RigState) (old : Sin
         text_is = refl;
         line_is = refl;
         first = taken-first (length image.inputs) before store' rows'.vectors vectors taking;
-        are = session-rows rig' image vectors (so_far.done ++ rows'.row.items ∷ []) (driven-count so_far) (driven-session so_far driven) driven.row.1.told;
+        are = session-rows rig' image vectors (so_far.done ++ rows'.row.items ∷ []) (driven-count so_far) (driven-widths so_far same fits) (driven-session so_far driven) driven.row.1.told;
         session = driven-session so_far driven;
         near = read-near so_far driven.read contents;
       }
 
-  pub row-stops : (stop : Stop) (sink' : SinkState) → IsDriving image before rig0 old rows store rig sink → IsDriven rows rows' store store' rig rig' → store'.contents ≡ store.contents → store.failures ≤ store'.failures → store'.asked ≡ store.asked → WriteStops (row_line rows'.row.items) stop sink sink' → StopWrote (all_rows (image_rows image (file_of before) store'.current rig')) stop old sink'
-  row-stops (Refused refusal) sink' so_far driven contents later asked fails = absurd fails
-  row-stops (Sink SinkFailed) sink' so_far driven contents later asked fails =
-      (flat_map row_line so_far.done, row_line rows'.row.items, fails.1.0, before-row so_far driven contents later asked, Wrote-then _ _ _ _ _ so_far.wrote fails.1.1)
-  row-stops (Sink SinkMemory) sink' so_far driven contents later asked fails =
-      (flat_map row_line so_far.done, row_line rows'.row.items, before-row so_far driven contents later asked, rw fails.1 so_far.wrote)
+  pub row-stops : (stop : Stop) (sink' : SinkState) → IsDriving image before rig0 old rows store rig sink → IsDriven rows rows' store store' rig rig' → rows'.image ≡ rows.image → IsFitting rows' → store'.contents ≡ store.contents → store.failures ≤ store'.failures → store'.asked ≡ store.asked → WriteStops (row_line rows'.row.items) stop sink sink' → StopWrote (all_rows (image_rows image (file_of before) store'.current rig')) stop old sink'
+  row-stops (Refused refusal) sink' so_far driven same fits contents later asked fails = absurd fails
+  row-stops (Sink SinkFailed) sink' so_far driven same fits contents later asked fails =
+      (flat_map row_line so_far.done, row_line rows'.row.items, fails.1.0, before-row so_far driven same fits contents later asked, Wrote-then _ _ _ _ _ so_far.wrote fails.1.1)
+  row-stops (Sink SinkMemory) sink' so_far driven same fits contents later asked fails =
+      (flat_map row_line so_far.done, row_line rows'.row.items, before-row so_far driven same fits contents later asked, rw fails.1 so_far.wrote)
 
   pub row-counts : (stop : Stop) (sink' : SinkState) → IsDriving image before rig0 old rows store rig sink → WriteStops (row_line rows'.row.items) stop sink sink' → IsCounted ⊥ stop (outside before rig0 old) (outside store' rig' sink')
   row-counts (Refused refusal) sink' so_far fails = absurd fails

@@ -1,5 +1,6 @@
 -- The rows of an image that is loaded, wherever it comes from.
 use Rattle.std.specs.Prelude.{◌≡◌, ℕ, ◌+◌, ◌≤◌, Bool, List, [], map, length, Option, Some, IfSome}
+use Rattle.std.specs.List.{All}
 use Rattle.tm_outside.specs.Told.{Told, IfTold}
 use Rattle.tm_outside.specs.Store.{Place}
 use Rattle.hierarchy.specs.Circuit.{Pins}
@@ -22,9 +23,10 @@ most_rows = 4096
 abbrev pub AreRunRows : Faults → ImageValue → (vectors rows : List (List Bool)) → Type 0
 AreRunRows f i vectors rows = (reads : List Pins) × IsRun f i.config (map (drive_of i) vectors) reads × (rows ≡ map (row_of i) reads)
 
--- a row for each vector; where the faults of the machine are told, they are what it reads
+-- a row for each vector, which has a bit for each input; where the faults of the machine are told, they are what it reads
 pub record AreRowsOf (rig : RigState) (i : ImageValue) (vectors rows : List (List Bool)) : Type 0 where
   pub count : length rows ≡ length vectors
+  pub widths : All (λ vector. length vector ≡ length i.inputs) vectors
   pub read : IfSome rig.machine.faults (λ f. AreRunRows f i vectors rows)
 
 -- the rig's session: it has loaded the image, and has a cycle for each vector, which it drove; the rows are what it read, and

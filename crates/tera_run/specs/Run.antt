@@ -4,7 +4,8 @@ use Rattle.tm_outside.specs.Told.{Told, holds}
 use Rattle.hierarchy.specs.declared.Shape.{Shape}
 use Rattle.machine_file.specs.Machine.{IsMachine}
 use Rattle.config_image.specs.Images.{ImageValue, IsImage, image_bytes}
-use Rattle.steps.specs.Files.{most_bytes, says_at, vectors_at}
+use Rattle.tm_text.specs.Size.{most_bytes}
+use Rattle.steps.specs.Files.{says_at, vectors_at}
 use Rattle.steps.specs.Lines.{outputs_line}
 use Rattle.steps.specs.Outside.{Around, StaysNear}
 use Rattle.steps.specs.Courses.{Course, after}

@@ -1,4 +1,4 @@
-use Rattle.std.proofs.Common.{◌≡◌, ◌<◌, true, List, sym, subst}
+use Rattle.std.proofs.Common.{◌≡◌, ◌<◌, true, List, sym, ◌∙◌, subst}
 use Rattle.hierarchy.specs.declared.Cross.{Cross}
 use Rattle.hierarchy.specs.Shape.{ends_of, crosses_of}
 use Rattle.config_set.specs.Groups.{among}
@@ -9,7 +9,7 @@ use Rattle.evidence.specs.Held.{wire_numbers}
 use Rattle.crossbar_test.specs.Links.{others, AreTies}
 use Rattle.crossbar_test.proofs.Adding.{all_within}
 use Rattle.crossbar_test.proofs.Laid.{if_ok}
-use Rattle.crossbar_test.proofs.Linking.{config_loops}
+use Rattle.crossbar_test.proofs.Linking.{config_loops, not_kept}
 use Rattle.crossbar_test.proofs.links.link.Goals as goal
 
 pub cross_of-cross-requires-clause-tap : goal.cross_of-cross-requires-clause-tap
@@ -55,3 +55,11 @@ returns-clause-passes g c = if_ok c.toggle_cross-answer.result c.toggle_cross-an
       (λ y on. holds.crosses y (sides.near_side.crosses y on)) (λ y on. holds.crosses y (sides.far_side.crosses y on)) tied at_x within link in
       passes.at f loop.0 loop.1 near.pin told (rw c.pin-2.ensures loop.2) (subst (IsDrivenAlone c.in_ok-drive.drive) c.pin.ensures c.in_ok-drive.ensures.alone);
 })
+
+pub returns-clause-none : goal.returns-clause-none
+returns-clause-none g c =
+    let k = c.args.proof.now in
+    let x = c.cross_of-cross.result.0 in
+    let same = c.shape-shape.ensures in
+    λ kept. absurd (not_kept k _ _ x (c.the_laws_hold.ensures k.shape).crosses (subst (λ s. x < crosses_of s) same c.cross_of-cross.ensures.within)
+    (subst (λ s. ends_of s x ≡ (c.args.tap.0, c.args.line.0)) same c.cross_of-cross.ensures.at) (sym c.keeps_cross.ensures ∙ c.if-keeps_cross.false) kept)

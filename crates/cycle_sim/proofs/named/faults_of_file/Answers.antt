@@ -2,7 +2,8 @@ use Rattle.std.proofs.Common.{◌≤◌, Err, length, subst}
 use Rattle.tm_outside.specs.Whole.{IsWithin}
 use Rattle.hierarchy.specs.Faults.{Faults}
 use Rattle.fault_model.specs.Text.{IsFaultText}
-use Rattle.fault_model.specs.Refusals.{most_bytes, IsRefusedAs, GivesOrLacks}
+use Rattle.tm_text.specs.Size.{most_bytes}
+use Rattle.fault_model.specs.Refusals.{IsRefusedAs, GivesOrLacks}
 use Rattle.fault_model.specs.declared.kind.FaultsFault.{FaultsFault}
 use Rattle.cycle_sim.proofs.Naming.{no_text}
 use Rattle.cycle_sim.proofs.named.faults_of_file.Goals as goal

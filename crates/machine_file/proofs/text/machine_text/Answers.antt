@@ -2,7 +2,7 @@ use Rattle.std.proofs.Common.{arith, ◌++◌, ◌≤◌, ◌≡◌, length, sub
 use Rattle.hierarchy.specs.declared.Counts.{Counts}
 use Rattle.hierarchy.specs.Limits.{MakeShape}
 use Rattle.hierarchy.proofs.Full.{no_zero, all_within}
-use Rattle.machine_file.specs.Faults.{most_bytes}
+use Rattle.tm_text.specs.Size.{most_bytes}
 use Rattle.machine_file.specs.Machine.{IsMachine, text_of}
 use Rattle.machine_file.proofs.GrammarLemmas.{shape_written}
 use Rattle.machine_file.proofs.text.machine_text.Goals as goal

@@ -28,7 +28,7 @@ returns-in_err-write_row-clause-written g c =
     let p = err_from_is_err_and c.from_residual-in_err-write_row.result c.from_residual-in_err-write_row.ensures.1 in
     let n = c.in_ok-next_row.ensures in
     let driven = rw c.if-branch.true at n.gives in
-    rw (p.1, p.2) (row-stops _ _ _ _ c.file.rows c.next_row.new.rows _ _ _ _ _ _ _ c.file.invariant driven n.contents n.later n.asked c.in_err-write_row.ensures.refused)
+    rw (p.1, p.2) (row-stops _ _ _ _ c.file.rows c.next_row.new.rows _ _ _ _ _ _ _ c.file.invariant driven n.image n.fits n.contents n.later n.asked c.in_err-write_row.ensures.refused)
 
 pub returns-in_err-write_row-clause-counted : goal.returns-in_err-write_row-clause-counted
 returns-in_err-write_row-clause-counted g c =

@@ -1,0 +1,46 @@
+-- Tested crossbars stay as more is kept, and one more is found.
+use Rattle.std.proofs.Common.{◌≡◌, ◌<◌, ◌≤◌, ◌+◌, ℕ, Option, List, [], ◌∷◌, ◌++◌, length, get_or, Some, arith, subst, sym}
+use native.Mathlib.Decide.{dec_lt}
+use Rattle.std.proofs.lemmas.List.{get_or_append_left, length-append}
+use Rattle.std.proofs.Math.Seq.{get_or-append_seam}
+use Rattle.hierarchy.specs.Faults.{Faults}
+use Rattle.evidence.specs.Kept.{Kept, HoldsFor, IsMore}
+use Rattle.evidence.specs.Held.{Findings, IsHeld, IsFull}
+use Rattle.evidence.proofs.Keeping.{held_later, full_later, holds_earlier}
+use Rattle.crossbar_test.specs.Stages.{FullIf}
+use Rattle.crossbar_examples.specs.Found.{IsFoundAt, AreFound}
+
+-- none are found at first
+pub none_found : (told : Option Faults) (k : Kept) → AreFound told k []
+none_found told k = record { each = λ n d below. absurd (let no : ⊥ = omega (arith, below) in no) }
+
+-- those found stay as more is kept
+pub found_later : {told : Option Faults} {k l : Kept} {found : List Findings} → IsMore k l → AreFound told k found → AreFound told l found
+found_later {told} {k} {l} {found} more p = record {
+  each = λ n d below. later n (get_or found n d) (p.each n d below);
+}
+  where
+    later : (n : ℕ) (t : Findings) → IsFoundAt told k n t → IsFoundAt told l n t
+    later n t a = record {
+      node = a.node;
+      held = held_later t more a.held;
+      full = record { at = λ f is holds. full_later more (a.full.at f is (holds_earlier more holds)) };
+    }
+
+-- what is full of what was kept before is full of what is kept
+pub full_now : {told : Option Faults} {k l : Kept} {t : Findings} → IsMore k l → FullIf told k l t → FullIf told l l t
+full_now more full = record { at = λ f is holds. full.at f is (holds_earlier more holds) }
+
+-- one more is found
+pub found_next : {told : Option Faults} {k l : Kept} {found : List Findings} (t : Findings) → IsMore k l → AreFound told k found → t.node ≡ length found → IsHeld l t → FullIf told k l t →
+    AreFound told l (found ++ t ∷ [])
+found_next {told} {k} {l} {found} t more p node held full = record {
+  each = λ n d below. at n d below (dec_lt n (length found));
+}
+  where
+    at : (n : ℕ) (d : Findings) → n < length (found ++ t ∷ []) → Dec (n < length found) → IsFoundAt told l n (get_or (found ++ t ∷ []) n d)
+    at n d below (yes within) = rw (get_or_append_left found (t ∷ []) d n within) ((found_later more p).each n d within)
+    at n d below (no past) =
+        let last : n ≡ length found = omega (arith, below, past, length-append found (t ∷ [])) in
+        subst (λ i. IsFoundAt told l i (get_or (found ++ t ∷ []) i d)) (sym last)
+        (rw (get_or-append_seam found t [] d) (record { node = node; held = held; full = full_now more full }))

@@ -1,0 +1,7 @@
+use Rattle.std.proofs.Common.{◌≡◌, ℕ, true, take}
+use Rattle.config_set.specs.Groups.{among}
+use Rattle.evidence.specs.Kept.{keeps_cross}
+use Rattle.crossbar_examples.proofs.answers.keeps_route.Given as goal
+
+abbrev pub invariant-steps : goal.invariant-steps
+invariant-steps l = (x : ℕ) → among (take l.k l.route.crosses) x ≡ true → keeps_cross l.proof x ≡ true

@@ -1,0 +1,5 @@
+use Rattle.test_configs.specs.Routes.{IsRoute}
+use Rattle.crossbar_examples.proofs.setup.route_over.Given as goal
+
+abbrev pub invariant-crosses : goal.invariant-crosses
+invariant-crosses l = IsRoute l.shape l.route

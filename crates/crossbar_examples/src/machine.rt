@@ -1,0 +1,23 @@
+//! The machine of a case.
+
+use crate::book::Case;
+use cycle_sim::SimRig;
+use rig::{FlakyRig, LogRig};
+use std::alloc::{AllocError, Global};
+use tm_outside::{File, MemoryStore};
+
+/// A rig of which the calls of the case fail, over a machine with the faults of the case in the file `faults`.
+pub fn rig_of(
+    alloc: Global,
+    case: &Case,
+) -> Result<LogRig<FlakyRig<SimRig<MemoryStore>>>, AllocError> {
+    let file = File {
+        name: String::from_str(alloc, "faults")?,
+        bytes: Vec::from_slice(alloc, &case.faults)?,
+    };
+    let files = vec![in alloc; file]?;
+    let store = MemoryStore::new(alloc, files, Vec::from_slice(alloc, &case.store_fails)?);
+    let sim = SimRig::new(alloc, store);
+    let flaky = FlakyRig::new(alloc, sim, Vec::from_slice(alloc, &case.rig_fails)?);
+    Ok(LogRig::new(flaky))
+}

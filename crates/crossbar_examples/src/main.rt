@@ -1,0 +1,65 @@
+//! Worked examples of the tests of crossbars, as texts: what is wrong with a machine, what is asked, and what has to come.
+//!
+//! The texts are the files that the command line names; the head of `facts.txt` says how they are written.
+#![tactic(auto)]
+
+mod answers;
+mod bench;
+mod book;
+mod lines;
+mod machine;
+mod routes;
+mod setup;
+mod walk;
+mod words;
+
+use book::{Book, Trouble};
+use std::process::ExitCode;
+use std::rt::Env;
+use std::{env, fs, io};
+
+// The names of the texts.
+fn names(rt: &(impl Env + AllocGlobal)) -> io::Result<Vec<String>> {
+    let mut names = Vec::new(rt.alloc());
+    for name in env::args(rt)?.skip(1) {
+        names.push(name)?;
+    }
+    Ok(names)
+}
+
+// Tries all cases of a text, and tells whether it is written as it should be.
+fn try_text(rt: &HostRuntime, book: &mut Book, name: &str) -> io::Result<bool> {
+    let text = fs::read_to_string(rt, name)?;
+    match book.try_all(rt, text.as_str()) {
+        Ok(()) => Ok(true),
+        Err(Trouble::Line(line)) => {
+            println!(rt; "{name}: what is line {line}?")?;
+            Ok(false)
+        }
+        Err(Trouble::Memory) => {
+            println!(rt; "{name}: no memory")?;
+            Ok(false)
+        }
+    }
+}
+
+// Tries all texts in their order, and tells whether all cases are right.
+fn run(rt: &HostRuntime) -> io::Result<bool> {
+    let mut book = Book::new(rt.alloc());
+    let mut written = true;
+    for name in names(rt)?.iter() {
+        if !try_text(rt, &mut book, name.as_str())? {
+            written = false;
+        }
+    }
+    let (right, all) = book.counts();
+    println!(rt; "{right} of {all} right")?;
+    Ok(written && right == all)
+}
+
+fn main(rt: HostRuntime) -> ExitCode {
+    match run(&rt) {
+        Ok(true) => ExitCode::from(0),
+        _ => ExitCode::from(1),
+    }
+}
