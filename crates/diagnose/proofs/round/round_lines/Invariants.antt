@@ -1,0 +1,16 @@
+use Rattle.std.proofs.Common.{◌≤◌, ◌+◌, ◌*◌, take, length}
+use Rattle.evidence.specs.Held.{wire_numbers}
+use Rattle.evidence.specs.Kept.{Advances}
+use Rattle.diagnose.specs.Sweeping.{IfFree, EachOf, KeepsTwo, KeepsBetween, NoLoadIf}
+use Rattle.diagnose.proofs.round.round_lines.Given as goal
+
+abbrev pub invariant-lines : goal.invariant-lines
+invariant-lines g l =
+    let rig0 = (goal.Rig-dyn g (l.fn.rig.vtable, l.fn.rig.value)).rig_state l.fn.rig.value in
+    let rig = (goal.Rig-dyn g (l.rig.vtable, l.rig.value)).rig_state l.rig.value in
+    record {
+      advances : Advances rig0 rig l.fn.proof l.proof;
+      two : IfFree rig0.machine.faults l.fn.proof l.node.0 l.left l.right (wire_numbers l.taps) (wire_numbers l.lines) (λ f. EachOf (wire_numbers (take l.line-index l.lines)) (λ x. EachOf (wire_numbers l.taps) (λ t. KeepsTwo f l.proof (wire_numbers l.taps) t x)));
+      loads : rig.loads ≤ rig0.loads + 4 * length l.taps * l.line-index;
+      none : NoLoadIf (KeepsBetween l.fn.proof (wire_numbers l.taps) (wire_numbers l.lines)) rig0.loads rig.loads;
+    }

@@ -1,0 +1,11 @@
+pub mod Listing
+pub mod Thorough
+pub mod Chosen
+pub mod Sweeping
+pub mod Cells
+pub mod Spines
+pub mod Budget
+pub mod Crossbars
+pub mod Diagnosis
+pub mod Stages
+pub mod AllTables

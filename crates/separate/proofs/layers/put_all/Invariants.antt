@@ -1,0 +1,10 @@
+use Rattle.std.proofs.Common.{◌≡◌, length}
+use Rattle.hierarchy.specs.Shape.{wires_of}
+use Rattle.separate.specs.Layers.{AreAside}
+use Rattle.separate.proofs.layers.put_all.Given as goal
+
+abbrev pub invariant-links : goal.invariant-links
+invariant-links l = record {
+  asked : length l.asked ≡ wires_of l.proof.shape;
+  group : AreAside l.proof l.route.wires l.group.items;
+}

@@ -1,0 +1,16 @@
+pub mod Ways
+pub mod Tested
+pub mod Candidates
+pub mod Reached
+pub mod Parting
+pub mod Growing
+pub mod Bars
+pub mod Layers
+pub mod Separated
+pub mod Touring
+pub mod Sweeping
+pub mod Unsound
+pub mod Linking
+pub mod Trials
+pub mod Settling
+pub mod Foremost
