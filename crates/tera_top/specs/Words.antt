@@ -6,8 +6,10 @@ use Rattle.steps.specs.Jobs.{Job, wrong_words}
 use Rattle.tera_eval.specs.Eval.{eval_job}
 use Rattle.tera_compile.specs.Compile.{compile_job}
 use Rattle.tera_run.specs.Run.{run_job}
+use Rattle.tera_diagnose.specs.Diagnose.{diagnose_job}
+use Rattle.tera_go.specs.Go.{go_job}
 use Rattle.tera_top.specs.declared.task.Task.{Task}
-use Rattle.tera_top.specs.declared.task.Task.TheVariants.{Eval, Compile, Run}
+use Rattle.tera_top.specs.declared.task.Task.TheVariants.{Eval, Compile, Run, Diagnose, Go}
 
 -- what a command is asked to do: one line for each command
 pub data Request : Type 0 where
@@ -17,12 +19,18 @@ pub data Request : Type 0 where
   compile : (machine defects design : List ℕ) → Request
   -- the rows of an image on a machine of the rig: the names of the machine's file, of the rig's machine, and of the other files
   run : (machine name image vectors : List ℕ) → Request
+  -- the list of the defects of a machine of the rig: the names of the machine's file and of the rig's machine
+  diagnose : (machine name : List ℕ) → Request
+  -- the rows of a design on a machine of the rig: the names of the machine's file, of the rig's machine, and of the other files
+  go : (machine name design vectors : List ℕ) → Request
 
 -- and so its job
 abbrev pub job_of : Request → Job
 job_of (eval design vectors) = eval_job design vectors
 job_of (compile machine defects design) = compile_job machine defects design
 job_of (run machine name image vectors) = run_job machine name image vectors
+job_of (diagnose machine name) = diagnose_job machine name
+job_of (go machine name design vectors) = go_job machine name design vectors
 
 -- the word begins with `-`
 abbrev pub is_dashed : List ℕ → Bool
@@ -43,6 +51,8 @@ request_in words =
     if begins_with words 3 (codes "eval") then Some (eval (word_at words 1) (word_at words 2))
     else if begins_with words 4 (codes "compile") then Some (compile (word_at words 1) (word_at words 2) (word_at words 3))
     else if begins_with words 5 (codes "run") then Some (run (word_at words 1) (word_at words 2) (word_at words 3) (word_at words 4))
+    else if begins_with words 3 (codes "diagnose") then Some (diagnose (word_at words 1) (word_at words 2))
+    else if begins_with words 5 (codes "go") then Some (go (word_at words 1) (word_at words 2) (word_at words 3) (word_at words 4))
     else None
 
 -- what words ask: they are right where that is something
@@ -59,3 +69,5 @@ abbrev pub request_view : Task → Request
 request_view (Eval design vectors) = eval design.now vectors.now
 request_view (Compile machine defects design) = compile machine.now defects.now design.now
 request_view (Run machine name image vectors) = run machine.now name.now image.now vectors.now
+request_view (Diagnose machine name) = diagnose machine.now name.now
+request_view (Go machine name design vectors) = go machine.now name.now design.now vectors.now

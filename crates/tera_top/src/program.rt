@@ -1,5 +1,5 @@
 //! The top call.
-ghost use Rattle.std.specs.Prelude.{◌≡◌, ◌≤◌, ◌⊎◌, ◌++◌, OnOk, IsTrue, false, None, Some, map, string_bytes};
+ghost use Rattle.std.specs.Prelude.{◌≡◌, ◌≤◌, ◌⊎◌, ◌++◌, ℕ, List, Some, OnOk, IsTrue, false, None, map, string_bytes};
 ghost use Rattle.tm_outside.specs.Counts.{Rose};
 ghost use Rattle.steps.specs.Outside.{outside, around};
 ghost use Rattle.steps.specs.Stops.{AsksSome, status_of};
@@ -9,13 +9,17 @@ ghost use Rattle.steps.specs.Faults.{ShortPlace};
 ghost use Rattle.steps.specs.declared.refusal.Refusal.{Refusal};
 ghost use Rattle.steps.specs.declared.refusal.Refusal.TheVariants.{Memory, Room};
 ghost use Rattle.tera_top.specs.Words.{request_of, request_view, job_of, job_for};
+ghost use Rattle.tera_top.specs.Words.{go as asks_go};
+ghost use Rattle.tera_go.specs.Headline.{IsGone};
 
 use crate::task::{Task, task_of};
 use rig::Rig;
 use std::alloc::Global;
 use steps::{Refusal, Stop, finish};
 use tera_compile::compile;
+use tera_diagnose::diagnose;
 use tera_eval::eval;
+use tera_go::go;
 use tera_run::run;
 use tm_outside::{Sink, Store};
 
@@ -45,6 +49,13 @@ fn work_on<S: Store, K: Sink>(
             image,
             vectors,
         } => run(alloc, machine, name, image, vectors, store, rig, sink),
+        Task::Diagnose { machine, name } => diagnose(alloc, machine, name, store, rig, sink),
+        Task::Go {
+            machine,
+            name,
+            design,
+            vectors,
+        } => go(alloc, machine, name, design, vectors, store, rig, sink),
     }
 }
 
@@ -128,6 +139,12 @@ pub fn teramac<S: Store, K: Sink>(
         let old = outside (S.store_state store.old) (rig_state rig.old) (K.sink_state sink.old) in
         let new = outside (S.store_state store.new) (rig_state rig.new) (K.sink_state sink.new) in
         EndWrote (request ≡ None) ((job_for request).course (around old) (around new)) old new result }
+
+    // A `go` at status 0 listed every fault, loaded an image that uses nothing listed, and wrote the rows of the design.
+    ensures gone { let old = outside (S.store_state store.old) (rig_state rig.old) (K.sink_state sink.old) in
+        let new = outside (S.store_state store.new) (rig_state rig.new) (K.sink_state sink.new) in
+        (machine name design vectors : List ℕ) → request_of (map string_bytes words.now) ≡ Some (asks_go machine name design vectors) →
+        result ≡ 0 → IsGone machine name design vectors old new }
 
     // Each status has its cause.
     ensures text { let job = job_for (request_of (map string_bytes words.now)) in

@@ -24,6 +24,19 @@ pub enum Task<'a> {
         image: &'a str,
         vectors: &'a str,
     },
+    /// The list of the defects of a machine of the rig: the names of the machine's file and of the rig's machine.
+    Diagnose {
+        machine: &'a str,
+        name: &'a str,
+    },
+    /// The rows of a design on a machine of the rig: the names of the machine's file, of the rig's machine, and of the
+    /// other files.
+    Go {
+        machine: &'a str,
+        name: &'a str,
+        design: &'a str,
+        vectors: &'a str,
+    },
 }
 
 // Whether a word begins with `-`.
@@ -65,6 +78,20 @@ fn task_in(words: &[String]) -> Option<Task<'_>>
             machine: words[1].as_str(),
             name: words[2].as_str(),
             image: words[3].as_str(),
+            vectors: words[4].as_str(),
+        });
+    }
+    if words.len() == 3 && words[0].as_str() == "diagnose" {
+        return Some(Task::Diagnose {
+            machine: words[1].as_str(),
+            name: words[2].as_str(),
+        });
+    }
+    if words.len() == 5 && words[0].as_str() == "go" {
+        return Some(Task::Go {
+            machine: words[1].as_str(),
+            name: words[2].as_str(),
+            design: words[3].as_str(),
             vectors: words[4].as_str(),
         });
     }

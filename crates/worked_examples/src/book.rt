@@ -162,6 +162,7 @@ fn set(alloc: Global, step: &mut Step, key: &str, words: Vec<String>) -> Result<
     let first = first_of(&words);
     match key {
         "fails" => return set_fails(alloc, step, &words),
+        "before" => step.before = first.parse::<u8>().ok(),
         "cuts" => step.cuts = true,
         "keep" => step.keep = Some(String::from_str(alloc, first)?),
         "loads" => step.most_loads = first.parse::<u64>().ok(),

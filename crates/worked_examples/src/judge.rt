@@ -83,6 +83,7 @@ fn outcome(
     let manner = Manner {
         words: trial.step.words.as_slice(),
         fails,
+        before: trial.step.before,
         piece,
         takes,
     };

@@ -37,6 +37,8 @@ pub struct Fails {
 pub struct Step {
     pub words: Vec<String>,
     pub fails: Fails,
+    /// The status with which it ended before, over the same rig, where it was done before.
+    pub before: Option<u8>,
     /// The bytes that the sink takes, where it takes so many and no more.
     pub takes: Option<usize>,
     /// Whether it is tried over each sink that takes too few bytes.
@@ -81,6 +83,7 @@ impl Step {
         Step {
             words,
             fails: Fails::new(alloc),
+            before: None,
             takes: None,
             cuts: false,
             pieces: Vec::new(alloc),

@@ -31,6 +31,7 @@ pub struct Outcome {
 pub struct Manner<'a> {
     pub words: &'a [String],
     pub fails: &'a Fails,
+    pub before: Option<u8>,
     pub piece: Option<usize>,
     pub takes: Option<usize>,
 }
@@ -75,16 +76,25 @@ fn sim_of(
     Ok(FlakyRig::new(alloc, sim, Vec::from_slice(alloc, &fails.rig)?))
 }
 
-// The status of a command over a sink, and by how much the loads rose.
+// The status of a command over a sink, and by how much the loads rose. Where it doesn't end as it should have before, that
+// is the end.
 fn end_over<K: Sink>(
     alloc: Global,
     manner: &Manner<'_>,
     given: &Given<'_>,
     sink: &mut K,
 ) -> Result<(u8, u64), AllocError> {
-    let mut store = store_of(alloc, given, manner.fails, manner.piece)?;
     let sim = sim_of(alloc, given.faults, manner.fails)?;
     let mut rig: Box<dyn Rig> = Box::new(alloc, LogRig::new(sim))?;
+    if let Some(before) = manner.before {
+        let mut store = store_of(alloc, given, manner.fails, manner.piece)?;
+        let mut first = MemorySink::new(alloc, Vec::new(alloc));
+        let status = teramac(alloc, manner.words, &mut store, &mut rig, &mut first);
+        if status != before {
+            return Ok((status, rig.loads()));
+        }
+    }
+    let mut store = store_of(alloc, given, manner.fails, manner.piece)?;
     let status = teramac(alloc, manner.words, &mut store, &mut rig, sink);
     Ok((status, rig.loads()))
 }

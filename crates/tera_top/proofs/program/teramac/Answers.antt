@@ -3,6 +3,7 @@ use Rattle.steps.specs.Outside.{outside, around}
 use Rattle.tera_top.specs.Words.{request_of, job_for}
 use Rattle.steps.proofs.EndLemmas.{end-text, end-words, end-room, end-rig, end-outside, end-status, end-memory, end-complete, end-no-room, end-few}
 use Rattle.steps.proofs.JobLemmas.{end-wrong}
+use Rattle.tera_top.proofs.GoneLemmas.{go-gone}
 use Rattle.tera_top.proofs.program.teramac.Goals as goal
 
 pub returns-clause-text : goal.returns-clause-text
@@ -136,3 +137,14 @@ returns-clause-words_only g c =
     let new = outside (g.S.Store.store_state c.end.new.store) rig (g.K.Sink.sink_state c.end.new.sink) in
     let wrong = request_of (map string_bytes c.args.words.now) ≡ None in
     λ is. let written = rw is at c.end.ensures.written in end-wrong _ old new c.end.result written
+
+pub returns-clause-gone : goal.returns-clause-gone
+returns-clause-gone g c =
+    let request = request_of (map string_bytes c.args.words.now) in
+    let box0 = c.args.rig.now in
+    let box = c.end.new.rig in
+    let rig0 = (goal.Rig-dyn g (box0.vtable, box0.value)).rig_state box0.value in
+    let rig = (goal.Rig-dyn g (box.vtable, box.value)).rig_state box.value in
+    let old = outside (g.S.Store.store_state c.args.store.now) rig0 (g.K.Sink.sink_state c.args.sink.now) in
+    let new = outside (g.S.Store.store_state c.end.new.store) rig (g.K.Sink.sink_state c.end.new.sink) in
+    go-gone request (request ≡ None) old new c.end.result c.end.ensures.written c.end.ensures.asked_all

@@ -21,3 +21,15 @@ returns-in-Run-clause-lawful g c = rw c.in-Run.is c.run.ensures.lawful
 
 pub returns-in-Run-clause-does : goal.returns-in-Run-clause-does
 returns-in-Run-clause-does g c = rw c.in-Run.is c.run.ensures.does
+
+pub returns-in-Diagnose-clause-lawful : goal.returns-in-Diagnose-clause-lawful
+returns-in-Diagnose-clause-lawful g c = rw c.in-Diagnose.is c.diagnose.ensures.lawful
+
+pub returns-in-Diagnose-clause-does : goal.returns-in-Diagnose-clause-does
+returns-in-Diagnose-clause-does g c = rw c.in-Diagnose.is c.diagnose.ensures.does
+
+pub returns-in-Go-clause-lawful : goal.returns-in-Go-clause-lawful
+returns-in-Go-clause-lawful g c = rw c.in-Go.is c.go.ensures.lawful
+
+pub returns-in-Go-clause-does : goal.returns-in-Go-clause-does
+returns-in-Go-clause-does g c = rw c.in-Go.is c.go.ensures.does

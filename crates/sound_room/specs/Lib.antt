@@ -1,0 +1,2 @@
+-- When there is room for certain.
+pub mod Enough

@@ -1,0 +1,31 @@
+//! When there is room for certain.
+#![tactic(auto)]
+
+ghost use Rattle.hierarchy.specs.Defects.{Defects, IsFair};
+ghost use Rattle.hierarchy.specs.Faults.{Faults};
+ghost use Rattle.hierarchy.specs.declared.Shape.{Shape};
+ghost use Rattle.table_map.specs.Networks.{IsNetwork};
+ghost use Rattle.table_map.specs.declared.network.Network.{Network};
+ghost use Rattle.place.specs.Plans.{IsShortInOrder};
+ghost use Rattle.place.specs.declared.short.Short.{Short};
+ghost use Rattle.sound_room.specs.Enough.{HasEnough, HasSoundParts};
+
+/// Where as many tables and pins are free as a network has, and at each node as many lines are open and ports free as it has
+/// nets, nothing is short for its in-order plan: a net visits a node and crosses it once at most, and an open line serves each.
+pub fn enough_free_parts_are_room()
+    ensures { (m : Shape) (d : Defects) (n : Network) (s : Short) → IsNetwork n → HasEnough m d n → ¬ IsShortInOrder m d n s }
+{
+    hierarchy::the_numbering_is_sound();
+}
+
+/// Where each node is served, a fair list leaves sound parts free. So where they are as many as a network has, there is room for
+/// its in-order plan.
+pub fn sound_parts_are_room()
+    ensures enough { (m : Shape) (d : Defects) (f : Faults) (n : Network) → IsFair m d f → HasSoundParts m f n → HasEnough m d n }
+    ensures room { (m : Shape) (d : Defects) (f : Faults) (n : Network) (s : Short) → IsNetwork n → IsFair m d f →
+        HasSoundParts m f n → ¬ IsShortInOrder m d n s }
+{
+    hierarchy::the_numbering_is_sound();
+    hierarchy::fair_lists_leave_sound_parts();
+    enough_free_parts_are_room();
+}

@@ -1,0 +1,5 @@
+mod DesignRows
+mod Following
+mod Texts
+mod GoLaws
+pub mod Headlines

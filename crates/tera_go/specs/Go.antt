@@ -1,0 +1,127 @@
+-- What the command `go` is.
+use Rattle.std.specs.Prelude.{◌≡◌, ◌⊎◌, ℕ, ◌≤◌, List, [], ◌∷◌, ◌++◌, length, Option, None, Some}
+use Rattle.tm_outside.specs.Told.{Told, holds}
+use Rattle.hierarchy.specs.declared.Shape.{Shape}
+use Rattle.hierarchy.specs.Faults.{Faults}
+use Rattle.machine_file.specs.Machine.{IsMachine}
+use Rattle.defect_db.specs.Lists.{DefectList, IsDefectList}
+use Rattle.defect_db.specs.Text.{text_of}
+use Rattle.netlist.specs.declared.draft.Draft.{Draft}
+use Rattle.blif_read.specs.Designs.{IsDesign}
+use Rattle.table_map.specs.declared.network.Network.{Network}
+use Rattle.table_map.specs.Plain.{IsPlainNetwork}
+use Rattle.place.specs.declared.plan.Plan.{Plan}
+use Rattle.place.specs.declared.short.Short.{Short}
+use Rattle.place.specs.Plans.{FitsInOrder, IsShortInOrder}
+use Rattle.sound_room.specs.Enough.{HasSoundParts}
+use Rattle.tm_text.specs.Size.{most_bytes}
+use Rattle.steps.specs.Files.{says_at, vectors_at}
+use Rattle.steps.specs.Lines.{outputs_line}
+use Rattle.steps.specs.Outside.{Around, StaysNear}
+use Rattle.steps.specs.Courses.{Course, after, write}
+use Rattle.steps.specs.Texts.{reads_machine, reads_design, attaches, AsksMachine}
+use Rattle.steps.specs.Jobs.{Job}
+use Rattle.steps.specs.declared.design_file.DesignFile.TheVariants.{Design}
+use Rattle.tera_diagnose.specs.Listing.{diagnoses}
+use Rattle.tera_compile.specs.Compile.{lays}
+use Rattle.tera_run.specs.Rows.{most_rows}
+use Rattle.tera_go.specs.GoRows.{design_course}
+
+-- The machine is read and attached, and the design is read. The machine's defects are listed and the list is written. The
+-- design is laid on what the list leaves free, and its rows are written. One load may follow on the diagnosis
+abbrev pub go_course : (machine name design vectors : List ℕ) → Around → Around → Course
+go_course machine name design vectors old new =
+    after (reads_machine (old.store.contents machine)) (StaysNear old.store new.store) (λ m.
+    after (attaches (record { shape = m; name = name }) old.rig new.rig) (StaysNear old.store new.store) (λ _.
+    after (reads_design Design (old.store.contents design)) (StaysNear old.store new.store) (λ draft.
+    after (diagnoses m 1 old.rig new.rig) (StaysNear old.store new.store) (λ d.
+    write (text_of d) (StaysNear old.store new.store) (
+    after (lays d draft) (StaysNear old.store new.store) (λ i.
+    design_course draft i vectors (StaysNear old.store new.store) (old.store.contents vectors) new))))))
+
+-- what is told of the files
+pub record GoFiles : Type 0 where
+  pub machine : Told
+  pub design : Told
+  pub vectors : Told
+
+abbrev pub go_files : Around → (machine design vectors : List ℕ) → GoFiles
+go_files old machine design vectors =
+    record { machine = old.store.contents machine; design = old.store.contents design; vectors = old.store.contents vectors }
+
+-- all files are told and right
+pub record AreGoTexts (t : GoFiles) : Type 0 where
+  pub shape : Shape
+  pub draft : Draft
+  -- the bytes of the three files
+  pub machine_file : List ℕ
+  pub design_file : List ℕ
+  pub vectors_file : List ℕ
+  pub machine_told : t.machine ≡ holds machine_file
+  pub machine : IsMachine machine_file shape.counts
+  pub machine_within : length machine_file ≤ most_bytes
+  pub design_told : t.design ≡ holds design_file
+  pub design : IsDesign design_file draft
+  pub design_within : length design_file ≤ most_bytes
+  pub vectors_told : t.vectors ≡ holds vectors_file
+  pub no_fault : (says_at (length draft.inputs) vectors_file).fault ≡ None
+
+-- the in-order plan of the design's plain network fits the list
+pub record HasRoom (d : DefectList) (draft : Draft) : Type 0 where
+  pub network : Network
+  pub plan : Plan
+  pub plain : IsPlainNetwork draft network
+  pub fits : FitsInOrder d.shape d.list network plan
+
+-- or it is short of something
+pub record LacksRoom (d : DefectList) (draft : Draft) : Type 0 where
+  pub network : Network
+  pub short : Short
+  pub plain : IsPlainNetwork draft network
+  pub is_short : IsShortInOrder d.shape d.list network short
+
+-- the faults of the machine are told, each node is served, and as many parts are sound as the plain network has
+pub record HasPartsFor (told : Option Faults) (m : Shape) (draft : Draft) : Type 0 where
+  pub faults : Faults
+  pub faults_told : told ≡ Some faults
+  pub network : Network
+  pub plain : IsPlainNetwork draft network
+  pub sound : HasSoundParts m faults network
+
+-- if that is the text of a list of the machine's defects, the list has P
+abbrev pub IfList : Shape → (front : List ℕ) → (DefectList → Type 0) → Type 0
+IfList m front P = (d : DefectList) → d.shape ≡ m → front ≡ text_of d → P d
+
+-- There is room on the list that stands there, or for certain on the machine
+pub record GoRight (t : GoFiles) (told : Option Faults) (front : List ℕ) : Type 0 where
+  pub texts : AreGoTexts t
+  pub room : IfList texts.shape front (λ d. HasRoom d texts.draft) ⊎ HasPartsFor told texts.shape texts.draft
+
+-- there is no room on the list that stands there
+pub record GoShort (t : GoFiles) (front : List ℕ) : Type 0 where
+  pub texts : AreGoTexts t
+  pub room : IfList texts.shape front (λ d. LacksRoom d texts.draft)
+
+-- there are no more vectors than the rig was asked to have room for
+pub record GoFew (t : GoFiles) : Type 0 where
+  pub texts : AreGoTexts t
+  pub few : length (vectors_at (length texts.draft.inputs) texts.vectors_file) ≤ most_rows
+
+-- the line `outputs` stands behind a list of the machine's defects
+pub record HasOutputs (is_shape : Shape → Type 0) (text : List ℕ) : Type 0 where
+  pub list : DefectList
+  pub shape : is_shape list.shape
+  pub right : IsDefectList list
+  pub more : List ℕ
+  pub text_is : text ≡ text_of list ++ (outputs_line ++ more)
+
+abbrev pub go_job : (machine name design vectors : List ℕ) → Job
+go_job machine name design vectors = record {
+  files = machine ∷ design ∷ vectors ∷ [];
+  asks = λ old new. AsksMachine (reads_machine (old.store.contents machine)).gives name old.rig.machine.asked new.rig.machine.asked;
+  course = go_course machine name design vectors;
+  right = λ old new front. GoRight (go_files old machine design vectors) new.rig.machine.faults front;
+  short = λ old new front. GoShort (go_files old machine design vectors) front;
+  few = λ old new. GoFew (go_files old machine design vectors);
+  has_begun = λ old new text. HasOutputs (reads_machine (old.store.contents machine)).gives text;
+}
