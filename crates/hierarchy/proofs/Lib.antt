@@ -7,6 +7,7 @@ pub mod Meanings
 pub mod Tapped
 pub mod Parents
 pub mod Running
+pub mod Weighing
 pub mod Sites
 pub mod Barred
 pub mod Totals

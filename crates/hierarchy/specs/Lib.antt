@@ -3,6 +3,7 @@ pub mod Counts
 pub mod Shape
 pub mod Kinds
 pub mod Bars
+pub mod Weights
 pub mod Limits
 pub mod Said
 pub mod Names

@@ -1,5 +1,6 @@
 -- The words on a machine's shape that the other definitions use. No proof above looks into the
--- numbering: this crate alone opens these words by `unfolding`.
+-- numbering: beside this crate, only the proof of the built-in bench machine opens these words by
+-- `unfolding`, to count what is in it.
 use Rattle.std.specs.Prelude.{◌≡◌, ℕ, zero, suc, ◌+◌, ◌*◌, ◌/◌, ◌%◌, ◌<◌, Option, Some, None, if◌then◌else◌, nat_lt, [], ◌∷◌}
 use Rattle.hierarchy.specs.declared.Shape.{Shape}
 use Rattle.hierarchy.specs.Counts.{levels_from}

@@ -1,27 +1,17 @@
 //! The crossbars of nodes, and the taps at their positions.
-ghost use Rattle.std.specs.Prelude.{◌≡◌, ◌≢◌, ◌<◌, ◌≤◌, ◌+◌, ◌*◌, ◌^◌, ℕ, IfSome, IfNone, length, drop};
-ghost use Rattle.hierarchy.specs.Counts.{AreFull};
+ghost use Rattle.std.specs.Prelude.{◌≡◌, ◌≢◌, ◌<◌, ◌≤◌, ◌+◌, ◌*◌, ℕ, IfSome, IfNone};
 ghost use Rattle.hierarchy.specs.Bars.{FitsBelow, IsBarAt, IsBarFrom, tap_by};
 ghost use Rattle.hierarchy.specs.Shape.{levels_of, wires_of};
-ghost use Rattle.hierarchy.specs.Walk.{IsSpot, size, wires_in};
+ghost use Rattle.hierarchy.specs.Walk.{IsSpot, next, size, wires_in};
 
-use crate::places::{first_wire, levels_of};
-use crate::tree::{ports_below, size_of};
+use crate::places::levels_of;
+use crate::tree::{below, divided, each_at, ports_below, start_of, weights_of};
 use crate::way::{Bar, Kind};
 use crate::{Level, Shape};
 
-/// The levels from this depth on.
-pub fn below(levels: &[Level], depth: usize) -> &[Level]
-    requires { depth ≤ length levels.now }
-    ensures { result.now ≡ drop depth levels.now }
-{
-    &levels[depth..]
-}
-
-/// The crossbar of a node by the levels from it on, and its first wire.
-fn bar_from(levels: &[Level], first: u32) -> Bar
-    requires full { AreFull levels.now }
-    requires small { size wires_in levels.now < 2 ^ 32 }
+/// The crossbar of a node by the levels from it on, its first wire, and how many wires each child has.
+fn bar_from(levels: &[Level], first: u32, step: u32) -> Bar
+    requires { step ≡ size wires_in (next levels.now) }
     ensures { IsBarFrom levels.now first result }
 {
     match levels {
@@ -31,7 +21,7 @@ fn bar_from(levels: &[Level], first: u32) -> Bar
             lines: 0,
             children: 0,
             each: 7,
-            step: 7,
+            step,
         },
         [level, rest @ ..] => Bar {
             first,
@@ -39,7 +29,7 @@ fn bar_from(levels: &[Level], first: u32) -> Bar
             lines: level.lines,
             children: level.children,
             each: ports_below(rest),
-            step: size_of(Kind::Wires, rest),
+            step,
         },
     }
 }
@@ -51,7 +41,13 @@ pub fn bar_of(shape: Shape, way: &[u32]) -> Bar
     ensures fits { FitsBelow result (wires_of shape) }
 {
     let levels = levels_of(shape);
-    bar_from(below(&levels, way.len()), first_wire(shape, way))
+    let weights = weights_of(Kind::Wires, levels);
+    let first = start_of(weights, way);
+    bar_from(
+        below(&levels, way.len()),
+        first,
+        each_at(weights, way.len()),
+    )
 }
 
 /// The wire of the tap at a position.
@@ -63,8 +59,8 @@ pub fn tap_at(bar: Bar, position: u32) -> u32
     if position < bar.ports {
         bar.first + position
     } else {
-        let further = position - bar.ports;
-        bar.first + bar.ports + bar.lines + further / bar.each * bar.step + further % bar.each
+        let (child, port) = divided(position - bar.ports, bar.each);
+        bar.first + bar.ports + bar.lines + child * bar.step + port
     }
 }
 
@@ -75,8 +71,7 @@ fn child_port(bar: Bar, further: u32) -> Option<u32>
     ensures found { IfSome result (λ a. (bar.ports ≤ a) × (a < bar.ports + bar.children * bar.each) × (tap_by bar a ≡ bar.first + bar.ports + bar.lines + further)) }
     ensures none { IfNone result ((a : ℕ) → bar.ports ≤ a → a < bar.ports + bar.children * bar.each → tap_by bar a ≢ bar.first + bar.ports + bar.lines + further) }
 {
-    let child = further / bar.step;
-    let position = further % bar.step;
+    let (child, position) = divided(further, bar.step);
     if child < bar.children && position < bar.each {
         Some(bar.ports + (child * bar.each + position))
     } else {

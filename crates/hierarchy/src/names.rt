@@ -3,8 +3,8 @@ ghost use Rattle.std.specs.Prelude.{◌≡◌, ◌<◌, ◌≤◌, ◌+◌, ◌*
 ghost use Rattle.hierarchy.specs.Names.{way_name, steps_name, port_letter, part_name, node_name, table_name, wire_name};
 ghost use Rattle.hierarchy.specs.Shape.{wires_of, tables_of, nodes_of};
 
-use crate::bars::below;
 use crate::places::{levels_of, node_way, steps_of, table_way, wire_place};
+use crate::tree::below;
 use crate::{Level, Node, PartName, Shape, Table, Wire};
 
 /// Appends the steps of a way, each with its letter.

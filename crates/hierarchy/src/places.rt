@@ -6,7 +6,7 @@ ghost use Rattle.hierarchy.specs.Shape.{levels_of, wires_of, nodes_of, tables_of
 ghost use Rattle.hierarchy.specs.Walk.{IsSpot, place_in, size, start, wires_in, crosses_in, tables_in, trunk, above};
 ghost use Rattle.hierarchy.specs.declared.way.Kind.{Kind};
 
-use crate::tree::{site_of, size_of, start_of};
+use crate::tree::{site_of, size_of, start_of, weights_of};
 use crate::way::{Kind, Site, Way};
 use crate::{Level, Shape};
 
@@ -47,21 +47,23 @@ pub fn total(shape: Shape, kind: Kind) -> u32
     ensures { result ≡ size (numbers_in kind) (levels_of shape) }
 {
     let levels = levels_of(shape);
-    size_of(kind, &levels)
+    let weights = weights_of(kind, levels);
+    size_of(kind, &levels, weights.root.each)
 }
 
-/// Where a number of a kind is.
+/// Where a number of a kind is. Inlined, so that the kind is known and nothing is asked of it when it runs.
+#[inline(always)]
 fn place_by(shape: Shape, kind: Kind, number: u32) -> Site
     requires { number < size (numbers_in kind) (levels_of shape) }
     ensures path { path_of result.way ≡ (place_in (numbers_in kind) (levels_of shape) number).path }
     ensures position { result.position ≡ (place_in (numbers_in kind) (levels_of shape) number).position }
 {
-    let levels = levels_of(shape);
-    site_of(kind, &levels, number)
+    site_of(weights_of(kind, levels_of(shape)), number)
 }
 
 /// The place of a wire.
 #[tactic(auto, unfolding(crate::specs::Shape::wires_of, crate::specs::Shape::place_of))]
+#[inline(always)]
 pub fn wire_place(shape: Shape, wire: u32) -> Site
     requires { wire < wires_of shape }
     ensures path { path_of result.way ≡ (place_of shape wire).path }
@@ -103,8 +105,7 @@ fn first_by(shape: Shape, kind: Kind, way: &[u32]) -> u32
     requires { IsSpot (levels_of shape) way.now }
     ensures { result ≡ start (numbers_in kind) (levels_of shape) way.now }
 {
-    let levels = levels_of(shape);
-    start_of(kind, &levels, way)
+    start_of(weights_of(kind, levels_of(shape)), way)
 }
 
 /// The number of the node at the end of a way.

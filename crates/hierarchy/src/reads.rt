@@ -8,10 +8,9 @@ ghost use Rattle.hierarchy.specs.Reading.{IsRead, IsReadable, NoDot};
 ghost use Rattle.hierarchy.specs.Shape.{levels_of, wires_of, tables_of, place_of};
 ghost use Rattle.hierarchy.specs.Walk.{wires_in};
 
-use crate::bars::below;
 use crate::numerals::read_numbered;
 use crate::places::{first_table, first_wire, levels_of, steps_of};
-use crate::tree::under;
+use crate::tree::{below, under};
 use crate::way::{Read, Way};
 use crate::{Level, Shape, Table, Wire};
 

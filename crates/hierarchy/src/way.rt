@@ -25,6 +25,22 @@ pub struct Site {
     pub position: u32,
 }
 
+/// How many numbers of a kind a node has of its own, and how many each child has with all below it.
+#[derive(Clone, Copy)]
+pub struct Weight {
+    pub own: u32,
+    pub each: u32,
+}
+
+/// The weights of the nodes of each depth, for one kind of numbers.
+#[derive(Clone, Copy)]
+pub struct Weights {
+    pub root: Weight,
+    pub modules: Weight,
+    pub chips: Weight,
+    pub hextants: Weight,
+}
+
 /// A node's crossbar: its first wire, its ports and lines, how many children it has, how many ports each of
 /// them has, and how many wires with all below it.
 #[derive(Clone, Copy)]

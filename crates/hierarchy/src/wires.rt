@@ -4,8 +4,8 @@ ghost use Rattle.hierarchy.specs.Said.{meaning_of};
 ghost use Rattle.hierarchy.specs.Shape.{Means, levels_of, wires_of};
 ghost use Rattle.hierarchy.specs.Walk.{IsSpot, rest, start, wires_in};
 
-use crate::bars::below;
 use crate::places::{first_table, levels_of, node_number, steps_of, wire_place};
+use crate::tree::below;
 use crate::{Meaning, Node, Shape, Table, Wire};
 
 /// What the wire at a position of the node or table at the end of a way is.

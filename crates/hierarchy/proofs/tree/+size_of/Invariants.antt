@@ -1,5 +1,0 @@
-use Rattle.std.proofs.Common.{length}
-use Rattle.hierarchy.proofs.tree.+size_of.Given as goal
-
-abbrev pub decreases-size_of : goal.decreases-size_of
-decreases-size_of l = length l.levels.now
