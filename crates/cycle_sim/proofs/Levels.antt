@@ -1,27 +1,26 @@
 -- What the classes are is what the wires are.
-use Rattle.std.proofs.Common.{◌≡◌, ◌≢◌, ◌⊎◌, inl, inr, ⊎_elim, ℕ, suc, ◌+◌, ◌<◌, ◌≤◌, Bool, true, false, not, ◌||◌, cond, Option, Some, None, IsSome, List, [], length, get_or, map, refl, sym, ap, ◌∙◌, subst, arith}
+use Rattle.std.proofs.Common.{◌≡◌, ⊎_elim, ℕ, suc, ◌<◌, Bool, true, false, ◌||◌, cond, Option, Some, None, IsSome, List, [], length, get_or, map, refl, sym, ap, ◌∙◌, subst, arith}
 use Rattle.std.specs.Prelude.{unwrap_or}
-use Rattle.std.specs.List.{All, range_with_len}
-use Rattle.std.proofs.lemmas.Bool.{false≢true, cases_Bool, or_cases, or_left, or_right}
-use Rattle.std.proofs.lemmas.List.{get_or-map, length-map, same_lists}
+use Rattle.std.specs.List.{range_with_len}
+use Rattle.std.proofs.lemmas.Bool.{false≢true, or_cases, or_left, or_right}
+use Rattle.std.proofs.lemmas.List.{get_or-map, length-map}
 use Rattle.std.proofs.lemmas.List.Elements.{All-map, All-weaker}
-use Rattle.std.proofs.lemmas.List.FromFn.{length-map-range_with_len, get_or-map-range_with_len, fill_by_all}
-use Rattle.hierarchy.specs.Shape.{pin_wire, table_wire, pins_of, tables_of}
-use Rattle.hierarchy.specs.Joined.{Joined}
-use Rattle.hierarchy.specs.Circuit.{Circuit, Table, Outputs, Pins}
+use Rattle.std.proofs.lemmas.List.FromFn.{get_or-map-range_with_len, fill_by_all}
+use Rattle.hierarchy.specs.Shape.{pin_wire, table_wire, pins_of}
+use Rattle.hierarchy.specs.Circuit.{Outputs, Pins}
 use Rattle.hierarchy.specs.Value.{Pulls, by_pin, by_table, IsHeld, IsPulled, IsValue, held_0, held_1, pulled, released, AreValues}
 use Rattle.hierarchy.specs.Faults.{Faults, stuck_wire}
 use Rattle.config_set.specs.declared.Setting.{Setting}
 use Rattle.config_set.specs.Configuration.{Configuration, setting_of}
-use Rattle.config_set.specs.Faulty.{circuit_of, table_or_off, table_of, held_by}
-use Rattle.config_set.specs.Run.{number_of, address_at, pins_read, tick_output, edge_output, after_tick, after_edge, Ticks, tick, Cycle}
+use Rattle.config_set.specs.Faulty.{circuit_of, table_or_off, table_of}
+use Rattle.config_set.specs.Run.{number_of, address_at, pins_read, tick_output, edge_output, after_tick, after_edge, unticked, tick}
 use Rattle.cycle_sim.specs.declared.classes.Knot.{Knot}
 use Rattle.cycle_sim.specs.declared.gates.Gate.{Gate}
-use Rattle.cycle_sim.specs.Classes.{knot_at, HasRoots, AreClasses, HoldsAt, IsHeldAs, AreKnots}
+use Rattle.cycle_sim.specs.Classes.{AreClasses, HoldsAt, IsHeldAs}
 use Rattle.cycle_sim.specs.Gates.{is_low, IsClear, level_of, level_at, address_by, cell_by, ticked, clocked, IsGate, Stands, AreGates, AreOutputs, IsPulledBy, IsDrivenBy, AreMarkedToo}
-use Rattle.cycle_sim.specs.Cycles.{IsWired, AreDriven, IsTick, IsEdge, HasTicked, HasCycled}
+use Rattle.cycle_sim.specs.Cycles.{IsWired, AreDriven, IsTick, HaveTicked, not_yet, once_more, IsEdge, HasTicked, HasCycled}
 
-no_gate : Gate
+pub no_gate : Gate
 no_gate = record { table = record { 0 = 0 }; setting = record { cells = 0; latched = false; init = false }; held = None; ins = []; out = 0; output = true }
 
 -- a table that gives 0 is on
@@ -94,7 +93,7 @@ module _ {f : Faults} {g : Configuration} {root : ℕ → ℕ} {knots : List Kno
   levels_are w = by_level w _ _ (wired.knots_are.held (root w) (wired.knots_are.roots.itself w)) (pulled_from w) (pulled_to w)
 
 -- what the classes give to tables and pins
-six_alike : (p q : ℕ → Bool) → ((j : ℕ) → j < 6 → p j ≡ q j) → map p (range_with_len 0 6) ≡ map q (range_with_len 0 6)
+pub six_alike : (p q : ℕ → Bool) → ((j : ℕ) → j < 6 → p j ≡ q j) → map p (range_with_len 0 6) ≡ map q (range_with_len 0 6)
 six_alike p q same = fill_by_all q (map p (range_with_len 0 6)) 6 true refl (λ k h. get_or-map-range_with_len p 0 6 k k true h (omega arith) ∙ same k h)
 
 abbrev valued : (ℕ → Bool) → (ℕ → ℕ) → ℕ → Bool
@@ -164,19 +163,26 @@ module _ (level : ℕ → Bool) (f : Faults) (g : Configuration) (root : ℕ →
   reading_is pins count are = fill_by_all (λ k. valued level root (pin_wire g.shape k)) (map level pins) (pins_of g.shape) true (length-map pins level ∙ count)
       (λ k h. get_or-map level pins k 0 true (omega (arith, h, count)) ∙ ap level (are k h))
 
--- a tick and a clock edge
-module _ {f : Faults} {g : Configuration} {root : ℕ → ℕ} {knots : List Knot} {pins : List ℕ} {drive : Pins} {low clear : List Bool} (driven : AreDriven pins drive low) (is_clear : IsClear clear) where
-  pub one_tick : {n : ℕ} {before : Outputs} {old new : List Gate} → HasTicked f g root knots pins drive n before old → IsTick f knots low clear old new → HasTicked f g root knots pins drive (suc n) before new
+-- a tick
+module _ {f : Faults} {g : Configuration} {root : ℕ → ℕ} {knots : List Knot} {pins : List ℕ} {drive : Pins} {low : List Bool} (driven : AreDriven pins drive low) where
+  one_tick : {n : ℕ} {before : Outputs} {old new : List Gate} → HasTicked f g root knots pins drive n before old → IsTick f knots low old new → HasTicked f g root knots pins drive (suc n) before new
   one_tick {old = old} h t =
       let level = level_at knots low t.marks in
       let v : ℕ → Bool = λ w. level (root w) in
       record {
         outputs = after_tick (circuit_of f g) v h.outputs;
-        ticks = tick v h.ticks (levels_are h.wired driven is_clear t.marked h.gives) refl;
+        ticks = tick v h.ticks (levels_are h.wired driven t.is_clear t.marked h.gives) refl;
         wired = record { most = h.wired.most; knots_are = h.wired.knots_are; gates_are = subst (AreGates f g root) (sym t.next) (ticked_gates level f g root old h.wired.gates_are); count = h.wired.count; pins_are = h.wired.pins_are };
         gives = subst (λ gs. AreOutputs g gs (after_tick (circuit_of f g) v h.outputs)) (sym t.next) (ticked_outputs level f g root old h.outputs h.wired.gates_are h.gives);
       }
 
+  -- so many ticks of the tables are so many of the configuration
+  pub has_ticked : {before : Outputs} {old : List Gate} {n : ℕ} {new : List Gate} → IsWired f g root knots pins old → AreOutputs g old before → HaveTicked f knots low old n new → HasTicked f g root knots pins drive n before new
+  has_ticked {before = before} wired gives not_yet = record { outputs = before; ticks = unticked; wired = wired; gives = gives }
+  has_ticked wired gives (once_more h t) = one_tick (has_ticked wired gives h) t
+
+-- a clock edge
+module _ {f : Faults} {g : Configuration} {root : ℕ → ℕ} {knots : List Knot} {pins : List ℕ} {drive : Pins} {low clear : List Bool} (driven : AreDriven pins drive low) (is_clear : IsClear clear) where
   pub edge_cycle : {before : Outputs} {old new : List Gate} {read : Pins} → HasTicked f g root knots pins drive g.ticks before old → IsEdge f knots low clear pins read old new → HasCycled f g root knots pins drive read before new
   edge_cycle {old = old} h t =
       let level = level_at knots low t.marks in

@@ -6,6 +6,7 @@ pub mod Touching
 pub mod Marking
 pub mod Levels
 pub mod Ticking
+pub mod Twins
 pub mod Counts
 pub mod Loading
 pub mod Cycling

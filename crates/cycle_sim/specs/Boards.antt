@@ -1,14 +1,14 @@
 -- A machine that is prepared, and one that is loaded.
-use Rattle.std.specs.Prelude.{◌≡◌, ℕ, ◌<◌, List, length, All}
+use Rattle.std.specs.Prelude.{◌≡◌, ℕ, ◌<◌, true, length, All}
 use Rattle.hierarchy.specs.declared.Shape.{Shape}
 use Rattle.hierarchy.specs.Shape.{wires_of, tables_of}
 use Rattle.hierarchy.specs.Faults.{Faults}
 use Rattle.config_set.specs.Configuration.{Configuration}
-use Rattle.cycle_sim.specs.declared.classes.Classes.{Classes}
 use Rattle.cycle_sim.specs.declared.board.Board.{Board}
 use Rattle.cycle_sim.specs.Building.{AreBase, AreKept}
 use Rattle.cycle_sim.specs.Gates.{IsClear, Fits}
 use Rattle.cycle_sim.specs.Cycles.{IsWired}
+use Rattle.cycle_sim.specs.Settling.{Settles}
 
 -- its faults are prepared, and no class has a mark
 pub record IsPrepared (m : Shape) (f : Faults) (b : Board) : Type 0 where
@@ -16,6 +16,7 @@ pub record IsPrepared (m : Shape) (f : Faults) (b : Board) : Type 0 where
   pub kept : AreKept b.classes
   pub low_pins : length b.low_pins.items ≡ wires_of m
   pub low_tables : length b.low_tables.items ≡ wires_of m
+  pub ranks : length b.ranks.items ≡ wires_of m
   pub pins_clear : IsClear b.low_pins.items
   pub tables_clear : IsClear b.low_tables.items
 
@@ -29,3 +30,4 @@ pub record IsLoaded (f : Faults) (g : Configuration) (b : Board) : Type 0 where
   pub fitting : AreFitting g.shape b
   pub root : ℕ → ℕ
   pub wired : IsWired f g root b.classes.knots.items b.pins.items b.gates.items
+  pub settles : b.ranked ≡ true → Settles b.gates.items g.ticks

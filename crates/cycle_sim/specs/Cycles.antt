@@ -1,5 +1,5 @@
 -- A loaded machine, and a cycle of it.
-use Rattle.std.specs.Prelude.{◌≡◌, ℕ, ◌<◌, Bool, true, false, List, length, map, slice_index}
+use Rattle.std.specs.Prelude.{◌≡◌, ℕ, zero, suc, ◌<◌, Bool, true, List, length, map, slice_index}
 use Rattle.hierarchy.specs.Shape.{pin_wire, pins_of}
 use Rattle.hierarchy.specs.Circuit.{Outputs, Pins}
 use Rattle.hierarchy.specs.Faults.{Faults, stuck_wire}
@@ -9,7 +9,7 @@ use Rattle.config_set.specs.Run.{Ticks, Cycle}
 use Rattle.cycle_sim.specs.declared.classes.Knot.{Knot}
 use Rattle.cycle_sim.specs.declared.gates.Gate.{Gate}
 use Rattle.cycle_sim.specs.Classes.{AreKnots}
-use Rattle.cycle_sim.specs.Gates.{is_low, level_at, ticked, clocked, AreGates, AreOutputs, IsPulledBy, IsDrivenBy, AreMarkedToo}
+use Rattle.cycle_sim.specs.Gates.{is_low, IsClear, level_at, ticked, clocked, AreGates, AreOutputs, IsPulledBy, IsDrivenBy, AreMarkedToo}
 
 -- the classes, the tables that are on and the pins are those of the configuration under the faults
 pub record IsWired (f : Faults) (g : Configuration) (root : ℕ → ℕ) (knots : List Knot) (pins : List ℕ) (gates : List Gate) : Type 0 where
@@ -25,10 +25,17 @@ pub record AreDriven (pins : List ℕ) (drive : Pins) (low : List Bool) : Type 0
   pub from : (r : ℕ) → IsDrivenBy pins drive (length pins) r → is_low low r ≡ true
 
 -- the tables are what a tick makes of them, under marks of their own
-pub record IsTick (f : Faults) (knots : List Knot) (low_pins low_tables : List Bool) (old new : List Gate) : Type 0 where
+pub record IsTick (f : Faults) (knots : List Knot) (low_pins : List Bool) (old new : List Gate) : Type 0 where
+  pub clear : List Bool
+  pub is_clear : IsClear clear
   pub marks : List Bool
-  pub marked : AreMarkedToo low_tables marks (IsPulledBy old (length old))
+  pub marked : AreMarkedToo clear marks (IsPulledBy old (length old))
   pub next : new ≡ map (ticked f (level_at knots low_pins marks)) old
+
+-- so many ticks lead from the one list of tables to the other
+pub data HaveTicked (f : Faults) (knots : List Knot) (low_pins : List Bool) (old : List Gate) : ℕ → List Gate → Type 0 where
+  not_yet : HaveTicked f knots low_pins old zero old
+  once_more : {n : ℕ} {mid new : List Gate} → HaveTicked f knots low_pins old n mid → IsTick f knots low_pins mid new → HaveTicked f knots low_pins old (suc n) new
 
 -- the reading, and the tables after the clock edge
 pub record IsEdge (f : Faults) (knots : List Knot) (low_pins low_tables : List Bool) (pins : List ℕ) (read : Pins) (old new : List Gate) : Type 0 where

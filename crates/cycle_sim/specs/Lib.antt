@@ -3,6 +3,7 @@ pub mod Classes
 pub mod Building
 pub mod Gates
 pub mod Cycles
+pub mod Settling
 pub mod Boards
 pub mod Tracks
 pub mod BitLogs

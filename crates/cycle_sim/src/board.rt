@@ -13,6 +13,7 @@ use crate::base::classes_of;
 use crate::classes::{Classes, Knot, root_of};
 use crate::closing::close_all;
 use crate::gates::Gate;
+use crate::ranks::{Turn, order_gates};
 use config_set::{Config, Setting};
 use fault_model::FaultSet;
 use hierarchy::{Shape, Table};
@@ -29,6 +30,12 @@ pub struct Board {
     pub low_pins: Vec<bool>,
     /// The classes that tables pull to 0.
     pub low_tables: Vec<bool>,
+    /// The ranks of the classes, where the tables are ranked.
+    pub ranks: Vec<u16>,
+    /// The order in which the tables are evaluated, where they are ranked.
+    pub turns: Vec<Turn>,
+    /// Whether no way through combinational tables is longer than the ticks.
+    pub ranked: bool,
 }
 
 /// The root of a table's pin.
@@ -129,10 +136,14 @@ pub fn prepare(alloc: Global, faults: &FaultSet) -> Result<Board, AllocError>
         pins: Vec::new(alloc),
         low_pins: vec![in alloc; false; wires]?,
         low_tables: vec![in alloc; false; wires]?,
+        ranks: vec![in alloc; 0; wires]?,
+        turns: Vec::new(alloc),
+        ranked: false,
     })
 }
 
-/// Loads a configuration. Its cost grows with what is closed, on and faulty, and with the pins.
+/// Loads a configuration. Its cost grows with what is closed, on and faulty, with the pins, and, where there are more
+/// than two ticks, with the longest way through combinational tables.
 pub fn load(board: &mut Board, faults: &FaultSet, config: &Config) -> Result<(), AllocError>
     requires prepared { IsPrepared faults.now.shape faults.now.faults board.old }
     requires shape { config.now.config.shape ≡ faults.now.shape }
@@ -144,5 +155,11 @@ pub fn load(board: &mut Board, faults: &FaultSet, config: &Config) -> Result<(),
     close_all(&mut board.classes, faults, config.closed())?;
     fill_gates(&mut board.gates, faults, &board.classes.knots, config)?;
     fill_pins(&mut board.pins, &board.classes.knots, shape)?;
+    board.ranked = order_gates(
+        &mut board.turns,
+        &mut board.ranks,
+        &board.gates,
+        config.ticks(),
+    )?;
     Ok(())
 }

@@ -1,29 +1,32 @@
 //! A cycle of a loaded machine.
 
-ghost use Rattle.std.specs.Prelude.{◌≡◌, ℕ, ◌<◌, List, length, All};
-ghost use Rattle.hierarchy.specs.Circuit.{Outputs, Pins};
+ghost use Rattle.std.specs.Prelude.{◌≡◌, ◌<◌, ℕ, true, false, length, All};
+ghost use Rattle.hierarchy.specs.Circuit.{Outputs};
 ghost use Rattle.hierarchy.specs.Shape.{tables_of};
 ghost use Rattle.config_set.specs.Configuration.{Configuration};
 ghost use Rattle.cycle_sim.specs.Gates.{Fits, IsClear, AreOutputs};
 ghost use Rattle.cycle_sim.specs.Boards.{IsPrepared, AreFitting, IsLoaded};
 ghost use Rattle.cycle_sim.specs.Tracks.{GivesCycle};
-ghost use Rattle.cycle_sim.specs.Cycles.{IsWired, AreDriven, IsTick, IsEdge, HasTicked, HasCycled};
+ghost use Rattle.cycle_sim.specs.Cycles.{IsTick, HaveTicked, IsEdge};
+ghost use Rattle.cycle_sim.specs.Settling.{Settles};
 
 use crate::board::Board;
 use crate::classes::Knot;
 use crate::gates::{Gate, clock_all, read_pins, tick_all};
 use crate::marks::{clear_pins, clear_tables, mark_pins, mark_tables};
+use crate::ranks::Turn;
+use crate::sweeping::sweep;
 use fault_model::FaultSet;
 use rig::PinBits;
 
-/// Makes one tick.
+/// Makes one tick. Whether a table gives something else now.
 fn tick(
     faults: &FaultSet,
     knots: &[Knot],
     low_pins: &[bool],
     low_tables: &mut [bool],
     gates: &mut [Gate],
-)
+) -> bool
     requires fits { All (Fits (tables_of faults.now.shape) (length knots.now)) gates.old }
     requires pins { length low_pins.now ≡ length knots.now }
     requires tables { length low_tables.old ≡ length knots.now }
@@ -31,14 +34,16 @@ fn tick(
     ensures fits { All (Fits (tables_of faults.now.shape) (length knots.now)) gates.new }
     ensures tables { length low_tables.new ≡ length knots.now }
     ensures clear { IsClear low_tables.new }
-    ensures tick { IsTick faults.now.faults knots.now low_pins.now low_tables.old gates.old gates.new }
+    ensures tick { IsTick faults.now.faults knots.now low_pins.now gates.old gates.new }
+    ensures same { result ≡ false → gates.new ≡ gates.old }
 {
     mark_tables(gates, low_tables);
-    tick_all(faults, knots, low_pins, low_tables, gates);
+    let changed = tick_all(faults, knots, low_pins, low_tables, gates);
     clear_tables(gates, low_tables);
+    changed
 }
 
-/// Makes so many ticks.
+/// Makes so many ticks. After one that changes nothing all further ones are the same, and are left out.
 fn tick_times(
     faults: &FaultSet,
     knots: &[Knot],
@@ -54,12 +59,42 @@ fn tick_times(
     ensures fits { All (Fits (tables_of faults.now.shape) (length knots.now)) gates.new }
     ensures tables { length low_tables.new ≡ length knots.now }
     ensures clear { IsClear low_tables.new }
-    ensures ticked { (g : Configuration) (root : ℕ → ℕ) (pins : List ℕ) (drive : Pins) (before : Outputs) → AreDriven pins drive low_pins.now →
-        IsWired faults.now.faults g root knots.now pins gates.old → AreOutputs g gates.old before → HasTicked faults.now.faults g root knots.now pins drive ticks before gates.new }
+    ensures ticked { HaveTicked faults.now.faults knots.now low_pins.now gates.old ticks gates.new }
 {
     'ticks: for _n in 0..ticks {
-        tick(faults, knots, low_pins, low_tables, gates);
+        if !tick(faults, knots, low_pins, low_tables, gates) {
+            return;
+        }
     }
+}
+
+/// Makes so many ticks. Where what the combinational tables gave before doesn't matter after them, all that is left to do
+/// is to come to rest, for which the tables are evaluated in their order first.
+fn settle(
+    faults: &FaultSet,
+    knots: &[Knot],
+    low_pins: &[bool],
+    low_tables: &mut [bool],
+    gates: &mut [Gate],
+    turns: &[Turn],
+    ranked: bool,
+    ticks: u16,
+)
+    requires fits { All (Fits (tables_of faults.now.shape) (length knots.now)) gates.old }
+    requires pins { length low_pins.now ≡ length knots.now }
+    requires tables { length low_tables.old ≡ length knots.now }
+    requires clear { IsClear low_tables.old }
+    ensures fits { All (Fits (tables_of faults.now.shape) (length knots.now)) gates.new }
+    ensures tables { length low_tables.new ≡ length knots.now }
+    ensures clear { IsClear low_tables.new }
+    ensures ticked { (ranked ≡ true → Settles gates.old ticks) → HaveTicked faults.now.faults knots.now low_pins.now gates.old ticks gates.new }
+{
+    if !ranked {
+        tick_times(faults, knots, low_pins, low_tables, gates, ticks);
+        return;
+    }
+    sweep(faults, knots, low_pins, low_tables, gates, turns);
+    tick_times(faults, knots, low_pins, low_tables, gates, ticks);
 }
 
 /// Reads the pins, and makes the clock edge.
@@ -89,7 +124,8 @@ fn clock(
     clear_tables(gates, low_tables);
 }
 
-/// Makes a cycle of so many ticks. Its cost grows with the ticks, the tables that are on, and the pins.
+/// Makes a cycle of so many ticks. Its cost grows with the tables that are on, the pins, and the ticks until nothing
+/// changes. Where the tables are ranked that is the first one.
 pub fn cycle(board: &mut Board, faults: &FaultSet, ticks: u16, drive: &PinBits, read: &mut PinBits)
     requires prepared { IsPrepared faults.now.shape faults.now.faults board.old }
     requires fitting { AreFitting faults.now.shape board.old }
@@ -104,12 +140,14 @@ pub fn cycle(board: &mut Board, faults: &FaultSet, ticks: u16, drive: &PinBits, 
     // The shape keeps its limits, so its wires can be numbered.
     let _shape = faults.shape();
     mark_pins(&board.pins, drive, &mut board.low_pins);
-    tick_times(
+    settle(
         faults,
         &board.classes.knots,
         &board.low_pins,
         &mut board.low_tables,
         &mut board.gates,
+        &board.turns,
+        board.ranked,
         ticks,
     );
     clock(

@@ -12,7 +12,7 @@ use hierarchy::Table;
 use rig::PinBits;
 
 /// How many inputs a table has.
-const INPUTS: usize = 6;
+pub const INPUTS: usize = 6;
 
 /// A table that is on.
 #[derive(Clone, Copy, Debug)]
@@ -72,7 +72,7 @@ fn cell_at(faults: &FaultSet, gate: Gate, address: u8) -> bool
 }
 
 /// A table after a tick.
-fn ticked(faults: &FaultSet, knots: &[Knot], pins: &[bool], tables: &[bool], gate: Gate) -> Gate
+pub fn ticked(faults: &FaultSet, knots: &[Knot], pins: &[bool], tables: &[bool], gate: Gate) -> Gate
     requires table { gate.table.0 < tables_of faults.now.shape }
     requires ins { (j : ℕ) → j < 6 → slice_index gate.ins j < length knots.now }
     requires pins { length pins.now ≡ length knots.now }
@@ -104,22 +104,29 @@ fn clocked(faults: &FaultSet, knots: &[Knot], pins: &[bool], tables: &[bool], ga
     Gate { output, ..gate }
 }
 
-/// Makes a tick: every table takes what its inputs address, but the latched ones.
+/// Makes a tick: every table takes what its inputs address, but the latched ones. Whether one gives something else now.
 pub fn tick_all(
     faults: &FaultSet,
     knots: &[Knot],
     pins: &[bool],
     tables: &[bool],
     gates: &mut [Gate],
-)
+) -> bool
     requires fits { All (Fits (tables_of faults.now.shape) (length knots.now)) gates.old }
     requires pins { length pins.now ≡ length knots.now }
     requires tables { length tables.now ≡ length knots.now }
-    ensures { gates.new ≡ map (ticked faults.now.faults (level_at knots.now pins.now tables.now)) gates.old }
+    ensures next { gates.new ≡ map (ticked faults.now.faults (level_at knots.now pins.now tables.now)) gates.old }
+    ensures same { result ≡ false → gates.new ≡ gates.old }
 {
+    let mut changed = false;
     'gates: for i in 0..gates.len() {
-        gates[i] = ticked(faults, knots, pins, tables, gates[i]);
+        let gate = ticked(faults, knots, pins, tables, gates[i]);
+        if gate.output != gates[i].output {
+            gates[i] = gate;
+            changed = true;
+        }
     }
+    changed
 }
 
 /// Makes the clock edge: every latched table takes what its inputs address.

@@ -10,7 +10,9 @@ mod cycle;
 mod gates;
 mod marks;
 mod named;
+mod ranks;
 mod sim;
 mod sim_rig;
+mod sweeping;
 
 pub use sim_rig::SimRig;

@@ -1,4 +1,4 @@
-use Rattle.std.proofs.Common.{◌≡◌, ◌<◌, ◌+◌, ◌∙◌, ℕ, List, All, length, get_or, sym, ap, subst}
+use Rattle.std.proofs.Common.{◌≡◌, ◌<◌, ◌+◌, ◌∙◌, ℕ, List, All, length, sym, ap, subst}
 use Rattle.std.specs.Prelude.{slice_index}
 use Rattle.hierarchy.specs.declared.Shape.{Shape}
 use Rattle.hierarchy.specs.declared.Cross.{Cross}
@@ -8,6 +8,7 @@ use Rattle.cycle_sim.specs.declared.gates.Gate.{Gate}
 use Rattle.cycle_sim.specs.Building.{base_most}
 use Rattle.cycle_sim.specs.Classes.{HasRoots}
 use Rattle.cycle_sim.specs.Gates.{Fits, AreGates}
+use Rattle.cycle_sim.specs.Settling.{Settles}
 use Rattle.cycle_sim.proofs.Counts.{closed_below, among_closed}
 use Rattle.cycle_sim.proofs.Loading.{wired_by}
 use Rattle.cycle_sim.proofs.board.load.Goals as goal
@@ -35,4 +36,5 @@ returns-clause-loaded c =
       wired = wired_by m f g c.closed.result.now knots c.fill_pins.new.pins.items c.fill_gates.new.gates.items (base_most + length c.closed.result.now) c.requires.shape (among_closed g c.closed.result.now c.closed.ensures) t gates_are
           (c.in_ok-fill_pins.ensures.len ∙ ap pins_of same)
           (subst (λ (s : Shape). (most : ℕ) (root : ℕ → ℕ) → HasRoots knots most root → (k : ℕ) → k < pins_of s → slice_index c.fill_pins.new.pins.items k ≡ root (pin_wire s k)) same pins_are);
+      settles = λ e. subst (λ (gs : List Gate). Settles gs g.ticks) c.deref-3.ensures.value (subst (λ (n : ℕ). Settles c.deref-3.result.now n) c.ticks.ensures (c.in_ok-board.ensures.settles e));
     }
