@@ -58,14 +58,23 @@ fn sweep_links(
     Ok(())
 }
 
-/// Whether a wire seems to have links to wires that weren't seen, by three of them.
+/// Whether one of two links of a wire, of which this is the first, seems to lead to a wire that wasn't seen.
+fn seems_open_at(links: &Links, seen: &BitSet, w: Wire, count: usize, j: usize) -> bool {
+    if links.may_be_new(w, j, seen) {
+        return true;
+    }
+    j.saturating_add(1) < count && links.may_be_new(w, j.saturating_add(1), seen)
+}
+
+/// Whether a wire seems to have links to wires that weren't seen, by six of them: two at the start, in the middle and at the
+/// end, since one of two may stand in the route, which has few wires of each crossbar.
 fn seems_open(links: &Links, seen: &BitSet, w: Wire, count: usize) -> bool {
     if count == 0 {
         return false;
     }
-    links.may_be_new(w, 0, seen)
-        || links.may_be_new(w, count / 2, seen)
-        || links.may_be_new(w, count - 1, seen)
+    seems_open_at(links, seen, w, count, 0)
+        || seems_open_at(links, seen, w, count, count / 2)
+        || seems_open_at(links, seen, w, count, count.saturating_sub(2))
 }
 
 /// Goes out to a reached wire, over its links and back, where it seems to have links to wires that weren't seen, or is
