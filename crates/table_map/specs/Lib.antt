@@ -7,3 +7,4 @@ pub mod Cells
 pub mod Sizes
 pub mod Drives
 pub mod Bounds
+pub mod Merging

@@ -7,6 +7,7 @@ mod covers;
 mod drives;
 pub mod laws;
 mod longest;
+mod merge;
 mod names;
 mod network;
 mod source;
@@ -15,5 +16,6 @@ mod want;
 
 pub use build::plain;
 pub use longest::depth;
+pub use merge::merged;
 pub use network::{NetTable, Network};
 pub use source::{Source, Sources};
