@@ -8,3 +8,5 @@ pub mod Sizes
 pub mod Drives
 pub mod Bounds
 pub mod Merging
+pub mod Joining
+pub mod Compacting

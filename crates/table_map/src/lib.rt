@@ -3,16 +3,20 @@
 
 mod build;
 mod cells;
+mod compact;
 mod covers;
 mod drives;
+mod joining;
 pub mod laws;
 mod longest;
 mod merge;
 mod names;
 mod network;
+mod readers;
 mod source;
 mod trees;
 mod want;
+mod work;
 
 pub use build::plain;
 pub use longest::depth;
