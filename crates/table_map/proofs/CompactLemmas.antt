@@ -1,5 +1,5 @@
 -- A network without the tables that nothing reads has the same rows.
-use Rattle.std.proofs.Common.{◌≡◌, ◌⊎◌, ◌↔◌, Bool, ℕ, zero, suc, ◌+◌, ◌<◌, ◌≤◌, List, [], ◌∷◌, ◌++◌, true, false, length, map, get_or, set, drop, replicate, refl, sym, ap, subst, ◌∙◌, inl, inr, arith}
+use Rattle.std.proofs.Common.{◌≡◌, Bool, ℕ, zero, suc, ◌+◌, ◌<◌, ◌≤◌, List, [], ◌∷◌, ◌++◌, true, false, length, map, get_or, set, drop, replicate, refl, sym, ap, subst, ◌∙◌, inl, inr, arith}
 use Rattle.std.specs.Prelude.{slice_index_or, if◌then◌else◌}
 use Rattle.std.specs.List.{range_with_len, Contains, All}
 use Rattle.std.proofs.lemmas.List.{get_or-map, ext_get_or, length-map, get_or_default, length_push, drop_more, get_or_push, get_or_append_left, get_or-set_same, get_or-set_other, get_or-replicate, length-replicate, length-set, get_or_past}
@@ -9,9 +9,9 @@ use Rattle.table_map.specs.declared.source.Source.{Source}
 use Rattle.table_map.specs.declared.source.Source.TheVariants.{Input, Table}
 use Rattle.table_map.specs.declared.network.NetTable.{NetTable}
 use Rattle.table_map.specs.declared.network.Network.{Network}
-use Rattle.table_map.specs.Networks.{no_table, table_at, IsSourceOf, IsCombinational, IsLatched, IsPath, alone, onward, IsDeepest, IsNetwork}
+use Rattle.table_map.specs.Networks.{no_table, table_at, IsSourceOf, IsCombinational, IsLatched, IsPath, alone, onward, IsNetwork}
 use Rattle.table_map.specs.Rows.{number_of, cell_at, bit_of, truth, IsRight, outputs_in, next_state, first_state, RowsFrom, AreRows}
-use Rattle.table_map.specs.Compacting.{is_dropped, rank, renamed, renamed_table, kept_tables, compacted, named_by, AreRanks, IsKept, AreKept, IsClosed, IsCompacted}
+use Rattle.table_map.specs.Compacting.{is_dropped, rank, renamed, renamed_table, kept_tables, compacted, named_by, AreRanks, IsKept, IsClosed, IsCompacted}
 use Rattle.table_map.specs.Joining.{IsReduced, IsUnread}
 use Rattle.table_map.proofs.ValuationLemmas.{one_rows}
 

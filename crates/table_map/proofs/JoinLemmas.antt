@@ -1,23 +1,20 @@
 -- A table is put into its reader: the network has the same rows.
-use Rattle.std.proofs.Common.{◌≡◌, ◌⊎◌, ◌↔◌, Bool, ℕ, zero, suc, ◌+◌, ◌*◌, ◌<◌, ◌≤◌, List, [], ◌∷◌, ◌++◌, true, false, length, map, get_or, set, refl, sym, ap, subst, ◌∙◌, inl, inr, arith}
-use Rattle.std.specs.Prelude.{slice_index_or}
-use Rattle.std.specs.List.{range_with_len, Contains, All}
+use Rattle.std.proofs.Common.{◌≡◌, ◌⊎◌, Bool, ℕ, ◌<◌, ◌≤◌, List, [], ◌∷◌, ◌++◌, true, length, map, get_or, refl, sym, ap, subst, ◌∙◌, inl, inr, arith}
+use Rattle.std.specs.List.{range_with_len, Contains}
 use Rattle.std.proofs.lemmas.Bool.{cases_eq}
-use Rattle.std.proofs.lemmas.List.{get_or-map, ext_get_or, length-map, length-set, get_or-set_same, get_or-set_other}
-use Rattle.std.proofs.lemmas.List.Elements.{Contains-get_or, All-set, Contains-append_left, Contains-append_right}
+use Rattle.std.proofs.lemmas.List.{get_or-map, ext_get_or, length-map}
+use Rattle.std.proofs.lemmas.List.Elements.{Contains-get_or, Contains-append_left, Contains-append_right}
 use Rattle.table_map.specs.declared.source.Source.{Source}
 use Rattle.table_map.specs.declared.source.Source.TheVariants.{Input, Table}
 use Rattle.table_map.specs.declared.network.NetTable.{NetTable}
 use Rattle.table_map.specs.declared.network.Network.{Network}
-use Rattle.table_map.specs.Networks.{no_table, table_at, IsSourceOf, IsCombinational, IsLatched, IsPath, alone, onward, IsDeepest, IsNetwork}
-use Rattle.table_map.specs.Rows.{number_of, cell_at, bit_of, pins_of, truth, IsRight, outputs_in, next_state, first_state, RowsFrom, AreRows}
+use Rattle.table_map.specs.Rows.{number_of, cell_at, bit_of, pins_of, truth, IsRight, next_state, first_state, RowsFrom, AreRows}
 use Rattle.table_map.specs.Plain.{pin_named}
-use Rattle.table_map.specs.Merging.{number, Reads, CanJoin}
-use Rattle.table_map.specs.Joining.{bit_with, address_by, joined_truth, in_tables, IsJoined, MayPut, IsPut, Puts, none, more, IsUnread}
+use Rattle.table_map.specs.Merging.{number}
+use Rattle.table_map.specs.Joining.{bit_with, address_by, joined_truth, IsJoined}
 use Rattle.table_map.proofs.CellLemmas.{gives_of}
-use Rattle.table_map.proofs.PathLemmas.{no_loop}
 use Rattle.table_map.proofs.ValueLemmas.{pin_at, length-pins}
-use Rattle.table_map.proofs.SourceLemmas.{has_both, not_itself, from_both, named_value, with_given, with_pin}
+use Rattle.table_map.proofs.SourceLemmas.{has_both, named_value, with_given, with_pin}
 
 pub same_address : (f g : Source → Bool) (ins : List Source) → ((s : Source) → Contains ins s → f s ≡ g s) → address_by f ins ≡ address_by g ins
 same_address f g ins same = ap (λ bits. number_of (map (λ k. get_or bits k true) (range_with_len 0 6))) (ext_get_or true _ _ (length-map ins f ∙ sym (length-map ins g)) one)

@@ -1,18 +1,17 @@
 -- The network with a table put into its reader.
-use Rattle.std.proofs.Common.{◌≡◌, ◌⊎◌, ◌↔◌, Bool, ℕ, zero, suc, ◌+◌, ◌*◌, ◌<◌, ◌≤◌, List, [], ◌∷◌, ◌++◌, true, false, length, map, get_or, set, refl, sym, ap, subst, ◌∙◌, inl, inr, arith}
-use Rattle.std.specs.Prelude.{slice_index_or}
+use Rattle.std.proofs.Common.{◌≡◌, ◌⊎◌, ◌↔◌, Bool, ℕ, suc, ◌<◌, ◌≤◌, List, length, get_or, refl, sym, ap, subst, ◌∙◌, inl, inr, arith}
 use Rattle.std.specs.List.{Contains, All}
 use Rattle.std.proofs.lemmas.Bool.{cases_eq}
-use Rattle.std.proofs.lemmas.List.{length-map, length-set, get_or-set_same, get_or-set_other}
+use Rattle.std.proofs.lemmas.List.{length-set, get_or-set_same, get_or-set_other}
 use Rattle.std.proofs.lemmas.List.Elements.{Contains-get_or, All-set}
 use Rattle.table_map.specs.declared.source.Source.{Source}
 use Rattle.table_map.specs.declared.source.Source.TheVariants.{Input, Table}
 use Rattle.table_map.specs.declared.network.NetTable.{NetTable}
 use Rattle.table_map.specs.declared.network.Network.{Network}
-use Rattle.table_map.specs.Networks.{no_table, table_at, IsSourceOf, IsCombinational, IsLatched, IsPath, alone, onward, IsDeepest, IsNetwork}
+use Rattle.table_map.specs.Networks.{no_table, IsSourceOf, IsCombinational, IsLatched, IsPath, alone, onward, IsNetwork}
 use Rattle.table_map.specs.Rows.{truth, IsRight, AreRows}
-use Rattle.table_map.specs.Merging.{number, Reads, CanJoin}
-use Rattle.table_map.specs.Joining.{in_tables, IsJoined, MayPut, IsPut, Puts, none, more, IsUnread}
+use Rattle.table_map.specs.Merging.{Reads, CanJoin}
+use Rattle.table_map.specs.Joining.{in_tables, IsPut, Puts, none, more, IsUnread}
 use Rattle.table_map.proofs.PathLemmas.{no_loop}
 use Rattle.table_map.proofs.SourceLemmas.{not_itself, from_both}
 use Rattle.table_map.proofs.JoinLemmas.{joined_value, IsLike, like_rows}

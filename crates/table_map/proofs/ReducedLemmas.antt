@@ -1,9 +1,8 @@
 -- A network with tables put into their readers and left out.
-use Rattle.std.proofs.Common.{◌≡◌, ◌↔◌, Bool, ℕ, ◌<◌, ◌≤◌, List, Result, Ok, Err, IfOk, true, length, map, refl, ap, ◌∙◌, arith}
+use Rattle.std.proofs.Common.{◌≡◌, Bool, ℕ, ◌<◌, List, Result, Ok, Err, IfOk, true, length, refl, ap, ◌∙◌, arith}
 use Rattle.std.proofs.lemmas.List.{length-map}
 use Rattle.netlist.specs.declared.draft.Draft.{Draft}
 use Rattle.netlist.specs.declared.draft.PortDef.{PortDef}
-use Rattle.table_map.specs.declared.source.Source.{Source}
 use Rattle.table_map.specs.declared.network.NetTable.{NetTable}
 use Rattle.table_map.specs.declared.network.Network.{Network}
 use Rattle.table_map.specs.Networks.{IsNetwork}

@@ -1,5 +1,4 @@
-use Rattle.std.proofs.Common.{◌≡◌, ◌+◌, ◌≤◌, ◌∙◌, ap, sym, get_or, false, arith}
-use Rattle.std.specs.Prelude.{if◌then◌else◌}
+use Rattle.std.proofs.Common.{◌+◌, ◌∙◌, ap, sym, get_or, false, arith}
 use Rattle.table_map.specs.Compacting.{rank}
 use Rattle.table_map.proofs.CompactLemmas.{ranks_none, ranks_more, rank_step, rank_zero, one_unless_le}
 use Rattle.table_map.proofs.compact.ranks_of.Goals as goal

@@ -1,4 +1,4 @@
-use Rattle.std.proofs.Common.{◌≡◌, ◌<◌, ◌≤◌, ◌∙◌, sym, map, get_or, length, arith}
+use Rattle.std.proofs.Common.{◌<◌, ◌≤◌, ◌∙◌, sym, map, length, arith}
 use Rattle.std.proofs.lemmas.List.{get_or-map, length-map}
 use Rattle.table_map.specs.declared.source.Source.TheVariants.{Input}
 use Rattle.table_map.specs.Plain.{six_bits}

@@ -1,7 +1,7 @@
-use Rattle.std.proofs.Common.{◌≡◌, ◌<◌, ◌∙◌, ap, sym, length, subst, true, arith}
+use Rattle.std.proofs.Common.{◌≡◌, ap, sym, length, subst, arith}
 use Rattle.table_map.specs.Networks.{IsNetwork}
-use Rattle.table_map.specs.Compacting.{is_dropped, IsClosed, IsCompacted}
-use Rattle.table_map.specs.Joining.{IsPut, MayPut, Puts, IsReduced, IsUnread}
+use Rattle.table_map.specs.Compacting.{IsClosed, IsCompacted}
+use Rattle.table_map.specs.Joining.{IsPut, MayPut, Puts, IsUnread}
 use Rattle.table_map.proofs.PutLemmas.{net, same_length}
 use Rattle.table_map.proofs.ReaderLemmas.{may_put}
 use Rattle.table_map.proofs.ReducedLemmas.{joined_length, joined_network, joined_unread, joined_reduced, if_ok_map}

@@ -1,6 +1,5 @@
-use Rattle.std.proofs.Common.{ℕ, ◌≡◌, ◌<◌, ◌∙◌, ap, sym, length, subst, arith}
+use Rattle.std.proofs.Common.{ℕ, ◌≡◌, ◌∙◌, ap, sym, length, subst, arith}
 use Rattle.std.specs.Prelude.{MatchOption}
-use Rattle.table_map.specs.declared.readers.Readers.{Readers}
 use Rattle.table_map.specs.Merging.{CanJoin}
 use Rattle.table_map.specs.Joining.{all_readers, readers_at, MayPut}
 use Rattle.table_map.proofs.ReaderLemmas.{joins, not_one, not_put, length_all}

@@ -1,9 +1,9 @@
-use Rattle.std.proofs.Common.{◌≡◌, ◌<◌, ◌≤◌, ◌∙◌, ap, sym, drop, length, replicate, subst, arith}
+use Rattle.std.proofs.Common.{◌≤◌, ◌∙◌, ap, sym, length, subst, arith}
 use Rattle.std.proofs.lemmas.List.{get_or_default, drop_all}
 use Rattle.table_map.specs.declared.network.NetTable.{NetTable}
 use Rattle.table_map.specs.Networks.{no_table}
 use Rattle.table_map.specs.Levels.{AreSourcesIn}
-use Rattle.table_map.specs.Joining.{in_tables, all_readers, noted, noted_tables}
+use Rattle.table_map.specs.Joining.{all_readers, noted, noted_tables}
 use Rattle.table_map.proofs.readers.readers_of.Goals as goal
 
 pub note-requires : goal.note-requires
