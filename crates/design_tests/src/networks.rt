@@ -4,7 +4,7 @@ use blif_read::read_blif;
 use std::alloc::Global;
 use std::process::Abort;
 use std::test::Fail;
-use table_map::{Network, Source, depth, plain};
+use table_map::{Network, Source, depth, merged, plain};
 
 /// A table: its inputs, its cells, and whether it is latched.
 type Wanted<'a> = (&'a [Source], u64, bool);
@@ -88,4 +88,16 @@ fn toggling_latch(rt: HostRuntime) -> Result<(), Fail> {
         (&[Source::Table(0)], EACH, true),
     ];
     compare(&rt, rt.alloc(), text, &wanted, 1)
+}
+
+// The cover is put into the table of the latch, which reads itself then.
+#[test]
+fn merged_toggling_latch(rt: HostRuntime) -> Result<(), Fail> {
+    let text = b".model t\n.outputs q\n.names q d\n0 1\n.latch d q\n.end\n";
+    let netlist = read_blif(rt.alloc(), text).ok().ok_or("a design")?;
+    let network = merged(rt.alloc(), &netlist)?;
+    let wanted: [Wanted; 1] = [(&[Source::Table(0)], 0x5555_5555_5555_5555, true)];
+    compare_tables(&rt, &network, &wanted);
+    assert_eq!(&rt; network.outputs.as_slice(), &[Source::Table(0)]);
+    Ok(())
 }

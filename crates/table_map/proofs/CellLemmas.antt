@@ -188,10 +188,10 @@ eqb_true n x e = grind (arith, nat_tests)
 pub eqb_false : (n x : ℕ) → (n ≡ x → ⊥) → (n == x) ≡ false
 eqb_false n x d = grind (arith, nat_tests)
 
-named_skip : (names : List ℕ) (bits : List Bool) (n x : ℕ) (b : Bool) → (n ≡ x → ⊥) → pin_named (n ∷ names) (b ∷ bits) x ≡ pin_named names bits x
+pub named_skip : (names : List ℕ) (bits : List Bool) (n x : ℕ) (b : Bool) → (n ≡ x → ⊥) → pin_named (n ∷ names) (b ∷ bits) x ≡ pin_named names bits x
 named_skip names bits n x b d = ap (λ t. if t then b else pin_named names bits x) (eqb_false n x d)
 
-named_here : (names : List ℕ) (bits : List Bool) (n x : ℕ) (b : Bool) → n ≡ x → pin_named (n ∷ names) (b ∷ bits) x ≡ b
+pub named_here : (names : List ℕ) (bits : List Bool) (n x : ℕ) (b : Bool) → n ≡ x → pin_named (n ∷ names) (b ∷ bits) x ≡ b
 named_here names bits n x b e = ap (λ t. if t then b else pin_named names bits x) (eqb_true n x e)
 
 module _ (names : List ℕ) (x : ℕ) (bits : List Bool) (few : length names ≤ length bits) where

@@ -12,3 +12,10 @@ pub mod OriginLemmas
 pub mod NetworkLemmas
 pub mod ValuationLemmas
 pub mod RowLemmas
+pub mod SourceLemmas
+pub mod JoinLemmas
+pub mod PutLemmas
+pub mod CompactLemmas
+pub mod ReaderLemmas
+pub mod AddressLemmas
+pub mod ReducedLemmas

@@ -28,13 +28,13 @@ pub among_ends : (names : List ℕ) (x k : ℕ) → length names ≤ k → is_am
 among_ends names x k le old = ap (λ ns. is_among ns x) (sym (drop_all k names le)) ∙ old
 
 -- all but one name
-abbrev without : ℕ → List ℕ → List ℕ
+abbrev pub without : ℕ → List ℕ → List ℕ
 without s xs = filter (λ x. not (x == s)) xs
 
-without_same : (s y : ℕ) (ys : List ℕ) → y ≡ s → without s (y ∷ ys) ≡ without s ys
+pub without_same : (s y : ℕ) (ys : List ℕ) → y ≡ s → without s (y ∷ ys) ≡ without s ys
 without_same s y ys e = ap (λ b. cond (not b) (y ∷ without s ys) (without s ys)) (eqb_true y s e)
 
-without_other : (s y : ℕ) (ys : List ℕ) → (y ≡ s → ⊥) → without s (y ∷ ys) ≡ y ∷ without s ys
+pub without_other : (s y : ℕ) (ys : List ℕ) → (y ≡ s → ⊥) → without s (y ∷ ys) ≡ y ∷ without s ys
 without_other s y ys d = ap (λ b. cond (not b) (y ∷ without s ys) (without s ys)) (eqb_false y s d)
 
 pub among_other : (y x : ℕ) (ys : List ℕ) → (y ≡ x → ⊥) → is_among (y ∷ ys) x ≡ is_among ys x
@@ -43,7 +43,7 @@ among_other y x ys d = ap (λ b. b || is_among ys x) (eqb_false y x d)
 pub among_same : (y x : ℕ) (ys : List ℕ) → y ≡ x → is_among (y ∷ ys) x ≡ true
 among_same y x ys e = ap (λ b. b || is_among ys x) (eqb_true y x e)
 
-among_without : (s x : ℕ) (ys : List ℕ) → (s ≡ x → ⊥) → is_among (without s ys) x ≡ is_among ys x
+pub among_without : (s x : ℕ) (ys : List ℕ) → (s ≡ x → ⊥) → is_among (without s ys) x ≡ is_among ys x
 among_without s x [] d = refl
 among_without s x (y ∷ ys) d = by (cases_eq y s) (among_without s x ys d)
   where
@@ -51,7 +51,7 @@ among_without s x (y ∷ ys) d = by (cases_eq y s) (among_without s x ys d)
     by (inl e) rest = ap (λ xs. is_among xs x) (without_same s y ys e) ∙ rest ∙ sym (among_other y x ys (λ f. d (sym e ∙ f)))
     by (inr n) rest = ap (λ xs. is_among xs x) (without_other s y ys n) ∙ ap (λ b. (y == x) || b) rest
 
-true_or : (b : Bool) → (b ≡ true) ⊎ (b ≡ false)
+pub true_or : (b : Bool) → (b ≡ true) ⊎ (b ≡ false)
 true_or true = inl refl
 true_or false = inr refl
 
@@ -59,7 +59,7 @@ pub no_both : true ≡ false → ⊥
 no_both e = cc
 
 -- a name that comes after others
-after : (xs : List ℕ) (x : ℕ) → (is_among (distinct xs) x ≡ true → distinct (xs ++ x ∷ []) ≡ distinct xs) × (is_among (distinct xs) x ≡ false → distinct (xs ++ x ∷ []) ≡ distinct xs ++ x ∷ [])
+pub after : (xs : List ℕ) (x : ℕ) → (is_among (distinct xs) x ≡ true → distinct (xs ++ x ∷ []) ≡ distinct xs) × (is_among (distinct xs) x ≡ false → distinct (xs ++ x ∷ []) ≡ distinct xs ++ x ∷ [])
 after [] x = (λ e. absurd (no_both (sym e)), λ e. refl)
 after (s ∷ ss) x = (λ e. old e (cases_eq s x) (true_or (is_among (distinct ss) x)) (after ss x), λ e. new e (cases_eq s x) (after ss x))
   where
@@ -74,14 +74,14 @@ after (s ∷ ss) x = (λ e. old e (cases_eq s x) (true_or (is_among (distinct ss
         let h : is_among (distinct ss) x ≡ false = sym (among_other s x (without s (distinct ss)) d ∙ among_without s x (distinct ss) d) ∙ e in
         ap (λ xs. s ∷ without s xs) (rest.1 h) ∙ ap (λ xs. s ∷ xs) (filter-append (λ y. not (y == s)) (distinct ss) (x ∷ []) ∙ ap (λ xs. without s (distinct ss) ++ xs) (without_other s x [] (λ f. d (sym f))))
 
-one_le : (xs : List ℕ) (x : ℕ) → length (distinct xs) ≤ length (distinct (xs ++ x ∷ []))
+pub one_le : (xs : List ℕ) (x : ℕ) → length (distinct xs) ≤ length (distinct (xs ++ x ∷ []))
 one_le xs x = by (true_or (is_among (distinct xs) x))
   where
     by : (is_among (distinct xs) x ≡ true) ⊎ (is_among (distinct xs) x ≡ false) → length (distinct xs) ≤ length (distinct (xs ++ x ∷ []))
     by (inl e) = let h = ap length ((after xs x).0 e) in omega arith
     by (inr e) = let h = ap length ((after xs x).1 e) in omega (arith, length_push (distinct xs) x)
 
-distinct_le : (xs ys : List ℕ) → length (distinct xs) ≤ length (distinct (xs ++ ys))
+pub distinct_le : (xs ys : List ℕ) → length (distinct xs) ≤ length (distinct (xs ++ ys))
 distinct_le xs [] = rw append-nil (omega arith)
 distinct_le xs (y ∷ ys) = let h = distinct_le (xs ++ y ∷ []) ys in let e : (xs ++ y ∷ []) ++ ys ≡ xs ++ y ∷ ys = append_assoc xs (y ∷ []) ys in let f = ap (λ zs. length (distinct zs)) e in let g = one_le xs y in omega arith
 

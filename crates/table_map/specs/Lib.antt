@@ -7,3 +7,6 @@ pub mod Cells
 pub mod Sizes
 pub mod Drives
 pub mod Bounds
+pub mod Merging
+pub mod Joining
+pub mod Compacting

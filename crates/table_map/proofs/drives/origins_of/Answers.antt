@@ -1,4 +1,4 @@
-use Rattle.std.proofs.Common.{◌≡◌, ◌∙◌, ℕ, List, ap, sym, subst, length, replicate, arith, sum_by}
+use Rattle.std.proofs.Common.{◌≡◌, ◌∙◌, ℕ, ap, sym, subst, length, replicate, arith, sum_by}
 use Rattle.std.proofs.lemmas.List.{length-replicate}
 use Rattle.table_map.specs.declared.source.Source.TheVariants.{Input}
 use Rattle.table_map.specs.Plain.{cover_size}

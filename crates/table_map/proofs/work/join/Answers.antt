@@ -1,0 +1,9 @@
+use Rattle.std.proofs.lemmas.Result.{on_ok_weaker}
+use Rattle.table_map.specs.Joining.{none, more}
+use Rattle.table_map.proofs.work.join.Goals as goal
+
+pub returns-in-Some-clause-puts : goal.returns-in-Some-clause-puts
+returns-in-Some-clause-puts c = on_ok_weaker c.settle.result (λ p. more none p) c.settle.ensures
+
+pub returns-in-None-clause-puts : goal.returns-in-None-clause-puts
+returns-in-None-clause-puts c = none

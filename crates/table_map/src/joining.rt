@@ -1,0 +1,210 @@
+//! A table that is put into its reader.
+
+ghost use Rattle.std.specs.Prelude.{◌≡◌, ◌+◌, ◌<◌, ◌≤◌, ◌++◌, length, map, true, MatchOption, slice_index_or, if◌then◌else◌};
+ghost use Rattle.std.specs.List.{range_with_len};
+ghost use Rattle.table_map.specs.declared.source.Source.TheVariants.{Input};
+ghost use Rattle.table_map.specs.Rows.{cell_at, number_of};
+ghost use Rattle.table_map.specs.Plain.{cells_where, distinct, pin_named, six_bits};
+ghost use Rattle.table_map.specs.Cells.{is_among};
+ghost use Rattle.table_map.specs.Merging.{number, numbers_without};
+ghost use Rattle.table_map.specs.Joining.{address_by, bit_with, in_tables, joined_truth, IsJoined, MayPut};
+
+use crate::network::NetTable;
+use crate::source::{Source, Sources};
+use std::alloc::Global;
+
+/// The most inputs of a table.
+const MOST_INPUTS: usize = 6;
+
+/// A number for each source.
+pub fn number(source: Source) -> u64
+    ensures { result ≡ number source }
+{
+    match source {
+        Source::Input(input) => 2 * (input as u64),
+        Source::Table(table) => 2 * (table as u64) + 1,
+    }
+}
+
+/// Whether the source is one of these.
+pub fn is_in(sources: &[Source], source: Source) -> bool
+    ensures { result ≡ is_among (map number sources.now) (number source) }
+{
+    'sources: for k in 0..sources.len() {
+        if number(sources[k]) == number(source) {
+            return true;
+        }
+    }
+    false
+}
+
+/// A source of two lists, one behind the other.
+fn source_of_both(first: &[Source], second: &[Source], k: usize) -> Source
+    requires { k < length first.now + length second.now }
+    ensures { result ≡ slice_index_or (first.now ++ second.now) k (Input 0) }
+{
+    if k < first.len() {
+        first[k]
+    } else {
+        second[k - first.len()]
+    }
+}
+
+/// The different sources of two tables, without the one that is put into the other, if they are at most six.
+fn together(alloc: Global, table: u32, first: &[Source], second: &[Source]) -> Option<Sources>
+    requires first { length first.now ≤ 6 }
+    requires second { length second.now ≤ 6 }
+    ensures { MatchOption result (6 < length (distinct (numbers_without table first.now second.now))) (λ sources. map number sources ≡ distinct (numbers_without table first.now second.now)) }
+{
+    let mut sources = Sources::new(alloc);
+    'both: for k in 0..first.len() + second.len() {
+        let source = source_of_both(first, second, k);
+        if number(source) == number(Source::Table(table)) {
+            continue;
+        }
+        if is_in(sources.as_slice(), source) {
+            continue;
+        }
+        if sources.as_slice().len() == MOST_INPUTS {
+            return None;
+        }
+        sources.push(source);
+    }
+    Some(sources)
+}
+
+fn cell(cells: u64, address: u64) -> bool
+    requires { address < 64 }
+    ensures { result ≡ cell_at cells address }
+{
+    (cells >> address) & 1 == 1
+}
+
+/// What a source gives at an address of a table with these inputs. One that is no input counts as 1.
+fn pin(ins: &[Source], address: u64, source: Source) -> bool
+    requires { length ins.now ≤ 6 }
+    ensures { result ≡ pin_named (map number ins.now) (six_bits address) (number source) }
+{
+    'ins: for k in 0..ins.len() {
+        if number(ins[k]) == number(source) {
+            return cell(address, k as u64);
+        }
+    }
+    true
+}
+
+/// What a source gives at an address of a table with these inputs, where another table gives this.
+fn bit(ins: &[Source], address: u64, table: u32, given: bool, source: Source) -> bool
+    requires { length ins.now ≤ 6 }
+    ensures { result ≡ bit_with (map number ins.now) (six_bits address) table given source }
+{
+    if number(source) == number(Source::Table(table)) {
+        given
+    } else {
+        pin(ins, address, source)
+    }
+}
+
+/// What the k-th pin of a table that reads these sources reads there.
+fn bit_at_pin(
+    ins: &[Source],
+    address: u64,
+    table: u32,
+    given: bool,
+    read: &[Source],
+    k: usize,
+) -> bool
+    requires { length ins.now ≤ 6 }
+    ensures { result ≡ slice_index_or (map (bit_with (map number ins.now) (six_bits address) table given) read.now) k true }
+{
+    if k < read.len() {
+        bit(ins, address, table, given, read[k])
+    } else {
+        true
+    }
+}
+
+fn one_if(bit: bool) -> u64
+    ensures { result ≡ (if bit then 1 else 0) }
+{
+    if bit { 1 } else { 0 }
+}
+
+/// The address of a table that reads these sources there.
+fn address_in(ins: &[Source], address: u64, table: u32, given: bool, read: &[Source]) -> u64
+    requires { length ins.now ≤ 6 }
+    ensures { result ≡ address_by (bit_with (map number ins.now) (six_bits address) table given) read.now }
+{
+    let mut found = 0;
+    'pins: for k in 0..6 {
+        found = one_if(bit_at_pin(ins, address, table, given, read, 5 - k)) + 2 * found;
+    }
+    found
+}
+
+/// What the reader gives at an address of a table with these inputs, where what the table gives is its input.
+fn joined_cell(
+    ins: &[Source],
+    table: u32,
+    inner: &NetTable,
+    reader: &NetTable,
+    address: u64,
+) -> bool
+    requires { length ins.now ≤ 6 }
+    ensures { result ≡ joined_truth (map number ins.now) table inner.now reader.now (six_bits address) }
+{
+    let inner_address = address_in(ins, address, table, true, inner.ins.as_slice());
+    let given = cell(inner.cells, inner_address);
+    let reader_address = address_in(ins, address, table, given, reader.ins.as_slice());
+    cell(reader.cells, reader_address)
+}
+
+/// The cells of the composed function.
+fn joined_cells(ins: &[Source], table: u32, inner: &NetTable, reader: &NetTable) -> u64
+    requires { length ins.now ≤ 6 }
+    ensures { result ≡ cells_where (joined_truth (map number ins.now) table inner.now reader.now) }
+{
+    let mut cells = 0;
+    'cells: for k in 0..64 {
+        cells = one_if(joined_cell(ins, table, inner, reader, 63 - k)) + 2 * cells;
+    }
+    cells
+}
+
+/// The reader with the table put into it, if they have at most six sources together.
+fn joined(alloc: Global, table: u32, inner: &NetTable, reader: &NetTable) -> Option<NetTable>
+    ensures { MatchOption result (6 < length (distinct (numbers_without table reader.now.ins inner.now.ins))) (λ joined. IsJoined table inner.now reader.now joined) }
+{
+    let ins = together(alloc, table, reader.ins.as_slice(), inner.ins.as_slice())?;
+    let cells = joined_cells(ins.as_slice(), table, inner, reader);
+    Some(NetTable {
+        ins,
+        cells,
+        latched: reader.latched,
+        init: reader.init,
+    })
+}
+
+/// The reader with the table put into it, if this may be.
+pub fn joined_at(alloc: Global, tables: &[NetTable], table: u32, reader: u32) -> Option<NetTable>
+    ensures { MatchOption result (MayPut tables.now table reader → ⊥) (λ joined. MayPut tables.now table reader × IsJoined table (in_tables tables.now table) (in_tables tables.now reader) joined) }
+{
+    if table as usize >= tables.len() {
+        return None;
+    }
+    if reader as usize >= tables.len() {
+        return None;
+    }
+    let inner = &tables[table as usize];
+    let outer = &tables[reader as usize];
+    if table == reader {
+        return None;
+    }
+    if inner.latched {
+        return None;
+    }
+    if !is_in(outer.ins.as_slice(), Source::Table(table)) {
+        return None;
+    }
+    joined(alloc, table, inner, outer)
+}
