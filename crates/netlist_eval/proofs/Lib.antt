@@ -8,3 +8,6 @@ pub mod RowLemmas
 pub mod BitLemmas
 pub mod RunLemmas
 pub mod TableLemmas
+pub mod TurnLemmas
+pub mod ReaderLemmas
+pub mod MarkLemmas

@@ -1,21 +1,32 @@
 -- A vector and a state, written and settled, give a right valuation.
-use Rattle.std.proofs.Common.{◌≡◌, ℕ, ◌+◌, ◌<◌, Bool, false, List, ◌++◌, length, get_or, map, sym, ap, subst, ◌∙◌, arith}
+use Rattle.std.proofs.Common.{◌≡◌, ◌⊎◌, ℕ, ◌+◌, ◌<◌, ◌≤◌, Bool, true, false, List, ◌++◌, length, take, get_or, map, sym, ap, subst, ◌∙◌, inl, inr, arith}
+use Rattle.std.specs.Prelude.{replicate}
+use Rattle.std.proofs.Math.Seq.{take-append_seam}
+use Rattle.std.proofs.lemmas.Bool.{cases_lt}
 use Rattle.std.specs.List.{flat_map}
-use Rattle.std.proofs.lemmas.List.{length-append, length-map, map-append, get_or-map, get_or_append_left, get_or-append-add}
+use Rattle.std.proofs.lemmas.List.{length-append, length-map, length-replicate, map-append, get_or-map, get_or_append_left, get_or-append-add, get_or-replicate, get_or_past}
 use Rattle.std.proofs.lemmas.Simd.{map-map}
 use Rattle.netlist.specs.declared.draft.Cover.{Cover}
 use Rattle.netlist.specs.declared.draft.Draft.{Draft}
 use Rattle.netlist.specs.declared.draft.LatchDef.{LatchDef}
 use Rattle.netlist.specs.declared.draft.PortDef.{PortDef}
-use Rattle.netlist.specs.Covers.{cover_at, IsCoverOver}
+use Rattle.netlist.specs.Covers.{no_cover, cover_at, IsCoverOver}
 use Rattle.netlist.specs.Drafts.{word, signal_at, cover_drive, latch_drive, cover_reads, latch_read, drives_of, reads_of, IsDriven}
-use Rattle.netlist.specs.Valuations.{bit_at, IsSettled}
+use Rattle.netlist.specs.Valuations.{number_at, bit_at, IsSettled}
 use Rattle.netlist.specs.Checks.{IsChecked}
 use Rattle.netlist.specs.Rows.{IsRight}
 use Rattle.netlist.proofs.RightLemmas.{settled_is_right}
 use Rattle.netlist.proofs.ValuationLemmas.{map_same}
-use Rattle.netlist_eval.specs.Bits.{bits_put, AreBelow, AreReady}
+use Rattle.netlist_eval.specs.declared.plan.Plan.{Plan}
+use Rattle.netlist_eval.specs.declared.turns.Turn.{Turn}
+use Rattle.netlist_eval.specs.Bits.{bits_put, AreBelow, AreReady, IsWiring}
+use Rattle.netlist_eval.specs.Turns.{AreTurns, places}
+use Rattle.netlist_eval.specs.Readers.{AreReaders}
+use Rattle.netlist_eval.specs.Plans.{IsPlan, IsMarked}
+use Rattle.netlist_eval.proofs.TurnLemmas.{turns-size}
+use Rattle.netlist_eval.proofs.MarkLemmas.{fresh-kept}
 use Rattle.netlist_eval.specs.Evals.{IsStep}
+use Rattle.netlist_eval.specs.Marks.{AreFree}
 use Rattle.netlist_eval.proofs.BitLemmas.{AreApart, length-put, put-other, put-read, apart-left, apart-right, apart-both, below-left, below-right}
 
 abbrev pub signals : List PortDef → List ℕ
@@ -82,6 +93,19 @@ module _ (d : Draft) (is : IsChecked d) where
   latch-driven : (s k : ℕ) → k < length (outs d.latches) → get_or (outs d.latches) k 0 ≡ s → IsDriven d s
   latch-driven s k lk e = driven s (length (front d) + k) (omega (arith, length-append (front d) (outs d.latches))) (get_or-append-add (front d) (outs d.latches) k 0 ∙ e)
 
+  -- no cover drives an input or what a latch drives
+  pub inputs-free : (order : List ℕ) → ((k : ℕ) → k < length order → number_at order k < length d.covers) → AreFree d.covers order (signals d.inputs)
+  inputs-free order within k i lk li e =
+      apart-both (signals d.inputs) (map (λ (c : Cover). c.out) d.covers) (apart-left (front d) (outs d.latches) drives-apart) i (number_at order k) li
+      (omega (arith, within k lk, length-map d.covers (λ (c : Cover). c.out))) (e ∙ sym (get_or-map (λ (c : Cover). c.out) d.covers (number_at order k) no_cover 0 (within k lk)))
+
+  pub latches-free : (order : List ℕ) → ((k : ℕ) → k < length order → number_at order k < length d.covers) → AreFree d.covers order (outs d.latches)
+  latches-free order within k i lk li e =
+      apart-both (front d) (outs d.latches) drives-apart (length (signals d.inputs) + number_at order k) i
+      (omega (arith, within k lk, length-map d.covers (λ (c : Cover). c.out), length-append (signals d.inputs) (map (λ (c : Cover). c.out) d.covers))) li
+      (get_or-append-add (signals d.inputs) (map (λ (c : Cover). c.out) d.covers) (number_at order k) 0 ∙
+      get_or-map (λ (c : Cover). c.out) d.covers (number_at order k) no_cover 0 (within k lk) ∙ sym e)
+
   module _ (values state vector : List Bool) (ready : AreReady d values state) (size : length vector ≡ length d.inputs) where
     abbrev pub given_inputs : List Bool
     given_inputs = bits_put values (signals d.inputs) vector
@@ -144,3 +168,37 @@ below-at m n xs ys e f h = rw (e, f) h
 
 pub covers-made : (d : Draft) (covers : List Cover) (n : ℕ) → IsChecked d → covers ≡ d.covers → n ≡ length d.names → (i : ℕ) → i < length covers → IsCoverOver (cover_at covers i) n
 covers-made d covers n is e f = rw (e, f) is.made.covers
+
+-- a slice that was written back over a vector
+pub taken : (n : ℕ) (new rest : List Bool) → length new ≡ n → take n (new ++ rest) ≡ new
+taken n new rest e = subst (λ (m : ℕ). take m (new ++ rest) ≡ new) e (take-append_seam new rest)
+
+pub plan-is : (d draft : Draft) (covers : List Cover) (p : Plan) (turns : List Turn) (n : ℕ) → draft ≡ d → covers ≡ draft.covers → turns ≡ p.turns.items → n ≡ length draft.names → IsWiring draft p.wiring → AreTurns covers p.turns.items → length turns ≤ 65535 → AreReaders covers (places turns) n p.readers → IsPlan d p
+plan-is d draft covers p turns n e f t m w a few r =
+    subst (λ (x : Draft). IsPlan x p) e (record {
+      wiring = w;
+      turns = subst (λ (cs : List Cover). AreTurns cs p.turns.items) f a;
+      few = subst (λ (ts : List Turn). length ts ≤ 65535) t few;
+      readers =
+          subst (λ (k : ℕ). AreReaders draft.covers (places p.turns.items) k p.readers) m
+          (subst (λ (ts : List Turn). AreReaders draft.covers (places ts) n p.readers) t (subst (λ (cs : List Cover). AreReaders cs (places turns) n p.readers) f r));
+    })
+
+-- nothing was evaluated yet
+pub ready-first : (d draft : Draft) (latches : List LatchDef) (values state : List Bool) (n : ℕ) → draft ≡ d → n ≡ length draft.names → values ≡ replicate n false → latches ≡ draft.latches → state ≡ map (λ (l : LatchDef). l.init) latches → AreReady d values state
+ready-first d draft latches values state n e size v at s =
+    subst (λ (x : Draft). AreReady x values state) e (record {
+      signals = ap (λ (xs : List Bool). length xs) v ∙ length-replicate n false ∙ size;
+      latches = ap (λ (xs : List Bool). length xs) s ∙ length-map latches (λ (l : LatchDef). l.init) ∙ ap (λ (xs : List LatchDef). length xs) at;
+      others = λ k none. ap (λ (xs : List Bool). bit_at xs k) v ∙ by k (cases_lt k n);
+    })
+  where
+    by : (k : ℕ) → (k < n) ⊎ (n ≤ k) → bit_at (replicate n false) k ≡ false
+    by k (inl lt) = get_or-replicate n k false false lt
+    by k (inr ge) = get_or_past (replicate n false) k false (omega (arith, ge, length-replicate n false))
+
+pub marked-first : (d : Draft) (p : Plan) (marks values : List Bool) (n : ℕ) → IsPlan d p → n ≡ 65536 → marks ≡ replicate n true → IsMarked d p marks values
+marked-first d p marks values n plan size e = record {
+  size = ap (λ (xs : List Bool). length xs) e ∙ length-replicate n true ∙ size;
+  kept = fresh-kept d.covers (places p.turns.items) marks values n (omega (arith, size, plan.few, turns-size p.turns.items)) e;
+}

@@ -8,3 +8,7 @@ pub mod Steps
 pub mod Kept
 pub mod Bits
 pub mod Tables
+pub mod Turns
+pub mod Readers
+pub mod Marks
+pub mod Plans

@@ -1,7 +1,7 @@
 -- Covers as tables of 64 cells, looked up by the bits of at most six inputs.
 use Rattle.std.specs.Prelude.{◌≡◌, ℕ, ◌+◌, ◌*◌, ◌/◌, ◌%◌, ◌==◌, ◌<◌, ◌≤◌, List, [], ◌∷◌, Bool, false, Option, None, Some, if◌then◌else◌, not, length, take, slice_index_or}
 use Rattle.netlist.specs.declared.draft.Cover.{Cover}
-use Rattle.netlist.specs.Covers.{cover_at, some_matches, truth, IsCoverOver}
+use Rattle.netlist.specs.Covers.{some_matches, truth, IsCoverOver}
 use Rattle.netlist_eval.specs.declared.tables.Table.{Table}
 use Rattle.netlist_eval.specs.Bits.{AreBelow}
 
@@ -40,8 +40,3 @@ pub record IsTable (t : Table) (c : Cover) : Type 0 where
 abbrev pub IsTableOf : Option Table → Cover → Type 0
 IsTableOf None c = Unit {0}
 IsTableOf (Some t) c = IsTable t c
-
--- the tables of all covers
-pub record AreTables (covers : List Cover) (tables : List (Option Table)) : Type 0 where
-  pub len : length tables ≡ length covers
-  pub each : (i : ℕ) → i < length covers → IsTableOf (slice_index_or tables i None) (cover_at covers i)

@@ -1,40 +1,48 @@
 //! The rows of a netlist.
 
-ghost use Rattle.std.specs.Prelude.{◌≡◌, length, map, IfOk};
+ghost use Rattle.std.specs.Prelude.{◌≡◌, ◌<◌, ℕ, length, map, IfOk};
 ghost use Rattle.netlist_eval.specs.Evals.{first_eval, IsStep};
-ghost use Rattle.netlist_eval.specs.Bits.{IsWiring, AreReady};
-ghost use Rattle.netlist_eval.specs.Tables.{AreTables};
+ghost use Rattle.netlist_eval.specs.Bits.{AreReady};
+ghost use Rattle.netlist_eval.specs.Plans.{IsPlan, IsMarked, AllHold};
 
 use crate::bits::{put_bits, read_bits};
-use crate::tables::{Table, settle, tables_of};
-use crate::wiring::{Wiring, wiring_of};
+use crate::marks::{put_marked, settle_marked};
+use crate::plan::{Plan, plan_of};
+use crate::readers::MOST;
+use crate::turns::settle;
 use netlist::{LatchDef, Netlist};
 use std::alloc::{AllocError, Global};
 use std::marker::Model;
+
+/// After a vector that changed more than a quarter of the covers, so many are evaluated without marks: marks cost
+/// about four times as much as an evaluation.
+const VECTORS_WITHOUT_MARKS: u32 = 255;
 
 /// A design that is run, vector by vector. Contracts see the design and what its latches give next.
 #[derive(Drop)]
 pub struct Eval<'a> {
     netlist: &'a Netlist,
-    wiring: Wiring,
-    /// By the places of the covers.
-    tables: Vec<Option<Table>>,
+    plan: Plan,
     /// The bits of all signals; those that nothing drives stay 0.
     values: Vec<bool>,
+    /// By turns: a cover that isn't marked has the truth of its inputs' bits.
+    marks: Vec<bool>,
     /// What the latches give next.
     state: Vec<bool>,
+    /// How many vectors are evaluated without marks next.
+    unmarked: u32,
 }
 
 impl<'a> Model for Eval<'a> {
     ghost use Rattle.netlist_eval.specs.Evals.{EvalState};
-    ghost use Rattle.netlist_eval.specs.Bits.{IsWiring, AreReady};
-    ghost use Rattle.netlist_eval.specs.Tables.{AreTables};
+    ghost use Rattle.netlist_eval.specs.Bits.{AreReady};
+    ghost use Rattle.netlist_eval.specs.Plans.{IsPlan, IsMarked};
 
     ghost Value = { EvalState };
 
     ghost view = { λ e. record { netlist = e.netlist.now; state = e.state.items } };
 
-    ghost invariant = { λ e. IsWiring e.netlist.now e.wiring × AreTables e.netlist.now.covers e.tables.items × AreReady e.netlist.now e.values.items e.state.items };
+    ghost invariant = { λ e. IsPlan e.netlist.now e.plan × AreReady e.netlist.now e.values.items e.state.items × IsMarked e.netlist.now e.plan e.marks.items e.values.items };
 }
 
 impl<'a> Eval<'a> {
@@ -43,16 +51,17 @@ impl<'a> Eval<'a> {
         ensures { IfOk result (λ e. e ≡ first_eval netlist.now) }
     {
         let draft = netlist.parts();
-        let wiring = wiring_of(alloc, draft)?;
-        let tables = tables_of(alloc, draft.covers.as_slice())?;
+        let plan = plan_of(alloc, netlist)?;
         let values = vec![in alloc; false; draft.names.len()]?;
+        let marks = vec![in alloc; true; MOST as usize]?;
         let state = first_bits(alloc, draft.latches.as_slice())?;
         Ok(Eval {
             netlist,
-            wiring,
-            tables,
+            plan,
             values,
+            marks,
             state,
+            unmarked: 0,
         })
     }
 
@@ -63,42 +72,91 @@ impl<'a> Eval<'a> {
         requires outputs { length out.old ≡ length self.old.netlist.outputs }
         ensures { IsStep self.old vector.now out.new self.new }
     {
-        run(
+        if self.unmarked > 0 {
+            self.unmarked -= 1;
+            run(
+                self.netlist,
+                &self.plan,
+                &mut self.values,
+                &mut self.state,
+                vector,
+                out,
+            );
+            return;
+        }
+        let busy = run_marked(
             self.netlist,
-            &self.wiring,
-            &self.tables,
+            &self.plan,
+            &mut self.marks,
             &mut self.values,
             &mut self.state,
             vector,
             out,
         );
+        if busy {
+            self.unmarked = VECTORS_WITHOUT_MARKS;
+        }
     }
 }
 
-// Gives the row of a vector and the next state.
+// Gives the row of a vector and the next state, and evaluates all covers.
 fn run(
     netlist: &Netlist,
-    wiring: &Wiring,
-    tables: &[Option<Table>],
+    plan: &Plan,
     values: &mut [bool],
     state: &mut [bool],
     vector: &[bool],
     out: &mut [bool],
 )
-    requires wiring { IsWiring netlist.now wiring.now }
-    requires tables { AreTables netlist.now.covers tables.now }
+    requires plan { IsPlan netlist.now plan.now }
     requires ready { AreReady netlist.now values.old state.old }
     requires inputs { length vector.now ≡ length netlist.now.inputs }
     requires outputs { length out.old ≡ length netlist.now.outputs }
     ensures ready { AreReady netlist.now values.new state.new }
+    ensures hold { AllHold netlist.now values.new }
     ensures step { IsStep (record { netlist = netlist.now; state = state.old }) vector.now out.new (record { netlist = netlist.now; state = state.new }) }
 {
     let draft = netlist.parts();
-    put_bits(values, &wiring.inputs, vector);
-    put_bits(values, &wiring.drives, state);
-    settle(tables, draft.covers.as_slice(), netlist.order(), values);
-    read_bits(values, &wiring.outputs, out);
-    read_bits(values, &wiring.reads, state);
+    put_bits(values, &plan.wiring.inputs, vector);
+    put_bits(values, &plan.wiring.drives, state);
+    settle(&plan.turns, draft.covers.as_slice(), values);
+    read_bits(values, &plan.wiring.outputs, out);
+    read_bits(values, &plan.wiring.reads, state);
+}
+
+// Gives the row of a vector and the next state, evaluates the covers that are marked, and says whether they were
+// more than a quarter.
+fn run_marked(
+    netlist: &Netlist,
+    plan: &Plan,
+    marks: &mut [bool],
+    values: &mut [bool],
+    state: &mut [bool],
+    vector: &[bool],
+    out: &mut [bool],
+) -> bool
+    requires plan { IsPlan netlist.now plan.now }
+    requires ready { AreReady netlist.now values.old state.old }
+    requires marked { IsMarked netlist.now plan.now marks.old values.old }
+    requires inputs { length vector.now ≡ length netlist.now.inputs }
+    requires outputs { length out.old ≡ length netlist.now.outputs }
+    ensures ready { AreReady netlist.now values.new state.new }
+    ensures marked { IsMarked netlist.now plan.now marks.new values.new }
+    ensures step { IsStep (record { netlist = netlist.now; state = state.old }) vector.now out.new (record { netlist = netlist.now; state = state.new }) }
+{
+    let draft = netlist.parts();
+    put_marked(&plan.readers, &plan.wiring.inputs, vector, marks, values);
+    put_marked(&plan.readers, &plan.wiring.drives, state, marks, values);
+    let count = settle_marked(
+        &plan.turns,
+        draft.covers.as_slice(),
+        &plan.readers,
+        marks,
+        values,
+    );
+    read_bits(values, &plan.wiring.outputs, out);
+    read_bits(values, &plan.wiring.reads, state);
+    count > plan.turns.len() / 4
 }
 
 // The bits that latches have at first.

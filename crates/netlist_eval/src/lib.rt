@@ -5,9 +5,13 @@ mod bits;
 mod eval;
 mod feed;
 mod line;
+mod marks;
+mod plan;
+mod readers;
 mod reading;
 mod row_text;
 mod tables;
+mod turns;
 mod vectors;
 mod wiring;
 

@@ -1,13 +1,11 @@
-//! Covers as tables, and covers given their truths in order.
+//! Covers as tables.
 
-ghost use Rattle.std.specs.Prelude.{◌≡◌, ◌+◌, ◌<◌, ◌≤◌, ℕ, [], map, length, slice_index_or, IfOk};
-ghost use Rattle.netlist.specs.Covers.{cover_at, truth, IsCoverOver};
-ghost use Rattle.netlist.specs.Valuations.{bit_at, IsOrder, IsSettled};
+ghost use Rattle.std.specs.Prelude.{◌≡◌, ◌+◌, ◌<◌, ◌≤◌, ℕ, [], map, length, slice_index_or};
+ghost use Rattle.netlist.specs.Valuations.{bit_at};
 ghost use Rattle.netlist_eval.specs.Bits.{AreBelow};
-ghost use Rattle.netlist_eval.specs.Tables.{address, six_bits, AreCells, AreWires, IsTableOf, AreTables};
+ghost use Rattle.netlist_eval.specs.Tables.{address, six_bits, AreCells, AreWires, IsTableOf};
 
 use netlist::{Cover, truth_of};
-use std::alloc::{AllocError, Global};
 
 /// The most inputs of a cover that gets a table.
 const MOST_INPUTS: usize = 6;
@@ -76,7 +74,7 @@ fn wires_of(cover: &Cover) -> [u32; 6]
 }
 
 /// The table of a cover, if it has at most six inputs.
-fn table_of(cover: &Cover) -> Option<Table>
+pub fn table_of(cover: &Cover) -> Option<Table>
     requires { (k : ℕ) → k < length cover.now.rows → length (slice_index_or cover.now.rows k []) ≡ length cover.now.ins }
     ensures { IsTableOf result cover.now }
 {
@@ -89,20 +87,8 @@ fn table_of(cover: &Cover) -> Option<Table>
     Some(Table { wires, cells })
 }
 
-/// The tables of all covers that have at most six inputs, by the covers' places.
-pub fn tables_of(alloc: Global, covers: &[Cover]) -> Result<Vec<Option<Table>>, AllocError>
-    requires { (i : ℕ) → i < length covers.now → (n : ℕ) × IsCoverOver (cover_at covers.now i) n }
-    ensures { IfOk result (λ tables. AreTables covers.now tables.items) }
-{
-    let mut tables = Vec::with_capacity(alloc, covers.len())?;
-    'covers: for i in 0..covers.len() {
-        tables.push(table_of(&covers[i]))?;
-    }
-    Ok(tables)
-}
-
-// The place of a cell by the bits of the inputs.
-fn address_of(wires: &[u32; 6], values: &[bool]) -> usize
+/// The place of a cell by the bits of the inputs.
+pub fn address_of(wires: &[u32; 6], values: &[bool]) -> usize
     requires { AreBelow (length values.now) wires.now }
     ensures { result ≡ address (bit_at values.now) wires.now }
 {
@@ -111,36 +97,4 @@ fn address_of(wires: &[u32; 6], values: &[bool]) -> usize
         place = 2 * place + usize::from(values[wires[5 - k] as usize]);
     }
     place
-}
-
-// The truth of a cover, by its table where it has one.
-fn value_of(table: &Option<Table>, cover: &Cover, values: &[bool]) -> bool
-    requires table { IsTableOf table.now cover.now }
-    requires made { IsCoverOver cover.now (length values.now) }
-    ensures { result ≡ truth (bit_at values.now) cover.now }
-{
-    match table {
-        Some(table) => table.cells[address_of(&table.wires, values)],
-        None => truth_of(
-            cover.rows.as_slice(),
-            cover.off,
-            cover.ins.as_slice(),
-            values,
-        ),
-    }
-}
-
-/// Gives each cover's output its truth. The covers stand in an order in which each reads only earlier ones. Takes no
-/// memory.
-pub fn settle(tables: &[Option<Table>], covers: &[Cover], order: &[u32], values: &mut [bool])
-    requires tables { AreTables covers.now tables.now }
-    requires order { IsOrder covers.now order.now }
-    requires made { (i : ℕ) → i < length covers.now → IsCoverOver (cover_at covers.now i) (length values.old) }
-    ensures { IsSettled covers.now (bit_at values.old) (bit_at values.new) }
-{
-    'order: for k in 0..order.len() {
-        let place = order[k] as usize;
-        let cover = &covers[place];
-        values[cover.out as usize] = value_of(&tables[place], cover, values);
-    }
 }

@@ -1,6 +1,12 @@
-use Rattle.std.proofs.Common.{length, refl, ap, ◌∙◌}
-use Rattle.netlist_eval.proofs.RunLemmas.{covers-made}
+use Rattle.std.proofs.Common.{refl}
+use Rattle.netlist_eval.proofs.RunLemmas.{ready-first, marked-first}
 use Rattle.netlist_eval.proofs.eval.Eval.start.Goals as goal
 
-pub tables_of-requires : goal.tables_of-requires
-tables_of-requires c = λ i li. (length c.args.netlist.now.names, covers-made c.args.netlist.now c.as_slice.result.now (length c.args.netlist.now.names) c.parts-draft.ensures.checked (c.as_slice.ensures ∙ ap (λ d. d.covers) c.parts-draft.ensures.parts) refl i li)
+pub invariant_of-result : goal.invariant_of-result
+invariant_of-result c = (
+  c.in_ok-plan.ensures,
+  ready-first c.args.netlist.now c.parts-draft.result.now c.as_slice.result.now c.in_ok-values.values.items c.in_ok-state.state.items c.len.result c.parts-draft.ensures.parts
+      c.len.ensures (c.in_ok-values.ensures.items_if_clones_equal (λ y e. e)) c.as_slice.ensures c.in_ok-state.ensures,
+  marked-first c.args.netlist.now c.in_ok-plan.plan c.in_ok-marks.marks.items c.in_ok-values.values.items 65536 c.in_ok-plan.ensures refl
+      (c.in_ok-marks.ensures.items_if_clones_equal (λ y e. e)),
+)

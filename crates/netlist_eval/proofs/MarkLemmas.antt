@@ -1,0 +1,128 @@
+-- Covers that are marked where an input changes.
+use Rattle.std.proofs.Common.{◌≡◌, ◌⊎◌, ℕ, ◌+◌, ◌%◌, ◌<◌, ◌≤◌, Bool, true, false, List, [], length, take, get_or, refl, sym, ap, subst, ◌∙◌, inl, inr, arith, get_or-set_same, get_or-set_other}
+use Rattle.std.specs.Prelude.{slice_set, replicate}
+use Rattle.std.proofs.lemmas.Bool.{cases_eq, cases_lt}
+use Rattle.std.proofs.lemmas.List.{set-get_or, get_or-take, length-take, length-take-le, take_all, get_or-replicate}
+use Rattle.netlist.specs.declared.draft.Cover.{Cover}
+use Rattle.netlist.specs.Covers.{cover_at, truth, IsCoverOver}
+use Rattle.netlist.specs.Valuations.{number_at, bit_at, IsOrder, IsSettled, IsSettledTo}
+use Rattle.netlist.proofs.ValuationLemmas.{same_truth}
+use Rattle.netlist_eval.specs.declared.readers.Readers.{Readers}
+use Rattle.netlist_eval.specs.Readers.{IsListed, AreReaders, ins_at}
+use Rattle.netlist_eval.specs.declared.turns.Turn.{Turn}
+use Rattle.netlist_eval.specs.Turns.{turn_at, places, AreTurns}
+use Rattle.netlist_eval.proofs.TurnLemmas.{turns-size, out-is, turn-settles}
+use Rattle.netlist_eval.specs.Marks.{HoldsAt, AreKept, HaveMarked, HasGiven, AreFree, StillKept}
+
+-- one more mark
+pub mark-kept : (marks : List Bool) (q : ℕ) → q < length marks → (k : ℕ) → bit_at (slice_set marks q true) k ≡ false → bit_at marks k ≡ false
+mark-kept marks q lq k e = by (cases_eq k q)
+  where
+    by : (k ≡ q) ⊎ (k ≡ q → ⊥) → bit_at marks k ≡ false
+    by (inl same) = absurd (let t : bit_at (slice_set marks q true) k ≡ true = subst (λ (x : ℕ). bit_at (slice_set marks q true) x ≡ true) (sym same) (get_or-set_same marks q true false lq) in let no : true ≡ false = sym t ∙ e in cc)
+    by (inr other) = sym (get_or-set_other marks q k true false other) ∙ e
+
+pub mark-stays : (marks : List Bool) (q : ℕ) → q < length marks → (k : ℕ) → bit_at marks k ≡ true → bit_at (slice_set marks q true) k ≡ true
+mark-stays marks q lq k e = by (cases_eq k q)
+  where
+    by : (k ≡ q) ⊎ (k ≡ q → ⊥) → bit_at (slice_set marks q true) k ≡ true
+    by (inl same) = subst (λ (x : ℕ). bit_at (slice_set marks q true) x ≡ true) (sym same) (get_or-set_same marks q true false lq)
+    by (inr other) = get_or-set_other marks q k true false other ∙ e
+
+-- a mark that is taken away
+clear-kept : (marks : List Bool) (q k : ℕ) → (k ≡ q → ⊥) → bit_at (slice_set marks q false) k ≡ false → bit_at marks k ≡ false
+clear-kept marks q k other e = sym (get_or-set_other marks q k false false other) ∙ e
+
+pub given-same : (r : Readers) (signal : ℕ) (bit : Bool) (marks values : List Bool) → bit_at values signal ≡ bit → HasGiven r signal bit marks values marks values
+given-same r signal bit marks values e = record {
+  len = refl;
+  is = sym (ap (slice_set values signal) (sym e) ∙ set-get_or values signal false);
+  kept = λ k f. f;
+  listed = λ k l f. e;
+}
+
+pub given-marked : (r : Readers) (signal : ℕ) (bit : Bool) (marks values marks' values' : List Bool) → values' ≡ slice_set values signal bit → HaveMarked r signal marks marks' → HasGiven r signal bit marks values marks' values'
+given-marked r signal bit marks values marks' values' e h = record {
+  len = h.len;
+  is = e;
+  kept = h.kept;
+  listed = λ k l f. absurd (let no : true ≡ false = sym (h.listed k l) ∙ f in cc);
+}
+
+module _ (covers : List Cover) (order : List ℕ) (count : ℕ) (r : Readers) (are : AreReaders covers order count r) where
+  -- a cover that holds and isn't marked still holds, where the signal isn't its output
+  holds-still : (signal : ℕ) (bit : Bool) (marks values marks' values' : List Bool) → HasGiven r signal bit marks values marks' values' → signal < length values → (k : ℕ) → k < length order → (signal ≡ (cover_at covers (number_at order k)).out → ⊥) → bit_at marks' k ≡ false → HoldsAt covers order (bit_at values) k → HoldsAt covers order (bit_at values') k
+  holds-still signal bit marks values marks' values' g ls k lk free f h =
+      subst (λ (vs : List Bool). HoldsAt covers order (bit_at vs) k) (sym g.is)
+      (get_or-set_other values signal (cover_at covers (number_at order k)).out bit false (λ e. free (sym e)) ∙ h ∙
+      sym (same_truth (bit_at (slice_set values signal bit)) (bit_at values) (cover_at covers (number_at order k)) (λ i li. by i li (cases_eq (number_at (ins_at covers order k) i) signal))))
+    where
+      by : (i : ℕ) → i < length (ins_at covers order k) → (number_at (ins_at covers order k) i ≡ signal) ⊎ (number_at (ins_at covers order k) i ≡ signal → ⊥) → bit_at (slice_set values signal bit) (number_at (ins_at covers order k) i) ≡ bit_at values (number_at (ins_at covers order k) i)
+      by i li (inl same) =
+          subst (λ (x : ℕ). bit_at (slice_set values signal bit) x ≡ bit_at values x) (sym same)
+          (get_or-set_same values signal bit false ls ∙ sym (g.listed k (subst (λ (x : ℕ). IsListed r x k) same (are.listed k i lk li)) f))
+      by i li (inr other) = get_or-set_other values signal (number_at (ins_at covers order k) i) bit false other
+
+  pub keeps-give : (m signal : ℕ) (bit : Bool) (marks values marks' values' : List Bool) → HasGiven r signal bit marks values marks' values' → signal < length values → ((k : ℕ) → m ≤ k → k < length order → signal ≡ (cover_at covers (number_at order k)).out → ⊥) → AreKept covers order m marks values → AreKept covers order m marks' values'
+  keeps-give m signal bit marks values marks' values' g ls free h k mk lk f =
+      holds-still signal bit marks values marks' values' g ls k lk (free k mk lk) f (h k mk lk (g.kept k f))
+
+  -- the mark of a turn is taken away, and its output has its truth
+  pub keeps-turn : (m : ℕ) (bit : Bool) (marks values marks' values' : List Bool) → IsOrder covers order → m < length order → (cover_at covers (number_at order m)).out < length values → HasGiven r (cover_at covers (number_at order m)).out bit (slice_set marks m false) values marks' values' → AreKept covers order m marks values → AreKept covers order (m + 1) marks' values'
+  keeps-turn m bit marks values marks' values' is lm lo g h =
+      keeps-give (m + 1) (cover_at covers (number_at order m)).out bit (slice_set marks m false) values marks' values' g lo
+      (λ k mk lk e. is.once m k (omega arith) lk e)
+      (λ k mk lk f. h k (omega arith) lk (clear-kept marks m k (λ e. absurd (omega (arith, e, mk))) f))
+
+pub still-none : (r : Readers) (marks values : List Bool) → StillKept r [] marks values marks values
+still-none r marks values covers order count are free h = h
+
+pub still-more : (r : Readers) (signals : List ℕ) (k : ℕ) (bit : Bool) (marks0 values0 marks values marks' values' : List Bool) → k < length signals → HasGiven r (number_at signals k) bit marks values marks' values' → number_at signals k < length values → StillKept r (take k signals) marks0 values0 marks values → StillKept r (take (k + 1) signals) marks0 values0 marks' values'
+still-more r signals k bit marks0 values0 marks values marks' values' lk g ls h covers order count are free kept =
+    keeps-give covers order count r are 0 (number_at signals k) bit marks values marks' values' g ls
+    (λ j mj lj e. free j k lj (omega (arith, size)) (get_or-take (k + 1) signals k 0 (omega arith) ∙ e))
+    (h covers order count are (λ j i lj li e. (let lt : i < k = omega (arith, li, length-take k signals) in
+    free j i lj (omega (arith, size, lt)) (get_or-take (k + 1) signals i 0 (omega arith) ∙ sym (get_or-take k signals i 0 lt) ∙ e))) kept)
+  where
+    size : length (take (k + 1) signals) ≡ k + 1
+    size = length-take-le (k + 1) signals (omega arith)
+
+pub still-all : (r : Readers) (signals : List ℕ) (k : ℕ) (marks values marks' values' : List Bool) → length signals ≤ k → StillKept r (take k signals) marks values marks' values' → StillKept r signals marks values marks' values'
+still-all r signals k marks values marks' values' all h = subst (λ (xs : List ℕ). StillKept r xs marks values marks' values') (take_all k signals all) h
+
+-- nothing changes in a turn that holds
+pub settles-same : (covers : List Cover) (order : List ℕ) (k : ℕ) (old cur : List Bool) → IsSettledTo covers order k old cur → HoldsAt covers order (bit_at cur) k → IsSettledTo covers order (k + 1) old cur
+settles-same covers order k old cur h at = record {
+  len = h.len;
+  truths = λ j lj. elim (cases_eq j k) [
+    | inl s ↦ subst (λ (x : ℕ). HoldsAt covers order (bit_at cur) x) (sym s) at
+    | inr s ↦ h.truths j (omega arith)
+  ];
+  others = λ s none. h.others s (λ j lj. none j (omega arith));
+}
+
+pub settled-none : (covers : List Cover) (order : List ℕ) (old : List Bool) → IsSettledTo covers order 0 old old
+settled-none covers order old = record { len = refl; truths = λ j lj. absurd (omega arith); others = λ s none. refl }
+
+-- where all covers have their truths, those that aren't marked have
+pub settled-kept : (covers : List Cover) (order : List ℕ) (marks values : List Bool) → IsOrder covers order → ((i : ℕ) → i < length covers → bit_at values (cover_at covers i).out ≡ truth (bit_at values) (cover_at covers i)) → AreKept covers order 0 marks values
+settled-kept covers order marks values is h k mk lk f = h (number_at order k) (is.within k lk)
+
+pub kept-later : (covers : List Cover) (order : List ℕ) (m : ℕ) (marks values : List Bool) → AreKept covers order m marks values → AreKept covers order (m + 1) marks values
+kept-later covers order m marks values h k mk lk f = h k (omega arith) lk f
+
+module _ (covers : List Cover) (turns : List Turn) (are : AreTurns covers turns) (r : Readers) (signals : ℕ) (readers : AreReaders covers (places turns) signals r) where
+  pub marked-keeps : (k : ℕ) (bit : Bool) (marks values marks' values' : List Bool) → k < length turns → (turn_at turns k).out < length values → HasGiven r (turn_at turns k).out bit (slice_set marks k false) values marks' values' → AreKept covers (places turns) k marks values → AreKept covers (places turns) (k + 1) marks' values'
+  marked-keeps k bit marks values marks' values' lk lo g h =
+      let e = out-is covers turns are k lk in
+      keeps-turn covers (places turns) signals r readers k bit marks values marks' values' are.order (omega (arith, turns-size turns)) (subst (λ (x : ℕ). x < length values) e lo)
+      (subst (λ (x : ℕ). HasGiven r x bit (slice_set marks k false) values marks' values') e g) h
+
+  pub marked-settles : (k : ℕ) (bit : Bool) (old marks values marks' values' : List Bool) → k < length turns → ((i : ℕ) → i < length covers → IsCoverOver (cover_at covers i) (length old)) → HasGiven r (turn_at turns k).out bit (slice_set marks k false) values marks' values' → IsSettledTo covers (places turns) k old values → bit ≡ truth (bit_at values) (cover_at covers (turn_at turns k).place) → IsSettledTo covers (places turns) (k + 1) old values'
+  marked-settles k bit old marks values marks' values' lk made g h e =
+      subst (λ (vs : List Bool). IsSettledTo covers (places turns) (k + 1) old vs) (sym g.is) (turn-settles covers turns are k old values bit lk made h e)
+
+-- at first all are marked
+pub fresh-kept : (covers : List Cover) (order : List ℕ) (marks values : List Bool) (n : ℕ) → length order < n → marks ≡ replicate n true → AreKept covers order 0 marks values
+fresh-kept covers order marks values n few e k mk lk f =
+    absurd (let t : bit_at marks k ≡ true = ap (λ (xs : List Bool). bit_at xs k) e ∙ get_or-replicate n k true false (omega arith) in let no : true ≡ false = sym t ∙ f in cc)

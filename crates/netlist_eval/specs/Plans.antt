@@ -1,0 +1,26 @@
+-- What is known of a design before it is run, and what is kept of its covers.
+use Rattle.std.specs.Prelude.{◌≡◌, ℕ, ◌<◌, ◌≤◌, List, Bool, length}
+use Rattle.netlist.specs.declared.draft.Draft.{Draft}
+use Rattle.netlist.specs.Covers.{cover_at, truth}
+use Rattle.netlist.specs.Valuations.{bit_at}
+use Rattle.netlist_eval.specs.declared.plan.Plan.{Plan}
+use Rattle.netlist_eval.specs.Bits.{IsWiring}
+use Rattle.netlist_eval.specs.Turns.{AreTurns, places}
+use Rattle.netlist_eval.specs.Readers.{AreReaders}
+use Rattle.netlist_eval.specs.Marks.{AreKept}
+
+-- what is known of a design
+pub record IsPlan (d : Draft) (p : Plan) : Type 0 where
+  pub wiring : IsWiring d p.wiring
+  pub turns : AreTurns d.covers p.turns.items
+  pub few : length p.turns.items ≤ 65535
+  pub readers : AreReaders d.covers (places p.turns.items) (length d.names) p.readers
+
+-- each cover that isn't marked has the truth of its inputs' bits
+pub record IsMarked (d : Draft) (p : Plan) (marks values : List Bool) : Type 0 where
+  pub size : length marks ≡ 65536
+  pub kept : AreKept d.covers (places p.turns.items) 0 marks values
+
+-- all covers have their truths
+abbrev pub AllHold : Draft → List Bool → Type 0
+AllHold d values = (i : ℕ) → i < length d.covers → bit_at values (cover_at d.covers i).out ≡ truth (bit_at values) (cover_at d.covers i)
