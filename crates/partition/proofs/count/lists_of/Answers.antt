@@ -1,0 +1,20 @@
+use Rattle.std.proofs.Common.{◌∙◌, ℕ, List, length, subst}
+use Rattle.hierarchy.specs.Shape.{nodes_of}
+use Rattle.place.specs.Lists.{AreLists}
+use Rattle.place.specs.Room.{CrossesAt, HasTerminal}
+use Rattle.partition.proofs.Counted.{crossings_are}
+use Rattle.partition.proofs.count.lists_of.Goals as goal
+
+pub returns : goal.returns
+returns c =
+    let D = c.args.defects.now in
+    let t = c.in_ok-tree.tree.shape in
+    let nets : List (List ℕ) = c.in_ok-nets.nets.items in
+    let lists : List (List ℕ) = c.in_ok-lists.lists.items in
+    let are : AreLists (nodes_of t) (CrossesAt t (length c.deref-2.result.now) (HasTerminal c.deref-2.result.now)) lists =
+    c.in_ok-lists.ensures in
+    let on : AreLists (nodes_of t) (CrossesAt t (length nets) (HasTerminal nets)) lists =
+    subst (λ (z : List (List ℕ)). AreLists (nodes_of t) (CrossesAt t (length z) (HasTerminal z)) lists) c.deref-2.ensures.value are in
+    crossings_are D.shape D.list c.args.network.now c.args.plan.now nets lists c.in_ok-nets.ensures
+    (subst (λ m. AreLists (nodes_of m) (CrossesAt m (length nets) (HasTerminal nets)) lists)
+    (c.in_ok-tree.ensures ∙ c.shape.ensures.shape) on)

@@ -1,0 +1,29 @@
+-- How often nets cross nodes.
+use Rattle.std.specs.Prelude.{◌≡◌, ℕ, ◌≤◌, List, length}
+use Rattle.std.specs.List.{sum_by}
+use Rattle.hierarchy.specs.declared.Shape.{Shape}
+use Rattle.hierarchy.specs.Shape.{nodes_of}
+use Rattle.table_map.specs.declared.network.Network.{Network}
+use Rattle.place.specs.declared.plan.Plan.{Plan}
+use Rattle.place.specs.Lists.{AreLists}
+use Rattle.place.specs.Plans.{IsTerminal, nets_in}
+use Rattle.place.specs.Room.{CrossesAt}
+
+-- The nets of a plan that cross each node, ascending. By the definition of such lists there is one for each node, with just
+-- those nets.
+abbrev pub AreCrossings : Shape → Network → Plan → List (List ℕ) → Type 0
+AreCrossings m n p lists = AreLists (nodes_of m) (CrossesAt m (nets_in n) (IsTerminal m n p)) lists
+
+-- the number of nets that cross a node, summed over all nodes
+pub record HasCrossings (m : Shape) (n : Network) (p : Plan) (sum : ℕ) : Type 0 where
+  pub crossing : List (List ℕ)
+  pub are : AreCrossings m n p crossing
+  pub sum_is : sum ≡ sum_by length crossing
+
+-- the second plan has at most as many crossings in sum as the first
+pub record HasNoMore (m : Shape) (n : Network) (old new : Plan) : Type 0 where
+  pub before : ℕ
+  pub after : ℕ
+  pub are_before : HasCrossings m n old before
+  pub are_after : HasCrossings m n new after
+  pub fewer : after ≤ before

@@ -1,0 +1,3 @@
+-- Better plans.
+pub mod Crossings
+pub mod Seats

@@ -1,0 +1,60 @@
+//! How often the nets of a plan cross nodes.
+ghost use Rattle.std.specs.Prelude.{◌≡◌, IfOk, length};
+ghost use Rattle.std.specs.List.{sum_by};
+ghost use Rattle.table_map.specs.Networks.{IsNetwork};
+ghost use Rattle.place.specs.Plans.{IsPlan};
+ghost use Rattle.partition.specs.Crossings.{AreCrossings, HasCrossings};
+
+use defect_db::Defects;
+use place::{Plan, crossing_nets, nets_of_plan, touched_by, tree_of};
+use std::alloc::{AllocError, Global};
+use table_map::Network;
+use tm_items::Items;
+
+// The lengths of these lists in sum, which 128 bits have room for.
+fn length_in_sum(lists: &[Items<u32>]) -> u128
+    ensures { result ≡ sum_by length lists.now }
+{
+    let mut sum = 0u128;
+    for list in lists {
+        sum += list.as_slice().len() as u128;
+    }
+    sum
+}
+
+// The nets that cross each node.
+fn lists_of(
+    alloc: Global,
+    network: &Network,
+    plan: &Plan,
+    defects: &Defects,
+) -> Result<Vec<Items<u32>>, AllocError>
+    requires network { IsNetwork network.now }
+    requires plan { IsPlan defects.now.shape defects.now.list network.now plan.now }
+    ensures { IfOk result (λ lists. AreCrossings defects.now.shape network.now plan.now lists.items) }
+{
+    let nets = nets_of_plan(alloc, defects, network, plan)?;
+    let tree = tree_of(alloc, defects.shape())?;
+    let touched = touched_by(alloc, &tree, &nets)?;
+    let lists = crossing_nets(alloc, &tree, &nets, &touched)?;
+    Ok(lists)
+}
+
+/// How many nets of a plan cross a node, summed over all nodes.
+///
+/// # Errors
+///
+/// Want of memory.
+pub fn crossings_of(
+    alloc: Global,
+    network: &Network,
+    plan: &Plan,
+    defects: &Defects,
+) -> Result<u128, AllocError>
+    requires network { IsNetwork network.now }
+    requires plan { IsPlan defects.now.shape defects.now.list network.now plan.now }
+    ensures { IfOk result (HasCrossings defects.now.shape network.now plan.now) }
+{
+    let lists = lists_of(alloc, network, plan, defects)?;
+    Ok(length_in_sum(&lists))
+}
