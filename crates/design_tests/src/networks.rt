@@ -98,6 +98,7 @@ fn merged_toggling_latch(rt: HostRuntime) -> Result<(), Fail> {
     let network = merged(rt.alloc(), &netlist)?;
     let wanted: [Wanted; 1] = [(&[Source::Table(0)], 0x5555_5555_5555_5555, true)];
     compare_tables(&rt, &network, &wanted);
-    assert_eq!(&rt; network.outputs.as_slice(), &[Source::Table(0)]);
+    let shown: &[Source] = &[Source::Table(0)];
+    assert_eq!(&rt; network.outputs.as_slice(), shown);
     Ok(())
 }
