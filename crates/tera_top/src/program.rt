@@ -16,6 +16,7 @@ use crate::task::{Task, task_of};
 use rig::Rig;
 use std::alloc::Global;
 use steps::{Refusal, Stop, finish};
+use tera_bench::bench;
 use tera_compile::compile;
 use tera_diagnose::diagnose;
 use tera_eval::eval;
@@ -56,6 +57,7 @@ fn work_on<S: Store, K: Sink>(
             design,
             vectors,
         } => go(alloc, machine, name, design, vectors, store, rig, sink),
+        Task::Bench { n } => bench(alloc, n, rig, sink),
     }
 }
 

@@ -1,0 +1,5 @@
+mod Shapes
+mod RunLemmas
+mod Following
+mod BenchLaws
+mod Headlines
