@@ -82,7 +82,7 @@ module _ (only : IsOnly) (tables : length (plain_network bench_draft).tables ≡
             (subst (λ ds. IsRun f i.config ds (readings_of (cycles_of new.rig))) run.drives (told-run new.rig.machine.faults (config_of new.rig) (drives_of (cycles_of new.rig)) (readings_of (cycles_of new.rig)) run.told f i.config told run.config));
       }
 
-  benched : (text : List ℕ) → Wrote old.sink.written new.sink.written text → bench_course n (around old) (around new) text ends → IsBenched n old new
+  pub benched : (text : List ℕ) → Wrote old.sink.written new.sink.written text → bench_course n (around old) (around new) text ends → IsBenched n old new
   benched text wrote (inl h) = absurd h.1
   benched text wrote (inr (m, counts, inl h)) = absurd h.1
   benched text wrote (inr (m, counts, inr (u, attached, inl h))) = absurd h.1

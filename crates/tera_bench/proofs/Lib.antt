@@ -1,5 +1,5 @@
 mod Shapes
 mod RunLemmas
 mod Following
-mod BenchLaws
-mod Headlines
+pub mod BenchLaws
+pub mod Headlines
