@@ -1,5 +1,5 @@
 mod DesignRows
-mod Following
+pub mod Following
 mod Texts
 mod GoLaws
 pub mod Headlines

@@ -1,5 +1,5 @@
 -- A program that ended with status 0 has done its job.
-use Rattle.std.proofs.Common.{◌≡◌, ◌⊎◌, ℕ, List, ◌∷◌, [], ◌++◌, Option, None, Some, refl, sym, subst}
+use Rattle.std.proofs.Common.{◌≡◌, ◌⊎◌, ℕ, List, ◌∷◌, [], ◌++◌, length, Option, None, Some, refl, sym, subst}
 use Rattle.tm_outside.specs.Sink.{Wrote}
 use Rattle.steps.specs.Outside.{Outside, around}
 use Rattle.steps.specs.Courses.{Next, ends}
@@ -8,9 +8,15 @@ use Rattle.steps.specs.Ends.{EndWrote, whole, refused, cut_line, no_line, cut}
 use Rattle.steps.specs.declared.refusal.Refusal.{Refusal}
 use Rattle.steps.specs.declared.refusal.Refusal.TheVariants.{Words, Machine, Faults, Defects, Image, Design, Vectors, Room, Rig, Store, Memory}
 use Rattle.tera_top.specs.Words.{Request, job_for}
-use Rattle.tera_top.specs.Words.{go as asks_go}
+use Rattle.table_map.specs.Plain.{plain_network}
+use Rattle.place.specs.Plans.{nets_in}
+use Rattle.bench_laws.specs.Design.{bench_draft}
+use Rattle.tera_top.specs.Words.{go as asks_go, bench as asks_bench}
 use Rattle.tera_go.specs.Headline.{IsGone}
 use Rattle.tera_go.proofs.Headlines.{gone}
+use Rattle.tera_bench.specs.Headline.{IsBenched}
+use Rattle.tera_bench.proofs.BenchLaws.{IsOnly}
+use Rattle.tera_bench.proofs.Headlines.{benched}
 
 -- a refusal has a status of its own
 refused-some : (refusal : Refusal) → status_of refusal ≡ 0 → ⊥
@@ -39,3 +45,9 @@ go-gone request words old new status written asked machine name design vectors i
     let wrote : EndWrote words ((job_for (Some (asks_go machine name design vectors))).course (around old) (around new)) old new status = subst (λ (r : Option Request). EndWrote words ((job_for r).course (around old) (around new)) old new status) is written in
     let w = end-done words ((job_for (Some (asks_go machine name design vectors))).course (around old) (around new)) old new status wrote zero in
     gone machine name design vectors old new w.0 all w.2 w.1
+
+pub bench-benched : IsOnly → length (plain_network bench_draft).tables ≡ 17 → nets_in (plain_network bench_draft) ≡ 18 → (request : Option Request) (words : Type 0) (old new : Outside) (status : ℕ) → EndWrote words ((job_for request).course (around old) (around new)) old new status → (n : ℕ) → request ≡ Some (asks_bench n) → status ≡ 0 → IsBenched n old new
+bench-benched only tables nets request words old new status written n is zero =
+    let wrote : EndWrote words ((job_for (Some (asks_bench n))).course (around old) (around new)) old new status = subst (λ (r : Option Request). EndWrote words ((job_for r).course (around old) (around new)) old new status) is written in
+    let w = end-done words ((job_for (Some (asks_bench n))).course (around old) (around new)) old new status wrote zero in
+    benched only tables nets n old new w.0 w.2 w.1

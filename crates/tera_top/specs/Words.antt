@@ -1,15 +1,18 @@
 -- The words of the command line, and what they ask.
 use Rattle.std.specs.Prelude.{ℕ, Bool, false, List, [], ◌∷◌, length, Option, None, Some}
-use Rattle.std.specs.Prelude.{if◌then◌else◌, ◌==◌, ◌&&◌, codes, bytes_eq, slice_index_or}
+use Rattle.std.specs.Prelude.{if◌then◌else◌, ◌==◌, ◌&&◌, codes, bytes_eq, slice_index_or, nat_le, option_map}
 use Rattle.std.specs.List.{list_any}
+use Rattle.std.specs.Fmt.{decimal}
+use Rattle.tm_text.specs.Number.{read_on}
 use Rattle.steps.specs.Jobs.{Job, wrong_words}
 use Rattle.tera_eval.specs.Eval.{eval_job}
 use Rattle.tera_compile.specs.Compile.{compile_job}
 use Rattle.tera_run.specs.Run.{run_job}
 use Rattle.tera_diagnose.specs.Diagnose.{diagnose_job}
 use Rattle.tera_go.specs.Go.{go_job}
+use Rattle.tera_bench.specs.Bench.{bench_job}
 use Rattle.tera_top.specs.declared.task.Task.{Task}
-use Rattle.tera_top.specs.declared.task.Task.TheVariants.{Eval, Compile, Run, Diagnose, Go}
+use Rattle.tera_top.specs.declared.task.Task.TheVariants.{Eval, Compile, Run, Diagnose, Go, Bench}
 
 -- what a command is asked to do: one line for each command
 pub data Request : Type 0 where
@@ -23,6 +26,8 @@ pub data Request : Type 0 where
   diagnose : (machine name : List ℕ) → Request
   -- the rows of a design on a machine of the rig: the names of the machine's file, of the rig's machine, and of the other files
   go : (machine name design vectors : List ℕ) → Request
+  -- generated work on a generated machine: its number
+  bench : (n : ℕ) → Request
 
 -- and so its job
 abbrev pub job_of : Request → Job
@@ -31,6 +36,7 @@ job_of (compile machine defects design) = compile_job machine defects design
 job_of (run machine name image vectors) = run_job machine name image vectors
 job_of (diagnose machine name) = diagnose_job machine name
 job_of (go machine name design vectors) = go_job machine name design vectors
+job_of (bench n) = bench_job n
 
 -- the word begins with `-`
 abbrev pub is_dashed : List ℕ → Bool
@@ -45,6 +51,10 @@ word_at words k = slice_index_or words k []
 abbrev pub begins_with : List (List ℕ) → ℕ → List ℕ → Bool
 begins_with words count first = (length words == count) && bytes_eq (word_at words 0) first
 
+-- the number of at most 4,294,967,295 whose numeral the word is
+abbrev pub number_of : List ℕ → Option ℕ
+number_of word = if bytes_eq (decimal (read_on 0 word)) word && nat_le (read_on 0 word) 4294967295 then Some (read_on 0 word) else None
+
 -- what words ask of which none begins with `-`
 abbrev pub request_in : List (List ℕ) → Option Request
 request_in words =
@@ -53,6 +63,7 @@ request_in words =
     else if begins_with words 5 (codes "run") then Some (run (word_at words 1) (word_at words 2) (word_at words 3) (word_at words 4))
     else if begins_with words 3 (codes "diagnose") then Some (diagnose (word_at words 1) (word_at words 2))
     else if begins_with words 5 (codes "go") then Some (go (word_at words 1) (word_at words 2) (word_at words 3) (word_at words 4))
+    else if begins_with words 2 (codes "bench") then option_map bench (number_of (word_at words 1))
     else None
 
 -- what words ask: they are right where that is something
@@ -71,3 +82,4 @@ request_view (Compile machine defects design) = compile machine.now defects.now 
 request_view (Run machine name image vectors) = run machine.now name.now image.now vectors.now
 request_view (Diagnose machine name) = diagnose machine.now name.now
 request_view (Go machine name design vectors) = go machine.now name.now design.now vectors.now
+request_view (Bench n) = bench n

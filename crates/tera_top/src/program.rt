@@ -9,13 +9,15 @@ ghost use Rattle.steps.specs.Faults.{ShortPlace};
 ghost use Rattle.steps.specs.declared.refusal.Refusal.{Refusal};
 ghost use Rattle.steps.specs.declared.refusal.Refusal.TheVariants.{Memory, Room};
 ghost use Rattle.tera_top.specs.Words.{request_of, request_view, job_of, job_for};
-ghost use Rattle.tera_top.specs.Words.{go as asks_go};
+ghost use Rattle.tera_top.specs.Words.{go as asks_go, bench as asks_bench};
 ghost use Rattle.tera_go.specs.Headline.{IsGone};
+ghost use Rattle.tera_bench.specs.Headline.{IsBenched};
 
 use crate::task::{Task, task_of};
 use rig::Rig;
 use std::alloc::Global;
 use steps::{Refusal, Stop, finish};
+use tera_bench::bench;
 use tera_compile::compile;
 use tera_diagnose::diagnose;
 use tera_eval::eval;
@@ -56,6 +58,7 @@ fn work_on<S: Store, K: Sink>(
             design,
             vectors,
         } => go(alloc, machine, name, design, vectors, store, rig, sink),
+        Task::Bench { n } => bench(alloc, n, rig, sink),
     }
 }
 
@@ -145,6 +148,11 @@ pub fn teramac<S: Store, K: Sink>(
         let new = outside (S.store_state store.new) (rig_state rig.new) (K.sink_state sink.new) in
         (machine name design vectors : List ℕ) → request_of (map string_bytes words.now) ≡ Some (asks_go machine name design vectors) →
         result ≡ 0 → IsGone machine name design vectors old new }
+    // A `bench` at status 0 drove the vectors of its number, through an image that is right for the generated design, and wrote
+    // its summary.
+    ensures benched { let old = outside (S.store_state store.old) (rig_state rig.old) (K.sink_state sink.old) in
+        let new = outside (S.store_state store.new) (rig_state rig.new) (K.sink_state sink.new) in
+        (n : ℕ) → request_of (map string_bytes words.now) ≡ Some (asks_bench n) → result ≡ 0 → IsBenched n old new }
 
     // Each status has its cause.
     ensures text { let job = job_for (request_of (map string_bytes words.now)) in
@@ -186,5 +194,7 @@ pub fn teramac<S: Store, K: Sink>(
         IsOfFronts (job.right (around old) (around new)) old.sink new.sink → job.few (around old) (around new) → old.sink.can_lack ≡ false →
         Unless ((result ≡ 0) ⊎ ((result ≡ 6) × LacksBefore job old new)) old new }
 {
+    bench_laws::the_bench_design_is_a_design();
+    bench_laws::generated_faults_leave_room();
     end(alloc, words, store, rig, sink)
 }

@@ -1,7 +1,9 @@
 //! The words of the command line.
 ghost use Rattle.std.specs.Prelude.{◌≡◌, map, string_bytes, option_map};
 ghost use Rattle.std.specs.List.{list_any};
-ghost use Rattle.tera_top.specs.Words.{request_of, request_in, request_view, is_dashed};
+ghost use Rattle.tera_top.specs.Words.{bench, number_of, request_of, request_in, request_view, is_dashed};
+
+use tm_text::read_number;
 
 /// What the words ask.
 pub enum Task<'a> {
@@ -37,6 +39,8 @@ pub enum Task<'a> {
         design: &'a str,
         vectors: &'a str,
     },
+    /// Generated work on a generated machine, by its number.
+    Bench { n: u32 },
 }
 
 // Whether a word begins with `-`.
@@ -54,6 +58,26 @@ fn some_begins_dashed(words: &[String]) -> bool
     ensures { result ≡ list_any (λ word. is_dashed (string_bytes word)) words.now }
 {
     words.iter().any(|word| begins_dashed(word.as_str()))
+}
+
+// The number of at most 4,294,967,295 whose numeral a word is.
+fn number_of(word: &str) -> Option<u32>
+    ensures { result ≡ number_of word.now }
+{
+    match read_number(word.as_bytes(), u64::from(u32::MAX)) {
+        Some(n) => Some(n as u32),
+        None => None,
+    }
+}
+
+// The work of the number that a word is.
+fn bench_of<'a>(word: &str) -> Option<Task<'a>>
+    ensures { option_map request_view result ≡ option_map bench (number_of word.now) }
+{
+    match number_of(word) {
+        Some(n) => Some(Task::Bench { n }),
+        None => None,
+    }
 }
 
 // What words ask of which none begins with `-`.
@@ -94,6 +118,9 @@ fn task_in(words: &[String]) -> Option<Task<'_>>
             design: words[3].as_str(),
             vectors: words[4].as_str(),
         });
+    }
+    if words.len() == 2 && words[0].as_str() == "bench" {
+        return bench_of(words[1].as_str());
     }
     None
 }

@@ -3,7 +3,7 @@ use Rattle.steps.specs.Outside.{outside, around}
 use Rattle.tera_top.specs.Words.{request_of, job_for}
 use Rattle.steps.proofs.EndLemmas.{end-text, end-words, end-room, end-rig, end-outside, end-status, end-memory, end-complete, end-no-room, end-few}
 use Rattle.steps.proofs.JobLemmas.{end-wrong}
-use Rattle.tera_top.proofs.GoneLemmas.{go-gone}
+use Rattle.tera_top.proofs.GoneLemmas.{go-gone, bench-benched}
 use Rattle.tera_top.proofs.program.teramac.Goals as goal
 
 pub returns-clause-text : goal.returns-clause-text
@@ -148,3 +148,15 @@ returns-clause-gone g c =
     let old = outside (g.S.Store.store_state c.args.store.now) rig0 (g.K.Sink.sink_state c.args.sink.now) in
     let new = outside (g.S.Store.store_state c.end.new.store) rig (g.K.Sink.sink_state c.end.new.sink) in
     go-gone request (request ≡ None) old new c.end.result c.end.ensures.written c.end.ensures.asked_all
+
+pub returns-clause-benched : goal.returns-clause-benched
+returns-clause-benched g c =
+    let request = request_of (map string_bytes c.args.words.now) in
+    let box0 = c.args.rig.now in
+    let box = c.end.new.rig in
+    let rig0 = (goal.Rig-dyn g (box0.vtable, box0.value)).rig_state box0.value in
+    let rig = (goal.Rig-dyn g (box.vtable, box.value)).rig_state box.value in
+    let old = outside (g.S.Store.store_state c.args.store.now) rig0 (g.K.Sink.sink_state c.args.sink.now) in
+    let new = outside (g.S.Store.store_state c.end.new.store) rig (g.K.Sink.sink_state c.end.new.sink) in
+    let laws = c.generated_faults_leave_room.ensures in
+    bench-benched c.the_bench_design_is_a_design.ensures.only laws.tables laws.nets request (request ≡ None) old new c.end.result c.end.ensures.written

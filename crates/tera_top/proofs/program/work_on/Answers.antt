@@ -33,3 +33,9 @@ returns-in-Go-clause-lawful g c = rw c.in-Go.is c.go.ensures.lawful
 
 pub returns-in-Go-clause-does : goal.returns-in-Go-clause-does
 returns-in-Go-clause-does g c = rw c.in-Go.is c.go.ensures.does
+
+pub returns-in-Bench-clause-lawful : goal.returns-in-Bench-clause-lawful
+returns-in-Bench-clause-lawful g c = rw c.in-Bench.is c.bench.ensures.lawful
+
+pub returns-in-Bench-clause-does : goal.returns-in-Bench-clause-does
+returns-in-Bench-clause-does g c = rw c.in-Bench.is (c.bench.ensures.does (g.S.Store.store_state c.args.store.now))

@@ -1,0 +1,5 @@
+mod Below
+mod Text
+mod Netlist
+mod Checked
+mod Parts

@@ -1,0 +1,47 @@
+-- The text of the generated design is that of its netlist.
+use Rattle.std.proofs.Common.{◌≡◌, ◌≤◌, true, [], ◌∷◌, map, length, None, refl, arith}
+use Rattle.std.specs.Prelude.{codes}
+use Rattle.std.specs.Fmt.{digits}
+use Rattle.tm_text.specs.Lines.{lines_of, texts_of}
+use Rattle.tm_text.specs.Bytes.{physical_lines}
+use Rattle.netlist.specs.declared.draft.LatchDef.{LatchDef}
+use Rattle.flatten.specs.declared.model.Model.{Model}
+use Rattle.flatten.specs.declared.model.Piece.{Piece}
+use Rattle.flatten.specs.declared.model.Piece.TheVariants.{Names, Latch}
+use Rattle.blif_read.specs.Grammar.{AreModels, first_fault, is_some_model, models_of, spelled_model}
+use Rattle.blif_read.specs.Heads.{head_of}
+use Rattle.blif_read.specs.Faults.{latch_parts_fault}
+use Rattle.bench_gen.specs.Work.{bench_design}
+use Rattle.bench_laws.specs.Design.{bench_names, bench_cover, bench_latches, bench_draft}
+
+abbrev pub latch_piece : LatchDef → Piece
+latch_piece l = Latch l None
+
+abbrev pub bench_model : Model
+bench_model = record {
+  name = codes "bench";
+  names = bench_names;
+  inputs = bench_draft.inputs;
+  outputs = bench_draft.outputs;
+  clocks = [];
+  pieces = Names bench_cover ∷ map latch_piece bench_latches;
+}
+
+pub short : length bench_design ≤ 16777216
+unfolding digits
+short = omega arith
+
+some : is_some_model (models_of (lines_of true bench_design)) ≡ true
+unfolding digits physical_lines texts_of head_of
+some = refl
+
+models_are : bench_model ∷ [] ≡ map spelled_model (models_of (lines_of true bench_design))
+unfolding digits physical_lines texts_of head_of
+models_are = refl
+
+right : first_fault [] (lines_of true bench_design) ≡ None
+unfolding digits physical_lines texts_of head_of first_fault latch_parts_fault
+right = refl
+
+pub text_is : AreModels bench_design (bench_model ∷ [])
+text_is = record { right = right; some = some; models_are = models_are }

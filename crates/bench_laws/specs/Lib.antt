@@ -1,0 +1,2 @@
+-- What the generated design is.
+pub mod Design

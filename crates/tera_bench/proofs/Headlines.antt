@@ -1,0 +1,99 @@
+-- What a `bench` that is done has done, from its course.
+use Rattle.std.proofs.Common.{◌≡◌, ◌∙◌, ℕ, ◌-◌, ◌<◌, Bool, List, [], ◌∷◌, ◌++◌, map, length, Option, None, Some, IfSome, refl, sym, ap, subst, inl, inr, append-nil, arith}
+use Rattle.std.specs.Prelude.{Result, Ok, Err, OnOk}
+use Rattle.std.specs.List.{All, range_with_len}
+use Rattle.std.proofs.lemmas.List.FromFn.{get_or-map-range_with_len, length-map-range_with_len}
+use Rattle.tm_outside.specs.Sink.{Wrote}
+use Rattle.hierarchy.specs.declared.Shape.{Shape}
+use Rattle.hierarchy.specs.Faults.{Faults}
+use Rattle.hierarchy.specs.Defects.{Covers}
+use Rattle.hierarchy.specs.Circuit.{Pins}
+use Rattle.defect_db.specs.Lists.{DefectList}
+use Rattle.netlist.specs.declared.draft.Draft.{Draft}
+use Rattle.netlist.specs.Rows.{AreRows}
+use Rattle.blif_read.specs.Designs.{IsDesign}
+use Rattle.table_map.specs.Plain.{plain_network}
+use Rattle.place.specs.Plans.{nets_in}
+use Rattle.config_set.specs.Configuration.{Configuration}
+use Rattle.config_set.specs.Faulty.{IsRun}
+use Rattle.config_image.specs.Images.{ImageValue, drive_of, row_of}
+use Rattle.crossbar_route.specs.RightImages.{IsRightImage}
+use Rattle.rig.specs.Rig.{RigState, config_of, cycles_of, drives_of, readings_of}
+use Rattle.bench_gen.specs.Work as work
+use Rattle.bench_laws.specs.Design.{bench_draft}
+use Rattle.steps.specs.Outside.{Outside, around}
+use Rattle.steps.specs.Courses.{ends}
+use Rattle.steps.specs.Stops.{IsWritten}
+use Rattle.steps.specs.declared.refusal.Stop.{Stop}
+use Rattle.tera_diagnose.specs.Listing.{IsListOf}
+use Rattle.tera_compile.specs.Compile.{IsImageFor}
+use Rattle.tera_bench.specs.Summary.{summary_text}
+use Rattle.tera_bench.specs.Bench.{IsBenchRun, bench_course, bench_vector, bench_vectors, generated_name}
+use Rattle.tera_bench.specs.Headline.{IsBenched}
+use Rattle.tera_bench.proofs.BenchLaws.{IsOnly}
+
+-- each vector has one bit
+vectors-wide : (n width : ℕ) → width ≡ 1 → All (λ (v : List Bool). length v ≡ width) (bench_vectors n)
+vectors-wide n width one k d less =
+    let within : k < 64 = omega (arith, less, length-map-range_with_len (bench_vector n) 0 64) in
+    let at = get_or-map-range_with_len (bench_vector n) 0 64 k k d within (omega arith) in
+    ap (λ (v : List Bool). length v) at ∙ sym one
+
+-- a told run is that of its faults and its configuration
+told-run : (faults : Option Faults) (config : Option Configuration) (drives readings : List Pins) → IfSome faults (λ f. IfSome config (λ g. IsRun f g drives readings)) → (f : Faults) (g : Configuration) → faults ≡ Some f → config ≡ Some g → IsRun f g drives readings
+told-run faults config drives readings told f g is_f is_g =
+    let at : IfSome (Some f) (λ (x : Faults). IfSome config (λ y. IsRun x y drives readings)) = subst (λ (o : Option Faults). IfSome o (λ (x : Faults). IfSome config (λ y. IsRun x y drives readings))) is_f told in
+    subst (λ (o : Option Configuration). IfSome o (λ y. IsRun f y drives readings)) is_g at
+
+module _ (only : IsOnly) (tables : length (plain_network bench_draft).tables ≡ 17) (nets : nets_in (plain_network bench_draft) ≡ 18) (n : ℕ) (old new : Outside) where
+  abbrev loads : ℕ
+  loads = new.rig.loads - old.rig.loads
+
+  summary-is : (draft : Draft) (ones : ℕ) → draft ≡ bench_draft → summary_text n (length (plain_network draft).tables) (nets_in (plain_network draft)) ones loads ≡ summary_text n 17 18 ones loads
+  summary-is draft ones is =
+      ap (λ (d : Draft). summary_text n (length (plain_network d).tables) (nets_in (plain_network d)) ones loads) is
+      ∙ (ap (λ t. summary_text n t (nets_in (plain_network bench_draft)) ones loads) tables ∙ ap (λ k. summary_text n 17 k ones loads) nets)
+
+  is-right : (m : Shape) (draft : Draft) (d : DefectList) (i : ImageValue) → IsListOf m 1 old.rig new.rig d → IsImageFor d draft i → (f : Faults) → new.rig.machine.faults ≡ Some f → IsRightImage f i draft
+  is-right m draft d i list laid f told = laid.right f (subst (λ (s : Shape). Covers s d.list f) (sym list.shape) (list.right.covers f told))
+
+  is-benched : (m : Shape) (draft : Draft) (d : DefectList) (i : ImageValue) (ones : ℕ) (text : List ℕ) → Wrote old.sink.written new.sink.written text → m.counts ≡ work.bench_counts → new.rig.machine.attached ≡ Some (record { shape = m; name = generated_name n }) → IsDesign work.bench_design draft → IsListOf m 1 old.rig new.rig d → IsImageFor d draft i → IsBenchRun n i new.rig ones → text ≡ summary_text n (length (plain_network draft).tables) (nets_in (plain_network draft)) ones loads → IsBenched n old new
+  is-benched m draft d i ones text wrote counts attached design list laid run text-is =
+      let is = only draft design in
+      let one : length i.inputs ≡ 1 = laid.inputs ∙ ap (λ (x : Draft). length x.inputs) is in
+      record {
+        shape = m;
+        counts = counts;
+        attached = attached;
+        draft = draft;
+        design = design;
+        image = i;
+        is_image = laid.image;
+        image_shape = laid.shape ∙ list.shape;
+        one_input = one;
+        two_outputs = laid.outputs ∙ ap (λ (x : Draft). length x.outputs) is;
+        config = run.config;
+        drives = run.drives;
+        ones = ones;
+        ones_are = run.ones_are;
+        written = subst (λ t. Wrote old.sink.written new.sink.written t) (text-is ∙ summary-is draft ones is) wrote;
+        right = is-right m draft d i list laid;
+        rows = λ f told. is-right m draft d i list laid f told (bench_vectors n) (readings_of (cycles_of new.rig)) (vectors-wide n (length i.inputs) one)
+            (subst (λ ds. IsRun f i.config ds (readings_of (cycles_of new.rig))) run.drives (told-run new.rig.machine.faults (config_of new.rig) (drives_of (cycles_of new.rig)) (readings_of (cycles_of new.rig)) run.told f i.config told run.config));
+      }
+
+  pub benched : (text : List ℕ) → Wrote old.sink.written new.sink.written text → bench_course n (around old) (around new) text ends → IsBenched n old new
+  benched text wrote (inl h) = absurd h.1
+  benched text wrote (inr (m, counts, inl h)) = absurd h.1
+  benched text wrote (inr (m, counts, inr (u, attached, inl h))) = absurd h.1
+  benched text wrote (inr (m, counts, inr (u, attached, inr (draft, design, inl h)))) = absurd h.1
+  benched text wrote (inr (m, counts, inr (u, attached, inr (draft, design, inr (d, list, inl h))))) = absurd h.1
+  benched text wrote (inr (m, counts, inr (u, attached, inr (draft, design, inr (d, list, inr (i, laid, inl h)))))) = absurd h.1
+  benched text wrote (inr (m, counts, inr (u, attached, inr (draft, design, inr (d, list, inr (i, laid, inr (ones, run, inl h))))))) = let line = h.1 in absurd (cc)
+  benched text wrote (inr (m, counts, inr (u, attached, inr (draft, design, inr (d, list, inr (i, laid, inr (ones, run, inr (more, is, h)))))))) =
+      is-benched m draft d i ones text wrote counts attached design list laid run (is ∙ (ap (λ t. summary_text n (length (plain_network draft).tables) (nets_in (plain_network draft)) ones loads ++ t) h.0 ∙ append-nil _))
+
+  -- at the end of a body that did it
+  pub benched-done : {U : Type 0} (result : Result U Stop) → IsWritten (bench_course n (around old) (around new)) result old.sink new.sink → OnOk result (IsBenched n old new)
+  benched-done (Ok u) w = benched w.0 w.2 w.1
+  benched-done (Err stop) w = tt

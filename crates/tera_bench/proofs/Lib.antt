@@ -1,0 +1,5 @@
+mod Shapes
+mod RunLemmas
+mod Following
+pub mod BenchLaws
+pub mod Headlines

@@ -1,0 +1,111 @@
+-- How the rows of generated work go on.
+use Rattle.std.proofs.Common.{◌≡◌, ℕ, zero, suc, ◌+◌, ◌*◌, ◌<◌, ◌≤◌, Bool, List, [], ◌∷◌, ◌++◌, length, map, sum_by, Option, None, Some, IfSome, option_map, arith, refl, sym, ap, subst, ◌∙◌, inl, inr}
+use Rattle.std.specs.List.{range_with_len}
+use Rattle.std.proofs.lemmas.List.{map-append}
+use Rattle.std.proofs.lemmas.List.Sums.{sum_by-append}
+use Rattle.std.proofs.lemmas.List.FromFn.{map-range_with_len_more}
+use Rattle.hierarchy.specs.Circuit.{Pins}
+use Rattle.config_set.specs.Configuration.{Configuration}
+use Rattle.config_set.specs.Run.{at_load, none}
+use Rattle.config_set.specs.Faulty.{IsRun, circuit_of}
+use Rattle.rig.specs.Rig.{RigState, Exchange, IsTold, Begins, LoadFails, CycleFails, width_of, config_of, cycles_of, drives_of, readings_of}
+use Rattle.rig.specs.declared.rig.RigFail.{RigFail}
+use Rattle.rig.specs.declared.rig.RigFail.TheVariants.{Failed, Memory}
+use Rattle.config_image.specs.Images.{ImageValue, drive_of, row_of}
+use Rattle.hierarchy.specs.Shape.{pins_of}
+use Rattle.loader.specs.Pins.{Rows}
+use Rattle.loader.specs.Run.{RunsRow}
+use Rattle.hierarchy.specs.Faults.{Faults}
+use Rattle.steps.specs.Stops.{StepStops, stop_of_rig}
+use Rattle.steps.specs.Texts.{RigCounts, LoadsOnce}
+use Rattle.tera_bench.specs.Bench.{IsBenchRun, RunsOnes, bench_rows, bench_vector, first_vectors, ones_in, ones_of, runs}
+
+abbrev pub pins_in : ImageValue → Rows
+pins_in i = record { pins = pins_of i.config.shape; inputs = i.inputs; outputs = i.outputs }
+
+-- so many vectors were driven
+pub record IsRunning (n : ℕ) (i : ImageValue) (rig0 rig : RigState) (k ones : ℕ) : Type 0 where
+  pub config : config_of rig ≡ Some i.config
+  pub drives : drives_of (cycles_of rig) ≡ map (drive_of i) (first_vectors n k)
+  pub ones_are : ones ≡ ones_of (map (row_of i) (readings_of (cycles_of rig)))
+  pub told : IsTold rig
+  pub few : ones ≤ 2 * k
+  pub machine : rig.machine ≡ rig0.machine
+  pub later : rig0.failures ≤ rig.failures
+  pub loads : LoadsOnce rig0.loads rig.loads
+
+told-none : (faults : Option Faults) (config : Option Configuration) (cycles : List Exchange) → cycles ≡ [] → IfSome faults (λ f. IfSome config (λ g. IsRun f g (drives_of cycles) (readings_of cycles)))
+told-none None config cycles is = tt
+told-none (Some f) None cycles is = tt
+told-none (Some f) (Some g) cycles is = rw is (record { outputs = at_load (circuit_of f g); cycles = none })
+
+pub running-start : (n : ℕ) (i : ImageValue) (rig0 rig : RigState) → Begins i.config bench_rows rig → rig.machine ≡ rig0.machine → rig0.failures ≤ rig.failures → LoadsOnce rig0.loads rig.loads → IsRunning n i rig0 rig 0 0
+running-start n i rig0 rig begins machine later loads = record {
+  config = begins.config;
+  drives = rw begins.cycles refl;
+  ones_are = rw begins.cycles refl;
+  told = told-none rig.machine.faults (config_of rig) (cycles_of rig) begins.cycles;
+  few = omega arith;
+  machine = machine;
+  later = later;
+  loads = loads;
+}
+
+-- as wide as the session
+pub running-width : (n : ℕ) (i : ImageValue) (r : Rows) (rig0 rig : RigState) (k ones : ℕ) → r ≡ pins_in i → IsRunning n i rig0 rig k ones → width_of rig ≡ Some r.pins
+running-width n i r rig0 rig k ones same so_far =
+    ap (option_map (λ (g : Configuration). pins_of g.shape)) so_far.config ∙ ap (λ (p : Rows). Some p.pins) (sym same)
+
+-- one more vector
+first-more : (n k : ℕ) → first_vectors n (k + 1) ≡ first_vectors n k ++ bench_vector n k ∷ []
+first-more n k = map-range_with_len_more (bench_vector n) 0 k k (omega arith)
+
+pub running-more : (n : ℕ) (i : ImageValue) (r : Rows) (rig0 rig rig' : RigState) (k ones more : ℕ) → r ≡ pins_in i → IsRunning n i rig0 rig k ones → RunsOnes r (bench_vector n k) rig rig' more → rig'.machine ≡ rig.machine → rig.failures ≤ rig'.failures → rig'.loads ≡ rig.loads → IsRunning n i rig0 rig' (k + 1) (ones + more)
+running-more n i r rig0 rig rig' k ones more same so_far one machine later loads = record {
+  config = run.1.config ∙ so_far.config;
+  drives = rw (run.1.cycles, map-append (λ (x : Exchange). x.drive) (cycles_of rig), first-more n k, map-append (drive_of i) (first_vectors n k), so_far.drives) refl;
+  ones_are = ones-more;
+  told = run.1.told;
+  few = (let few = so_far.few in let small = one.few in omega (arith, few, small));
+  machine = machine ∙ so_far.machine;
+  later = (let before = so_far.later in omega (arith, before, later));
+  loads = subst (λ l. LoadsOnce rig0.loads l) (sym loads) so_far.loads;
+}
+  where
+    row : List Bool
+    row = one.row
+
+    run : RunsRow (pins_in i) rig rig' (bench_vector n k) row
+    run = subst (λ (p : Rows). RunsRow p rig rig' (bench_vector n k) row) same one.read
+
+    count : more ≡ ones_in row
+    count = one.ones_are
+
+    rows-more : map (row_of i) (readings_of (cycles_of rig')) ≡ map (row_of i) (readings_of (cycles_of rig)) ++ row ∷ []
+    rows-more = rw (run.1.cycles, map-append (λ (x : Exchange). x.reading) (cycles_of rig), map-append (row_of i) (readings_of (cycles_of rig)), run.2) refl
+
+    ones-more : ones + more ≡ ones_of (map (row_of i) (readings_of (cycles_of rig')))
+    ones-more =
+        let before = so_far.ones_are in
+        let sum : ones_of (map (row_of i) (readings_of (cycles_of rig)) ++ row ∷ []) ≡ ones_of (map (row_of i) (readings_of (cycles_of rig))) + ones_of (row ∷ []) = sum_by-append ones_in (map (row_of i) (readings_of (cycles_of rig))) (row ∷ []) in
+        rw rows-more (omega (arith, before, sum, count))
+
+pub running-done : (n : ℕ) (i : ImageValue) (rig0 rig : RigState) (k ones : ℕ) → k ≡ 64 → IsRunning n i rig0 rig k ones → IsBenchRun n i rig ones
+running-done n i rig0 rig k ones all so_far = record {
+  config = so_far.config;
+  drives = subst (λ c. drives_of (cycles_of rig) ≡ map (drive_of i) (first_vectors n c)) all so_far.drives;
+  ones_are = so_far.ones_are;
+  told = so_far.told;
+}
+
+pub run-stops : (n : ℕ) (i : ImageValue) (rig : RigState) (fail : RigFail) → StepStops (runs n i rig) (stop_of_rig fail)
+run-stops n i rig Failed = tt
+run-stops n i rig Memory = tt
+
+pub load-counts : (fail : RigFail) (old new : RigState) → LoadFails fail old new → RigCounts (stop_of_rig fail) old new
+load-counts Failed old new fails = fails
+load-counts Memory old new fails = tt
+
+pub cycle-counts : (fail : RigFail) (old mid new : RigState) → old.failures ≤ mid.failures → CycleFails fail mid new → RigCounts (stop_of_rig fail) old new
+cycle-counts Failed old mid new later fails = omega (arith, later, fails.0)
+cycle-counts Memory old mid new later fails = tt

@@ -1,0 +1,40 @@
+-- What a `bench` that is done has done.
+use Rattle.std.specs.Prelude.{◌≡◌, ℕ, ◌-◌, map, length, Some}
+use Rattle.tm_outside.specs.Sink.{Wrote}
+use Rattle.hierarchy.specs.declared.Shape.{Shape}
+use Rattle.hierarchy.specs.Faults.{Faults}
+use Rattle.netlist.specs.declared.draft.Draft.{Draft}
+use Rattle.netlist.specs.Rows.{AreRows}
+use Rattle.blif_read.specs.Designs.{IsDesign}
+use Rattle.config_image.specs.Images.{ImageValue, IsImage, drive_of, row_of}
+use Rattle.crossbar_route.specs.RightImages.{IsRightImage}
+use Rattle.rig.specs.Rig.{config_of, cycles_of, drives_of, readings_of}
+use Rattle.bench_gen.specs.Work as work
+use Rattle.steps.specs.Outside.{Outside}
+use Rattle.tera_bench.specs.Summary.{summary_text}
+use Rattle.tera_bench.specs.Bench.{generated_name, bench_vectors, ones_of}
+
+-- Of the rig's one session: its configuration, with one input pin and two output pins, is `image`
+pub record IsBenched (n : ℕ) (old new : Outside) : Type 0 where
+  -- a machine of the generator's counts is attached under the name of the number
+  pub shape : Shape
+  pub counts : shape.counts ≡ work.bench_counts
+  pub attached : new.rig.machine.attached ≡ Some (record { shape = shape; name = generated_name n })
+  pub draft : Draft
+  pub design : IsDesign work.bench_design draft
+  -- the session's configuration is that of an image with a pin for each input and output of the design
+  pub image : ImageValue
+  pub is_image : IsImage image
+  pub image_shape : image.config.shape ≡ shape
+  pub one_input : length image.inputs ≡ 1
+  pub two_outputs : length image.outputs ≡ 2
+  pub config : config_of new.rig ≡ Some image.config
+  -- it has a cycle for each vector, which it drove
+  pub drives : drives_of (cycles_of new.rig) ≡ map (drive_of image) (bench_vectors n)
+  -- the summary is written, with the ones that were read and the loads that were made
+  pub ones : ℕ
+  pub ones_are : ones ≡ ones_of (map (row_of image) (readings_of (cycles_of new.rig)))
+  pub written : Wrote old.sink.written new.sink.written (summary_text n 17 18 ones (new.rig.loads - old.rig.loads))
+  -- the image is right for the design under the machine's faults, so what was read is the design's rows
+  pub right : (f : Faults) → new.rig.machine.faults ≡ Some f → IsRightImage f image draft
+  pub rows : (f : Faults) → new.rig.machine.faults ≡ Some f → AreRows draft (bench_vectors n) (map (row_of image) (readings_of (cycles_of new.rig)))

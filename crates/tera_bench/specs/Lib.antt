@@ -1,0 +1,4 @@
+-- The command that runs generated work on a generated machine.
+pub mod Summary
+pub mod Bench
+pub mod Headline
