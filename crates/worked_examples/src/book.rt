@@ -2,7 +2,7 @@
 
 use crate::block::{Block, blocks};
 use crate::judge::{Trial, Want, judge};
-use crate::step::{Each, Step, Turn};
+use crate::step::{Each, Marks, Step, Turn};
 use crate::trial::Given;
 use std::alloc::{AllocError, Global};
 use tm_outside::File;
@@ -166,6 +166,7 @@ fn set(alloc: Global, step: &mut Step, key: &str, words: Vec<String>) -> Result<
         "cuts" => step.cuts = true,
         "keep" => step.keep = Some(String::from_str(alloc, first)?),
         "loads" => step.most_loads = first.parse::<u64>().ok(),
+        "onward" => step.onward = true,
         "takes" => step.takes = first.parse::<usize>().ok(),
         "together" => match first.parse::<usize>() {
             Ok(lines) => step.together = lines,
@@ -176,6 +177,26 @@ fn set(alloc: Global, step: &mut Step, key: &str, words: Vec<String>) -> Result<
             Some(sizes) => step.pieces = sizes,
             None => return Ok(false),
         },
+        _ => return Ok(false),
+    }
+    Ok(true)
+}
+
+// Says which lines are written; false where the words don't say it.
+fn mark(
+    alloc: Global,
+    marks: &mut Marks,
+    key: &str,
+    words: Vec<String>,
+    body: Vec<u8>,
+) -> Result<bool, AllocError> {
+    match key {
+        "some" => marks.some = Some(String::from_utf8_lossy(alloc, &body)?),
+        "only" => {
+            marks.only = String::from_utf8_lossy(alloc, &body)?;
+            marks.words = words;
+        }
+        "last" => marks.last = body,
         _ => return Ok(false),
     }
     Ok(true)
@@ -318,6 +339,7 @@ impl Book {
             }
             "text" | "faults" | "file" => self.give(key, first, body),
             "cut" | "flip" => self.change(key, &words),
+            "some" | "only" | "last" => { mark(self.alloc, &mut self.step.marks, key, words, body) }
             "ends" => self.end(rt, first, &body, true),
             "begins" => self.end(rt, first, &body, false),
             _ => set(self.alloc, &mut self.step, key, words),

@@ -1,6 +1,6 @@
 //! Whether what came of a command is what had to come.
 
-use crate::step::{Each, Fails, Step};
+use crate::step::{Each, Fails, Marks, Step};
 use crate::trial::{Given, Manner, Outcome, outcome_of};
 use std::alloc::{AllocError, Global};
 
@@ -43,15 +43,47 @@ fn are_first_lines(bytes: &[u8], text: &[u8], together: usize) -> bool {
     text.starts_with(bytes) && bytes.ends_with(b"\n") && together <= count_lines(bytes)
 }
 
-// Whether a command ended as it has to where a call failed.
-fn is_stopped(want: &Want<'_>, each: &Each, together: usize, outcome: &Outcome) -> bool {
+// How many lines a command wrote where a call failed, before the line that says so. None where it ended as it must not.
+fn lines_before(want: &Want<'_>, each: &Each, together: usize, outcome: &Outcome) -> Option<usize> {
     if outcome.status != each.status {
-        return false;
+        return None;
     }
-    match outcome.bytes.as_slice().strip_suffix(each.last.as_slice()) {
-        Some(front) => are_first_lines(front, want.bytes, together),
-        None => false,
+    let front = outcome.bytes.as_slice().strip_suffix(each.last.as_slice())?;
+    if are_first_lines(front, want.bytes, together) {
+        return Some(count_lines(front));
     }
+    None
+}
+
+// Whether so many lines go on from so many by one line, where the first ones are written at once.
+fn goes_on(before: usize, lines: usize, together: usize) -> bool {
+    if before == 0 {
+        return lines == 0 || lines == together;
+    }
+    before < lines && lines - before == 1
+}
+
+// Whether a text has this line.
+fn has_line(text: &str, line: &str) -> bool {
+    text.lines().any(|other| other == line)
+}
+
+// Whether a line begins with one of these words.
+fn begins_with_one(line: &str, words: &[String]) -> bool {
+    let first = line.split_whitespace().next().unwrap_or("");
+    words.iter().any(|word| word.as_str() == first)
+}
+
+// Whether all holds that is said of the lines of a text.
+fn is_marked(marks: &Marks, text: &str) -> bool {
+    if let Some(some) = &marks.some {
+        if !some.as_str().lines().any(|line| has_line(text, line)) {
+            return false;
+        }
+    }
+    let words = marks.words.as_slice();
+    let only = marks.only.as_str();
+    text.lines().all(|line| !begins_with_one(line, words) || has_line(only, line))
 }
 
 // Prints what came.
@@ -106,7 +138,12 @@ fn try_piece(
     piece: Option<usize>,
 ) -> Result<(bool, Vec<u8>), AllocError> {
     let outcome = outcome(alloc, trial, &trial.step.fails, piece, trial.step.takes)?;
-    let right = is_wanted(&trial.want, &outcome) && is_within(trial.step.most_loads, outcome.loads);
+    let marks = &trial.step.marks;
+    let text = String::from_utf8_lossy(alloc, &outcome.bytes)?;
+    let right = is_wanted(&trial.want, &outcome)
+        && is_within(trial.step.most_loads, outcome.loads)
+        && is_marked(marks, text.as_str())
+        && outcome.bytes.as_slice().ends_with(&marks.last);
     if !right {
         tell(rt, alloc, trial.name, &outcome)?;
     }
@@ -131,6 +168,16 @@ fn try_cuts(rt: &impl Print, alloc: Global, trial: &Trial<'_>) -> Result<bool, A
     Ok(right)
 }
 
+// Whether an end with so many lines may come behind one with so many, where calls fail in turn.
+fn is_next(trial: &Trial<'_>, before: usize, lines: usize) -> bool {
+    !trial.step.onward || goes_on(before, lines, trial.step.together)
+}
+
+// Whether an end with so many lines may be the last before the whole.
+fn is_last(trial: &Trial<'_>, lines: usize) -> bool {
+    !trial.step.onward || goes_on(lines, count_lines(trial.want.bytes), trial.step.together)
+}
+
 // Whether it ends as it has to where each call fails in turn, and at last as if none did.
 fn try_each(
     rt: &impl Print,
@@ -138,16 +185,23 @@ fn try_each(
     trial: &Trial<'_>,
     each: &Each,
 ) -> Result<bool, AllocError> {
+    let mut before = 0;
     for call in 1..MOST_CALLS {
         let fails = Fails::one(alloc, each.turn, call)?;
         let outcome = outcome(alloc, trial, &fails, None, None)?;
-        let wanted = is_wanted(&trial.want, &outcome);
-        if wanted && 1 < call {
-            return Ok(true);
+        if is_wanted(&trial.want, &outcome) {
+            let right = 1 < call && is_last(trial, before);
+            if !right {
+                tell(rt, alloc, trial.name, &outcome)?;
+            }
+            return Ok(right);
         }
-        if wanted || !is_stopped(&trial.want, each, trial.step.together, &outcome) {
-            tell(rt, alloc, trial.name, &outcome)?;
-            return Ok(false);
+        match lines_before(&trial.want, each, trial.step.together, &outcome) {
+            Some(lines) if is_next(trial, before, lines) => before = lines,
+            _ => {
+                tell(rt, alloc, trial.name, &outcome)?;
+                return Ok(false);
+            }
         }
     }
     Ok(false)

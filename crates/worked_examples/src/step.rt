@@ -32,6 +32,18 @@ pub struct Fails {
     pub sink: Vec<u64>,
 }
 
+/// What is said of single lines of what is written, where it isn't known as a whole.
+#[derive(Drop)]
+pub struct Marks {
+    /// Lines of which one is there.
+    pub some: Option<String>,
+    /// Words, and the only lines that begin with one of them.
+    pub words: Vec<String>,
+    pub only: String,
+    /// What stands last.
+    pub last: Vec<u8>,
+}
+
 /// A command to be tried.
 #[derive(Drop)]
 pub struct Step {
@@ -48,7 +60,10 @@ pub struct Step {
     pub each: Option<Each>,
     /// How many of the first lines are written at once.
     pub together: usize,
+    /// Whether every end where calls fail in turn goes on from the one before, by a line.
+    pub onward: bool,
     pub most_loads: Option<u64>,
+    pub marks: Marks,
     /// The name under which what is written is kept for later steps.
     pub keep: Option<String>,
 }
@@ -77,6 +92,18 @@ impl Fails {
     }
 }
 
+impl Marks {
+    /// Nothing is said.
+    pub fn new(alloc: Global) -> Marks {
+        Marks {
+            some: None,
+            words: Vec::new(alloc),
+            only: String::new(alloc),
+            last: Vec::new(alloc),
+        }
+    }
+}
+
 impl Step {
     /// A command of these words, and nothing else said.
     pub fn new(alloc: Global, words: Vec<String>) -> Step {
@@ -89,7 +116,9 @@ impl Step {
             pieces: Vec::new(alloc),
             each: None,
             together: 0,
+            onward: false,
             most_loads: None,
+            marks: Marks::new(alloc),
             keep: None,
         }
     }
