@@ -40,7 +40,9 @@ pub enum Task<'a> {
         vectors: &'a str,
     },
     /// Generated work on a generated machine, by its number.
-    Bench { n: u32 },
+    Bench {
+        n: u32,
+    },
 }
 
 // Whether a word begins with `-`.

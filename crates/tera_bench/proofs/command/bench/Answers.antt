@@ -16,7 +16,7 @@ returns-clause-done g c =
     let a = g.K.Sink.sink_state c.args.sink.now in
     let b = g.K.Sink.sink_state c.work.new.sink in
     λ store. benched-done c.the_bench_design_is_a_design.ensures.only c.generated_faults_leave_room.ensures.tables c.generated_faults_leave_room.ensures.nets
-        c.args.n (outside store rig0 a) (outside store rig1 b) c.work.result (c.work.ensures.written store)
+    c.args.n (outside store rig0 a) (outside store rig1 b) c.work.result (c.work.ensures.written store)
 
 pub returns-clause-does : goal.returns-clause-does
 returns-clause-does g c =
