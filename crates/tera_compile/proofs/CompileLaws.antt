@@ -1,6 +1,5 @@
 -- What the command `compile` comes to.
-use Rattle.std.proofs.Common.{◌≡◌, ◌⊎◌, ◌∙◌, ℕ, ◌≤◌, List, [], ◌++◌, length, refl, sym, ap, subst, inl, inr}
-use Rattle.tm_outside.specs.Told.{Told, holds, IfTold}
+use Rattle.std.proofs.Common.{◌≡◌, ◌⊎◌, ◌∙◌, ℕ, List, [], refl, sym, ap, subst, inl, inr}
 use Rattle.hierarchy.specs.declared.Shape.{Shape}
 use Rattle.hierarchy.specs.Defects.{Defects}
 use Rattle.defect_db.specs.Lists.{DefectList}
@@ -13,7 +12,7 @@ use Rattle.place.specs.declared.short.Short.{Short}
 use Rattle.place.specs.Plans.{FitsInOrder, IsShortInOrder}
 use Rattle.config_image.specs.Images.{ImageValue, image_bytes}
 use Rattle.steps.specs.Outside.{Around, StaysNear}
-use Rattle.steps.specs.Courses.{Next, Course, after, write, done, ends, refuses, writes}
+use Rattle.steps.specs.Courses.{Next, after, write, done, refuses}
 use Rattle.steps.specs.Stops.{status_of}
 use Rattle.steps.specs.Texts.{reads_machine, reads_defects, reads_design, IsMachineText, IsDefectsText, IsDesignText}
 use Rattle.steps.specs.Jobs.{IsLawful, IsExcused, Leads, Fronts, EndsWell, EndsShort}

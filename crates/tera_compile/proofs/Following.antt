@@ -1,5 +1,5 @@
 -- How the steps of `compile` follow one another.
-use Rattle.std.proofs.Common.{◌≡◌, ℕ, List, [], ◌++◌, refl, inl, inr, append-nil, sym, subst}
+use Rattle.std.proofs.Common.{ℕ, List}
 use Rattle.std.specs.Prelude.{Result, Ok, Err}
 use Rattle.tm_outside.specs.Store.{StoreState}
 use Rattle.tm_outside.specs.Sink.{SinkState, Wrote}
@@ -12,11 +12,10 @@ use Rattle.steps.specs.Courses.{Course, after, write, done, ends}
 use Rattle.steps.specs.Stops.{IsWritten, StopWrote, StepStops, WriteStops}
 use Rattle.steps.specs.Texts.{reads_machine, reads_defects, reads_design, FlowCounts}
 use Rattle.steps.specs.declared.refusal.Stop.{Stop}
-use Rattle.steps.specs.declared.refusal.Stop.TheVariants.{Refused, Sink}
+use Rattle.steps.specs.declared.refusal.Stop.TheVariants.{Refused}
 use Rattle.steps.specs.declared.refusal.Refusal.TheVariants.{Memory, Room}
 use Rattle.steps.specs.declared.design_file.DesignFile.TheVariants.{Design}
 use Rattle.steps.proofs.Following.{after-stops, after-gives, write-stops, write-then, done-now}
-use Rattle.steps.proofs.WriteLemmas.{Wrote-none}
 use Rattle.tera_compile.specs.Compile.{lays, IsImageFor, compile_course}
 
 module _ (machine defects design : List ℕ) (old new : StoreState) where
