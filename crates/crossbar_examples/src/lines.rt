@@ -2,15 +2,15 @@
 ghost use Rattle.std.specs.Prelude.{◌≡◌, Some, OnOk, length};
 ghost use Rattle.rig.specs.Rig.{shape_of};
 ghost use Rattle.evidence.specs.Kept.{Advances};
-ghost use Rattle.crossbar_examples.specs.Found.{AreFound};
+ghost use Rattle.crossbar_walk.specs.Found.{AreFound};
 
 use crate::answers::{answer, keeps};
 use crate::bench::Bench;
 use crate::book::{Case, Line};
 use crate::machine::rig_of;
 use crate::routes::seen;
-use crate::walk::{Loads, test_next};
 use crate::words::{numbers_of, text_of, word, yes_or_no};
+use crossbar_walk::{Loads, test_next};
 use evidence::laws::tests_add_up;
 use evidence::{Proof, Tested};
 use hierarchy::{Node, Wire};

@@ -10,7 +10,6 @@ mod lines;
 mod machine;
 mod routes;
 mod setup;
-mod walk;
 mod words;
 
 use book::{Book, Trouble};

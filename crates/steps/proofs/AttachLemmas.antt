@@ -1,5 +1,5 @@
 -- Machines that weren't attached.
-use Rattle.std.proofs.Common.{◌≡◌, ◌⊎◌, List, [], ◌∷◌, ◌++◌, inl, inr}
+use Rattle.std.proofs.Common.{inl, inr}
 use Rattle.rig.specs.Rig.{RigState, Asked, AttachFails}
 use Rattle.rig.specs.declared.rig.AttachFail.{AttachFail}
 use Rattle.rig.specs.declared.rig.AttachFail.TheVariants as attach

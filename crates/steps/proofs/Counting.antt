@@ -1,5 +1,5 @@
 -- Counts that rose, and stops that need one.
-use Rattle.std.proofs.Common.{◌≡◌, ◌⊎◌, ℕ, ◌≤◌, List, Bool, IsTrue, Option, Some, None, IfSome, subst, arith, inl, inr, ◌∙◌}
+use Rattle.std.proofs.Common.{◌≡◌, ℕ, ◌≤◌, List, IsTrue, subst, arith, inl, inr, ◌∙◌}
 use Rattle.std.specs.Prelude.{Result, Ok, Err, IfErr}
 use Rattle.tm_outside.specs.Store.{StoreState}
 use Rattle.tm_outside.specs.Sink.{SinkState}

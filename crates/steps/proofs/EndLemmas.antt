@@ -1,12 +1,12 @@
 -- How a job ends the program.
-use Rattle.std.proofs.Common.{◌≡◌, ◌⊎◌, ℕ, ◌≤◌, List, [], ◌++◌, take, Bool, false, Option, IsTrue, refl, sym, subst, inl, inr, ◌∙◌, arith, ap, append_assoc, append-nil}
+use Rattle.std.proofs.Common.{◌≡◌, ◌⊎◌, ℕ, ◌≤◌, List, [], ◌++◌, Bool, false, IsTrue, refl, sym, subst, inl, inr, ◌∙◌, arith, ap, append_assoc, append-nil}
 use Rattle.tm_outside.specs.Counts.{Rose}
 use Rattle.tm_outside.specs.Sink.{SinkState, Wrote}
 use Rattle.tm_outside.specs.declared.sink.SinkFail.TheVariants.{Failed, Memory}
 use Rattle.steps.specs.Outside.{Outside, SomethingRose, around}
-use Rattle.steps.specs.Courses.{Course, Next, ends, refuses, writes}
+use Rattle.steps.specs.Courses.{Course, ends, refuses}
 use Rattle.steps.specs.Stops.{IsCounted, StopWrote, status_of, refusal_text}
-use Rattle.steps.specs.Jobs.{Job, IsLawful, IsExcused, EndsWell, EndsShort, Fronts, Leads}
+use Rattle.steps.specs.Jobs.{Job, IsLawful, IsExcused, Fronts}
 use Rattle.steps.specs.Faults.{ShortPlace}
 use Rattle.steps.specs.Ends.{IsRefused, IsOfFronts, LacksBefore, EndWrote, Stands, Finishes, Refuses, whole, refused, cut_line, no_line, cut}
 use Rattle.steps.specs.declared.refusal.Stop.{Stop}

@@ -1,6 +1,6 @@
 -- A course goes on: what a step or a line is followed by.
-use Rattle.std.proofs.Common.{◌≡◌, ◌⊎◌, ℕ, ◌≤◌, List, [], ◌∷◌, ◌++◌, take, Option, refl, sym, subst, ap, inl, inr, ◌∙◌, append_assoc, append-nil}
-use Rattle.std.specs.Prelude.{Result, Ok, Err, IfErr}
+use Rattle.std.proofs.Common.{ℕ, List, [], ◌++◌, take, refl, sym, subst, inl, inr, append_assoc}
+use Rattle.std.specs.Prelude.{Result, Ok, Err}
 use Rattle.tm_outside.specs.Sink.{SinkState, Wrote}
 use Rattle.tm_outside.specs.declared.sink.SinkFail.TheVariants.{Failed, Memory}
 use Rattle.steps.specs.Courses.{Course, Next, Step, after, write, done, ends, refuses, writes}

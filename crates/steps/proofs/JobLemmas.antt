@@ -1,12 +1,12 @@
 -- Jobs that are done for words.
-use Rattle.std.proofs.Common.{◌≡◌, ◌⊎◌, ℕ, ◌≤◌, List, [], ◌++◌, take, Option, Bool, IsTrue, refl, sym, subst, inl, inr, ◌∙◌, arith}
-use Rattle.std.specs.Prelude.{Result, Ok, Err, IfErr, OnOk}
+use Rattle.std.proofs.Common.{◌≡◌, ◌⊎◌, ℕ, List, [], IsTrue, refl, inl, inr, arith}
+use Rattle.std.specs.Prelude.{Result, Ok, Err, IfErr}
 use Rattle.tm_outside.specs.Counts.{Rose}
 use Rattle.tm_outside.specs.Sink.{Wrote}
 use Rattle.tm_outside.specs.declared.sink.SinkFail.TheVariants.{Failed, Memory}
 use Rattle.steps.specs.Outside.{Outside, around}
-use Rattle.steps.specs.Courses.{Course, ends, refuses, writes}
-use Rattle.steps.specs.Stops.{IsCounted, Asks, AsksSome, IsWritten, status_of}
+use Rattle.steps.specs.Courses.{ends, refuses}
+use Rattle.steps.specs.Stops.{IsCounted, Asks, AsksSome, status_of}
 use Rattle.steps.specs.Jobs.{Job, wrong_words, IsLawful, Does}
 use Rattle.steps.specs.Ends.{EndWrote, Stands, Finishes, whole, refused, cut_line, no_line, cut}
 use Rattle.steps.specs.declared.refusal.Refusal.{Refusal}

@@ -1,5 +1,5 @@
 -- What a course leads to, from what its steps do.
-use Rattle.std.proofs.Common.{◌≡◌, ◌⊎◌, ℕ, List, [], ◌∷◌, ◌++◌, refl, sym, subst, ap, inl, inr, ◌∙◌, append_assoc, append-nil}
+use Rattle.std.proofs.Common.{ℕ, List, [], ◌++◌, refl, sym, subst, inl, inr, append-nil}
 use Rattle.steps.specs.Courses.{Course, Next, Step, StopsAt, after, write, done, ends, refuses, writes}
 use Rattle.steps.specs.Jobs.{Leads, Fronts}
 use Rattle.steps.specs.declared.refusal.Refusal.{Refusal}

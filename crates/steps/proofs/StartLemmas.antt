@@ -1,8 +1,7 @@
 -- Files of vectors that are started.
-use Rattle.std.proofs.Common.{◌≡◌, ◌⊎◌, ℕ, ◌≤◌, List, Option, Some, refl, inl, inr, arith}
+use Rattle.std.proofs.Common.{◌≡◌, ℕ, ◌≤◌, List, Some, refl, inr, arith}
 use Rattle.tm_outside.specs.Told.{Told}
 use Rattle.tm_outside.specs.Store.{StoreState, StartFails}
-use Rattle.tm_outside.specs.Sink.{SinkState}
 use Rattle.tm_outside.specs.declared.store.StoreFail.{StoreFail}
 use Rattle.tm_outside.specs.declared.store.StoreFail.TheVariants.{Failed, Memory}
 use Rattle.steps.specs.Files.{file_of}

@@ -1,10 +1,10 @@
 -- A file of vectors that is read, vector by vector.
-use Rattle.std.proofs.Common.{◌≡◌, ℕ, ◌+◌, ◌-◌, ◌<◌, ◌≤◌, Bool, true, false, List, [], ◌∷◌, ◌++◌, length, take, drop, map, get_or, Option, None, Some, IfSome, option_map, option_and_then, slice_get, unwrap_or, arith, refl, sym, ap, subst, ◌∙◌, append-nil, append_assoc, length-append, length-drop}
+use Rattle.std.proofs.Common.{◌≡◌, ℕ, ◌+◌, ◌-◌, ◌<◌, ◌≤◌, Bool, true, false, List, [], ◌∷◌, ◌++◌, length, take, drop, map, Some, IfSome, option_map, slice_get, unwrap_or, arith, refl, sym, ap, ◌∙◌, append-nil, append_assoc, length-append, length-drop}
 use Rattle.std.proofs.Math.Seq.{take-append_seam, get_or-append_seam}
 use Rattle.std.proofs.lemmas.List.{length-map, map-append}
-use Rattle.std.proofs.lemmas.Option.{unwrap_or-slice_get, slice_get-get_or}
+use Rattle.std.proofs.lemmas.Option.{slice_get-get_or}
 use Rattle.tm_outside.specs.Told.{Told, untold, absent, holds, bytes_of, IfTold, IsPresent}
-use Rattle.tm_outside.specs.Store.{StoreState, Place, moved, rest_of}
+use Rattle.tm_outside.specs.Store.{StoreState, rest_of}
 use Rattle.netlist_eval.specs.declared.vectors.VectorKind.{VectorKind}
 use Rattle.netlist_eval.specs.Vectors.{SaidVectors, VectorLine, nothing_said, fault_said, with_vector}
 use Rattle.netlist_eval.specs.declared.vectors.VectorsFail.TheVariants.{Text}

@@ -1,5 +1,5 @@
 -- One write after another.
-use Rattle.std.proofs.Common.{◌≡◌, ℕ, ◌≤◌, List, [], ◌∷◌, ◌++◌, Bool, flat_map, Option, None, Some, append-nil, option_map, refl, sym, ap, ◌∙◌, append_assoc, inr, inl, subst}
+use Rattle.std.proofs.Common.{◌≡◌, ℕ, List, [], ◌∷◌, ◌++◌, Bool, flat_map, Option, None, Some, append-nil, option_map, refl, sym, ap, ◌∙◌, append_assoc, inr, inl, subst}
 use Rattle.std.proofs.lemmas.Grind.{flat_map-append}
 use Rattle.std.specs.Prelude.{Result, Ok, Err}
 use Rattle.tm_outside.specs.Sink.{Wrote}

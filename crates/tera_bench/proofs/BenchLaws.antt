@@ -1,5 +1,5 @@
 -- What the command `bench` comes to.
-use Rattle.std.proofs.Common.{◌≡◌, ◌⊎◌, ◌∙◌, ℕ, ◌-◌, List, [], ◌++◌, length, Option, Some, refl, sym, subst, inl, inr, append-nil}
+use Rattle.std.proofs.Common.{◌≡◌, ℕ, ◌-◌, List, [], length, refl, sym, subst, append-nil}
 use Rattle.std.specs.Prelude.{Result, Ok, Err}
 use Rattle.tm_outside.specs.Store.{StoreState}
 use Rattle.steps.specs.Stops.{Asks}
@@ -12,7 +12,7 @@ use Rattle.netlist.specs.declared.draft.Draft.{Draft}
 use Rattle.netlist.specs.Checks.{IsChecked}
 use Rattle.table_map.specs.declared.network.Network.{Network}
 use Rattle.table_map.specs.Networks.{IsNetwork}
-use Rattle.table_map.specs.Plain.{IsPlainNetwork, plain_network}
+use Rattle.table_map.specs.Plain.{plain_network}
 use Rattle.place.specs.declared.short.Short.{Short}
 use Rattle.place.specs.Plans.{IsShortInOrder, nets_in}
 use Rattle.sound_room.specs.Enough.{HasSoundParts}

@@ -1,5 +1,5 @@
 -- How the steps of `bench` follow one another.
-use Rattle.std.proofs.Common.{◌≡◌, ◌⊎◌, ℕ, ◌+◌, ◌-◌, ◌≤◌, List, [], ◌∷◌, ◌++◌, length, Option, Some, option_map, refl, sym, ap, subst, inl, inr, ◌∙◌, arith}
+use Rattle.std.proofs.Common.{◌≡◌, ℕ, ◌-◌, List, length, Some, sym, ap, ◌∙◌}
 use Rattle.std.specs.Prelude.{Result, Ok, Err, OnOk, IfErr}
 use Rattle.tm_outside.specs.Sink.{SinkState, Wrote}
 use Rattle.hierarchy.specs.declared.Shape.{Shape}
@@ -12,7 +12,7 @@ use Rattle.config_image.specs.Images.{ImageValue}
 use Rattle.rig.specs.Rig.{RigState, Asked, shape_of}
 use Rattle.bench_gen.specs.Work as work
 use Rattle.steps.specs.Outside.{Outside, Around}
-use Rattle.steps.specs.Courses.{Course, after, write, done, ends}
+use Rattle.steps.specs.Courses.{Course, after, write, done}
 use Rattle.steps.specs.Stops.{IsWritten, StopWrote, StepStops, WriteStops, IsCounted}
 use Rattle.steps.specs.Texts.{attaches}
 use Rattle.steps.specs.declared.refusal.Refusal.TheVariants as refused

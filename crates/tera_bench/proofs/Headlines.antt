@@ -1,7 +1,7 @@
 -- What a `bench` that is done has done, from its course.
-use Rattle.std.proofs.Common.{◌≡◌, ◌∙◌, ℕ, ◌-◌, ◌<◌, Bool, List, [], ◌∷◌, ◌++◌, map, length, Option, None, Some, IfSome, refl, sym, ap, subst, inl, inr, append-nil, arith}
+use Rattle.std.proofs.Common.{◌≡◌, ◌∙◌, ℕ, ◌-◌, ◌<◌, Bool, List, ◌++◌, length, Option, Some, IfSome, sym, ap, subst, inl, inr, append-nil, arith}
 use Rattle.std.specs.Prelude.{Result, Ok, Err, OnOk}
-use Rattle.std.specs.List.{All, range_with_len}
+use Rattle.std.specs.List.{All}
 use Rattle.std.proofs.lemmas.List.FromFn.{get_or-map-range_with_len, length-map-range_with_len}
 use Rattle.tm_outside.specs.Sink.{Wrote}
 use Rattle.hierarchy.specs.declared.Shape.{Shape}
@@ -10,15 +10,14 @@ use Rattle.hierarchy.specs.Defects.{Covers}
 use Rattle.hierarchy.specs.Circuit.{Pins}
 use Rattle.defect_db.specs.Lists.{DefectList}
 use Rattle.netlist.specs.declared.draft.Draft.{Draft}
-use Rattle.netlist.specs.Rows.{AreRows}
 use Rattle.blif_read.specs.Designs.{IsDesign}
 use Rattle.table_map.specs.Plain.{plain_network}
 use Rattle.place.specs.Plans.{nets_in}
 use Rattle.config_set.specs.Configuration.{Configuration}
 use Rattle.config_set.specs.Faulty.{IsRun}
-use Rattle.config_image.specs.Images.{ImageValue, drive_of, row_of}
+use Rattle.config_image.specs.Images.{ImageValue}
 use Rattle.crossbar_route.specs.RightImages.{IsRightImage}
-use Rattle.rig.specs.Rig.{RigState, config_of, cycles_of, drives_of, readings_of}
+use Rattle.rig.specs.Rig.{config_of, cycles_of, drives_of, readings_of}
 use Rattle.bench_gen.specs.Work as work
 use Rattle.bench_laws.specs.Design.{bench_draft}
 use Rattle.steps.specs.Outside.{Outside, around}

@@ -37,4 +37,5 @@ pub record IsBenched (n : ℕ) (old new : Outside) : Type 0 where
   pub written : Wrote old.sink.written new.sink.written (summary_text n 17 18 ones (new.rig.loads - old.rig.loads))
   -- the image is right for the design under the machine's faults, so what was read is the design's rows
   pub right : (f : Faults) → new.rig.machine.faults ≡ Some f → IsRightImage f image draft
-  pub rows : (f : Faults) → new.rig.machine.faults ≡ Some f → AreRows draft (bench_vectors n) (map (row_of image) (readings_of (cycles_of new.rig)))
+  pub rows : (f : Faults) → new.rig.machine.faults ≡ Some f →
+      AreRows draft (bench_vectors n) (map (row_of image) (readings_of (cycles_of new.rig)))

@@ -78,7 +78,8 @@ fn run_on<K: Sink>(
     ensures sink_later { (K.sink_state sink.old).failures ≤ (K.sink_state sink.new).failures }
     // Whatever the store is: it isn't touched.
     ensures written { (store : StoreState) →
-        IsWritten (laid_course n netlist.now list.now before (store ≡ store) (rig_state rig.new)) result (K.sink_state sink.old) (K.sink_state sink.new) }
+        let course = laid_course n netlist.now list.now before (store ≡ store) (rig_state rig.new) in
+        IsWritten course result (K.sink_state sink.old) (K.sink_state sink.new) }
     ensures counted { (store : StoreState) →
         let old = outside store (rig_state rig.old) (K.sink_state sink.old) in
         let new = outside store (rig_state rig.new) (K.sink_state sink.new) in

@@ -1,9 +1,9 @@
 //! The command that makes an image of a design for a machine with defects.
-ghost use Rattle.std.specs.Prelude.{◌≡◌, ◌≤◌, ◌∷◌, [], IfOk, IfErr};
+ghost use Rattle.std.specs.Prelude.{◌≡◌, ◌≤◌, ◌∷◌, [], IfErr};
 ghost use Rattle.rig.specs.Rig.{RigState};
-ghost use Rattle.steps.specs.Outside.{outside, StaysNear};
-ghost use Rattle.steps.specs.Stops.{Asks, IsWritten, StepStops};
-ghost use Rattle.steps.specs.Texts.{FlowCounts, StoreCounts, reads_machine, reads_defects};
+ghost use Rattle.steps.specs.Outside.{outside};
+ghost use Rattle.steps.specs.Stops.{Asks, IsWritten};
+ghost use Rattle.steps.specs.Texts.{FlowCounts};
 ghost use Rattle.steps.specs.Jobs.{Does, IsLawful};
 ghost use Rattle.tera_compile.specs.Compile.{compile_course, compile_job};
 

@@ -1,5 +1,5 @@
 -- What the command `diagnose` comes to.
-use Rattle.std.proofs.Common.{◌≡◌, ℕ, List, [], refl}
+use Rattle.std.proofs.Common.{ℕ, List, [], refl}
 use Rattle.hierarchy.specs.declared.Shape.{Shape}
 use Rattle.defect_db.specs.Text.{text_of}
 use Rattle.rig.specs.Rig.{Asked}

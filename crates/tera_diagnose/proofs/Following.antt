@@ -1,5 +1,5 @@
 -- How the steps of `diagnose` follow one another.
-use Rattle.std.proofs.Common.{◌≡◌, ◌⊎◌, ℕ, ◌+◌, ◌≤◌, List, [], ◌∷◌, ◌++◌, Some, refl, inl, inr, ◌∙◌, arith}
+use Rattle.std.proofs.Common.{◌≡◌, ℕ, List, Some, refl, inl, inr, ◌∙◌, arith}
 use Rattle.std.specs.Prelude.{Result, Ok, Err}
 use Rattle.tm_outside.specs.Sink.{SinkState, Wrote}
 use Rattle.hierarchy.specs.declared.Shape.{Shape}

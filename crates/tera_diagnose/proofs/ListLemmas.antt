@@ -1,25 +1,22 @@
 -- How a list of defects is made and written, whatever follows.
-use Rattle.std.proofs.Common.{◌≡◌, ℕ, ◌+◌, ◌≤◌, List, [], ◌++◌, Option, Some, IfSome, option_map, refl, sym, ap, subst, ◌∙◌, arith}
-use Rattle.std.specs.Prelude.{Result, Ok, Err}
+use Rattle.std.proofs.Common.{◌≡◌, ℕ, ◌+◌, ◌≤◌, List, ◌++◌, Some, option_map, refl, sym, ap, ◌∙◌, arith}
+use Rattle.std.specs.Prelude.{Result, Err}
 use Rattle.tm_outside.specs.Store.{StoreState}
 use Rattle.tm_outside.specs.Sink.{SinkState, Wrote}
-use Rattle.tm_outside.specs.declared.sink.SinkFail.TheVariants.{Failed as SinkFailed, Memory as SinkMemory}
 use Rattle.hierarchy.specs.declared.Shape.{Shape}
-use Rattle.hierarchy.specs.Faults.{Faults}
 use Rattle.defect_db.specs.Lists.{DefectList, IsDefectList}
 use Rattle.defect_db.specs.Text.{text_of}
 use Rattle.rig.specs.Rig.{RigState, Machine, Asked, shape_of}
 use Rattle.rig.specs.declared.rig.RigFail.{RigFail}
 use Rattle.rig.specs.declared.rig.RigFail.TheVariants.{Failed, Memory}
 use Rattle.diagnose.specs.Diagnosis.{IsDiagnosis, TakesFewLoads}
-use Rattle.steps.specs.Outside.{Outside, outside}
+use Rattle.steps.specs.Outside.{Outside}
 use Rattle.steps.specs.Courses.{Course, after, write}
 use Rattle.steps.specs.Stops.{IsWritten, StopWrote, StepStops, WriteStops, IsCounted, Asks, stop_of_rig}
-use Rattle.steps.specs.Texts.{RigCounts}
 use Rattle.steps.specs.declared.refusal.Refusal.TheVariants as refused
 use Rattle.steps.specs.declared.refusal.Stop.{Stop}
 use Rattle.steps.specs.declared.refusal.Stop.TheVariants.{Refused, Sink}
-use Rattle.steps.proofs.Counting.{rig-counted, write-counted, counted-after, IsLater}
+use Rattle.steps.proofs.Counting.{counted-after, IsLater}
 use Rattle.steps.proofs.WriteLemmas.{asks-all}
 use Rattle.steps.proofs.Following.{after-stops, after-gives, write-stops, write-then}
 use Rattle.tera_diagnose.specs.Listing.{IsListOf, NotListed, diagnoses}

@@ -1,5 +1,5 @@
 //! Lists of defects that are made and written.
-ghost use Rattle.std.specs.Prelude.{◌≡◌, ◌≤◌, Some, OnOk, IfOk, IfErr};
+ghost use Rattle.std.specs.Prelude.{◌≡◌, ◌≤◌, Some, IfOk, IfErr};
 ghost use Rattle.tm_outside.specs.Store.{StoreState};
 ghost use Rattle.tm_outside.specs.Sink.{Wrote};
 ghost use Rattle.defect_db.specs.Text.{text_of};

@@ -1,19 +1,17 @@
 -- What the command `eval` comes to, and how its steps follow one another.
-use Rattle.std.proofs.Common.{◌≡◌, ℕ, ◌≤◌, List, [], ◌∷◌, ◌++◌, length, Option, None, Some, refl, sym, subst, ap, ◌∙◌, inl, inr}
-use Rattle.tm_outside.specs.Told.{Told, holds, IfTold}
-use Rattle.tm_outside.specs.Store.{StoreState}
+use Rattle.std.proofs.Common.{◌≡◌, ℕ, List, [], ◌++◌, length, None, refl, subst, inl, inr}
+use Rattle.tm_outside.specs.Told.{IfTold}
 use Rattle.netlist.specs.declared.draft.Draft.{Draft}
-use Rattle.blif_read.specs.Designs.{IsDesign}
 use Rattle.steps.specs.Files.{says_at}
 use Rattle.steps.specs.Lines.{outputs_line}
 use Rattle.steps.specs.Outside.{Around, StaysNear}
-use Rattle.steps.specs.Courses.{Next, all_rows, after, write, ends, refuses, writes}
+use Rattle.steps.specs.Courses.{refuses}
 use Rattle.steps.specs.Texts.{reads_design, opens, IsDesignText}
-use Rattle.steps.specs.Jobs.{IsLawful, Leads, Fronts, EndsWell, EndsShort}
+use Rattle.steps.specs.Jobs.{IsLawful, Leads, Fronts, EndsWell}
 use Rattle.steps.specs.declared.refusal.Refusal.{Refusal}
 use Rattle.steps.specs.declared.refusal.Refusal.TheVariants.{Memory}
 use Rattle.steps.specs.declared.design_file.DesignFile.TheVariants.{Design}
-use Rattle.steps.proofs.Leading.{after-leads, write-leads, whole-front}
+use Rattle.steps.proofs.Leading.{after-leads, write-leads}
 use Rattle.steps.proofs.Excused.{design-excused, open-excused, rows-well}
 use Rattle.tera_eval.specs.Eval.{eval_rows, eval_course, eval_job, EvalRight}
 

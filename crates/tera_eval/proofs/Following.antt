@@ -1,7 +1,7 @@
 -- How the steps of `eval` follow one another.
-use Rattle.std.proofs.Common.{◌≡◌, ℕ, ◌≤◌, List, [], ◌∷◌, ◌++◌, Option, None, Some, IfSome, refl, sym, subst, ap, ◌∙◌, inl, inr, arith}
+use Rattle.std.proofs.Common.{◌≡◌, ℕ, ◌≤◌, List, [], Some, refl, inl, inr, arith}
 use Rattle.std.specs.Prelude.{Result, Ok, Err}
-use Rattle.tm_outside.specs.Told.{Told, IsPresent}
+use Rattle.tm_outside.specs.Told.{IsPresent}
 use Rattle.tm_outside.specs.Store.{StoreState, StartFails}
 use Rattle.tm_outside.specs.Sink.{SinkState, Wrote}
 use Rattle.tm_outside.specs.declared.store.StoreFail.{StoreFail}
@@ -14,7 +14,7 @@ use Rattle.steps.specs.Courses.{all_rows, Course, after, write, ends}
 use Rattle.steps.specs.Stops.{IsWritten, StopWrote, StepStops, WriteStops, stop_of_store}
 use Rattle.steps.specs.Texts.{reads_design, opens, FlowCounts}
 use Rattle.steps.specs.declared.refusal.Stop.{Stop}
-use Rattle.steps.specs.declared.refusal.Stop.TheVariants.{Refused, Sink}
+use Rattle.steps.specs.declared.refusal.Stop.TheVariants.{Refused}
 use Rattle.steps.specs.declared.refusal.Refusal.TheVariants.{Memory as NoMemory}
 use Rattle.steps.specs.declared.design_file.DesignFile.TheVariants.{Design}
 use Rattle.steps.proofs.Following.{after-stops, after-gives, write-stops, write-then}

@@ -1,13 +1,11 @@
 -- A file of vectors that is read, row by row.
-use Rattle.std.proofs.Common.{◌≡◌, ℕ, ◌≤◌, Bool, true, false, List, [], ◌∷◌, ◌++◌, length, take, Option, IfSome, refl, sym, ap, subst, ◌∙◌, append-nil, append_assoc, length-append}
+use Rattle.std.proofs.Common.{◌≡◌, ◌≤◌, Bool, true, List, [], ◌∷◌, ◌++◌, length, refl, subst, append-nil, append_assoc, length-append}
 use Rattle.tm_outside.specs.Store.{StoreState}
 use Rattle.netlist.specs.declared.draft.Draft.{Draft}
 use Rattle.netlist.specs.Rows.{RowsFrom, AreRows, first_state, next_state}
-use Rattle.netlist_eval.specs.declared.vectors.VectorKind.{VectorKind}
 use Rattle.netlist_eval.specs.Evals.{EvalState, IsStep}
-use Rattle.netlist_eval.specs.declared.vectors.VectorsFail.TheVariants.{Text}
-use Rattle.netlist_eval.specs.Readings.{VectorReading, new_reading, NextGives, NextFails, HasMoved, StaysWithin}
-use Rattle.steps.specs.Files.{most_vector_bytes, most_ahead, file_of, IsBegun}
+use Rattle.netlist_eval.specs.Readings.{VectorReading, new_reading, NextGives, HasMoved}
+use Rattle.steps.specs.Files.{most_vector_bytes, IsBegun}
 use Rattle.steps.proofs.VectorLemmas.{IsTaking, IsTaking-start, IsTaking-more}
 
 -- the rows of the vectors so far were made, and the rest of the file is ahead

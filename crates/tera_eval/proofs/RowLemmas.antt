@@ -1,17 +1,15 @@
 -- How the rows of an evaluation go on, and how they stop.
-use Rattle.std.proofs.Common.{◌≡◌, ℕ, ◌+◌, ◌<◌, ◌≤◌, Bool, true, false, List, [], ◌∷◌, ◌++◌, length, flat_map, Option, None, Some, IsTrue, arith, refl, sym, ap, subst, ◌∙◌, append-nil, length-append}
-use Rattle.std.specs.Prelude.{Result, Ok, Err}
+use Rattle.std.proofs.Common.{◌≡◌, ℕ, ◌+◌, ◌≤◌, Bool, false, List, [], ◌∷◌, ◌++◌, length, flat_map, IsTrue, arith, refl, subst, ◌∙◌}
 use Rattle.tm_outside.specs.Store.{StoreState}
 use Rattle.tm_outside.specs.Sink.{SinkState, Wrote}
 use Rattle.tm_outside.specs.declared.sink.SinkFail.TheVariants.{Failed as SinkFailed, Memory as SinkMemory}
 use Rattle.netlist.specs.declared.draft.Draft.{Draft}
-use Rattle.netlist.specs.Rows.{AreRows}
 use Rattle.netlist_eval.specs.declared.vectors.VectorsFail.{VectorsFail}
 use Rattle.netlist_eval.specs.declared.vectors.VectorsFail.TheVariants.{Text, Failed}
 use Rattle.netlist_eval.specs.Readings.{VectorReading, NextGives}
 use Rattle.netlist_eval.specs.Rows.{row_line}
-use Rattle.steps.specs.Files.{most_vector_bytes, file_of, IsBegun, IsNearNext, AreFirst}
-use Rattle.steps.specs.Courses.{all_rows, HasReadRows, IsBeforeRow, ends, refuses, writes}
+use Rattle.steps.specs.Files.{file_of, IsBegun, IsNearNext}
+use Rattle.steps.specs.Courses.{all_rows, HasReadRows, IsBeforeRow, ends}
 use Rattle.steps.specs.Stops.{StopWrote, WriteStops, stop_of_vectors}
 use Rattle.steps.specs.Texts.{FlowCounts}
 use Rattle.steps.specs.declared.refusal.Stop.{Stop}

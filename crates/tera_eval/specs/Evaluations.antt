@@ -1,10 +1,9 @@
 -- What the steps of an evaluation say.
 use Rattle.std.specs.Prelude.{◌≡◌, ◌<◌, ◌≤◌, Bool, true, false, length}
-use Rattle.tm_outside.specs.Store.{StoreState, moved, rest_of}
+use Rattle.tm_outside.specs.Store.{StoreState}
 use Rattle.netlist.specs.declared.draft.Draft.{Draft}
 use Rattle.netlist_eval.specs.Evals.{first_eval, IsStep}
 use Rattle.netlist_eval.specs.declared.vectors.VectorsFail.{VectorsFail}
-use Rattle.netlist_eval.specs.declared.vectors.VectorsFail.TheVariants.{Text, Failed}
 use Rattle.netlist_eval.specs.Readings.{new_reading, NextGives, NextFails, HasMoved, StopsWithin}
 use Rattle.tera_eval.specs.declared.evaluation.Evaluation.{Evaluation}
 use Rattle.steps.specs.Files.{most_vector_bytes, most_ahead}

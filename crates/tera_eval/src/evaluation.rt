@@ -1,5 +1,5 @@
 //! The command that writes the rows of a design.
-ghost use Rattle.std.specs.Prelude.{◌≡◌, ◌≤◌, ◌∷◌, [], ◌++◌, OnOk, IfOk, IfErr, IsSome};
+ghost use Rattle.std.specs.Prelude.{◌≡◌, ◌≤◌, ◌∷◌, [], OnOk, IfOk, IfErr, IsSome};
 ghost use Rattle.tm_outside.specs.Sink.{Wrote};
 ghost use Rattle.rig.specs.Rig.{RigState};
 ghost use Rattle.netlist_eval.specs.Rows.{row_line};

@@ -1,5 +1,5 @@
 -- Rows of an image that are the netlist's.
-use Rattle.std.proofs.Common.{◌≡◌, ◌⊎◌, ℕ, List, [], Bool, Option, None, Some, IfSome, length, refl, sym, subst, inl, inr}
+use Rattle.std.proofs.Common.{◌≡◌, ℕ, List, Bool, Option, None, Some, IfSome, length, refl, sym, subst, inl, inr}
 use Rattle.std.specs.List.{All}
 use Rattle.tm_outside.specs.Told.{Told}
 use Rattle.tm_outside.specs.Store.{Place}

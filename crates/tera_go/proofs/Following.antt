@@ -1,6 +1,6 @@
 -- How the steps of `go` follow one another.
-use Rattle.std.proofs.Common.{◌≡◌, ◌⊎◌, ℕ, ◌+◌, ◌≤◌, List, [], ◌∷◌, ◌++◌, Option, Some, option_map, refl, sym, ap, subst, inl, inr, ◌∙◌, arith}
-use Rattle.std.specs.Prelude.{Result, Ok, Err}
+use Rattle.std.proofs.Common.{◌≡◌, ℕ, ◌+◌, ◌≤◌, List, Some, option_map, refl, sym, ap, subst, inl, inr, ◌∙◌, arith}
+use Rattle.std.specs.Prelude.{Result, Err}
 use Rattle.tm_outside.specs.Store.{StoreState}
 use Rattle.tm_outside.specs.Sink.{SinkState, Wrote}
 use Rattle.hierarchy.specs.declared.Shape.{Shape}
@@ -11,7 +11,7 @@ use Rattle.defect_db.specs.Text.{text_of}
 use Rattle.netlist.specs.declared.draft.Draft.{Draft}
 use Rattle.config_image.specs.Images.{ImageValue}
 use Rattle.crossbar_route.specs.RightImages.{IsRightImage}
-use Rattle.rig.specs.Rig.{RigState, Machine, Asked, shape_of}
+use Rattle.rig.specs.Rig.{RigState, Asked, shape_of}
 use Rattle.steps.specs.Outside.{Outside, Around, StaysNear}
 use Rattle.steps.specs.Courses.{Course, after, write}
 use Rattle.steps.specs.Stops.{IsWritten, StopWrote, StepStops, IsCounted}
@@ -27,6 +27,7 @@ use Rattle.tera_diagnose.proofs.ListLemmas.{list-on, list-stops, list-then}
 use Rattle.tera_compile.specs.Compile.{lays, IsImageFor}
 use Rattle.tera_run.specs.Rows.{image_course}
 use Rattle.tera_go.specs.GoRows.{design_course}
+use Rattle.tera_go.specs.Laid.{HasNoImage}
 use Rattle.tera_go.specs.Go.{go_course}
 use Rattle.tera_go.proofs.DesignRows.{course-design}
 
@@ -41,7 +42,7 @@ pub list-once : (m : Shape) (mid now old new : RigState) (d : DefectList) → Is
 list-once m mid now old new d is machine before once = list-on m 1 mid now old new d is machine before (once-more now.loads new.loads once)
 
 -- and after none
-pub list-kept : (m : Shape) (mid now old : RigState) (d : DefectList) → IsListOf m 0 mid now d → mid.loads ≡ old.loads → IsListOf m 1 old now d
+list-kept : (m : Shape) (mid now old : RigState) (d : DefectList) → IsListOf m 0 mid now d → mid.loads ≡ old.loads → IsListOf m 1 old now d
 list-kept m mid now old d is before = list-on m 1 mid now old now d is refl before (omega arith)
 
 -- ---- the image
@@ -108,7 +109,7 @@ module _ (machine name design vectors : List ℕ) (old new : Around) where
   drawn m draft result a b is named read w =
       attached m result a b is named (after-gives (reads_design Design (old.store.contents design)) near (on_draft m) draft result a b read w)
 
-  pub list-stopped : (m : Shape) (draft : Draft) (stop : Stop) (mid : RigState) (a b : SinkState) → (reads_machine (old.store.contents machine)).gives m → new.rig.machine.attached ≡ Some (asked_for m) → (reads_design Design (old.store.contents design)).gives draft → mid.loads ≡ old.rig.loads → NotListed m stop mid new.rig a b → near → StopWrote (go_course machine name design vectors old new) stop a b
+  list-stopped : (m : Shape) (draft : Draft) (stop : Stop) (mid : RigState) (a b : SinkState) → (reads_machine (old.store.contents machine)).gives m → new.rig.machine.attached ≡ Some (asked_for m) → (reads_design Design (old.store.contents design)).gives draft → mid.loads ≡ old.rig.loads → NotListed m stop mid new.rig a b → near → StopWrote (go_course machine name design vectors old new) stop a b
   list-stopped m draft stop mid a b is named read loads stops at =
       let e : Result (Unit {0}) Stop = Err stop in
       drawn m draft e a b is named read
@@ -118,10 +119,16 @@ module _ (machine name design vectors : List ℕ) (old new : Around) where
   listed m draft d result a b c is named read list wrote w =
       drawn m draft result a c is named read (list-then m 1 old.rig new.rig near (on_list draft) d result a b c list wrote w)
 
-  pub lay-stopped : (m : Shape) (draft : Draft) (d : DefectList) (stop : Stop) (a b : SinkState) → (reads_machine (old.store.contents machine)).gives m → new.rig.machine.attached ≡ Some (asked_for m) → (reads_design Design (old.store.contents design)).gives draft → IsListOf m 1 old.rig new.rig d → Wrote a.written b.written (text_of d) → StepStops (lays d draft) stop → near → StopWrote (go_course machine name design vectors old new) stop a b
+  lay-stopped : (m : Shape) (draft : Draft) (d : DefectList) (stop : Stop) (a b : SinkState) → (reads_machine (old.store.contents machine)).gives m → new.rig.machine.attached ≡ Some (asked_for m) → (reads_design Design (old.store.contents design)).gives draft → IsListOf m 1 old.rig new.rig d → Wrote a.written b.written (text_of d) → StepStops (lays d draft) stop → near → StopWrote (go_course machine name design vectors old new) stop a b
   lay-stopped m draft d stop a b is named read list wrote stops at =
       let e : Result (Unit {0}) Stop = Err stop in
       listed m draft d e a b b is named read list wrote (after-stops (lays d draft) near (on_image draft) stop b stops at)
+
+  -- a list that isn't written whole, or one that leaves no room
+  pub none-laid : (m : Shape) (draft : Draft) (stop : Stop) (mid : RigState) (a b : SinkState) → (reads_machine (old.store.contents machine)).gives m → new.rig.machine.attached ≡ Some (asked_for m) → (reads_design Design (old.store.contents design)).gives draft → mid.loads ≡ old.rig.loads → near → HasNoImage m draft stop mid new.rig a b → StopWrote (go_course machine name design vectors old new) stop a b
+  none-laid m draft stop mid a b is named read loads at (inl none) = list-stopped m draft stop mid a b is named read loads none at
+  none-laid m draft stop mid a b is named read loads at (inr none) =
+      lay-stopped m draft none.list stop a b is named read (list-kept m mid new.rig old.rig none.list none.listed.is loads) none.listed.wrote none.stops at
 
   pub image-runs : {U : Type 0} (m : Shape) (draft : Draft) (d : DefectList) (i : ImageValue) (mid : StoreState) (result : Result U Stop) (a b c : SinkState) → (reads_machine (old.store.contents machine)).gives m → new.rig.machine.attached ≡ Some (asked_for m) → (reads_design Design (old.store.contents design)).gives draft → IsListOf m 1 old.rig new.rig d → Wrote a.written b.written (text_of d) → IsImageFor d draft i → StaysNear old.store mid → mid.contents ≡ old.store.contents → IsWritten (image_course i vectors (StaysNear mid new.store) (mid.contents vectors) new) result b c → IsWritten (go_course machine name design vectors old new) result a c
   image-runs m draft d i mid result a b c is named read list wrote laid at contents w =

@@ -1,6 +1,5 @@
 -- What the command `go` comes to.
-use Rattle.std.proofs.Common.{◌≡◌, ◌⊎◌, ◌∙◌, ℕ, ◌<◌, ◌≤◌, List, [], ◌++◌, length, Option, None, Some, refl, sym, ap, subst, inl, inr, arith}
-use Rattle.tm_outside.specs.Told.{Told, holds, IfTold}
+use Rattle.std.proofs.Common.{◌≡◌, ◌⊎◌, ◌∙◌, ℕ, ◌<◌, List, [], ◌++◌, length, Option, None, refl, sym, ap, subst, inl, inr, arith}
 use Rattle.tm_outside.specs.Store.{Place}
 use Rattle.hierarchy.specs.declared.Shape.{Shape}
 use Rattle.hierarchy.specs.Faults.{Faults}
@@ -24,7 +23,7 @@ use Rattle.rig.specs.Rig.{Asked}
 use Rattle.steps.specs.Files.{says_at, vectors_at, IsNearNext}
 use Rattle.steps.specs.Lines.{outputs_line}
 use Rattle.steps.specs.Outside.{Around, StaysNear}
-use Rattle.steps.specs.Courses.{Next, Course, after, write, all_rows, ends, refuses, writes}
+use Rattle.steps.specs.Courses.{Next, Course, after, write, all_rows, refuses, writes}
 use Rattle.steps.specs.Stops.{status_of}
 use Rattle.steps.specs.Texts.{reads_machine, reads_design, attaches, opens, IsMachineText, IsDesignText}
 use Rattle.steps.specs.Jobs.{IsLawful, IsExcused, Leads, Fronts, EndsWell, EndsShort}
@@ -37,9 +36,9 @@ use Rattle.steps.proofs.ShapeLemmas.{same-shape}
 use Rattle.tera_diagnose.specs.Listing.{diagnoses, IsListOf}
 use Rattle.tera_diagnose.proofs.DiagnoseLaws.{diagnose-excused}
 use Rattle.tera_compile.specs.Compile.{lays, NotLaid, IsNoRoom, IsImageFor}
-use Rattle.tera_run.specs.Rows.{most_rows, loads, NotLoaded, IsAtOutputs}
-use Rattle.tera_go.specs.GoRows.{design_rows, design_course}
-use Rattle.tera_go.specs.Go.{go_course, go_files, go_job, GoFiles, AreGoTexts, HasRoom, LacksRoom, HasPartsFor, IfList, GoRight, GoShort, GoFew, HasOutputs}
+use Rattle.tera_run.specs.Rows.{loads, NotLoaded, IsAtOutputs}
+use Rattle.tera_go.specs.GoRows.{design_rows}
+use Rattle.tera_go.specs.Go.{go_course, go_files, go_job, GoFiles, AreGoTexts, HasRoom, HasPartsFor, IfList, GoRight, GoShort, GoFew, HasOutputs}
 use Rattle.tera_go.proofs.Texts.{small-counts, never-empty, never-alone}
 
 -- a plan and a want of room exclude each other

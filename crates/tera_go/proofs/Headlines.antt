@@ -1,8 +1,7 @@
 -- What a `go` that is done has done, from its course.
-use Rattle.std.proofs.Common.{◌≡◌, ◌⊎◌, ◌∙◌, ℕ, Bool, List, [], ◌∷◌, ◌++◌, length, flat_map, Option, None, Some, IfSome, refl, sym, ap, subst, inl, inr}
+use Rattle.std.proofs.Common.{◌≡◌, ◌∙◌, ℕ, Bool, List, [], ◌∷◌, ◌++◌, flat_map, Option, None, Some, IfSome, sym, ap, subst, inl, inr}
 use Rattle.std.specs.Prelude.{Result, Ok, Err, OnOk}
 use Rattle.tm_outside.specs.Sink.{Wrote}
-use Rattle.tm_outside.specs.Told.{Told}
 use Rattle.hierarchy.specs.declared.Shape.{Shape}
 use Rattle.hierarchy.specs.Faults.{Faults}
 use Rattle.hierarchy.specs.Defects.{Covers}
@@ -12,8 +11,6 @@ use Rattle.netlist.specs.declared.draft.Draft.{Draft}
 use Rattle.netlist.specs.Rows.{AreRows}
 use Rattle.netlist_eval.specs.Rows.{row_line}
 use Rattle.config_image.specs.Images.{ImageValue}
-use Rattle.crossbar_route.specs.RightImages.{IsRightImage}
-use Rattle.rig.specs.Rig.{RigState, Asked}
 use Rattle.steps.specs.Files.{AreAll}
 use Rattle.steps.specs.Lines.{outputs_line, output_text}
 use Rattle.steps.specs.Outside.{Outside, around}

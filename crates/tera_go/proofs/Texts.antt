@@ -1,8 +1,7 @@
 -- No text of a list goes on as another list does with the line `outputs` behind it.
-use Rattle.std.proofs.Common.{◌≡◌, ◌⊎◌, ℕ, ◌+◌, ◌<◌, ◌≤◌, slice_index_or, List, [], ◌∷◌, ◌++◌, length, refl, sym, ap, subst, inr, inl, ◌∙◌, arith, length-append, append-nil}
+use Rattle.std.proofs.Common.{◌≡◌, ℕ, ◌+◌, ◌<◌, ◌≤◌, slice_index_or, List, [], ◌++◌, length, refl, sym, ap, inr, ◌∙◌, arith, length-append, append-nil}
 use Rattle.hierarchy.specs.declared.Shape.{Shape}
 use Rattle.hierarchy.specs.declared.Counts.{Counts}
-use Rattle.hierarchy.specs.Laws.{HasNames, HasCrosses, IsNumbered}
 use Rattle.machine_file.specs.Machine.{IsMachine}
 use Rattle.machine_file.specs.declared.head.Head.TheVariants as head
 use Rattle.defect_db.specs.Lists.{DefectList, IsDefectList}

@@ -1,12 +1,18 @@
 //! The command that runs a design on a machine of the rig.
-ghost use Rattle.std.specs.Prelude.{◌≡◌, ◌≤◌, ◌∷◌, [], OnOk, IfErr};
+ghost use Rattle.std.specs.Prelude.{◌≡◌, ◌≤◌, ◌∷◌, [], Some, OnOk, IfOk, IfErr};
+ghost use Rattle.tm_outside.specs.Store.{StoreState};
+ghost use Rattle.rig.specs.Rig.{shape_of};
 ghost use Rattle.steps.specs.Outside.{outside, around};
 ghost use Rattle.steps.specs.Stops.{Asks, IsWritten, IsCounted};
 ghost use Rattle.steps.specs.Texts.{reads_machine, AsksMachine};
 ghost use Rattle.steps.specs.Jobs.{Does, IsLawful};
+ghost use Rattle.tera_go.specs.Laid.{IsLaid, HasNoImage};
 ghost use Rattle.tera_go.specs.Go.{go_course, go_job};
 ghost use Rattle.tera_go.specs.Headline.{IsGone};
 
+use config_image::Image;
+use hierarchy::Shape;
+use netlist::Netlist;
 use place::in_order_plans_are_decided;
 use rig::Rig;
 use sound_room::sound_parts_are_room;
@@ -17,6 +23,32 @@ use tera_compile::lay;
 use tera_diagnose::list_defects;
 use tera_run::run_image;
 use tm_outside::{Sink, Store};
+
+// Lists the defects of the machine that is attached, writes the list, and lays a design on what it leaves free.
+fn list_and_lay<K: Sink>(
+    alloc: Global,
+    shape: &Shape,
+    netlist: &Netlist,
+    rig: &mut Box<dyn Rig>,
+    sink: &mut K,
+) -> Result<Image, Stop>
+    requires { shape_of (rig_state rig.old) ≡ Some shape.now }
+
+    ensures machine { (rig_state rig.new).machine ≡ (rig_state rig.old).machine }
+    ensures rig_later { (rig_state rig.old).failures ≤ (rig_state rig.new).failures }
+    ensures kind { (K.sink_state sink.new).can_lack ≡ (K.sink_state sink.old).can_lack }
+    ensures sink_later { (K.sink_state sink.old).failures ≤ (K.sink_state sink.new).failures }
+    ensures found { IfOk result (IsLaid shape.now netlist.now
+        (rig_state rig.old) (rig_state rig.new) (K.sink_state sink.old) (K.sink_state sink.new)) }
+    ensures refused { IfErr result (λ stop. HasNoImage shape.now netlist.now stop
+        (rig_state rig.old) (rig_state rig.new) (K.sink_state sink.old) (K.sink_state sink.new)) }
+    // Whatever the store is.
+    ensures counted { (store : StoreState) → IfErr result (λ stop. IsCounted ⊥ stop
+        (outside store (rig_state rig.old) (K.sink_state sink.old)) (outside store (rig_state rig.new) (K.sink_state sink.new))) }
+{
+    let list = list_defects(alloc, shape, rig, sink)?;
+    lay(alloc, netlist, &list)
+}
 
 // Reads a machine and attaches it, reads a design, writes the list of the machine's defects, and runs the design on what
 // the list leaves free.
@@ -49,8 +81,7 @@ fn work<S: Store, K: Sink>(
     let shape = read_shape(alloc, store, machine)?;
     attach(rig, &shape, name)?;
     let netlist = read_design(alloc, DesignFile::Design, store, design)?;
-    let list = list_defects(alloc, &shape, rig, sink)?;
-    let image = lay(alloc, &netlist, &list)?;
+    let image = list_and_lay(alloc, &shape, &netlist, rig, sink)?;
     run_image(alloc, image, vectors, store, rig, sink)
 }
 

@@ -1,13 +1,12 @@
 -- How the steps of `run` follow one another.
-use Rattle.std.proofs.Common.{◌≡◌, ◌⊎◌, ℕ, ◌≤◌, List, [], ◌∷◌, ◌++◌, Option, Some, IfSome, option_map, refl, sym, ap, subst, inl, inr, ◌∙◌, arith}
-use Rattle.std.specs.Prelude.{Result, Ok, Err}
+use Rattle.std.proofs.Common.{◌≡◌, ℕ, List, Some, option_map, refl, sym, ap, subst, inl, inr, ◌∙◌}
+use Rattle.std.specs.Prelude.{Result, Err}
 use Rattle.tm_outside.specs.Told.{Told, IsPresent}
-use Rattle.tm_outside.specs.Store.{StoreState, StartFails}
+use Rattle.tm_outside.specs.Store.{StoreState}
 use Rattle.tm_outside.specs.Sink.{SinkState, Wrote}
 use Rattle.tm_outside.specs.declared.store.StoreFail.{StoreFail}
-use Rattle.tm_outside.specs.declared.store.StoreFail.TheVariants.{Failed as StoreFailed, Memory as StoreMemory}
 use Rattle.hierarchy.specs.declared.Shape.{Shape}
-use Rattle.rig.specs.Rig.{RigState, Asked, Attaches, LoadFails, shape_of}
+use Rattle.rig.specs.Rig.{RigState, Asked, LoadFails, shape_of}
 use Rattle.rig.specs.declared.rig.RigFail.{RigFail}
 use Rattle.rig.specs.declared.rig.RigFail.TheVariants.{Failed, Memory}
 use Rattle.config_image.specs.Images.{ImageValue}

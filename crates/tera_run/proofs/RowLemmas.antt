@@ -1,23 +1,21 @@
 -- How the rows of an image go on, and how they stop.
-use Rattle.std.proofs.Common.{◌≡◌, ℕ, zero, suc, ◌+◌, ◌<◌, ◌≤◌, Bool, true, false, List, [], ◌∷◌, ◌++◌, length, take, map, flat_map, Option, None, Some, IfSome, IsTrue, arith, refl, sym, ap, subst, ◌∙◌, length-append}
+use Rattle.std.proofs.Common.{◌≡◌, ℕ, zero, suc, ◌+◌, ◌≤◌, Bool, false, List, [], ◌∷◌, ◌++◌, length, map, flat_map, Option, None, Some, IfSome, IsTrue, arith, refl, ap, subst, ◌∙◌, length-append}
 use Rattle.std.specs.List.{All}
 use Rattle.std.proofs.lemmas.List.{map-append}
 use Rattle.std.proofs.lemmas.List.Elements.{All-append}
-use Rattle.tm_outside.specs.Told.{Told}
 use Rattle.tm_outside.specs.Store.{StoreState}
 use Rattle.tm_outside.specs.Sink.{SinkState, Wrote}
 use Rattle.tm_outside.specs.declared.sink.SinkFail.TheVariants.{Failed as SinkFailed, Memory as SinkMemory}
 use Rattle.hierarchy.specs.Circuit.{Pins}
 use Rattle.hierarchy.specs.Faults.{Faults}
 use Rattle.config_set.specs.Configuration.{Configuration}
-use Rattle.config_set.specs.Run.{Runs, at_load, none}
+use Rattle.config_set.specs.Run.{at_load, none}
 use Rattle.config_set.specs.Faulty.{IsRun, circuit_of}
-use Rattle.rig.specs.Rig.{RigState, Exchange, IsTold, GoesOn, Begins, config_of, cycles_of, spare_of, drives_of, readings_of}
+use Rattle.rig.specs.Rig.{RigState, Exchange, IsTold, Begins, config_of, cycles_of, drives_of, readings_of}
 use Rattle.config_image.specs.Images.{ImageValue, drive_of, row_of}
 use Rattle.loader.specs.Run.{RunsRow}
 use Rattle.netlist_eval.specs.Rows.{row_line}
-use Rattle.netlist_eval.specs.Readings.{NextGives}
-use Rattle.steps.specs.Files.{AreFirst, AreAll, IsNearNext, file_of, IsBegun}
+use Rattle.steps.specs.Files.{IsNearNext, file_of, IsBegun}
 use Rattle.steps.specs.Outside.{outside}
 use Rattle.steps.specs.Courses.{all_rows, HasRows, HasReadRows, IsBeforeRow, ends}
 use Rattle.steps.specs.Stops.{StopWrote, WriteStops, IsCounted}

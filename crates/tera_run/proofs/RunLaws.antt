@@ -1,6 +1,6 @@
 -- What the command `run` comes to.
-use Rattle.std.proofs.Common.{◌≡◌, ◌⊎◌, ◌∙◌, ℕ, ◌<◌, ◌≤◌, List, [], ◌++◌, length, Option, None, Some, refl, sym, subst, inl, inr, arith}
-use Rattle.tm_outside.specs.Told.{Told, holds, IfTold}
+use Rattle.std.proofs.Common.{◌≡◌, ◌∙◌, ℕ, ◌<◌, List, [], ◌++◌, length, Option, None, Some, refl, sym, subst, inl, inr, arith}
+use Rattle.tm_outside.specs.Told.{Told, holds}
 use Rattle.tm_outside.specs.Store.{Place}
 use Rattle.hierarchy.specs.declared.Shape.{Shape}
 use Rattle.config_image.specs.Images.{ImageValue, Reads}
@@ -8,14 +8,14 @@ use Rattle.rig.specs.Rig.{Asked}
 use Rattle.steps.specs.Files.{says_at, vectors_at, IsNearNext}
 use Rattle.steps.specs.Lines.{outputs_line}
 use Rattle.steps.specs.Outside.{Around, StaysNear}
-use Rattle.steps.specs.Courses.{Next, Course, after, write, all_rows, ends, refuses, writes}
+use Rattle.steps.specs.Courses.{Course, after, write, all_rows, refuses}
 use Rattle.steps.specs.Texts.{reads_machine, reads_image, attaches, opens, IsMachineText}
 use Rattle.steps.specs.Jobs.{IsLawful, IsExcused, Leads, Fronts, EndsWell}
 use Rattle.steps.specs.declared.refusal.Refusal.{Refusal}
 use Rattle.steps.specs.declared.refusal.Refusal.TheVariants.{Memory, Rig}
 use Rattle.steps.proofs.Leading.{after-leads, write-leads}
 use Rattle.steps.proofs.Excused.{machine-excused, image-excused, attach-excused, open-excused, rows-well}
-use Rattle.tera_run.specs.Rows.{most_rows, image_rows, IsSession, NotLoaded, loads}
+use Rattle.tera_run.specs.Rows.{image_rows, IsSession, NotLoaded, loads}
 use Rattle.tera_run.specs.Run.{run_course, run_files, run_job, RunFiles, RunRight, RunFew}
 use Rattle.steps.proofs.ShapeLemmas.{same-shape}
 

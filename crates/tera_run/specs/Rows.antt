@@ -1,7 +1,7 @@
 -- The rows of an image that is loaded, wherever it comes from.
 use Rattle.std.specs.Prelude.{◌≡◌, ℕ, ◌+◌, ◌≤◌, Bool, List, [], map, length, Option, Some, IfSome}
 use Rattle.std.specs.List.{All}
-use Rattle.tm_outside.specs.Told.{Told, IfTold}
+use Rattle.tm_outside.specs.Told.{Told}
 use Rattle.tm_outside.specs.Store.{Place}
 use Rattle.hierarchy.specs.Circuit.{Pins}
 use Rattle.hierarchy.specs.Faults.{Faults}

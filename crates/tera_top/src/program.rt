@@ -1,5 +1,5 @@
 //! The top call.
-ghost use Rattle.std.specs.Prelude.{◌≡◌, ◌≤◌, ◌⊎◌, ◌++◌, ℕ, List, Some, OnOk, IsTrue, false, None, map, string_bytes};
+ghost use Rattle.std.specs.Prelude.{◌≡◌, ◌≤◌, ◌⊎◌, ◌++◌, ℕ, List, Some, IsTrue, false, None, map, string_bytes};
 ghost use Rattle.tm_outside.specs.Counts.{Rose};
 ghost use Rattle.steps.specs.Outside.{outside, around};
 ghost use Rattle.steps.specs.Stops.{AsksSome, status_of};

@@ -323,6 +323,18 @@ impl Book {
         Ok(true)
     }
 
+    // Tries the step where it has to write what a file has; false where the words name none.
+    fn repeat(&mut self, rt: &impl Print, words: &[String]) -> Result<bool, AllocError> {
+        let [status, name] = words else {
+            return Ok(false);
+        };
+        let Some(file) = self.named(name.as_str()) else {
+            return Ok(false);
+        };
+        let bytes = Vec::from_slice(self.alloc, &file.bytes)?;
+        self.end(rt, status.as_str(), &bytes, true)
+    }
+
     // Does what a head says, with the bytes below it; false where it says nothing.
     fn read(&mut self, rt: &impl Print, head: &str, body: Vec<u8>) -> Result<bool, AllocError> {
         let words = rest_of(self.alloc, head)?;
@@ -342,6 +354,7 @@ impl Book {
             "some" | "only" | "last" => { mark(self.alloc, &mut self.step.marks, key, words, body) }
             "ends" => self.end(rt, first, &body, true),
             "begins" => self.end(rt, first, &body, false),
+            "repeats" => self.repeat(rt, &words),
             _ => set(self.alloc, &mut self.step, key, words),
         }
     }

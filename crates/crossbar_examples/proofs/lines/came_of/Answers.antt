@@ -1,4 +1,4 @@
-use Rattle.crossbar_examples.proofs.Finding.{found_later}
+use Rattle.crossbar_walk.proofs.Finding.{found_later}
 use Rattle.crossbar_examples.proofs.lines.came_of.Goals as goal
 
 pub returns-in-toggle-clause-found : goal.returns-in-toggle-clause-found

@@ -1,5 +1,5 @@
 use Rattle.std.proofs.Common.{◌≡◌}
-use Rattle.crossbar_examples.specs.Found.{AreFound}
+use Rattle.crossbar_walk.specs.Found.{AreFound}
 use Rattle.crossbar_examples.proofs.lines.try_lines.Given as goal
 
 abbrev pub invariant-lines : goal.invariant-lines

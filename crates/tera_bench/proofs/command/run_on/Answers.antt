@@ -1,7 +1,6 @@
 use Rattle.std.proofs.Common.{◌≡◌, ◌∙◌, length, refl, ap, inl, arith}
 use Rattle.std.proofs.lemmas.Result.{err_from_is_err_and}
 use Rattle.netlist.specs.declared.draft.Draft.{Draft}
-use Rattle.steps.specs.Outside.{outside}
 use Rattle.steps.specs.declared.refusal.Refusal.TheVariants.{Memory}
 use Rattle.steps.specs.declared.refusal.Stop.TheVariants.{Refused}
 use Rattle.steps.proofs.Counting.{rig-counted}

@@ -1,7 +1,7 @@
-use Rattle.std.proofs.Common.{◌∙◌, refl, ap, inl, inr, length, arith}
+use Rattle.std.proofs.Common.{◌∙◌, ap, inr, length}
 use Rattle.std.proofs.lemmas.Result.{err_from_is_err_and}
 use Rattle.loader.specs.Pins.{Rows}
-use Rattle.tera_bench.proofs.RunLemmas.{running-start, running-more, running-done, running-width, run-stops, load-counts, cycle-counts}
+use Rattle.tera_bench.proofs.RunLemmas.{running-start, running-more, running-width, run-stops, load-counts}
 use Rattle.tera_bench.proofs.work.run_work.Goals as goal
 
 pub rows-init : goal.rows-init

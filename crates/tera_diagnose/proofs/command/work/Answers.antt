@@ -1,4 +1,4 @@
-use Rattle.std.proofs.Common.{◌∙◌, ◌∷◌, [], refl, ap, inl, arith}
+use Rattle.std.proofs.Common.{◌∙◌, ◌∷◌, [], refl, ap, arith}
 use Rattle.std.proofs.lemmas.Result.{err_from_is_err_and}
 use Rattle.rig.specs.Rig.{Machine}
 use Rattle.steps.specs.Outside.{outside, around}

@@ -1,4 +1,3 @@
-use Rattle.std.proofs.Common.{refl}
 use Rattle.steps.specs.Outside.{outside}
 use Rattle.tera_go.proofs.GoLaws.{go-lawful}
 use Rattle.tera_go.proofs.Headlines.{gone-done}

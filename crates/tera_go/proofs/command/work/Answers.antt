@@ -3,10 +3,10 @@ use Rattle.std.proofs.lemmas.Result.{err_from_is_err_and}
 use Rattle.rig.specs.Rig.{Machine}
 use Rattle.steps.specs.Outside.{outside, around}
 use Rattle.steps.proofs.Counting.{store-counted, rig-counted, counted-after, near-near}
-use Rattle.steps.proofs.WriteLemmas.{asks-then, asks-first, asks-after, asks-both, names-both}
+use Rattle.steps.proofs.WriteLemmas.{asks-then, asks-first, asks-after, names-both}
 use Rattle.tera_diagnose.proofs.ListLemmas.{attached-shape, counted-on}
 use Rattle.tera_diagnose.proofs.Following.{asks-machine}
-use Rattle.tera_go.proofs.Following.{machine-stops, attach-stopped, design-stops, list-stopped, lay-stopped, image-runs, list-kept, list-once, lay-counted, image-shape}
+use Rattle.tera_go.proofs.Following.{machine-stops, attach-stopped, design-stops, none-laid, image-runs, list-once, image-shape}
 use Rattle.tera_go.proofs.command.work.Goals as goal
 
 pub returns-in_err-shape-clause-written : goal.returns-in_err-shape-clause-written
@@ -105,90 +105,24 @@ returns-in_err-netlist-clause-machines g c =
     let rig1 = (goal.Rig-dyn g (box1.vtable, box1.value)).rig_state box1.value in
     asks-machine _ c.args.name.now c.in_ok-shape.shape rig0 rig1 rig1 c.in_ok-shape.ensures.found c.in_ok-attach.ensures.asked refl
 
-pub list_defects-requires : goal.list_defects-requires
-list_defects-requires g c =
+pub list_and_lay-requires : goal.list_and_lay-requires
+list_and_lay-requires g c =
     let box1 = c.attach.new.rig in
     let rig1 = (goal.Rig-dyn g (box1.vtable, box1.value)).rig_state box1.value in
     attached-shape rig1 c.in_ok-shape.shape c.args.name.now c.in_ok-attach.ensures.attached.attached
 
-pub returns-in_err-list-clause-written : goal.returns-in_err-list-clause-written
-returns-in_err-list-clause-written g c =
-    let p = err_from_is_err_and c.from_residual-in_err-list.result c.from_residual-in_err-list.ensures.1 in
-    let box0 = c.args.rig.now in
-    let rig0 = (goal.Rig-dyn g (box0.vtable, box0.value)).rig_state box0.value in
-    let box1 = c.attach.new.rig in
-    let rig1 = (goal.Rig-dyn g (box1.vtable, box1.value)).rig_state box1.value in
-    let box2 = c.list_defects.new.rig in
-    let rig2 = (goal.Rig-dyn g (box2.vtable, box2.value)).rig_state box2.value in
-    let s0 = g.S.Store.store_state c.args.store.now in
-    let s1 = g.S.Store.store_state c.read_shape.new.store in
-    let s2 = g.S.Store.store_state c.read_design.new.store in
-    let a = g.K.Sink.sink_state c.args.sink.now in
-    let b = g.K.Sink.sink_state c.list_defects.new.sink in
-    let e = c.in_ok-shape.ensures in
-    let n = c.in_ok-netlist.ensures in
-    let read = rw e.contents at n.found in
-    let l = c.in_err-list.ensures in
-    let named = ap (λ (m : Machine). m.attached) l.machine ∙ c.in_ok-attach.ensures.attached.attached in
-    rw (p.1, p.2) (list-stopped c.args.machine.now c.args.name.now c.args.design.now c.args.vectors.now (around (outside s0 rig0 a)) (around (outside s2 rig2 b)) c.in_ok-shape.shape c.in_ok-netlist.netlist _ rig1 a b e.found named read c.in_ok-attach.ensures.loads l.refused (near-near s0 s1 s2 e.place n.place))
-
-pub returns-in_err-list-clause-counted : goal.returns-in_err-list-clause-counted
-returns-in_err-list-clause-counted g c =
-    let p = err_from_is_err_and c.from_residual-in_err-list.result c.from_residual-in_err-list.ensures.1 in
-    let box0 = c.args.rig.now in
-    let rig0 = (goal.Rig-dyn g (box0.vtable, box0.value)).rig_state box0.value in
-    let box1 = c.attach.new.rig in
-    let rig1 = (goal.Rig-dyn g (box1.vtable, box1.value)).rig_state box1.value in
-    let s0 = g.S.Store.store_state c.args.store.now in
-    let s1 = g.S.Store.store_state c.read_shape.new.store in
-    let s2 = g.S.Store.store_state c.read_design.new.store in
-    let a = g.K.Sink.sink_state c.args.sink.now in
-    rw (p.1, p.2) (counted-on _ (outside s0 rig0 a) (outside s2 rig1 a) _ (record { store = omega (arith, c.in_ok-shape.ensures.later, c.in_ok-netlist.ensures.later); rig = c.in_ok-attach.ensures.later; sink = omega arith; kind = refl }) (c.in_err-list.ensures.counted s2))
-
-pub returns-in_err-list-clause-asked : goal.returns-in_err-list-clause-asked
-returns-in_err-list-clause-asked g c =
-    let p = err_from_is_err_and c.from_residual-in_err-list.result c.from_residual-in_err-list.ensures.1 in
-    let s0 = g.S.Store.store_state c.args.store.now in
-    let s1 = g.S.Store.store_state c.read_shape.new.store in
-    let s2 = g.S.Store.store_state c.read_design.new.store in
-    asks-then (c.args.machine.now ∷ c.args.design.now ∷ []) (c.args.vectors.now ∷ []) c.from_residual-in_err-list.result p.0 s0 s2 s2 p.1 (names-both (c.args.machine.now ∷ []) (c.args.design.now ∷ []) s0 s1 s2 c.in_ok-shape.ensures.asked.all c.in_ok-netlist.ensures.asked.all) (inl refl)
-
-pub returns-in_err-list-clause-machines : goal.returns-in_err-list-clause-machines
-returns-in_err-list-clause-machines g c =
-    let box0 = c.args.rig.now in
-    let rig0 = (goal.Rig-dyn g (box0.vtable, box0.value)).rig_state box0.value in
-    let box1 = c.attach.new.rig in
-    let rig1 = (goal.Rig-dyn g (box1.vtable, box1.value)).rig_state box1.value in
-    let box2 = c.list_defects.new.rig in
-    let rig2 = (goal.Rig-dyn g (box2.vtable, box2.value)).rig_state box2.value in
-    asks-machine _ c.args.name.now c.in_ok-shape.shape rig0 rig1 rig2 c.in_ok-shape.ensures.found c.in_ok-attach.ensures.asked (ap (λ (m : Machine). m.asked) c.in_err-list.ensures.machine)
-
-pub returns-in_err-image-clause-written : goal.returns-in_err-image-clause-written
-returns-in_err-image-clause-written g c =
-    let p = err_from_is_err_and c.from_residual-in_err-image.result c.from_residual-in_err-image.ensures.1 in
-    let box0 = c.args.rig.now in
-    let rig0 = (goal.Rig-dyn g (box0.vtable, box0.value)).rig_state box0.value in
-    let box1 = c.attach.new.rig in
-    let rig1 = (goal.Rig-dyn g (box1.vtable, box1.value)).rig_state box1.value in
-    let box2 = c.list_defects.new.rig in
-    let rig2 = (goal.Rig-dyn g (box2.vtable, box2.value)).rig_state box2.value in
-    let s0 = g.S.Store.store_state c.args.store.now in
-    let s1 = g.S.Store.store_state c.read_shape.new.store in
-    let s2 = g.S.Store.store_state c.read_design.new.store in
-    let a = g.K.Sink.sink_state c.args.sink.now in
-    let b = g.K.Sink.sink_state c.list_defects.new.sink in
-    let e = c.in_ok-shape.ensures in
-    let n = c.in_ok-netlist.ensures in
-    let read = rw e.contents at n.found in
-    let l = c.in_ok-list.ensures in
-    let named = ap (λ (m : Machine). m.attached) l.machine ∙ c.in_ok-attach.ensures.attached.attached in
-    let list = list-kept c.in_ok-shape.shape rig1 rig2 rig0 c.in_ok-list.list l.found c.in_ok-attach.ensures.loads in
-    rw (p.1, p.2) (lay-stopped c.args.machine.now c.args.name.now c.args.design.now c.args.vectors.now (around (outside s0 rig0 a)) (around (outside s2 rig2 b)) c.in_ok-shape.shape c.in_ok-netlist.netlist c.in_ok-list.list _ a b e.found named read list l.wrote c.in_err-image.ensures.refused (near-near s0 s1 s2 e.place n.place))
-
 pub returns-in_err-image-clause-counted : goal.returns-in_err-image-clause-counted
 returns-in_err-image-clause-counted g c =
     let p = err_from_is_err_and c.from_residual-in_err-image.result c.from_residual-in_err-image.ensures.1 in
-    rw (p.1, p.2) (lay-counted c.in_ok-list.list c.in_ok-netlist.netlist _ _ _ c.in_err-image.ensures.refused)
+    let box0 = c.args.rig.now in
+    let rig0 = (goal.Rig-dyn g (box0.vtable, box0.value)).rig_state box0.value in
+    let box1 = c.attach.new.rig in
+    let rig1 = (goal.Rig-dyn g (box1.vtable, box1.value)).rig_state box1.value in
+    let s0 = g.S.Store.store_state c.args.store.now in
+    let s1 = g.S.Store.store_state c.read_shape.new.store in
+    let s2 = g.S.Store.store_state c.read_design.new.store in
+    let a = g.K.Sink.sink_state c.args.sink.now in
+    rw (p.1, p.2) (counted-on _ (outside s0 rig0 a) (outside s2 rig1 a) _ (record { store = omega (arith, c.in_ok-shape.ensures.later, c.in_ok-netlist.ensures.later); rig = c.in_ok-attach.ensures.later; sink = omega arith; kind = refl }) (c.in_err-image.ensures.counted s2))
 
 pub returns-in_err-image-clause-asked : goal.returns-in_err-image-clause-asked
 returns-in_err-image-clause-asked g c =
@@ -204,17 +138,39 @@ returns-in_err-image-clause-machines g c =
     let rig0 = (goal.Rig-dyn g (box0.vtable, box0.value)).rig_state box0.value in
     let box1 = c.attach.new.rig in
     let rig1 = (goal.Rig-dyn g (box1.vtable, box1.value)).rig_state box1.value in
-    let box2 = c.list_defects.new.rig in
+    let box2 = c.list_and_lay.new.rig in
     let rig2 = (goal.Rig-dyn g (box2.vtable, box2.value)).rig_state box2.value in
-    asks-machine _ c.args.name.now c.in_ok-shape.shape rig0 rig1 rig2 c.in_ok-shape.ensures.found c.in_ok-attach.ensures.asked (ap (λ (m : Machine). m.asked) c.in_ok-list.ensures.machine)
+    asks-machine _ c.args.name.now c.in_ok-shape.shape rig0 rig1 rig2 c.in_ok-shape.ensures.found c.in_ok-attach.ensures.asked (ap (λ (m : Machine). m.asked) c.in_err-image.ensures.machine)
+
+pub returns-in_err-image-clause-written : goal.returns-in_err-image-clause-written
+returns-in_err-image-clause-written g c =
+    let p = err_from_is_err_and c.from_residual-in_err-image.result c.from_residual-in_err-image.ensures.1 in
+    let box0 = c.args.rig.now in
+    let rig0 = (goal.Rig-dyn g (box0.vtable, box0.value)).rig_state box0.value in
+    let box1 = c.attach.new.rig in
+    let rig1 = (goal.Rig-dyn g (box1.vtable, box1.value)).rig_state box1.value in
+    let box2 = c.list_and_lay.new.rig in
+    let rig2 = (goal.Rig-dyn g (box2.vtable, box2.value)).rig_state box2.value in
+    let s0 = g.S.Store.store_state c.args.store.now in
+    let s1 = g.S.Store.store_state c.read_shape.new.store in
+    let s2 = g.S.Store.store_state c.read_design.new.store in
+    let a = g.K.Sink.sink_state c.args.sink.now in
+    let b = g.K.Sink.sink_state c.list_and_lay.new.sink in
+    let e = c.in_ok-shape.ensures in
+    let n = c.in_ok-netlist.ensures in
+    let read = rw e.contents at n.found in
+    let l = c.in_err-image.ensures in
+    let named = ap (λ (m : Machine). m.attached) l.machine ∙ c.in_ok-attach.ensures.attached.attached in
+    rw (p.1, p.2) (none-laid c.args.machine.now c.args.name.now c.args.design.now c.args.vectors.now (around (outside s0 rig0 a)) (around (outside s2 rig2 b)) c.in_ok-shape.shape c.in_ok-netlist.netlist _ rig1 a b e.found named read c.in_ok-attach.ensures.loads (near-near s0 s1 s2 e.place n.place) l.refused)
 
 pub run_image-requires : goal.run_image-requires
 run_image-requires g c =
-    let box2 = c.list_defects.new.rig in
+    let box2 = c.list_and_lay.new.rig in
     let rig2 = (goal.Rig-dyn g (box2.vtable, box2.value)).rig_state box2.value in
-    let l = c.in_ok-list.ensures in
+    let l = c.in_ok-image.ensures in
+    let laid = l.found in
     let named = ap (λ (m : Machine). m.attached) l.machine ∙ c.in_ok-attach.ensures.attached.attached in
-    image-shape rig2 c.in_ok-shape.shape c.args.name.now c.in_ok-list.list c.in_ok-netlist.netlist c.in_ok-image.image named l.found.shape c.in_ok-image.ensures.found
+    image-shape rig2 c.in_ok-shape.shape c.args.name.now laid.list c.in_ok-netlist.netlist c.in_ok-image.image named laid.listed.is.shape laid.image
 
 pub returns-clause-written : goal.returns-clause-written
 returns-clause-written g c =
@@ -222,7 +178,7 @@ returns-clause-written g c =
     let rig0 = (goal.Rig-dyn g (box0.vtable, box0.value)).rig_state box0.value in
     let box1 = c.attach.new.rig in
     let rig1 = (goal.Rig-dyn g (box1.vtable, box1.value)).rig_state box1.value in
-    let box2 = c.list_defects.new.rig in
+    let box2 = c.list_and_lay.new.rig in
     let rig2 = (goal.Rig-dyn g (box2.vtable, box2.value)).rig_state box2.value in
     let box3 = c.run_image.new.rig in
     let rig3 = (goal.Rig-dyn g (box3.vtable, box3.value)).rig_state box3.value in
@@ -231,29 +187,30 @@ returns-clause-written g c =
     let s2 = g.S.Store.store_state c.read_design.new.store in
     let s3 = g.S.Store.store_state c.run_image.new.store in
     let a = g.K.Sink.sink_state c.args.sink.now in
-    let b = g.K.Sink.sink_state c.list_defects.new.sink in
+    let b = g.K.Sink.sink_state c.list_and_lay.new.sink in
     let k = g.K.Sink.sink_state c.run_image.new.sink in
     let e = c.in_ok-shape.ensures in
     let n = c.in_ok-netlist.ensures in
     let read = rw e.contents at n.found in
-    let l = c.in_ok-list.ensures in
+    let l = c.in_ok-image.ensures in
+    let laid = l.found in
     let r = c.run_image.ensures in
     let named = ap (λ (m : Machine). m.attached) r.machine ∙ (ap (λ (m : Machine). m.attached) l.machine ∙ c.in_ok-attach.ensures.attached.attached) in
-    let list = list-once c.in_ok-shape.shape rig1 rig2 rig0 rig3 c.in_ok-list.list l.found r.machine c.in_ok-attach.ensures.loads r.loads in
-    image-runs c.args.machine.now c.args.name.now c.args.design.now c.args.vectors.now (around (outside s0 rig0 a)) (around (outside s3 rig3 k)) c.in_ok-shape.shape c.in_ok-netlist.netlist c.in_ok-list.list c.in_ok-image.image s2 _ a b k e.found named read list l.wrote c.in_ok-image.ensures.found (near-near s0 s1 s2 e.place n.place) (n.contents ∙ e.contents) r.written
+    let list = list-once c.in_ok-shape.shape rig1 rig2 rig0 rig3 laid.list laid.listed.is r.machine c.in_ok-attach.ensures.loads r.loads in
+    image-runs c.args.machine.now c.args.name.now c.args.design.now c.args.vectors.now (around (outside s0 rig0 a)) (around (outside s3 rig3 k)) c.in_ok-shape.shape c.in_ok-netlist.netlist laid.list c.in_ok-image.image s2 _ a b k e.found named read list laid.listed.wrote laid.image (near-near s0 s1 s2 e.place n.place) (n.contents ∙ e.contents) r.written
 
 pub returns-clause-counted : goal.returns-clause-counted
 returns-clause-counted g c =
     let box0 = c.args.rig.now in
     let rig0 = (goal.Rig-dyn g (box0.vtable, box0.value)).rig_state box0.value in
-    let box2 = c.list_defects.new.rig in
+    let box2 = c.list_and_lay.new.rig in
     let rig2 = (goal.Rig-dyn g (box2.vtable, box2.value)).rig_state box2.value in
     let s0 = g.S.Store.store_state c.args.store.now in
     let s1 = g.S.Store.store_state c.read_shape.new.store in
     let s2 = g.S.Store.store_state c.read_design.new.store in
     let a = g.K.Sink.sink_state c.args.sink.now in
-    let b = g.K.Sink.sink_state c.list_defects.new.sink in
-    let l = c.in_ok-list.ensures in
+    let b = g.K.Sink.sink_state c.list_and_lay.new.sink in
+    let l = c.in_ok-image.ensures in
     counted-after _ (outside s0 rig0 a) (outside s2 rig2 b) _ (record { store = omega (arith, c.in_ok-shape.ensures.later, c.in_ok-netlist.ensures.later); rig = omega (arith, c.in_ok-attach.ensures.later, l.rig_later); sink = l.sink_later; kind = l.kind }) c.run_image.ensures.counted
 
 pub returns-clause-asked : goal.returns-clause-asked
@@ -270,9 +227,9 @@ returns-clause-machines g c =
     let rig0 = (goal.Rig-dyn g (box0.vtable, box0.value)).rig_state box0.value in
     let box1 = c.attach.new.rig in
     let rig1 = (goal.Rig-dyn g (box1.vtable, box1.value)).rig_state box1.value in
-    let box2 = c.list_defects.new.rig in
+    let box2 = c.list_and_lay.new.rig in
     let rig2 = (goal.Rig-dyn g (box2.vtable, box2.value)).rig_state box2.value in
     let box3 = c.run_image.new.rig in
     let rig3 = (goal.Rig-dyn g (box3.vtable, box3.value)).rig_state box3.value in
-    let asked = ap (λ (m : Machine). m.asked) c.run_image.ensures.machine ∙ ap (λ (m : Machine). m.asked) c.in_ok-list.ensures.machine in
+    let asked = ap (λ (m : Machine). m.asked) c.run_image.ensures.machine ∙ ap (λ (m : Machine). m.asked) c.in_ok-image.ensures.machine in
     asks-machine _ c.args.name.now c.in_ok-shape.shape rig0 rig1 rig3 c.in_ok-shape.ensures.found c.in_ok-attach.ensures.asked asked

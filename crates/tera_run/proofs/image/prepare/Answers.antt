@@ -1,4 +1,3 @@
-use Rattle.std.proofs.Common.{inl, inr}
 use Rattle.std.proofs.lemmas.Result.{err_from_is_err_and}
 use Rattle.tera_run.proofs.Following.{load-stops, load-counts}
 use Rattle.tera_run.proofs.image.prepare.Goals as goal

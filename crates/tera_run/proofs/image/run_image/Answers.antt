@@ -1,9 +1,8 @@
-use Rattle.std.proofs.Common.{◌∙◌, ◌∷◌, [], refl, inl, arith}
+use Rattle.std.proofs.Common.{refl, inl, arith}
 use Rattle.std.proofs.lemmas.Result.{err_from_is_err_and}
-use Rattle.steps.specs.Outside.{StaysNear, outside, around}
+use Rattle.steps.specs.Outside.{outside, around}
 use Rattle.steps.proofs.Counting.{rig-counted, write-counted, counted-after}
 use Rattle.steps.proofs.StartLemmas.{start-counted, start-near, begun-file}
-use Rattle.steps.proofs.WriteLemmas.{asks-after}
 use Rattle.tera_run.proofs.Following.{image-load-stops, image-start-stops, image-outputs-stops, image-rows}
 use Rattle.tera_run.proofs.RowLemmas.{session-start}
 use Rattle.tera_run.proofs.image.run_image.Goals as goal

@@ -1,5 +1,5 @@
 use Rattle.std.proofs.Common.{◌≡◌, map, string_bytes, None, refl}
-use Rattle.steps.specs.Outside.{outside, around}
+use Rattle.steps.specs.Outside.{outside}
 use Rattle.tera_top.specs.Words.{request_of, job_for}
 use Rattle.steps.proofs.WriteLemmas.{asks-all}
 use Rattle.steps.proofs.JobLemmas.{ends-done, ends-stopped}

@@ -1,4 +1,4 @@
-use Rattle.std.proofs.Common.{◌≡◌, map, string_bytes, None, refl}
+use Rattle.std.proofs.Common.{◌≡◌, map, string_bytes, None}
 use Rattle.steps.specs.Outside.{outside, around}
 use Rattle.tera_top.specs.Words.{request_of, job_for}
 use Rattle.steps.proofs.EndLemmas.{end-text, end-words, end-room, end-rig, end-outside, end-status, end-memory, end-complete, end-no-room, end-few}

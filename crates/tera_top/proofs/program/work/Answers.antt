@@ -1,4 +1,3 @@
-use Rattle.std.proofs.Common.{sym, refl}
 use Rattle.steps.proofs.JobLemmas.{wrong-lawful}
 use Rattle.tera_top.proofs.program.work.Goals as goal
 

@@ -1,4 +1,4 @@
-use Rattle.std.proofs.Common.{◌≤◌, ◌∙◌, sym, arith}
+use Rattle.std.proofs.Common.{◌∙◌, sym, arith}
 use Rattle.tera_top.proofs.WordLemmas.{some_number, no_number}
 use Rattle.tera_top.proofs.task.number_of.Goals as goal
 

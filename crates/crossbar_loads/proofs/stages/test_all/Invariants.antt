@@ -1,7 +1,8 @@
-use Rattle.std.proofs.Common.{◌≡◌, length}
-use Rattle.evidence.specs.Kept.{Advances}
-use Rattle.crossbar_loads.specs.Found.{AreFound}
-use Rattle.crossbar_loads.proofs.walk.test_all.Given as goal
+use Rattle.std.proofs.Common.{◌≡◌, Some, length}
+use Rattle.hierarchy.specs.Faults.{Faults}
+use Rattle.evidence.specs.Kept.{HoldsFor}
+use Rattle.crossbar_walk.specs.Found.{AreFound}
+use Rattle.crossbar_loads.proofs.stages.test_all.Given as goal
 
 abbrev pub invariant-nodes : goal.invariant-nodes
 invariant-nodes g l =
@@ -12,4 +13,5 @@ invariant-nodes g l =
       shape : l.proof.shape ≡ l.shape;
       found : AreFound rig0.machine.faults l.proof l.found.items;
       count : length l.found.items ≡ l.n;
+      holds : (f : Faults) → rig0.machine.faults ≡ Some f → HoldsFor l.proof f;
     }

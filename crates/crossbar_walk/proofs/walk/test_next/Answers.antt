@@ -1,6 +1,6 @@
 use Rattle.std.proofs.Common.{◌∙◌}
-use Rattle.crossbar_examples.proofs.Finding.{found_later, found_next}
-use Rattle.crossbar_examples.proofs.walk.test_next.Goals as goal
+use Rattle.crossbar_walk.proofs.Finding.{found_later, found_next}
+use Rattle.crossbar_walk.proofs.walk.test_next.Goals as goal
 
 pub returns-in_err-tested-clause-found : goal.returns-in_err-tested-clause-found
 returns-in_err-tested-clause-found g c = found_later c.in_err-tested.ensures.advances.more c.requires.found

@@ -1,11 +1,11 @@
 //! The crossbars of a machine, from the root down.
-ghost use Rattle.std.specs.Prelude.{◌≡◌, ◌<◌, ◌+◌, ◌++◌, ◌∷◌, [], Some, None, IfOk, IfSome, IfNone, OnOk, OnErr, length};
+ghost use Rattle.std.specs.Prelude.{◌≡◌, ◌<◌, ◌+◌, ◌++◌, ◌∷◌, [], Some, None, IfOk, IfSome, IfNone, OnOk, OnErr, IsTrue, length};
 ghost use Rattle.hierarchy.specs.Shape.{parent_of};
 ghost use Rattle.rig.specs.Rig.{shape_of};
 ghost use Rattle.evidence.specs.Kept.{Advances};
 ghost use Rattle.evidence.specs.Held.{IsHeld};
 ghost use Rattle.crossbar_test.specs.Stages.{FullIf};
-ghost use Rattle.crossbar_examples.specs.Found.{AreFound};
+ghost use Rattle.crossbar_walk.specs.Found.{AreFound};
 
 use crossbar_test::{find_trunk, test_crossbar};
 use evidence::{Proof, Tested};
@@ -13,7 +13,7 @@ use hierarchy::{Node, Shape};
 use rig::{Rig, RigFail};
 use std::alloc::Global;
 
-/// How many loads the last question took: the search for a trunk, and what came after it.
+/// How many loads the last step took: the search for a trunk, and what came after it.
 #[derive(Clone, Copy, Drop)]
 pub struct Loads {
     pub trunk: u64,
@@ -104,7 +104,11 @@ fn add(found: &mut Vec<Tested>, tested: Tested) -> Result<(), RigFail>
     }
 }
 
-/// Adds the tested crossbar of the next node. False where it has no trunk.
+/// Adds the tested crossbar of the next node, and says how many loads that took. False where it has no trunk.
+///
+/// # Errors
+///
+/// The rig's fault, or want of memory: then what was found before stays as it was.
 pub fn test_next(
     alloc: Global,
     rig: &mut Box<dyn Rig>,
@@ -119,6 +123,7 @@ pub fn test_next(
 
     ensures advances { Advances (rig_state rig.old) (rig_state rig.new) proof.old proof.new }
     ensures found { AreFound (rig_state rig.old).machine.faults proof.new found.new.items }
+    ensures length { IfOk result (λ yes. IsTrue yes → length found.new.items ≡ node.0 + 1) }
 {
     let Some(tested) = test_one(alloc, rig, proof, found, node, loads)? else {
         return Ok(false);

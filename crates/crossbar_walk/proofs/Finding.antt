@@ -8,7 +8,7 @@ use Rattle.evidence.specs.Kept.{Kept, HoldsFor, IsMore}
 use Rattle.evidence.specs.Held.{Findings, IsHeld, IsFull}
 use Rattle.evidence.proofs.Keeping.{held_later, full_later, holds_earlier}
 use Rattle.crossbar_test.specs.Stages.{FullIf}
-use Rattle.crossbar_examples.specs.Found.{IsFoundAt, AreFound}
+use Rattle.crossbar_walk.specs.Found.{IsFoundAt, AreFound}
 
 -- none are found at first
 pub none_found : (told : Option Faults) (k : Kept) → AreFound told k []
