@@ -27,7 +27,7 @@ use Rattle.tera_diagnose.proofs.ListLemmas.{list-on, list-stops, list-then}
 use Rattle.tera_compile.specs.Compile.{lays, IsImageFor}
 use Rattle.tera_run.specs.Rows.{image_course}
 use Rattle.tera_go.specs.GoRows.{design_course}
-use Rattle.tera_go.specs.Laid.{HasNoImage}
+use Rattle.tera_go.specs.Laid.{IsLaid, HasNoImage}
 use Rattle.tera_go.specs.Go.{go_course}
 use Rattle.tera_go.proofs.DesignRows.{course-design}
 
@@ -52,6 +52,13 @@ lay-counted d draft (Refused (refused.Room place)) old new stops = tt
 lay-counted d draft (Refused refused.Memory) old new stops = tt
 lay-counted d draft (Refused refusal) old new stops = absurd stops
 lay-counted d draft (Sink fail) old new stops = absurd stops
+
+-- an image on what a list leaves free that stands written, or none
+pub laid-on : (m : Shape) (draft : Draft) (old new : RigState) (a b : SinkState) (d : DefectList) → IsListOf m 0 old new d → Wrote a.written b.written (text_of d) → (i : ImageValue) → IsImageFor d draft i → IsLaid m draft old new a b i
+laid-on m draft old new a b d is wrote i laid = record { list = d; listed = record { is = is; wrote = wrote }; image = laid }
+
+pub leaves-none : (m : Shape) (draft : Draft) (old new : RigState) (a b : SinkState) (d : DefectList) → IsListOf m 0 old new d → Wrote a.written b.written (text_of d) → (stop : Stop) → StepStops (lays d draft) stop → HasNoImage m draft stop old new a b
+leaves-none m draft old new a b d is wrote stop stops = inr (record { list = d; listed = record { is = is; wrote = wrote }; stops = stops })
 
 -- the shape that is attached is the image's
 pub image-shape : (rig : RigState) (m : Shape) (name : List ℕ) (d : DefectList) (draft : Draft) (i : ImageValue) → rig.machine.attached ≡ Some (record { shape = m; name = name }) → d.shape ≡ m → IsImageFor d draft i → shape_of rig ≡ Some i.config.shape
