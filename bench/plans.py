@@ -131,4 +131,5 @@ def main():
             print(name, *figures(texts["machine"], texts["defects"], texts["design"], True), "and stands as", line[6:], flush=True)
 
 
-main()
+if __name__ == "__main__":
+    main()
