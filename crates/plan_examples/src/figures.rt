@@ -1,7 +1,7 @@
 //! What is to be seen of a design's plans.
 ghost use Rattle.std.specs.Prelude.{IfSome};
 ghost use Rattle.table_map.specs.Networks.{IsNetwork};
-ghost use Rattle.place.specs.Plans.{Fits, FitsInOrder, IsPlan};
+ghost use Rattle.place.specs.Plans.{IsPlan};
 
 use crate::texts::Texts;
 use blif_read::read_blif;
