@@ -1,13 +1,18 @@
 #!/usr/bin/env python3
 """Makes machines, lists of defects and designs for `teramac compile` and `teramac run`.
 
-usage: route.py FOLDER shift|local|bench [PERCENT]
+usage: route.py FOLDER shift|chain|local|large|blocks|mixed|grid|bench [PERCENT]
 
 FOLDER gets d.machine, d.defects, d.blif, d.vec and an empty file `none`, the faults of a sound machine.
 
 shift  A shift register of 1,920 latches on 32 hextants of 60 tables each.
 local  1,536 covers of four inputs each, which read one of the 10 signals before them, on 32
        hextants of 48 tables each.
+large  The same of 1,920 covers, on 16 hextants of 120 tables each.
+blocks 1,280 such covers, shuffled within each 80 of them, on 32 hextants of 40 tables each.
+mixed  512 such covers, shuffled all together, on 32 hextants of 16 tables each.
+chain  A shift register of 768 latches, which stand shuffled, on 32 hextants of 24 tables each.
+grid   38 rows of 38 covers each, row by row, which read the cover above and the one before, on 16 hextants of 91 tables each.
 bench  A shift register of 16 latches with the parity of its bits, on the machine that
        `bench` of the generator stands for (128 tables), with 100,000 vectors.
 
@@ -21,6 +26,11 @@ from pathlib import Path
 MACHINES = {
     "shift": (2, 4, 4, 60, (4, 4, 4), (6, 6, 8, 64), 8),
     "local": (2, 4, 4, 48, (24, 24, 24), (64, 64, 64, 80), 28),
+    "large": (2, 2, 4, 120, (20, 20, 20), (32, 48, 48, 132), 20),
+    "blocks": (2, 4, 4, 40, (20, 20, 85), (32, 52, 162, 88), 20),
+    "mixed": (2, 4, 4, 16, (464, 260, 80), (464, 496, 260, 80), 20),
+    "chain": (2, 4, 4, 24, (400, 184, 48), (400, 552, 192, 64), 2),
+    "grid": (2, 2, 4, 91, (40, 80, 80), (48, 80, 192, 136), 2),
     "bench": (2, 2, 4, 8, (24, 24, 24), (32, 32, 32, 32), 28),
 }
 
@@ -58,24 +68,48 @@ def defects_text(counts, percent):
     return "\n".join(head + entries + ["end"]) + "\n"
 
 
-def shift_text(latches):
+def shuffled_in_blocks(count, size):
+    """The numbers below a count, each within the block of its size where it was."""
+    draw = random.Random(1)
+    numbers = []
+    for first in range(0, count, size):
+        block = list(range(first, min(first + size, count)))
+        draw.shuffle(block)
+        numbers += block
+    return numbers
+
+
+def shift_text(latches, block=1):
     lines = [".model s", ".inputs a", f".outputs q{latches - 1}"]
-    for k in range(latches):
+    for k in shuffled_in_blocks(latches, block):
         before = f"q{k - 1}" if k else "a"
         lines.append(f".latch {before} q{k} 0")
     return "\n".join(lines + [".end"]) + "\n"
 
 
-def local_text(covers, width):
+def local_text(covers, width, block=1):
     draw = random.Random(1)
     names = [f"a{k}" for k in range(width)]
     lines = [".model l", ".inputs " + " ".join(names)]
     lines.append(".outputs " + " ".join(f"n{covers - 1 - k}" for k in range(width)))
+    texts = []
     for k in range(covers):
         ins = draw.sample(names[-width:], 4)
-        lines.append(f".names {' '.join(ins)} n{k}")
-        lines += [format(row, "04b") + " 1" for row in sorted(draw.sample(range(16), 8))]
+        rows = [format(row, "04b") + " 1" for row in sorted(draw.sample(range(16), 8))]
+        texts.append([f".names {' '.join(ins)} n{k}"] + rows)
         names.append(f"n{k}")
+    for k in shuffled_in_blocks(covers, block):
+        lines += texts[k]
+    return "\n".join(lines + [".end"]) + "\n"
+
+
+def grid_text(rows, columns):
+    lines = [".model g", ".inputs a", f".outputs n{rows - 1}_{columns - 1}"]
+    for i in range(rows):
+        for j in range(columns):
+            ins = [f"n{i - 1}_{j}"] * (i > 0) + [f"n{i}_{j - 1}"] * (j > 0) or ["a"]
+            lines.append(f".names {' '.join(ins)} n{i}_{j}")
+            lines += ["01 1", "10 1"] if len(ins) == 2 else ["1 1"]
     return "\n".join(lines + [".end"]) + "\n"
 
 
@@ -98,6 +132,11 @@ def main():
     text, inputs, vectors = {
         "shift": lambda: (shift_text(1920), 1, 4000),
         "local": lambda: (local_text(1536, 10), 10, 100),
+        "large": lambda: (local_text(1920, 10), 10, 100),
+        "blocks": lambda: (local_text(1280, 10, 80), 10, 100),
+        "mixed": lambda: (local_text(512, 10, 512), 10, 100),
+        "chain": lambda: (shift_text(768, 768), 1, 1000),
+        "grid": lambda: (grid_text(38, 38), 1, 100),
         "bench": lambda: (parity_text(16), 1, 100000),
     }[kind]()
     draw = random.Random(2)
