@@ -170,8 +170,11 @@ pub covers-made : (d : Draft) (covers : List Cover) (n : ℕ) → IsChecked d �
 covers-made d covers n is e f = rw (e, f) is.made.covers
 
 -- a slice that was written back over a vector
-pub taken : (n : ℕ) (new rest : List Bool) → length new ≡ n → take n (new ++ rest) ≡ new
+pub taken : {A : Type 0} → (n : ℕ) (new rest : List A) → length new ≡ n → take n (new ++ rest) ≡ new
 taken n new rest e = subst (λ (m : ℕ). take m (new ++ rest) ≡ new) e (take-append_seam new rest)
+
+pub words-size : (n word : ℕ) (words : List ℕ) → words ≡ replicate n word → length words ≡ n
+words-size n word words e = ap (λ (xs : List ℕ). length xs) e ∙ length-replicate n word
 
 pub plan-is : (d draft : Draft) (covers : List Cover) (p : Plan) (turns : List Turn) (n : ℕ) → draft ≡ d → covers ≡ draft.covers → turns ≡ p.turns.items → n ≡ length draft.names → IsWiring draft p.wiring → AreTurns covers p.turns.items → length turns ≤ 65535 → AreReaders covers (places turns) n p.readers → IsPlan d p
 plan-is d draft covers p turns n e f t m w a few r =

@@ -14,9 +14,12 @@ use netlist::{LatchDef, Netlist};
 use std::alloc::{AllocError, Global};
 use std::marker::Model;
 
-/// After a vector that changed more than a quarter of the covers, so many are evaluated without marks: marks cost
-/// about four times as much as an evaluation.
+/// The most vectors that are evaluated without marks in a row, after vectors that changed more than a quarter of the
+/// covers: marks cost about four times as much as an evaluation.
 const VECTORS_WITHOUT_MARKS: u32 = 255;
+
+/// How many words of hints there are: one for each 64 turns.
+const WORDS: usize = 1_024;
 
 /// A design that is run, vector by vector. Contracts see the design and what its latches give next.
 #[derive(Drop)]
@@ -27,13 +30,18 @@ pub struct Eval<'a> {
     values: Vec<bool>,
     /// By turns: a cover that isn't marked has the truth of its inputs' bits.
     marks: Vec<bool>,
+    /// Where marks may be.
+    hints: Vec<u64>,
     /// What the latches give next.
     state: Vec<bool>,
     /// How many vectors are evaluated without marks next.
     unmarked: u32,
+    /// How many are evaluated without marks after the next vector that changes many covers.
+    streak: u32,
 }
 
 impl<'a> Model for Eval<'a> {
+    ghost use Rattle.std.specs.Prelude.{◌≡◌, length};
     ghost use Rattle.netlist_eval.specs.Evals.{EvalState};
     ghost use Rattle.netlist_eval.specs.Bits.{AreReady};
     ghost use Rattle.netlist_eval.specs.Plans.{IsPlan, IsMarked};
@@ -42,7 +50,7 @@ impl<'a> Model for Eval<'a> {
 
     ghost view = { λ e. record { netlist = e.netlist.now; state = e.state.items } };
 
-    ghost invariant = { λ e. IsPlan e.netlist.now e.plan × AreReady e.netlist.now e.values.items e.state.items × IsMarked e.netlist.now e.plan e.marks.items e.values.items };
+    ghost invariant = { λ e. IsPlan e.netlist.now e.plan × AreReady e.netlist.now e.values.items e.state.items × IsMarked e.netlist.now e.plan e.marks.items e.values.items × (length e.hints.items ≡ 1024) };
 }
 
 impl<'a> Eval<'a> {
@@ -54,14 +62,17 @@ impl<'a> Eval<'a> {
         let plan = plan_of(alloc, netlist)?;
         let values = vec![in alloc; false; draft.names.len()]?;
         let marks = vec![in alloc; true; MOST as usize]?;
+        let hints = vec![in alloc; u64::MAX; WORDS]?;
         let state = first_bits(alloc, draft.latches.as_slice())?;
         Ok(Eval {
             netlist,
             plan,
             values,
             marks,
+            hints,
             state,
             unmarked: 0,
+            streak: 0,
         })
     }
 
@@ -88,15 +99,27 @@ impl<'a> Eval<'a> {
             self.netlist,
             &self.plan,
             &mut self.marks,
+            &mut self.hints,
             &mut self.values,
             &mut self.state,
             vector,
             out,
         );
         if busy {
-            self.unmarked = VECTORS_WITHOUT_MARKS;
+            self.unmarked = self.streak;
+            self.streak = longer(self.streak);
+        } else {
+            self.streak = 0;
         }
     }
+}
+
+// The next streak of vectors that are evaluated without marks.
+fn longer(streak: u32) -> u32 {
+    if streak >= VECTORS_WITHOUT_MARKS {
+        return VECTORS_WITHOUT_MARKS;
+    }
+    2 * streak + 1
 }
 
 // Gives the row of a vector and the next state, and evaluates all covers.
@@ -130,6 +153,7 @@ fn run_marked(
     netlist: &Netlist,
     plan: &Plan,
     marks: &mut [bool],
+    hints: &mut [u64],
     values: &mut [bool],
     state: &mut [bool],
     vector: &[bool],
@@ -138,6 +162,7 @@ fn run_marked(
     requires plan { IsPlan netlist.now plan.now }
     requires ready { AreReady netlist.now values.old state.old }
     requires marked { IsMarked netlist.now plan.now marks.old values.old }
+    requires hints { length hints.old ≡ 1024 }
     requires inputs { length vector.now ≡ length netlist.now.inputs }
     requires outputs { length out.old ≡ length netlist.now.outputs }
     ensures ready { AreReady netlist.now values.new state.new }
@@ -145,13 +170,28 @@ fn run_marked(
     ensures step { IsStep (record { netlist = netlist.now; state = state.old }) vector.now out.new (record { netlist = netlist.now; state = state.new }) }
 {
     let draft = netlist.parts();
-    put_marked(&plan.readers, &plan.wiring.inputs, vector, marks, values);
-    put_marked(&plan.readers, &plan.wiring.drives, state, marks, values);
+    put_marked(
+        &plan.readers,
+        &plan.wiring.inputs,
+        vector,
+        marks,
+        hints,
+        values,
+    );
+    put_marked(
+        &plan.readers,
+        &plan.wiring.drives,
+        state,
+        marks,
+        hints,
+        values,
+    );
     let count = settle_marked(
         &plan.turns,
         draft.covers.as_slice(),
         &plan.readers,
         marks,
+        hints,
         values,
     );
     read_bits(values, &plan.wiring.outputs, out);

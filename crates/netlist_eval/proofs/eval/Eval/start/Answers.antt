@@ -1,5 +1,5 @@
 use Rattle.std.proofs.Common.{refl}
-use Rattle.netlist_eval.proofs.RunLemmas.{ready-first, marked-first}
+use Rattle.netlist_eval.proofs.RunLemmas.{words-size, ready-first, marked-first}
 use Rattle.netlist_eval.proofs.eval.Eval.start.Goals as goal
 
 pub invariant_of-result : goal.invariant_of-result
@@ -9,4 +9,5 @@ invariant_of-result c = (
       c.len.ensures (c.in_ok-values.ensures.items_if_clones_equal (λ y e. e)) c.as_slice.ensures c.in_ok-state.ensures,
   marked-first c.args.netlist.now c.in_ok-plan.plan c.in_ok-marks.marks.items c.in_ok-values.values.items 65536 c.in_ok-plan.ensures refl
       (c.in_ok-marks.ensures.items_if_clones_equal (λ y e. e)),
+  words-size 1024 18446744073709551615 c.in_ok-hints.hints.items (c.in_ok-hints.ensures.items_if_clones_equal (λ y e. e)),
 )
