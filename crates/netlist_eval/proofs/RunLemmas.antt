@@ -19,7 +19,7 @@ use Rattle.netlist.proofs.RightLemmas.{settled_is_right}
 use Rattle.netlist.proofs.ValuationLemmas.{map_same}
 use Rattle.netlist_eval.specs.declared.plan.Plan.{Plan}
 use Rattle.netlist_eval.specs.declared.turns.Turn.{Turn}
-use Rattle.netlist_eval.specs.Bits.{bits_put, AreBelow, AreReady, IsWiring}
+use Rattle.netlist_eval.specs.Bits.{bits_put, AreApart, AreBelow, AreReady, IsWiring}
 use Rattle.netlist_eval.specs.Turns.{AreTurns, places}
 use Rattle.netlist_eval.specs.Readers.{AreReaders}
 use Rattle.netlist_eval.specs.Plans.{IsPlan, IsMarked}
@@ -27,7 +27,7 @@ use Rattle.netlist_eval.proofs.TurnLemmas.{turns-size}
 use Rattle.netlist_eval.proofs.MarkLemmas.{fresh-kept}
 use Rattle.netlist_eval.specs.Evals.{IsStep}
 use Rattle.netlist_eval.specs.Marks.{AreFree}
-use Rattle.netlist_eval.proofs.BitLemmas.{AreApart, length-put, put-other, put-read, apart-left, apart-right, apart-both, below-left, below-right}
+use Rattle.netlist_eval.proofs.BitLemmas.{length-put, put-other, put-read, apart-left, apart-right, apart-both, below-left, below-right}
 
 abbrev pub signals : List PortDef → List ℕ
 signals words = map (λ (w : PortDef). w.signal) words

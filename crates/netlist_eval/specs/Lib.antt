@@ -11,4 +11,5 @@ pub mod Tables
 pub mod Turns
 pub mod Readers
 pub mod Marks
+pub mod Latches
 pub mod Plans

@@ -4,6 +4,7 @@
 mod bits;
 mod eval;
 mod feed;
+mod latches;
 mod line;
 mod marks;
 mod plan;
