@@ -3,9 +3,11 @@
 ghost use Rattle.std.specs.Prelude.{◌≡◌, ◌<◌, ℕ, length, map, IfOk};
 ghost use Rattle.netlist_eval.specs.Evals.{first_eval, IsStep};
 ghost use Rattle.netlist_eval.specs.Bits.{AreReady};
+ghost use Rattle.netlist_eval.specs.Latches.{HaveBits};
 ghost use Rattle.netlist_eval.specs.Plans.{IsPlan, IsMarked, AllHold};
 
 use crate::bits::{put_bits, read_bits};
+use crate::latches::put_changed;
 use crate::marks::{put_marked, settle_marked};
 use crate::plan::{Plan, plan_of};
 use crate::readers::MOST;
@@ -34,6 +36,8 @@ pub struct Eval<'a> {
     hints: Vec<u64>,
     /// What the latches give next.
     state: Vec<bool>,
+    /// What the latches gave last.
+    last: Vec<bool>,
     /// How many vectors are evaluated without marks next.
     unmarked: u32,
     /// How many are evaluated without marks after the next vector that changes many covers.
@@ -41,16 +45,15 @@ pub struct Eval<'a> {
 }
 
 impl<'a> Model for Eval<'a> {
-    ghost use Rattle.std.specs.Prelude.{◌≡◌, length};
     ghost use Rattle.netlist_eval.specs.Evals.{EvalState};
     ghost use Rattle.netlist_eval.specs.Bits.{AreReady};
-    ghost use Rattle.netlist_eval.specs.Plans.{IsPlan, IsMarked};
+    ghost use Rattle.netlist_eval.specs.Plans.{IsPlan, IsMarked, IsHeld};
 
     ghost Value = { EvalState };
 
     ghost view = { λ e. record { netlist = e.netlist.now; state = e.state.items } };
 
-    ghost invariant = { λ e. IsPlan e.netlist.now e.plan × AreReady e.netlist.now e.values.items e.state.items × IsMarked e.netlist.now e.plan e.marks.items e.values.items × (length e.hints.items ≡ 1024) };
+    ghost invariant = { λ e. IsPlan e.netlist.now e.plan × AreReady e.netlist.now e.values.items e.state.items × IsMarked e.netlist.now e.plan e.marks.items e.values.items × IsHeld e.plan e.hints.items e.last.items e.state.items e.values.items };
 }
 
 impl<'a> Eval<'a> {
@@ -64,6 +67,7 @@ impl<'a> Eval<'a> {
         let marks = vec![in alloc; true; MOST as usize]?;
         let hints = vec![in alloc; u64::MAX; WORDS]?;
         let state = first_bits(alloc, draft.latches.as_slice())?;
+        let last = vec![in alloc; false; draft.latches.as_slice().len()]?;
         Ok(Eval {
             netlist,
             plan,
@@ -71,6 +75,7 @@ impl<'a> Eval<'a> {
             marks,
             hints,
             state,
+            last,
             unmarked: 0,
             streak: 0,
         })
@@ -89,6 +94,7 @@ impl<'a> Eval<'a> {
                 self.netlist,
                 &self.plan,
                 &mut self.values,
+                &mut self.last,
                 &mut self.state,
                 vector,
                 out,
@@ -101,6 +107,7 @@ impl<'a> Eval<'a> {
             &mut self.marks,
             &mut self.hints,
             &mut self.values,
+            &mut self.last,
             &mut self.state,
             vector,
             out,
@@ -127,21 +134,25 @@ fn run(
     netlist: &Netlist,
     plan: &Plan,
     values: &mut [bool],
+    last: &mut [bool],
     state: &mut [bool],
     vector: &[bool],
     out: &mut [bool],
 )
     requires plan { IsPlan netlist.now plan.now }
     requires ready { AreReady netlist.now values.old state.old }
+    requires last { length last.old ≡ length state.old }
     requires inputs { length vector.now ≡ length netlist.now.inputs }
     requires outputs { length out.old ≡ length netlist.now.outputs }
     ensures ready { AreReady netlist.now values.new state.new }
+    ensures given { HaveBits plan.now.wiring.drives.items last.new values.new }
     ensures hold { AllHold netlist.now values.new }
     ensures step { IsStep (record { netlist = netlist.now; state = state.old }) vector.now out.new (record { netlist = netlist.now; state = state.new }) }
 {
     let draft = netlist.parts();
     put_bits(values, &plan.wiring.inputs, vector);
     put_bits(values, &plan.wiring.drives, state);
+    last.copy_from_slice(state);
     settle(&plan.turns, draft.covers.as_slice(), values);
     read_bits(values, &plan.wiring.outputs, out);
     read_bits(values, &plan.wiring.reads, state);
@@ -155,6 +166,7 @@ fn run_marked(
     marks: &mut [bool],
     hints: &mut [u64],
     values: &mut [bool],
+    last: &mut [bool],
     state: &mut [bool],
     vector: &[bool],
     out: &mut [bool],
@@ -163,9 +175,12 @@ fn run_marked(
     requires ready { AreReady netlist.now values.old state.old }
     requires marked { IsMarked netlist.now plan.now marks.old values.old }
     requires hints { length hints.old ≡ 1024 }
+    requires last { length last.old ≡ length state.old }
+    requires given { HaveBits plan.now.wiring.drives.items last.old values.old }
     requires inputs { length vector.now ≡ length netlist.now.inputs }
     requires outputs { length out.old ≡ length netlist.now.outputs }
     ensures ready { AreReady netlist.now values.new state.new }
+    ensures given { HaveBits plan.now.wiring.drives.items last.new values.new }
     ensures marked { IsMarked netlist.now plan.now marks.new values.new }
     ensures step { IsStep (record { netlist = netlist.now; state = state.old }) vector.now out.new (record { netlist = netlist.now; state = state.new }) }
 {
@@ -178,10 +193,11 @@ fn run_marked(
         hints,
         values,
     );
-    put_marked(
+    put_changed(
         &plan.readers,
         &plan.wiring.drives,
         state,
+        last,
         marks,
         hints,
         values,
