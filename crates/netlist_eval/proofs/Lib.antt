@@ -11,3 +11,4 @@ pub mod TableLemmas
 pub mod TurnLemmas
 pub mod ReaderLemmas
 pub mod MarkLemmas
+pub mod LaneLemmas

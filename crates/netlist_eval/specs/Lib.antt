@@ -12,3 +12,5 @@ pub mod Turns
 pub mod Readers
 pub mod Marks
 pub mod Plans
+pub mod Lanes
+pub mod Blocks

@@ -2,8 +2,10 @@
 #![tactic(auto)]
 
 mod bits;
+mod block;
 mod eval;
 mod feed;
+mod lanes;
 mod line;
 mod marks;
 mod plan;
@@ -14,6 +16,7 @@ mod tables;
 mod turns;
 mod vectors;
 mod wiring;
+mod word_truth;
 
 pub use eval::Eval;
 pub use reading::VectorText;
