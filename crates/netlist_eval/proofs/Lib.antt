@@ -12,3 +12,4 @@ pub mod TurnLemmas
 pub mod ReaderLemmas
 pub mod MarkLemmas
 pub mod LaneLemmas
+pub mod BlockLemmas

@@ -89,7 +89,7 @@ fn put_columns(words: &mut Vec<u64>, signals: &[u32], vector: &[bool], text: &[u
 }
 
 // Evaluates a vector and those on the lines of the text at once.
-fn fill(block: &mut Block, netlist: &Netlist, plan: &Plan, vector: &[bool], text: &[u8], lines: u32)
+fn fill_lanes(block: &mut Block, netlist: &Netlist, plan: &Plan, vector: &[bool], text: &[u8], lines: u32)
     requires plan { IsPlan netlist.now plan.now }
     requires block { IsBlock netlist.now block.old }
     requires inputs { length vector.now ≡ length netlist.now.inputs }
@@ -160,7 +160,7 @@ pub fn give_ahead(
     if lines == 0 {
         return false;
     }
-    fill(block, netlist, plan, vector, ahead, lines);
+    fill_lanes(block, netlist, plan, vector, ahead, lines);
     block.next = 1;
     give_lane(block, netlist, plan, 0, vector, out)
 }
