@@ -9,4 +9,5 @@ invariant_of-result c = (
       c.len.ensures (c.in_ok-values.ensures.items_if_clones_equal (λ y e. e)) c.as_slice.ensures c.in_ok-state.ensures,
   marked-first c.args.netlist.now c.in_ok-plan.plan c.in_ok-marks.marks.items c.in_ok-values.values.items 65536 c.in_ok-plan.ensures refl
       (c.in_ok-marks.ensures.items_if_clones_equal (λ y e. e)),
+  c.in_ok-block.ensures,
 )

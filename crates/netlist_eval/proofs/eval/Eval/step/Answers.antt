@@ -16,6 +16,7 @@ invariant_of-self c =
         size = c.self.invariant.2.size;
         kept = settled-kept c.self.inside.netlist.now.covers (places c.self.inside.plan.turns.items) c.self.inside.marks.items c.run.new.values plan.turns.order c.run.ensures.hold;
       },
+      c.self.invariant.3,
     )
 
 pub invariant_of-self-then-busy : goal.invariant_of-self-then-busy
@@ -23,11 +24,11 @@ invariant_of-self-then-busy c =
     let m = taken c.self.inside.marks.len c.run_marked-busy.new.marks (drop (length c.run_marked-busy.new.marks) c.self.inside.marks.items) (omega (arith, c.run_marked-busy.auto.marks, c.deref_mut-2.ensures.len)) in
     let v = taken c.self.inside.values.len c.run_marked-busy.new.values (drop (length c.run_marked-busy.new.values) c.self.inside.values.items) (omega (arith, c.run_marked-busy.auto.values, c.deref_mut-3.ensures.len)) in
     let s = taken c.self.inside.state.len c.run_marked-busy.new.state (drop (length c.run_marked-busy.new.state) c.self.inside.state.items) (omega (arith, c.run_marked-busy.auto.state, c.deref_mut-4.ensures.len)) in
-    rw (m, v, s) (c.self.invariant.0, c.run_marked-busy.ensures.ready, c.run_marked-busy.ensures.marked)
+    rw (m, v, s) (c.self.invariant.0, c.run_marked-busy.ensures.ready, c.run_marked-busy.ensures.marked, c.self.invariant.3)
 
 pub invariant_of-self-else-busy : goal.invariant_of-self-else-busy
 invariant_of-self-else-busy c =
     let m = taken c.self.inside.marks.len c.run_marked-busy.new.marks (drop (length c.run_marked-busy.new.marks) c.self.inside.marks.items) (omega (arith, c.run_marked-busy.auto.marks, c.deref_mut-2.ensures.len)) in
     let v = taken c.self.inside.values.len c.run_marked-busy.new.values (drop (length c.run_marked-busy.new.values) c.self.inside.values.items) (omega (arith, c.run_marked-busy.auto.values, c.deref_mut-3.ensures.len)) in
     let s = taken c.self.inside.state.len c.run_marked-busy.new.state (drop (length c.run_marked-busy.new.state) c.self.inside.state.items) (omega (arith, c.run_marked-busy.auto.state, c.deref_mut-4.ensures.len)) in
-    rw (m, v, s) (c.self.invariant.0, c.run_marked-busy.ensures.ready, c.run_marked-busy.ensures.marked)
+    rw (m, v, s) (c.self.invariant.0, c.run_marked-busy.ensures.ready, c.run_marked-busy.ensures.marked, c.self.invariant.3)
