@@ -11,6 +11,12 @@ use crate::word_truth::settle_words;
 use netlist::Netlist;
 use std::alloc::{AllocError, Global};
 
+/// A block takes about as long as so many vectors do one after the other.
+const LINES_AT_LEAST: u32 = 8;
+
+/// After a block in which few bits changed, so many vectors get none: marks are cheaper there.
+const VECTORS_WITHOUT_BLOCKS: u32 = 1023;
+
 /// The last vectors that were evaluated at once. A vector that is asked for gets the row of its lane where it has one.
 #[derive(Drop)]
 pub struct Block {
@@ -20,6 +26,8 @@ pub struct Block {
     pub count: u32,
     /// The lane of the vector that is likely to be asked for next.
     pub next: u32,
+    /// How many vectors get no block next.
+    pub pause: u32,
 }
 
 /// A block with no vectors.
@@ -31,6 +39,7 @@ pub fn no_vectors(alloc: Global, netlist: &Netlist) -> Result<Block, AllocError>
         words,
         count: 0,
         next: 0,
+        pause: 0,
     })
 }
 
@@ -88,8 +97,29 @@ fn put_columns(words: &mut Vec<u64>, signals: &[u32], vector: &[bool], text: &[u
     }
 }
 
+// How many vectors get no block after this one: some, if from lane to lane fewer than one of a hundred bits change.
+fn pause_after(words: &[u64]) -> u32 {
+    let mut changes = 0u64;
+    'words: for k in 0..words.len() {
+        let changed = words[k] ^ (words[k] >> 1);
+        changes = changes.saturating_add(u64::from(changed.count_ones()));
+    }
+    if changes < words.len() as u64 / 2 {
+        VECTORS_WITHOUT_BLOCKS
+    } else {
+        0
+    }
+}
+
 // Evaluates a vector and those on the lines of the text at once.
-fn fill_lanes(block: &mut Block, netlist: &Netlist, plan: &Plan, vector: &[bool], text: &[u8], lines: u32)
+fn fill_lanes(
+    block: &mut Block,
+    netlist: &Netlist,
+    plan: &Plan,
+    vector: &[bool],
+    text: &[u8],
+    lines: u32,
+)
     requires plan { IsPlan netlist.now plan.now }
     requires block { IsBlock netlist.now block.old }
     requires inputs { length vector.now ≡ length netlist.now.inputs }
@@ -101,6 +131,7 @@ fn fill_lanes(block: &mut Block, netlist: &Netlist, plan: &Plan, vector: &[bool]
     put_columns(&mut block.words, &plan.wiring.inputs, vector, text, lines);
     settle_words(&plan.turns, covers, &mut block.words);
     block.count = lines + 1;
+    block.pause = pause_after(&block.words);
 }
 
 // Gives the row of a vector if a lane has it.
@@ -156,8 +187,12 @@ pub fn give_ahead(
             return true;
         }
     }
+    if block.pause > 0 {
+        block.pause -= 1;
+        return false;
+    }
     let lines = lines_in(ahead, vector.len());
-    if lines == 0 {
+    if lines < LINES_AT_LEAST {
         return false;
     }
     fill_lanes(block, netlist, plan, vector, ahead, lines);
