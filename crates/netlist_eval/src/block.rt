@@ -101,7 +101,7 @@ fn put_columns(words: &mut Vec<u64>, signals: &[u32], vector: &[bool], text: &[u
 fn pause_after(words: &[u64]) -> u32 {
     let mut changes = 0u64;
     'words: for k in 0..words.len() {
-        let changed = words[k] ^ (words[k] >> 1);
+        let changed = (words[k] ^ (words[k] << 1)) & !1;
         changes = changes.saturating_add(u64::from(changed.count_ones()));
     }
     if changes < words.len() as u64 / 2 {
