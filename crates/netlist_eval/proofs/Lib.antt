@@ -13,3 +13,4 @@ pub mod ReaderLemmas
 pub mod MarkLemmas
 pub mod LaneLemmas
 pub mod BlockLemmas
+pub mod TableWordLemmas

@@ -1,5 +1,5 @@
 -- Words of which each bit belongs to a vector of its own.
-use Rattle.std.specs.Prelude.{ℕ, ◌==◌, Bool, List, map}
+use Rattle.std.specs.Prelude.{ℕ, zero, suc, ◌*◌, ◌==◌, Bool, List, map}
 use Rattle.std.specs.Int.{bit_at}
 
 abbrev pub is_bit : ℕ → ℕ → Bool
@@ -8,3 +8,8 @@ is_bit word lane = bit_at word lane == 1
 -- the signals' bits in a lane
 abbrev pub lane_bits : List ℕ → ℕ → List Bool
 lane_bits words lane = map (λ word. is_bit word lane) words
+
+-- how many addresses so many inputs have
+unfoldable pub addresses : ℕ → ℕ
+addresses zero = 1
+addresses (suc n) = 2 * addresses n

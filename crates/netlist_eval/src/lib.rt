@@ -12,6 +12,7 @@ mod plan;
 mod readers;
 mod reading;
 mod row_text;
+mod table_word;
 mod tables;
 mod turns;
 mod vectors;
