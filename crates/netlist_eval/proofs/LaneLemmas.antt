@@ -1,5 +1,5 @@
 -- Bits of words, lane by lane.
-use Rattle.std.proofs.Common.{◌≡◌, ℕ, zero, suc, ◌+◌, ◌<◌, ◌^◌, ◌-◌, ◌&&◌, ◌||◌, ◌==◌, min, max, Bool, true, false, List, [], ◌∷◌, length, take, get_or, map, refl, sym, ap, subst, ◌∙◌, arith}
+use Rattle.std.proofs.Common.{◌≡◌, ℕ, zero, suc, ◌<◌, ◌^◌, ◌-◌, ◌&&◌, ◌||◌, ◌==◌, min, max, Bool, true, false, List, [], ◌∷◌, length, take, get_or, map, refl, ap, subst, ◌∙◌, arith}
 use Rattle.std.specs.Prelude.{not, if◌then◌else◌, slice_set}
 use Rattle.std.specs.Int.{w64, bit_not}
 use Rattle.std.specs.Int.Bits.{bit_and}
@@ -60,9 +60,6 @@ not-bit a j la lj = ap (λ x. x == 1) (bit_at_not w64 a j la lj) ∙ turned _ (b
 and-assoc : (a b c : Bool) → (a && (b && c)) ≡ ((a && b) && c)
 and-assoc true b c = refl
 and-assoc false b c = refl
-
-pub matches-none : (given : ℕ → Bool) (ls : List Lit) (ss : List ℕ) → matches (take 0 ls) (map given (take 0 ss)) ≡ true
-matches-none given ls ss = refl
 
 -- one more literal of a row
 pub matches-more : (given : ℕ → Bool) (ls : List Lit) (ss : List ℕ) (k : ℕ) → length ls ≡ length ss → k < length ls → matches (take (suc k) ls) (map given (take (suc k) ss)) ≡ (matches (take k ls) (map given (take k ss)) && fits (get_or ls k Zero) (given (get_or ss k 0)))

@@ -1,13 +1,13 @@
 -- Tables in all lanes at once.
-use Rattle.std.proofs.Common.{◌≡◌, ◌≢◌, ◌⊎◌, ℕ, zero, suc, ◌+◌, ◌-◌, ◌*◌, ◌<◌, ◌≤◌, ◌==◌, ◌&&◌, ◌||◌, Bool, true, false, List, [], ◌∷◌, length, take, drop, get_or, refl, sym, ap, subst, ◌∙◌, inl, inr, arith}
+use Rattle.std.proofs.Common.{◌≡◌, ℕ, zero, suc, ◌+◌, ◌-◌, ◌*◌, ◌<◌, ◌≤◌, ◌&&◌, ◌||◌, Bool, true, false, List, [], ◌∷◌, length, take, drop, get_or, refl, sym, ap, subst, ◌∙◌, arith}
 use Rattle.std.specs.Prelude.{not, if◌then◌else◌}
 use Rattle.std.proofs.Math.Dec.{eqb}
 use Rattle.std.proofs.lemmas.Bool.{eqb-true, eq-eqb}
-use Rattle.std.proofs.lemmas.List.{length-take-le, drop_more}
+use Rattle.std.proofs.lemmas.List.{drop_more}
 use Rattle.std.proofs.lemmas.Grind.{get_or_default_zero}
 use Rattle.netlist.specs.declared.draft.Cover.{Cover}
 use Rattle.netlist.specs.Covers.{cover_at, truth}
-use Rattle.netlist.specs.Valuations.{number_at, bit_at, IsOrder}
+use Rattle.netlist.specs.Valuations.{number_at}
 use Rattle.netlist.proofs.ValuationLemmas.{same_truth}
 use Rattle.netlist_eval.specs.declared.tables.Table.{Table}
 use Rattle.netlist_eval.specs.declared.turns.Turn.{Turn}
@@ -58,15 +58,15 @@ address-below given (s ∷ ss) = rw (address-more given s ss) (by (given s) (add
     by true h = omega arith
     by false h = omega arith
 
-pub chosen : (a b c : Bool) → ((b && not a) || (c && a)) ≡ (if a then c else b)
-chosen true true true = refl
-chosen true true false = refl
-chosen true false true = refl
-chosen true false false = refl
-chosen false true true = refl
-chosen false true false = refl
-chosen false false true = refl
-chosen false false false = refl
+pub choice-is : (a b c : Bool) → ((b && not a) || (c && a)) ≡ (if a then c else b)
+choice-is true true true = refl
+choice-is true true false = refl
+choice-is true false true = refl
+choice-is true false false = refl
+choice-is false true true = refl
+choice-is false true false = refl
+choice-is false false true = refl
+choice-is false false false = refl
 
 -- the part at an address, after its lowest input is chosen
 pub part-kept : (given : ℕ → Bool) (ss : List ℕ) (k : ℕ) (part : ℕ → Bool) (b cell : Bool) → k < length ss → b ≡ given (get_or ss k 0) → part (address given (drop k ss)) ≡ cell → (if b then part (2 * address given (drop (k + 1) ss) + 1) else part (2 * address given (drop (k + 1) ss))) ≡ cell
@@ -76,9 +76,6 @@ part-kept given ss k part b cell lk e h =
     ap part (sym (address-more given (get_or ss k 0) (drop (k + 1) ss))) ∙
     ap (λ (xs : List ℕ). part (address given xs)) (sym (drop_more ss k 0 lk)) ∙ h
   where
-    rest : ℕ
-    rest = address given (drop (k + 1) ss)
-
     by : (x : Bool) → (if x then part (2 * address given (drop (k + 1) ss) + 1) else part (2 * address given (drop (k + 1) ss))) ≡ part ((if x then 1 else 0) + 2 * address given (drop (k + 1) ss))
     by true = ap part (omega arith)
     by false = ap part (omega arith)

@@ -4,7 +4,7 @@ use Rattle.netlist.specs.declared.draft.Draft.{Draft}
 use Rattle.netlist.specs.Drafts.{IsDriven}
 use Rattle.netlist.specs.Valuations.{number_at, bit_at}
 use Rattle.netlist_eval.specs.declared.block.Block.{Block}
-use Rattle.netlist_eval.specs.Evals.{IsStep}
+use Rattle.netlist_eval.specs.Evals.{EvalState, IsStep}
 use Rattle.netlist_eval.specs.Lanes.{lane_bits}
 use Rattle.netlist_eval.specs.Plans.{AllHold}
 
@@ -21,4 +21,5 @@ pub record IsBlock (d : Draft) (b : Block) : Type 0 where
 
 -- the row of a vector at any state, which stays
 abbrev pub IsRowOf : Draft → List Bool → List Bool → Type 0
-IsRowOf d vector row = (state : List Bool) → length state ≡ length d.latches → IsStep (record { netlist = d; state = state }) vector row (record { netlist = d; state = state })
+IsRowOf d vector row =
+    (state : List Bool) → length state ≡ length d.latches → let at : EvalState = record { netlist = d; state = state } in IsStep at vector row at

@@ -1,6 +1,6 @@
 //! Vectors that are evaluated at once, each in a lane of its own.
 
-ghost use Rattle.std.specs.Prelude.{◌≡◌, ◌<◌, ◌≤◌, ℕ, true, length, IfOk};
+ghost use Rattle.std.specs.Prelude.{◌≡◌, ◌<◌, ◌≤◌, true, length, IfOk};
 ghost use Rattle.netlist_eval.specs.Bits.{AreBelow};
 ghost use Rattle.netlist_eval.specs.Blocks.{HaveKept, IsBlock, IsRowOf};
 ghost use Rattle.netlist_eval.specs.Plans.{IsPlan};

@@ -1,9 +1,9 @@
 //! The truths of a cover in all lanes at once, by its table.
 
-ghost use Rattle.std.specs.Prelude.{◌≡◌, ◌+◌, ◌*◌, ◌<◌, ◌≤◌, ℕ, true, false, length, take, slice_index_or, if◌then◌else◌};
+ghost use Rattle.std.specs.Prelude.{◌≡◌, ◌+◌, ◌*◌, ◌<◌, ◌≤◌, ℕ, true, false, length, take, slice_index_or};
 ghost use Rattle.netlist.specs.Valuations.{number_at, bit_at};
 ghost use Rattle.netlist_eval.specs.Bits.{AreBelow};
-ghost use Rattle.netlist_eval.specs.Lanes.{is_bit, lane_bits, addresses};
+ghost use Rattle.netlist_eval.specs.Lanes.{is_bit, lane_bits, chosen, addresses};
 ghost use Rattle.netlist_eval.specs.Tables.{address};
 
 use crate::tables::Table;
@@ -21,7 +21,7 @@ fn size_of(count: usize) -> usize
 
 // In each lane the bit of one word or, where the choice is 1, of the other.
 fn choose(choice: u64, zero: u64, one: u64) -> u64
-    ensures { (j : ℕ) → j < 64 → is_bit result j ≡ (if is_bit choice j then is_bit one j else is_bit zero j) }
+    ensures { (j : ℕ) → j < 64 → is_bit result j ≡ chosen choice zero one j }
 {
     (zero & !choice) | (one & choice)
 }
@@ -30,7 +30,7 @@ fn choose(choice: u64, zero: u64, one: u64) -> u64
 fn halve(parts: &mut [u64; 64], choice: u64, half: usize)
     requires { half ≤ 32 }
     ensures { (a j : ℕ) → a < half → j < 64
-        → is_bit (number_at parts.new a) j ≡ (if is_bit choice j then is_bit (number_at parts.old (2 * a + 1)) j else is_bit (number_at parts.old (2 * a)) j) }
+        → is_bit (number_at parts.new a) j ≡ chosen choice (number_at parts.old (2 * a)) (number_at parts.old (2 * a + 1)) j }
 {
     'parts: for a in 0..half {
         parts[a] = choose(choice, parts[2 * a], parts[2 * a + 1]);
@@ -59,8 +59,8 @@ pub fn table_word(table: &Table, count: usize, words: &[u64], parts: &mut [u64; 
     requires count { count ≤ 6 }
     requires wires { length table.now.wires ≡ 6 }
     requires within { AreBelow (length words.now) table.now.wires }
-    ensures { (j : ℕ) → j < 64
-        → is_bit result j ≡ slice_index_or table.now.cells (address (bit_at (lane_bits words.now j)) (take count table.now.wires)) false }
+    ensures { (j : ℕ) → j < 64 → let given = bit_at (lane_bits words.now j) in
+        is_bit result j ≡ slice_index_or table.now.cells (address given (take count table.now.wires)) false }
 {
     let mut size = size_of(count);
     put_cells(parts, &table.cells, size);

@@ -101,7 +101,8 @@ fn turn_word(turn: &Turn, covers: &[Cover], words: &[u64], parts: &mut [u64; 64]
 pub fn settle_words(turns: &[Turn], covers: &[Cover], words: &mut Vec<u64>)
     requires turns { AreTurns covers.now turns.now }
     requires made { (i : ℕ) → i < length covers.now → IsCoverOver (cover_at covers.now i) (length words.old.items) }
-    ensures settled { (j : ℕ) → j < 64 → IsSettled covers.now (bit_at (lane_bits words.old.items j)) (bit_at (lane_bits words.new.items j)) }
+    ensures settled { (j : ℕ) → j < 64
+        → IsSettled covers.now (bit_at (lane_bits words.old.items j)) (bit_at (lane_bits words.new.items j)) }
     ensures size { length words.new.items ≡ length words.old.items }
 {
     let mut parts = [0u64; 64];

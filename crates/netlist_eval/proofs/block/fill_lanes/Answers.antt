@@ -1,4 +1,4 @@
-use Rattle.std.proofs.Common.{ℕ, List, length, arith, ap, ◌∙◌}
+use Rattle.std.proofs.Common.{arith, ap, ◌∙◌}
 use Rattle.netlist_eval.proofs.BlockLemmas.{block-filled}
 use Rattle.netlist_eval.proofs.RunLemmas.{below-at, inputs-below}
 use Rattle.netlist_eval.proofs.block.fill_lanes.Goals as goal

@@ -1,4 +1,3 @@
-use Rattle.std.proofs.Common.{arith}
 use Rattle.netlist_eval.proofs.LaneLemmas.{not-bit, all-bits}
 use Rattle.netlist_eval.proofs.word_truth.fits_word.Goals as goal
 

@@ -1,4 +1,4 @@
-use Rattle.std.proofs.Common.{◌||◌, Bool, List, [], get_or, ap, sym, ◌∙◌, add-one, map, take}
+use Rattle.std.proofs.Common.{◌||◌, Bool, List, [], ap, sym, ◌∙◌, add-one, map, take}
 use Rattle.std.proofs.lemmas.List.{get_or_default}
 use Rattle.netlist.specs.declared.draft.Lit.{Lit}
 use Rattle.netlist.specs.Covers.{matches, some_matches}

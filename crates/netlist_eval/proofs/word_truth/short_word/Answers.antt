@@ -1,5 +1,5 @@
-use Rattle.std.proofs.Common.{ℕ, length, subst, sym, refl, ◌≡◌, ◌∙◌}
-use Rattle.netlist.specs.Valuations.{number_at, bit_at}
+use Rattle.std.proofs.Common.{length, sym, refl, ◌∙◌}
+use Rattle.netlist.specs.Valuations.{bit_at}
 use Rattle.netlist_eval.specs.Lanes.{lane_bits}
 use Rattle.netlist_eval.proofs.TableWordLemmas.{table-truth}
 use Rattle.netlist_eval.proofs.word_truth.short_word.Goals as goal
