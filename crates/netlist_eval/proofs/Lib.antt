@@ -12,3 +12,6 @@ pub mod TurnLemmas
 pub mod ReaderLemmas
 pub mod MarkLemmas
 pub mod LatchLemmas
+pub mod LaneLemmas
+pub mod BlockLemmas
+pub mod TableWordLemmas

@@ -87,7 +87,7 @@ module _ (d : Draft) (is : IsChecked d) where
       let lk' : k < length (signals (drives_of d)) = omega (arith, size) in
       (k, omega (arith, size, length-map (drives_of d) (λ (w : PortDef). w.signal)), sym (drive-at k lk') ∙ ap (λ (xs : List ℕ). get_or xs k 0) (drive-signals d) ∙ e)
 
-  input-driven : (s k : ℕ) → k < length (signals d.inputs) → get_or (signals d.inputs) k 0 ≡ s → IsDriven d s
+  pub input-driven : (s k : ℕ) → k < length (signals d.inputs) → get_or (signals d.inputs) k 0 ≡ s → IsDriven d s
   input-driven s k lk e =
       driven s k (omega (arith, length-append (front d) (outs d.latches), length-append (signals d.inputs) (map (λ (c : Cover). c.out) d.covers)))
       (get_or_append_left (front d) (outs d.latches) 0 k (omega (arith, length-append (signals d.inputs) (map (λ (c : Cover). c.out) d.covers))) ∙ get_or_append_left (signals d.inputs) (map (λ (c : Cover). c.out) d.covers) 0 k lk ∙ e)

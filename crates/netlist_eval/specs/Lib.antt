@@ -13,3 +13,5 @@ pub mod Readers
 pub mod Marks
 pub mod Latches
 pub mod Plans
+pub mod Lanes
+pub mod Blocks

@@ -7,6 +7,7 @@ ghost use Rattle.netlist_eval.specs.Latches.{HaveBits};
 ghost use Rattle.netlist_eval.specs.Plans.{IsPlan, IsMarked, AllHold};
 
 use crate::bits::{put_bits, read_bits};
+use crate::block::{Block, give_ahead, no_vectors};
 use crate::latches::put_changed;
 use crate::marks::{put_marked, settle_marked};
 use crate::plan::{Plan, plan_of};
@@ -42,18 +43,21 @@ pub struct Eval<'a> {
     unmarked: u32,
     /// How many are evaluated without marks after the next vector that changes many covers.
     streak: u32,
+    /// The last vectors that were evaluated at once.
+    block: Block,
 }
 
 impl<'a> Model for Eval<'a> {
     ghost use Rattle.netlist_eval.specs.Evals.{EvalState};
     ghost use Rattle.netlist_eval.specs.Bits.{AreReady};
     ghost use Rattle.netlist_eval.specs.Plans.{IsPlan, IsMarked, IsHeld};
+    ghost use Rattle.netlist_eval.specs.Blocks.{IsBlock};
 
     ghost Value = { EvalState };
 
     ghost view = { λ e. record { netlist = e.netlist.now; state = e.state.items } };
 
-    ghost invariant = { λ e. IsPlan e.netlist.now e.plan × AreReady e.netlist.now e.values.items e.state.items × IsMarked e.netlist.now e.plan e.marks.items e.values.items × IsHeld e.plan e.hints.items e.last.items e.state.items e.values.items };
+    ghost invariant = { λ e. IsPlan e.netlist.now e.plan × AreReady e.netlist.now e.values.items e.state.items × IsMarked e.netlist.now e.plan e.marks.items e.values.items × IsHeld e.plan e.hints.items e.last.items e.state.items e.values.items × IsBlock e.netlist.now e.block };
 }
 
 impl<'a> Eval<'a> {
@@ -68,6 +72,7 @@ impl<'a> Eval<'a> {
         let hints = vec![in alloc; u64::MAX; WORDS]?;
         let state = first_bits(alloc, draft.latches.as_slice())?;
         let last = vec![in alloc; false; draft.latches.as_slice().len()]?;
+        let block = no_vectors(alloc, netlist)?;
         Ok(Eval {
             netlist,
             plan,
@@ -78,7 +83,29 @@ impl<'a> Eval<'a> {
             last,
             unmarked: 0,
             streak: 0,
+            block,
         })
+    }
+
+    /// Gives the row of a vector as [`Eval::step`] does. `ahead` is the text behind the vector's line, as far as it
+    /// is known: where a design has no latches, the vectors that it seems to have are evaluated at once with this
+    /// one. It is a guess, and the row is right whatever it says. Takes no memory.
+    pub fn step_ahead(&mut self, vector: &[bool], ahead: &[u8], out: &mut [bool])
+        requires inputs { length vector.now ≡ length self.old.netlist.inputs }
+        requires outputs { length out.old ≡ length self.old.netlist.outputs }
+        ensures { IsStep self.old vector.now out.new self.new }
+    {
+        let given = give_ahead(
+            &mut self.block,
+            self.netlist,
+            &self.plan,
+            vector,
+            ahead,
+            out,
+        );
+        if !given {
+            self.step(vector, out);
+        }
     }
 
     /// Gives the row of a vector, which has one bit for each input; the row has one for each output. Then the

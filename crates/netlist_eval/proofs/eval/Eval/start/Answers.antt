@@ -13,4 +13,5 @@ invariant_of-result c = (
   held-first c.in_ok-plan.plan c.in_ok-hints.hints.items 18446744073709551615 _ c.in_ok-last.last.items c.in_ok-values.values.items c.in_ok-state.state.items _
       (c.in_ok-hints.ensures.items_if_clones_equal (λ y e. e)) (c.in_ok-last.ensures.items_if_clones_equal (λ y e. e)) (c.in_ok-values.ensures.items_if_clones_equal (λ y e. e))
       (ap (λ xs. length xs) c.in_ok-state.ensures ∙ length-map _ _ ∙ ap (λ xs. length xs) c.as_slice.ensures ∙ sym (ap (λ xs. length xs) c.as_slice-2.ensures)),
+  c.in_ok-block.ensures,
 )

@@ -22,6 +22,7 @@ invariant_of-self c =
         last_len = omega (arith, c.run.auto.last, c.run.auto.state, c.deref_mut-then-self-gt0.ensures.len, c.deref_mut-then-self-gt0-2.ensures.len, c.self.invariant.3.last_len);
         given = c.run.ensures.given;
       },
+      c.self.invariant.4,
     )
 
 pub invariant_of-self-then-busy : goal.invariant_of-self-then-busy
@@ -40,6 +41,7 @@ invariant_of-self-then-busy c =
         last_len = omega (arith, c.run_marked-busy.auto.last, c.run_marked-busy.auto.state, c.deref_mut-5.ensures.len, c.deref_mut-6.ensures.len, c.self.invariant.3.last_len);
         given = c.run_marked-busy.ensures.given;
       },
+      c.self.invariant.4,
     )
 
 pub invariant_of-self-else-busy : goal.invariant_of-self-else-busy
@@ -58,4 +60,5 @@ invariant_of-self-else-busy c =
         last_len = omega (arith, c.run_marked-busy.auto.last, c.run_marked-busy.auto.state, c.deref_mut-5.ensures.len, c.deref_mut-6.ensures.len, c.self.invariant.3.last_len);
         given = c.run_marked-busy.ensures.given;
       },
+      c.self.invariant.4,
     )
