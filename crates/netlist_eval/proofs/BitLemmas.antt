@@ -1,9 +1,9 @@
 -- Bits that are written at signals, and read again.
 use Rattle.std.proofs.Common.{◌≡◌, ℕ, zero, suc, ◌+◌, ◌<◌, Bool, false, List, [], ◌∷◌, ◌++◌, length, take, get_or, map, refl, sym, ap, ◌∙◌, arith, get_or-set_same, get_or-set_other}
 use Rattle.std.specs.Prelude.{slice_set}
-use Rattle.std.proofs.lemmas.List.{length-set, length-append, get_or_append_left, get_or-append-add}
+use Rattle.std.proofs.lemmas.List.{length-set, set-set, set_comm, set-get_or, length-append, get_or-map, get_or_append_left, get_or-append-add}
 use Rattle.netlist.specs.Valuations.{bit_at}
-use Rattle.netlist_eval.specs.Bits.{bits_put, AreBelow}
+use Rattle.netlist_eval.specs.Bits.{bits_put, AreApart, AreBelow}
 
 pub length-put : (values : List Bool) (ss : List ℕ) (bs : List Bool) → length (bits_put values ss bs) ≡ length values
 unfolding bits_put
@@ -22,10 +22,6 @@ put-more values (s ∷ ss) [] k lk mk = absurd (omega arith)
 put-more values (s ∷ ss) (b ∷ bs) zero lk mk = refl
 put-more values (s ∷ ss) (b ∷ bs) (suc k) lk mk = put-more (slice_set values s b) ss bs k (omega arith) (omega arith)
 
--- signals that are all different
-abbrev pub AreApart : List ℕ → Type 0
-AreApart ss = (j k : ℕ) → j < k → k < length ss → get_or ss j 0 ≡ get_or ss k 0 → ⊥
-
 pub put-other : (values : List Bool) (ss : List ℕ) (bs : List Bool) (s : ℕ) → ((k : ℕ) → k < length ss → get_or ss k 0 ≡ s → ⊥) → bit_at (bits_put values ss bs) s ≡ bit_at values s
 unfolding bits_put
 put-other values [] bs s h = refl
@@ -42,6 +38,30 @@ put-read values (s ∷ ss) (b ∷ bs) apart below e =
     (put-other (slice_set values s b) ss bs s (λ k lk f. apart 0 (suc k) (omega arith) (omega arith) (sym f)) ∙ get_or-set_same values s b false (below 0 (omega arith))) ∙
     ap (λ (cs : List Bool). b ∷ cs)
     (put-read (slice_set values s b) ss bs (λ j k jk lk. apart (suc j) (suc k) (omega arith) (omega arith)) (λ k lk. omega (arith, below (suc k) (omega arith), length-set values s b)) (omega arith))
+
+-- a signal that is given its bit before all are changes nothing
+pub put-over : (values : List Bool) (ss : List ℕ) (bs : List Bool) (k : ℕ) → AreApart ss → k < length ss → k < length bs → bits_put (slice_set values (get_or ss k 0) (get_or bs k false)) ss bs ≡ bits_put values ss bs
+unfolding bits_put
+put-over values [] bs k apart lk mk = absurd (omega arith)
+put-over values (s ∷ ss) [] k apart lk mk = absurd (omega arith)
+put-over values (s ∷ ss) (b ∷ bs) zero apart lk mk = ap (λ (vs : List Bool). bits_put vs ss bs) (set-set values s b b)
+put-over values (s ∷ ss) (b ∷ bs) (suc k) apart lk mk =
+    ap (λ (vs : List Bool). bits_put vs ss bs) (set_comm values (get_or ss k 0) s (get_or bs k false) b (λ e. apart 0 (suc k) (omega arith) (omega arith) (sym e))) ∙
+    put-over (slice_set values s b) ss bs k (λ j i ji li. apart (suc j) (suc i) (omega arith) (omega arith)) (omega arith) (omega arith)
+
+-- signals that are given the bits that they have
+pub put-same : (values : List Bool) (ss : List ℕ) (bs : List Bool) → ((k : ℕ) → k < length ss → bit_at values (get_or ss k 0) ≡ get_or bs k false) → bits_put values ss bs ≡ values
+unfolding bits_put
+put-same values [] bs h = refl
+put-same values (s ∷ ss) [] h = refl
+put-same values (s ∷ ss) (b ∷ bs) h =
+    ap (λ (vs : List Bool). bits_put vs ss bs) (ap (slice_set values s) (sym (h 0 (omega arith))) ∙ set-get_or values s false) ∙
+    put-same values ss bs (λ k lk. h (suc k) (omega arith))
+
+-- signals that were given bits have them
+pub put-has : (values : List Bool) (ss : List ℕ) (bs : List Bool) (k : ℕ) → AreApart ss → AreBelow (length values) ss → length bs ≡ length ss → k < length ss → bit_at (bits_put values ss bs) (get_or ss k 0) ≡ get_or bs k false
+put-has values ss bs k apart below e lk =
+    sym (get_or-map (bit_at (bits_put values ss bs)) ss k 0 false lk) ∙ ap (λ (cs : List Bool). get_or cs k false) (put-read values ss bs apart below e)
 
 -- of signals that are all different, those of two parts
 pub apart-left : (xs ys : List ℕ) → AreApart (xs ++ ys) → AreApart xs

@@ -11,3 +11,7 @@ pub mod TableLemmas
 pub mod TurnLemmas
 pub mod ReaderLemmas
 pub mod MarkLemmas
+pub mod LatchLemmas
+pub mod LaneLemmas
+pub mod BlockLemmas
+pub mod TableWordLemmas

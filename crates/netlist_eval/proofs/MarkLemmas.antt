@@ -4,15 +4,15 @@ use Rattle.std.specs.Prelude.{slice_set, replicate}
 use Rattle.std.proofs.lemmas.Bool.{cases_eq, cases_lt}
 use Rattle.std.proofs.lemmas.List.{set-get_or, get_or-take, length-take, length-take-le, take_all, get_or-replicate}
 use Rattle.netlist.specs.declared.draft.Cover.{Cover}
-use Rattle.netlist.specs.Covers.{cover_at, truth, IsCoverOver}
-use Rattle.netlist.specs.Valuations.{number_at, bit_at, IsOrder, IsSettled, IsSettledTo}
+use Rattle.netlist.specs.Covers.{cover_at, truth}
+use Rattle.netlist.specs.Valuations.{number_at, bit_at, IsOrder, IsSettled}
 use Rattle.netlist.proofs.ValuationLemmas.{same_truth}
 use Rattle.netlist_eval.specs.declared.readers.Readers.{Readers}
 use Rattle.netlist_eval.specs.Readers.{IsListed, AreReaders, ins_at}
 use Rattle.netlist_eval.specs.declared.turns.Turn.{Turn}
 use Rattle.netlist_eval.specs.Turns.{turn_at, places, AreTurns}
-use Rattle.netlist_eval.proofs.TurnLemmas.{turns-size, out-is, turn-settles}
-use Rattle.netlist_eval.specs.Marks.{HoldsAt, AreKept, HaveMarked, HasGiven, AreFree, StillKept}
+use Rattle.netlist_eval.proofs.TurnLemmas.{turns-size, out-is, truth-is, place-within}
+use Rattle.netlist_eval.specs.Marks.{HoldsAt, AreKept, AreOthersSame, HaveMarked, HasGiven, AreFree, StillKept}
 
 -- one more mark
 pub mark-kept : (marks : List Bool) (q : ℕ) → q < length marks → (k : ℕ) → bit_at (slice_set marks q true) k ≡ false → bit_at marks k ≡ false
@@ -50,12 +50,10 @@ given-marked r signal bit marks values marks' values' e h = record {
 }
 
 module _ (covers : List Cover) (order : List ℕ) (count : ℕ) (r : Readers) (are : AreReaders covers order count r) where
-  -- a cover that holds and isn't marked still holds, where the signal isn't its output
-  holds-still : (signal : ℕ) (bit : Bool) (marks values marks' values' : List Bool) → HasGiven r signal bit marks values marks' values' → signal < length values → (k : ℕ) → k < length order → (signal ≡ (cover_at covers (number_at order k)).out → ⊥) → bit_at marks' k ≡ false → HoldsAt covers order (bit_at values) k → HoldsAt covers order (bit_at values') k
-  holds-still signal bit marks values marks' values' g ls k lk free f h =
-      subst (λ (vs : List Bool). HoldsAt covers order (bit_at vs) k) (sym g.is)
-      (get_or-set_other values signal (cover_at covers (number_at order k)).out bit false (λ e. free (sym e)) ∙ h ∙
-      sym (same_truth (bit_at (slice_set values signal bit)) (bit_at values) (cover_at covers (number_at order k)) (λ i li. by i li (cases_eq (number_at (ins_at covers order k) i) signal))))
+  -- the truth of a cover that isn't marked stays
+  truth-stays : (signal : ℕ) (bit : Bool) (marks values marks' values' : List Bool) → HasGiven r signal bit marks values marks' values' → signal < length values → (k : ℕ) → k < length order → bit_at marks' k ≡ false → truth (bit_at (slice_set values signal bit)) (cover_at covers (number_at order k)) ≡ truth (bit_at values) (cover_at covers (number_at order k))
+  truth-stays signal bit marks values marks' values' g ls k lk f =
+      same_truth (bit_at (slice_set values signal bit)) (bit_at values) (cover_at covers (number_at order k)) (λ i li. by i li (cases_eq (number_at (ins_at covers order k) i) signal))
     where
       by : (i : ℕ) → i < length (ins_at covers order k) → (number_at (ins_at covers order k) i ≡ signal) ⊎ (number_at (ins_at covers order k) i ≡ signal → ⊥) → bit_at (slice_set values signal bit) (number_at (ins_at covers order k) i) ≡ bit_at values (number_at (ins_at covers order k) i)
       by i li (inl same) =
@@ -63,16 +61,35 @@ module _ (covers : List Cover) (order : List ℕ) (count : ℕ) (r : Readers) (a
           (get_or-set_same values signal bit false ls ∙ sym (g.listed k (subst (λ (x : ℕ). IsListed r x k) same (are.listed k i lk li)) f))
       by i li (inr other) = get_or-set_other values signal (number_at (ins_at covers order k) i) bit false other
 
+  -- a cover that holds and isn't marked still holds, where the signal isn't its output
+  holds-still : (signal : ℕ) (bit : Bool) (marks values marks' values' : List Bool) → HasGiven r signal bit marks values marks' values' → signal < length values → (k : ℕ) → k < length order → (signal ≡ (cover_at covers (number_at order k)).out → ⊥) → bit_at marks' k ≡ false → HoldsAt covers order (bit_at values) k → HoldsAt covers order (bit_at values') k
+  holds-still signal bit marks values marks' values' g ls k lk free f h =
+      subst (λ (vs : List Bool). HoldsAt covers order (bit_at vs) k) (sym g.is)
+      (get_or-set_other values signal (cover_at covers (number_at order k)).out bit false (λ e. free (sym e)) ∙ h ∙
+      sym (truth-stays signal bit marks values marks' values' g ls k lk f))
+
   pub keeps-give : (m signal : ℕ) (bit : Bool) (marks values marks' values' : List Bool) → HasGiven r signal bit marks values marks' values' → signal < length values → ((k : ℕ) → m ≤ k → k < length order → signal ≡ (cover_at covers (number_at order k)).out → ⊥) → AreKept covers order m marks values → AreKept covers order m marks' values'
   keeps-give m signal bit marks values marks' values' g ls free h k mk lk f =
       holds-still signal bit marks values marks' values' g ls k lk (free k mk lk) f (h k mk lk (g.kept k f))
 
   -- the mark of a turn is taken away, and its output has its truth
-  pub keeps-turn : (m : ℕ) (bit : Bool) (marks values marks' values' : List Bool) → IsOrder covers order → m < length order → (cover_at covers (number_at order m)).out < length values → HasGiven r (cover_at covers (number_at order m)).out bit (slice_set marks m false) values marks' values' → AreKept covers order m marks values → AreKept covers order (m + 1) marks' values'
-  keeps-turn m bit marks values marks' values' is lm lo g h =
-      keeps-give (m + 1) (cover_at covers (number_at order m)).out bit (slice_set marks m false) values marks' values' g lo
-      (λ k mk lk e. is.once m k (omega arith) lk e)
-      (λ k mk lk f. h k (omega arith) lk (clear-kept marks m k (λ e. absurd (omega (arith, e, mk))) f))
+  pub keeps-turn : (m : ℕ) (bit : Bool) (marks values marks' values' : List Bool) → IsOrder covers order → m < length order → (cover_at covers (number_at order m)).out < length values → bit ≡ truth (bit_at values) (cover_at covers (number_at order m)) → HasGiven r (cover_at covers (number_at order m)).out bit (slice_set marks m false) values marks' values' → AreKept covers order 0 marks values → AreKept covers order 0 marks' values'
+  keeps-turn m bit marks values marks' values' is lm lo e g h k mk lk f = by (cases_eq k m)
+    where
+      out : ℕ
+      out = (cover_at covers (number_at order m)).out
+
+      apart : (k < m) ⊎ (m ≤ k) → (k ≡ m → ⊥) → out ≡ (cover_at covers (number_at order k)).out → ⊥
+      apart (inl lt) other same = is.once k m lt lm (sym same)
+      apart (inr ge) other same = is.once m k (elim (cases_lt m k) [ inl l ↦ l | inr l ↦ absurd (other (omega arith)) ]) lk same
+
+      by : (k ≡ m) ⊎ (k ≡ m → ⊥) → HoldsAt covers order (bit_at values') k
+      by (inl same) =
+          subst (λ (x : ℕ). HoldsAt covers order (bit_at values') x) (sym same)
+          (subst (λ (vs : List Bool). HoldsAt covers order (bit_at vs) m) (sym g.is)
+          (get_or-set_same values out bit false lo ∙ e ∙
+          sym (truth-stays out bit (slice_set marks m false) values marks' values' g lo m lm (subst (λ (x : ℕ). bit_at marks' x ≡ false) same f))))
+      by (inr other) = holds-still out bit (slice_set marks m false) values marks' values' g lo k lk (apart (cases_lt k m) other) f (h k mk lk (clear-kept marks m k other (g.kept k f)))
 
 pub still-none : (r : Readers) (marks values : List Bool) → StillKept r [] marks values marks values
 still-none r marks values covers order count are free h = h
@@ -90,37 +107,41 @@ still-more r signals k bit marks0 values0 marks values marks' values' lk g ls h 
 pub still-all : (r : Readers) (signals : List ℕ) (k : ℕ) (marks values marks' values' : List Bool) → length signals ≤ k → StillKept r (take k signals) marks values marks' values' → StillKept r signals marks values marks' values'
 still-all r signals k marks values marks' values' all h = subst (λ (xs : List ℕ). StillKept r xs marks values marks' values') (take_all k signals all) h
 
--- nothing changes in a turn that holds
-pub settles-same : (covers : List Cover) (order : List ℕ) (k : ℕ) (old cur : List Bool) → IsSettledTo covers order k old cur → HoldsAt covers order (bit_at cur) k → IsSettledTo covers order (k + 1) old cur
-settles-same covers order k old cur h at = record {
-  len = h.len;
-  truths = λ j lj. elim (cases_eq j k) [
-    | inl s ↦ subst (λ (x : ℕ). HoldsAt covers order (bit_at cur) x) (sym s) at
-    | inr s ↦ h.truths j (omega arith)
-  ];
-  others = λ s none. h.others s (λ j lj. none j (omega arith));
+-- where no cover is marked, all have their truths
+pub settled-of : (covers : List Cover) (order : List ℕ) (marks old new : List Bool) → IsOrder covers order → AreKept covers order 0 marks new → ((k : ℕ) → k < length order → bit_at marks k ≡ false) → AreOthersSame covers old new → IsSettled covers (bit_at old) (bit_at new)
+settled-of covers order marks old new is kept none same = record {
+  truths =
+      λ i li. (let found = is.all i li in
+      subst (λ (x : ℕ). bit_at new (cover_at covers x).out ≡ truth (bit_at new) (cover_at covers x)) found.2 (kept found.0 (omega arith) found.1 (none found.0 found.1)));
+  others = same;
 }
 
-pub settled-none : (covers : List Cover) (order : List ℕ) (old : List Bool) → IsSettledTo covers order 0 old old
-settled-none covers order old = record { len = refl; truths = λ j lj. absurd (omega arith); others = λ s none. refl }
+-- covers that are settled over bits of which only what covers drive has changed
+pub settled-over : (covers : List Cover) (old mid new : List Bool) → AreOthersSame covers old mid → IsSettled covers (bit_at mid) (bit_at new) → IsSettled covers (bit_at old) (bit_at new)
+settled-over covers old mid new same is = record { truths = is.truths; others = λ s none. is.others s none ∙ same s none }
+
+pub others-none : (covers : List Cover) (values : List Bool) → AreOthersSame covers values values
+others-none covers values s none = refl
+
+pub others-more : (covers : List Cover) (old mid new : List Bool) → AreOthersSame covers old mid → AreOthersSame covers mid new → AreOthersSame covers old new
+others-more covers old mid new a b s none = b s none ∙ a s none
 
 -- where all covers have their truths, those that aren't marked have
 pub settled-kept : (covers : List Cover) (order : List ℕ) (marks values : List Bool) → IsOrder covers order → ((i : ℕ) → i < length covers → bit_at values (cover_at covers i).out ≡ truth (bit_at values) (cover_at covers i)) → AreKept covers order 0 marks values
 settled-kept covers order marks values is h k mk lk f = h (number_at order k) (is.within k lk)
 
-pub kept-later : (covers : List Cover) (order : List ℕ) (m : ℕ) (marks values : List Bool) → AreKept covers order m marks values → AreKept covers order (m + 1) marks values
-kept-later covers order m marks values h k mk lk f = h k (omega arith) lk f
-
-module _ (covers : List Cover) (turns : List Turn) (are : AreTurns covers turns) (r : Readers) (signals : ℕ) (readers : AreReaders covers (places turns) signals r) where
-  pub marked-keeps : (k : ℕ) (bit : Bool) (marks values marks' values' : List Bool) → k < length turns → (turn_at turns k).out < length values → HasGiven r (turn_at turns k).out bit (slice_set marks k false) values marks' values' → AreKept covers (places turns) k marks values → AreKept covers (places turns) (k + 1) marks' values'
-  marked-keeps k bit marks values marks' values' lk lo g h =
+module _ (covers : List Cover) (turns : List Turn) (are : AreTurns covers turns) where
+  pub marked-keeps : (r : Readers) (signals k : ℕ) (bit : Bool) (marks values marks' values' : List Bool) → AreReaders covers (places turns) signals r → k < length turns → (turn_at turns k).out < length values → bit ≡ truth (bit_at values) (cover_at covers (turn_at turns k).place) → HasGiven r (turn_at turns k).out bit (slice_set marks k false) values marks' values' → AreKept covers (places turns) 0 marks values → AreKept covers (places turns) 0 marks' values'
+  marked-keeps r signals k bit marks values marks' values' readers lk lo t g h =
       let e = out-is covers turns are k lk in
       keeps-turn covers (places turns) signals r readers k bit marks values marks' values' are.order (omega (arith, turns-size turns)) (subst (λ (x : ℕ). x < length values) e lo)
+      (t ∙ truth-is covers turns are (bit_at values) k lk)
       (subst (λ (x : ℕ). HasGiven r x bit (slice_set marks k false) values marks' values') e g) h
 
-  pub marked-settles : (k : ℕ) (bit : Bool) (old marks values marks' values' : List Bool) → k < length turns → ((i : ℕ) → i < length covers → IsCoverOver (cover_at covers i) (length old)) → HasGiven r (turn_at turns k).out bit (slice_set marks k false) values marks' values' → IsSettledTo covers (places turns) k old values → bit ≡ truth (bit_at values) (cover_at covers (turn_at turns k).place) → IsSettledTo covers (places turns) (k + 1) old values'
-  marked-settles k bit old marks values marks' values' lk made g h e =
-      subst (λ (vs : List Bool). IsSettledTo covers (places turns) (k + 1) old vs) (sym g.is) (turn-settles covers turns are k old values bit lk made h e)
+  pub marked-others : (r : Readers) (k : ℕ) (bit : Bool) (marks values marks' values' : List Bool) → k < length turns → HasGiven r (turn_at turns k).out bit marks values marks' values' → AreOthersSame covers values values'
+  marked-others r k bit marks values marks' values' lk g s none =
+      ap (λ (vs : List Bool). bit_at vs s) g.is ∙
+      get_or-set_other values (turn_at turns k).out s bit false (λ e. none (turn_at turns k).place (place-within covers turns are k lk) (sym (are.each k lk).out ∙ sym e))
 
 -- at first all are marked
 pub fresh-kept : (covers : List Cover) (order : List ℕ) (marks values : List Bool) (n : ℕ) → length order < n → marks ≡ replicate n true → AreKept covers order 0 marks values

@@ -19,15 +19,17 @@ use Rattle.netlist.proofs.RightLemmas.{settled_is_right}
 use Rattle.netlist.proofs.ValuationLemmas.{map_same}
 use Rattle.netlist_eval.specs.declared.plan.Plan.{Plan}
 use Rattle.netlist_eval.specs.declared.turns.Turn.{Turn}
-use Rattle.netlist_eval.specs.Bits.{bits_put, AreBelow, AreReady, IsWiring}
+use Rattle.netlist_eval.specs.Bits.{bits_put, AreApart, AreBelow, AreReady, IsWiring}
 use Rattle.netlist_eval.specs.Turns.{AreTurns, places}
 use Rattle.netlist_eval.specs.Readers.{AreReaders}
-use Rattle.netlist_eval.specs.Plans.{IsPlan, IsMarked}
+use Rattle.netlist_eval.specs.Plans.{IsPlan, IsMarked, IsHeld}
 use Rattle.netlist_eval.proofs.TurnLemmas.{turns-size}
 use Rattle.netlist_eval.proofs.MarkLemmas.{fresh-kept}
+use Rattle.netlist_eval.proofs.LatchLemmas.{bits-put}
 use Rattle.netlist_eval.specs.Evals.{IsStep}
 use Rattle.netlist_eval.specs.Marks.{AreFree}
-use Rattle.netlist_eval.proofs.BitLemmas.{AreApart, length-put, put-other, put-read, apart-left, apart-right, apart-both, below-left, below-right}
+use Rattle.netlist_eval.specs.Latches.{HaveBits}
+use Rattle.netlist_eval.proofs.BitLemmas.{length-put, put-other, put-read, apart-left, apart-right, apart-both, below-left, below-right}
 
 abbrev pub signals : List PortDef → List ℕ
 signals words = map (λ (w : PortDef). w.signal) words
@@ -85,7 +87,7 @@ module _ (d : Draft) (is : IsChecked d) where
       let lk' : k < length (signals (drives_of d)) = omega (arith, size) in
       (k, omega (arith, size, length-map (drives_of d) (λ (w : PortDef). w.signal)), sym (drive-at k lk') ∙ ap (λ (xs : List ℕ). get_or xs k 0) (drive-signals d) ∙ e)
 
-  input-driven : (s k : ℕ) → k < length (signals d.inputs) → get_or (signals d.inputs) k 0 ≡ s → IsDriven d s
+  pub input-driven : (s k : ℕ) → k < length (signals d.inputs) → get_or (signals d.inputs) k 0 ≡ s → IsDriven d s
   input-driven s k lk e =
       driven s k (omega (arith, length-append (front d) (outs d.latches), length-append (signals d.inputs) (map (λ (c : Cover). c.out) d.covers)))
       (get_or_append_left (front d) (outs d.latches) 0 k (omega (arith, length-append (signals d.inputs) (map (λ (c : Cover). c.out) d.covers))) ∙ get_or_append_left (signals d.inputs) (map (λ (c : Cover). c.out) d.covers) 0 k lk ∙ e)
@@ -105,6 +107,41 @@ module _ (d : Draft) (is : IsChecked d) where
       (omega (arith, within k lk, length-map d.covers (λ (c : Cover). c.out), length-append (signals d.inputs) (map (λ (c : Cover). c.out) d.covers))) li
       (get_or-append-add (signals d.inputs) (map (λ (c : Cover). c.out) d.covers) (number_at order k) 0 ∙
       get_or-map (λ (c : Cover). c.out) d.covers (number_at order k) no_cover 0 (within k lk) ∙ sym e)
+
+  latches-apart : AreApart (outs d.latches)
+  latches-apart = apart-right (front d) (outs d.latches) drives-apart
+
+  pub drives-apart-at : (drives : List ℕ) → drives ≡ outs d.latches → AreApart drives
+  drives-apart-at drives e = subst AreApart (sym e) latches-apart
+
+  -- what latches were given they have
+  pub given-put : (drives used : List ℕ) (values new state : List Bool) → drives ≡ outs d.latches → used ≡ drives → new ≡ bits_put values used state → length values ≡ length d.names → length state ≡ length d.latches → HaveBits drives state new
+  given-put drives used values new state o u e v s =
+      subst (HaveBits drives state) (sym (e ∙ ap (λ (ss : List ℕ). bits_put values ss state) u))
+      (bits-put drives state values (drives-apart-at drives o) (rw (o, v) latches-below)
+      (omega (arith, s, length-map d.latches (λ (l : LatchDef). l.out), ap (λ (xs : List ℕ). length xs) o)))
+
+  -- what latches drive keeps its bits where inputs are given theirs
+  pub given-inputs : (ins drives : List ℕ) (last values vector new : List Bool) → ins ≡ signals d.inputs → drives ≡ outs d.latches → new ≡ bits_put values ins vector → HaveBits drives last values → HaveBits drives last new
+  given-inputs ins drives last values vector new i o e h k lk =
+      ap (λ (vs : List Bool). bit_at vs (number_at drives k)) e ∙
+      put-other values ins vector (number_at drives k)
+      (λ j lj f. apart-both (front d) (outs d.latches) drives-apart j k
+      (omega (arith, length-append (signals d.inputs) (map (λ (c : Cover). c.out) d.covers), lj, ap (λ (xs : List ℕ). length xs) i)) (omega (arith, lk, ap (λ (xs : List ℕ). length xs) o))
+      (get_or_append_left (signals d.inputs) (map (λ (c : Cover). c.out) d.covers) 0 j (omega (arith, lj, ap (λ (xs : List ℕ). length xs) i)) ∙
+      sym (ap (λ (xs : List ℕ). number_at xs j) i) ∙ f ∙ ap (λ (xs : List ℕ). number_at xs k) o)) ∙
+      h k lk
+
+  -- and where covers are settled
+  pub given-settled : (drives : List ℕ) (covers : List Cover) (last base new : List Bool) → drives ≡ outs d.latches → covers ≡ d.covers → IsSettled covers (bit_at base) (bit_at new) → HaveBits drives last base → HaveBits drives last new
+  given-settled drives covers last base new o c s h k lk =
+      s.others (number_at drives k) (λ i li e. (let lo : i < length d.covers = omega (arith, li, ap (λ (xs : List Cover). length xs) c) in
+      apart-both (front d) (outs d.latches) drives-apart (length (signals d.inputs) + i) k
+      (omega (arith, lo, length-map d.covers (λ (c : Cover). c.out), length-append (signals d.inputs) (map (λ (c : Cover). c.out) d.covers))) (omega (arith, lk, ap (λ (xs : List ℕ). length xs) o))
+      (get_or-append-add (signals d.inputs) (map (λ (c : Cover). c.out) d.covers) i 0 ∙
+      get_or-map (λ (c : Cover). c.out) d.covers i no_cover 0 lo ∙
+      ap (λ (cs : List Cover). (cover_at cs i).out) (sym c) ∙ e ∙ ap (λ (xs : List ℕ). number_at xs k) o))) ∙
+      h k lk
 
   module _ (values state vector : List Bool) (ready : AreReady d values state) (size : length vector ≡ length d.inputs) where
     abbrev pub given_inputs : List Bool
@@ -170,8 +207,22 @@ pub covers-made : (d : Draft) (covers : List Cover) (n : ℕ) → IsChecked d �
 covers-made d covers n is e f = rw (e, f) is.made.covers
 
 -- a slice that was written back over a vector
-pub taken : (n : ℕ) (new rest : List Bool) → length new ≡ n → take n (new ++ rest) ≡ new
+pub taken : {A : Type 0} → (n : ℕ) (new rest : List A) → length new ≡ n → take n (new ++ rest) ≡ new
 taken n new rest e = subst (λ (m : ℕ). take m (new ++ rest) ≡ new) e (take-append_seam new rest)
+
+pub words-size : (n word : ℕ) (words : List ℕ) → words ≡ replicate n word → length words ≡ n
+words-size n word words e = ap (λ (xs : List ℕ). length xs) e ∙ length-replicate n word
+
+-- at first nothing was given
+pub held-first : (p : Plan) (hints : List ℕ) (word n : ℕ) (last values state : List Bool) (m : ℕ) → hints ≡ replicate 1024 word → last ≡ replicate n false → values ≡ replicate m false → length state ≡ n → IsHeld p hints last state values
+held-first p hints word n last values state m h l v s = record {
+  hints_len = words-size 1024 word hints h;
+  last_len = ap (λ (xs : List Bool). length xs) l ∙ length-replicate n false ∙ sym s;
+  given = λ k lk. ap (λ (xs : List Bool). bit_at xs (number_at p.wiring.drives.items k)) v ∙ zero m (number_at p.wiring.drives.items k) ∙ sym (ap (λ (xs : List Bool). bit_at xs k) l ∙ zero n k);
+}
+  where
+    zero : (n k : ℕ) → bit_at (replicate n false) k ≡ false
+    zero n k = elim (cases_lt k n) [ inl lt ↦ get_or-replicate n k false false lt | inr ge ↦ get_or_past (replicate n false) k false (omega (arith, ge, length-replicate n false)) ]
 
 pub plan-is : (d draft : Draft) (covers : List Cover) (p : Plan) (turns : List Turn) (n : ℕ) → draft ≡ d → covers ≡ draft.covers → turns ≡ p.turns.items → n ≡ length draft.names → IsWiring draft p.wiring → AreTurns covers p.turns.items → length turns ≤ 65535 → AreReaders covers (places turns) n p.readers → IsPlan d p
 plan-is d draft covers p turns n e f t m w a few r =

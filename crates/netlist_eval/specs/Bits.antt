@@ -15,6 +15,10 @@ bits_put values (s ∷ ss) (b ∷ bs) = bits_put (slice_set values s b) ss bs
 abbrev pub AreBelow : ℕ → List ℕ → Type 0
 AreBelow count signals = (k : ℕ) → k < length signals → slice_index_or signals k 0 < count
 
+-- signals that are all different
+abbrev pub AreApart : List ℕ → Type 0
+AreApart ss = (j k : ℕ) → j < k → k < length ss → slice_index_or ss j 0 ≡ slice_index_or ss k 0 → ⊥
+
 -- the signals of a design that are written and read at each vector
 pub record IsWiring (d : Draft) (w : Wiring) : Type 0 where
   pub inputs : w.inputs.items ≡ map (λ p. p.signal) d.inputs

@@ -11,4 +11,7 @@ pub mod Tables
 pub mod Turns
 pub mod Readers
 pub mod Marks
+pub mod Latches
 pub mod Plans
+pub mod Lanes
+pub mod Blocks

@@ -14,6 +14,10 @@ HoldsAt covers order given k = given (cover_at covers (number_at order k)).out �
 abbrev pub AreKept : List Cover → List ℕ → ℕ → List Bool → List Bool → Type 0
 AreKept covers order m marks values = (k : ℕ) → m ≤ k → k < length order → bit_at marks k ≡ false → HoldsAt covers order (bit_at values) k
 
+-- signals that no cover drives have the same bits
+abbrev pub AreOthersSame : List Cover → List Bool → List Bool → Type 0
+AreOthersSame covers old new = (s : ℕ) → ((i : ℕ) → i < length covers → (cover_at covers i).out ≡ s → ⊥) → bit_at new s ≡ bit_at old s
+
 -- the readers of a signal are marked, and no mark was taken away
 pub record HaveMarked (r : Readers) (signal : ℕ) (old new : List Bool) : Type 0 where
   pub len : length new ≡ length old

@@ -8,6 +8,7 @@ use Rattle.netlist_eval.specs.Bits.{IsWiring}
 use Rattle.netlist_eval.specs.Turns.{AreTurns, places}
 use Rattle.netlist_eval.specs.Readers.{AreReaders}
 use Rattle.netlist_eval.specs.Marks.{AreKept}
+use Rattle.netlist_eval.specs.Latches.{HaveBits}
 
 -- what is known of a design
 pub record IsPlan (d : Draft) (p : Plan) : Type 0 where
@@ -20,6 +21,12 @@ pub record IsPlan (d : Draft) (p : Plan) : Type 0 where
 pub record IsMarked (d : Draft) (p : Plan) (marks values : List Bool) : Type 0 where
   pub size : length marks ≡ 65536
   pub kept : AreKept d.covers (places p.turns.items) 0 marks values
+
+-- what latches drive has the bits that they gave last
+pub record IsHeld (p : Plan) (hints : List ℕ) (last state values : List Bool) : Type 0 where
+  pub hints_len : length hints ≡ 1024
+  pub last_len : length last ≡ length state
+  pub given : HaveBits p.wiring.drives.items last values
 
 -- all covers have their truths
 abbrev pub AllHold : Draft → List Bool → Type 0

@@ -3,9 +3,12 @@
 ghost use Rattle.std.specs.Prelude.{◌≡◌, ◌<◌, ℕ, length, map, IfOk};
 ghost use Rattle.netlist_eval.specs.Evals.{first_eval, IsStep};
 ghost use Rattle.netlist_eval.specs.Bits.{AreReady};
+ghost use Rattle.netlist_eval.specs.Latches.{HaveBits};
 ghost use Rattle.netlist_eval.specs.Plans.{IsPlan, IsMarked, AllHold};
 
 use crate::bits::{put_bits, read_bits};
+use crate::block::{Block, give_ahead, no_vectors};
+use crate::latches::put_changed;
 use crate::marks::{put_marked, settle_marked};
 use crate::plan::{Plan, plan_of};
 use crate::readers::MOST;
@@ -14,9 +17,12 @@ use netlist::{LatchDef, Netlist};
 use std::alloc::{AllocError, Global};
 use std::marker::Model;
 
-/// After a vector that changed more than a quarter of the covers, so many are evaluated without marks: marks cost
-/// about four times as much as an evaluation.
+/// The most vectors that are evaluated without marks in a row, after vectors that changed more than a quarter of the
+/// covers: marks cost about four times as much as an evaluation.
 const VECTORS_WITHOUT_MARKS: u32 = 255;
+
+/// How many words of hints there are: one for each 64 turns.
+const WORDS: usize = 1_024;
 
 /// A design that is run, vector by vector. Contracts see the design and what its latches give next.
 #[derive(Drop)]
@@ -27,22 +33,31 @@ pub struct Eval<'a> {
     values: Vec<bool>,
     /// By turns: a cover that isn't marked has the truth of its inputs' bits.
     marks: Vec<bool>,
+    /// Where marks may be.
+    hints: Vec<u64>,
     /// What the latches give next.
     state: Vec<bool>,
+    /// What the latches gave last.
+    last: Vec<bool>,
     /// How many vectors are evaluated without marks next.
     unmarked: u32,
+    /// How many are evaluated without marks after the next vector that changes many covers.
+    streak: u32,
+    /// The last vectors that were evaluated at once.
+    block: Block,
 }
 
 impl<'a> Model for Eval<'a> {
     ghost use Rattle.netlist_eval.specs.Evals.{EvalState};
     ghost use Rattle.netlist_eval.specs.Bits.{AreReady};
-    ghost use Rattle.netlist_eval.specs.Plans.{IsPlan, IsMarked};
+    ghost use Rattle.netlist_eval.specs.Plans.{IsPlan, IsMarked, IsHeld};
+    ghost use Rattle.netlist_eval.specs.Blocks.{IsBlock};
 
     ghost Value = { EvalState };
 
     ghost view = { λ e. record { netlist = e.netlist.now; state = e.state.items } };
 
-    ghost invariant = { λ e. IsPlan e.netlist.now e.plan × AreReady e.netlist.now e.values.items e.state.items × IsMarked e.netlist.now e.plan e.marks.items e.values.items };
+    ghost invariant = { λ e. IsPlan e.netlist.now e.plan × AreReady e.netlist.now e.values.items e.state.items × IsMarked e.netlist.now e.plan e.marks.items e.values.items × IsHeld e.plan e.hints.items e.last.items e.state.items e.values.items × IsBlock e.netlist.now e.block };
 }
 
 impl<'a> Eval<'a> {
@@ -54,15 +69,43 @@ impl<'a> Eval<'a> {
         let plan = plan_of(alloc, netlist)?;
         let values = vec![in alloc; false; draft.names.len()]?;
         let marks = vec![in alloc; true; MOST as usize]?;
+        let hints = vec![in alloc; u64::MAX; WORDS]?;
         let state = first_bits(alloc, draft.latches.as_slice())?;
+        let last = vec![in alloc; false; draft.latches.as_slice().len()]?;
+        let block = no_vectors(alloc, netlist)?;
         Ok(Eval {
             netlist,
             plan,
             values,
             marks,
+            hints,
             state,
+            last,
             unmarked: 0,
+            streak: 0,
+            block,
         })
+    }
+
+    /// Gives the row of a vector as [`Eval::step`] does. `ahead` is the text behind the vector's line, as far as it
+    /// is known: where a design has no latches, the vectors that it seems to have are evaluated at once with this
+    /// one. It is a guess, and the row is right whatever it says. Takes no memory.
+    pub fn step_ahead(&mut self, vector: &[bool], ahead: &[u8], out: &mut [bool])
+        requires inputs { length vector.now ≡ length self.old.netlist.inputs }
+        requires outputs { length out.old ≡ length self.old.netlist.outputs }
+        ensures { IsStep self.old vector.now out.new self.new }
+    {
+        let given = give_ahead(
+            &mut self.block,
+            self.netlist,
+            &self.plan,
+            vector,
+            ahead,
+            out,
+        );
+        if !given {
+            self.step(vector, out);
+        }
     }
 
     /// Gives the row of a vector, which has one bit for each input; the row has one for each output. Then the
@@ -78,6 +121,7 @@ impl<'a> Eval<'a> {
                 self.netlist,
                 &self.plan,
                 &mut self.values,
+                &mut self.last,
                 &mut self.state,
                 vector,
                 out,
@@ -88,15 +132,28 @@ impl<'a> Eval<'a> {
             self.netlist,
             &self.plan,
             &mut self.marks,
+            &mut self.hints,
             &mut self.values,
+            &mut self.last,
             &mut self.state,
             vector,
             out,
         );
         if busy {
-            self.unmarked = VECTORS_WITHOUT_MARKS;
+            self.unmarked = self.streak;
+            self.streak = longer(self.streak);
+        } else {
+            self.streak = 0;
         }
     }
+}
+
+// The next streak of vectors that are evaluated without marks.
+fn longer(streak: u32) -> u32 {
+    if streak >= VECTORS_WITHOUT_MARKS {
+        return VECTORS_WITHOUT_MARKS;
+    }
+    2 * streak + 1
 }
 
 // Gives the row of a vector and the next state, and evaluates all covers.
@@ -104,21 +161,25 @@ fn run(
     netlist: &Netlist,
     plan: &Plan,
     values: &mut [bool],
+    last: &mut [bool],
     state: &mut [bool],
     vector: &[bool],
     out: &mut [bool],
 )
     requires plan { IsPlan netlist.now plan.now }
     requires ready { AreReady netlist.now values.old state.old }
+    requires last { length last.old ≡ length state.old }
     requires inputs { length vector.now ≡ length netlist.now.inputs }
     requires outputs { length out.old ≡ length netlist.now.outputs }
     ensures ready { AreReady netlist.now values.new state.new }
+    ensures given { HaveBits plan.now.wiring.drives.items last.new values.new }
     ensures hold { AllHold netlist.now values.new }
     ensures step { IsStep (record { netlist = netlist.now; state = state.old }) vector.now out.new (record { netlist = netlist.now; state = state.new }) }
 {
     let draft = netlist.parts();
     put_bits(values, &plan.wiring.inputs, vector);
     put_bits(values, &plan.wiring.drives, state);
+    last.copy_from_slice(state);
     settle(&plan.turns, draft.covers.as_slice(), values);
     read_bits(values, &plan.wiring.outputs, out);
     read_bits(values, &plan.wiring.reads, state);
@@ -130,7 +191,9 @@ fn run_marked(
     netlist: &Netlist,
     plan: &Plan,
     marks: &mut [bool],
+    hints: &mut [u64],
     values: &mut [bool],
+    last: &mut [bool],
     state: &mut [bool],
     vector: &[bool],
     out: &mut [bool],
@@ -138,20 +201,40 @@ fn run_marked(
     requires plan { IsPlan netlist.now plan.now }
     requires ready { AreReady netlist.now values.old state.old }
     requires marked { IsMarked netlist.now plan.now marks.old values.old }
+    requires hints { length hints.old ≡ 1024 }
+    requires last { length last.old ≡ length state.old }
+    requires given { HaveBits plan.now.wiring.drives.items last.old values.old }
     requires inputs { length vector.now ≡ length netlist.now.inputs }
     requires outputs { length out.old ≡ length netlist.now.outputs }
     ensures ready { AreReady netlist.now values.new state.new }
+    ensures given { HaveBits plan.now.wiring.drives.items last.new values.new }
     ensures marked { IsMarked netlist.now plan.now marks.new values.new }
     ensures step { IsStep (record { netlist = netlist.now; state = state.old }) vector.now out.new (record { netlist = netlist.now; state = state.new }) }
 {
     let draft = netlist.parts();
-    put_marked(&plan.readers, &plan.wiring.inputs, vector, marks, values);
-    put_marked(&plan.readers, &plan.wiring.drives, state, marks, values);
+    put_marked(
+        &plan.readers,
+        &plan.wiring.inputs,
+        vector,
+        marks,
+        hints,
+        values,
+    );
+    put_changed(
+        &plan.readers,
+        &plan.wiring.drives,
+        state,
+        last,
+        marks,
+        hints,
+        values,
+    );
     let count = settle_marked(
         &plan.turns,
         draft.covers.as_slice(),
         &plan.readers,
         marks,
+        hints,
         values,
     );
     read_bits(values, &plan.wiring.outputs, out);

@@ -1,20 +1,32 @@
 //! Covers that are marked, and evaluated only then.
 
-ghost use Rattle.std.specs.Prelude.{◌≡◌, ◌+◌, ◌<◌, ◌≤◌, ℕ, length};
+ghost use Rattle.std.specs.Prelude.{◌≡◌, ◌+◌, ◌<◌, ◌≤◌, ℕ, false, length};
 ghost use Rattle.netlist.specs.Covers.{cover_at, IsCoverOver};
 ghost use Rattle.netlist.specs.Valuations.{bit_at, number_at, IsSettled};
 ghost use Rattle.netlist_eval.specs.Bits.{bits_put, AreBelow};
 ghost use Rattle.netlist_eval.specs.Turns.{AreTurns, places};
 ghost use Rattle.netlist_eval.specs.Readers.{AreReaders};
-ghost use Rattle.netlist_eval.specs.Marks.{AreKept, HaveMarked, HasGiven, StillKept};
+ghost use Rattle.netlist_eval.specs.Marks.{AreKept, AreOthersSame, HaveMarked, HasGiven, StillKept};
 
 use crate::readers::{MOST, Readers};
-use crate::turns::{Turn, value_of};
+use crate::turns::{Turn, settle, value_of};
 use netlist::Cover;
 
+/// How many turns one word of hints stands for.
+const WORD: u32 = 64;
+
+// Hints that a turn is marked.
+fn hint(hints: &mut [u64], turn: u32)
+    requires size { length hints.old ≡ 1024 }
+    requires turn { turn < 65536 }
+{
+    hints[(turn / WORD) as usize] |= 1 << (turn % WORD);
+}
+
 // Marks the covers that read a signal.
-fn mark(readers: &Readers, signal: u32, marks: &mut [bool])
+fn mark(readers: &Readers, signal: u32, marks: &mut [bool], hints: &mut [u64])
     requires size { length marks.old ≡ 65536 }
+    requires hints { length hints.old ≡ 1024 }
     requires signal { signal + 1 < length readers.now.starts.items }
     requires ends { number_at readers.now.starts.items (signal + 1) ≤ length readers.now.keys.items }
     ensures { HaveMarked readers.now signal marks.old marks.new }
@@ -22,13 +34,23 @@ fn mark(readers: &Readers, signal: u32, marks: &mut [bool])
     let from = readers.starts[signal as usize];
     let to = readers.starts[signal as usize + 1];
     'keys: for i in from..to {
-        marks[(readers.keys[i] % MOST) as usize] = true;
+        let turn = readers.keys[i] % MOST;
+        marks[turn as usize] = true;
+        hint(hints, turn);
     }
 }
 
 /// Gives a signal a bit, and marks the covers that read it where it had the other one.
-pub fn give(readers: &Readers, signal: u32, bit: bool, marks: &mut [bool], values: &mut [bool])
+pub fn give(
+    readers: &Readers,
+    signal: u32,
+    bit: bool,
+    marks: &mut [bool],
+    hints: &mut [u64],
+    values: &mut [bool],
+)
     requires size { length marks.old ≡ 65536 }
+    requires hints { length hints.old ≡ 1024 }
     requires within { signal < length values.old }
     requires signal { signal + 1 < length readers.now.starts.items }
     requires ends { number_at readers.now.starts.items (signal + 1) ≤ length readers.now.keys.items }
@@ -38,7 +60,7 @@ pub fn give(readers: &Readers, signal: u32, bit: bool, marks: &mut [bool], value
         return;
     }
     values[signal as usize] = bit;
-    mark(readers, signal, marks);
+    mark(readers, signal, marks, hints);
 }
 
 /// Gives the signals these bits, and marks the covers that read one whose bit changes.
@@ -47,9 +69,11 @@ pub fn put_marked(
     signals: &[u32],
     bits: &[bool],
     marks: &mut [bool],
+    hints: &mut [u64],
     values: &mut [bool],
 )
     requires size { length marks.old ≡ 65536 }
+    requires hints { length hints.old ≡ 1024 }
     requires bits { length bits.now ≡ length signals.now }
     requires within { AreBelow (length values.old) signals.now }
     requires starts { length readers.now.starts.items ≡ length values.old + 1 }
@@ -59,36 +83,113 @@ pub fn put_marked(
     ensures kept { StillKept readers.now signals.now marks.old values.old marks.new values.new }
 {
     'signals: for k in 0..signals.len() {
-        give(readers, signals[k], bits[k], marks, values);
+        give(readers, signals[k], bits[k], marks, hints, values);
     }
 }
 
+// Takes the mark of a turn away and gives its cover its truth.
+fn settle_turn(
+    turns: &[Turn],
+    covers: &[Cover],
+    readers: &Readers,
+    k: usize,
+    marks: &mut [bool],
+    hints: &mut [u64],
+    values: &mut [bool],
+)
+    requires within { k < length turns.now }
+    requires turns { AreTurns covers.now turns.now }
+    requires made { (i : ℕ) → i < length covers.now → IsCoverOver (cover_at covers.now i) (length values.old) }
+    requires readers { AreReaders covers.now (places turns.now) (length values.old) readers.now }
+    requires size { length marks.old ≡ 65536 }
+    requires hints { length hints.old ≡ 1024 }
+    requires few { length turns.now ≤ 65535 }
+    requires kept { AreKept covers.now (places turns.now) 0 marks.old values.old }
+    ensures size { length marks.new ≡ 65536 }
+    ensures kept { AreKept covers.now (places turns.now) 0 marks.new values.new }
+    ensures others { AreOthersSame covers.now values.old values.new }
+{
+    marks[k] = false;
+    let turn = &turns[k];
+    let bit = value_of(turn, covers, values);
+    give(readers, turn.out, bit, marks, hints, values);
+}
+
+// Settles the turns that a word of hints names, until it names none, and says how many they were. Turns come in
+// order, so a turn is named again only where two covers read each other.
+fn settle_word(
+    turns: &[Turn],
+    covers: &[Cover],
+    readers: &Readers,
+    place: usize,
+    marks: &mut [bool],
+    hints: &mut [u64],
+    values: &mut [bool],
+) -> usize
+    requires place { place < 1024 }
+    requires turns { AreTurns covers.now turns.now }
+    requires made { (i : ℕ) → i < length covers.now → IsCoverOver (cover_at covers.now i) (length values.old) }
+    requires readers { AreReaders covers.now (places turns.now) (length values.old) readers.now }
+    requires size { length marks.old ≡ 65536 }
+    requires hints { length hints.old ≡ 1024 }
+    requires few { length turns.now ≤ 65535 }
+    requires kept { AreKept covers.now (places turns.now) 0 marks.old values.old }
+    ensures few { result ≤ 64 }
+    ensures size { length marks.new ≡ 65536 }
+    ensures kept { AreKept covers.now (places turns.now) 0 marks.new values.new }
+    ensures others { AreOthersSame covers.now values.old values.new }
+{
+    'bits: for count in 0..WORD as usize {
+        let word = hints[place];
+        let k = place * WORD as usize + word.trailing_zeros() as usize;
+        if word == 0 || k >= turns.len() {
+            return count;
+        }
+        hints[place] = word & (word - 1);
+        settle_turn(turns, covers, readers, k, marks, hints, values);
+    }
+    WORD as usize
+}
+
+// Whether one of the first turns is marked.
+fn is_one_marked(marks: &[bool], count: usize) -> bool
+    requires { count ≤ length marks.now }
+    ensures { result ≡ false → (k : ℕ) → k < count → bit_at marks.now k ≡ false }
+{
+    let mut found = false;
+    'marks: for k in 0..count {
+        found |= marks[k];
+    }
+    found
+}
+
 /// Gives each cover that is marked its truth, and says how many were. Takes no memory.
+///
+/// The marks are looked for where hints are. These may be wrong: if a mark is left, all covers are evaluated.
 pub fn settle_marked(
     turns: &[Turn],
     covers: &[Cover],
     readers: &Readers,
     marks: &mut [bool],
+    hints: &mut [u64],
     values: &mut [bool],
 ) -> usize
     requires turns { AreTurns covers.now turns.now }
     requires made { (i : ℕ) → i < length covers.now → IsCoverOver (cover_at covers.now i) (length values.old) }
     requires readers { AreReaders covers.now (places turns.now) (length values.old) readers.now }
     requires size { length marks.old ≡ 65536 }
+    requires hints { length hints.old ≡ 1024 }
     requires few { length turns.now ≤ 65535 }
     requires kept { AreKept covers.now (places turns.now) 0 marks.old values.old }
     ensures settled { IsSettled covers.now (bit_at values.old) (bit_at values.new) }
     ensures size { length marks.new ≡ 65536 }
 {
     let mut count = 0;
-    'turns: for k in 0..turns.len() {
-        if marks[k] {
-            marks[k] = false;
-            let turn = &turns[k];
-            let bit = value_of(turn, covers, values);
-            give(readers, turn.out, bit, marks, values);
-            count += 1;
-        }
+    'words: for place in 0..turns.len() / WORD as usize + 1 {
+        count += settle_word(turns, covers, readers, place, marks, hints, values);
+    }
+    if is_one_marked(marks, turns.len()) {
+        settle(turns, covers, values);
     }
     count
 }

@@ -48,6 +48,13 @@ impl VectorText {
         Ok(VectorText { line, feed })
     }
 
+    /// The bytes that were read from the store and aren't looked at yet: behind the line of the last vector.
+    pub fn unread(&self) -> &[u8]
+        ensures { result.now ≡ self.now.unread }
+    {
+        self.feed.unread()
+    }
+
     /// Reads the next vector of the store's current file into `row`, which has one place for each input. False
     /// says that the file has no more vectors. Takes no memory.
     ///

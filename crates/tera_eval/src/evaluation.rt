@@ -63,7 +63,8 @@ fn next_row<S: Store>(rows: &mut Evaluation, store: &mut S) -> Result<bool, Vect
     if !rows.vectors.next(store, &mut rows.vector)? {
         return Ok(false);
     }
-    rows.eval.step(&rows.vector, &mut rows.row);
+    let ahead = rows.vectors.unread();
+    rows.eval.step_ahead(&rows.vector, ahead, &mut rows.row);
     Ok(true)
 }
 

@@ -1,6 +1,6 @@
 use Rattle.std.proofs.Common.{map, ap, ◌∙◌}
 use Rattle.netlist.specs.Valuations.{bit_at}
-use Rattle.netlist_eval.proofs.RunLemmas.{step-is, ready-is, below-at, covers-made, inputs-below, latches-below, outputs-below, froms-below, settled-as}
+use Rattle.netlist_eval.proofs.RunLemmas.{step-is, ready-is, below-at, covers-made, inputs-below, latches-below, outputs-below, froms-below, settled-as, given-put, given-settled}
 use Rattle.netlist_eval.proofs.eval.run.Goals as goal
 
 pub put_bits-requires-clause-within : goal.put_bits-requires-clause-within
@@ -36,3 +36,10 @@ returns-clause-step c =
     (c.deref.ensures.value ∙ c.requires.plan.wiring.inputs) (c.deref-2.ensures.value ∙ c.requires.plan.wiring.drives) c.put_bits.ensures c.put_bits-2.ensures (c.as_slice.ensures ∙ ap (λ d. d.covers) c.parts-draft.ensures.parts) c.settle.ensures) c.read_bits.new.out c.read_bits-2.new.out
     (c.read_bits.ensures ∙ ap (map (bit_at c.settle.new.values)) (c.deref-4.ensures.value ∙ c.requires.plan.wiring.outputs))
     (c.read_bits-2.ensures ∙ ap (map (bit_at c.settle.new.values)) (c.deref-5.ensures.value ∙ c.requires.plan.wiring.reads))
+
+pub returns-clause-given : goal.returns-clause-given
+returns-clause-given c =
+    rw c.copy_from_slice.ensures.after (given-settled c.args.netlist.now c.parts-draft.ensures.checked _ _ c.args.state.now c.put_bits-2.new.values c.settle.new.values c.requires.plan.wiring.drives
+    (c.as_slice.ensures ∙ ap (λ d. d.covers) c.parts-draft.ensures.parts) c.settle.ensures
+    (given-put c.args.netlist.now c.parts-draft.ensures.checked _ _ c.put_bits.new.values c.put_bits-2.new.values c.args.state.now c.requires.plan.wiring.drives c.deref-2.ensures.value c.put_bits-2.ensures
+    (c.put_bits.auto.values ∙ c.requires.ready.signals) c.requires.ready.latches))

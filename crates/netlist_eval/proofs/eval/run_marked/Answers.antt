@@ -1,6 +1,6 @@
 use Rattle.std.proofs.Common.{ℕ, ◌≤◌, List, length, map, ap, sym, subst, ◌∙◌, arith}
 use Rattle.netlist.specs.Valuations.{bit_at}
-use Rattle.netlist_eval.proofs.RunLemmas.{step-is, ready-is, below-at, covers-made, inputs-below, latches-below, outputs-below, froms-below, settled-as, inputs-free, latches-free}
+use Rattle.netlist_eval.proofs.RunLemmas.{step-is, ready-is, below-at, covers-made, inputs-below, latches-below, outputs-below, froms-below, settled-as, inputs-free, latches-free, drives-apart-at, given-inputs, given-settled}
 use Rattle.netlist_eval.specs.Turns.{places}
 use Rattle.netlist_eval.specs.Marks.{AreFree}
 use Rattle.netlist_eval.proofs.MarkLemmas.{settled-kept}
@@ -9,29 +9,29 @@ use Rattle.netlist_eval.proofs.eval.run_marked.Goals as goal
 pub put_marked-requires-clause-within : goal.put_marked-requires-clause-within
 put_marked-requires-clause-within c = below-at _ _ _ _ (c.deref.ensures.value ∙ c.requires.plan.wiring.inputs) c.requires.ready.signals (inputs-below c.args.netlist.now c.parts-draft.ensures.checked)
 
-pub put_marked-requires-2-clause-within : goal.put_marked-requires-2-clause-within
-put_marked-requires-2-clause-within c = below-at _ _ _ _ (c.deref-2.ensures.value ∙ c.requires.plan.wiring.drives) (c.put_marked.auto.values ∙ c.requires.ready.signals) (latches-below c.args.netlist.now c.parts-draft.ensures.checked)
+pub put_changed-requires-clause-below : goal.put_changed-requires-clause-below
+put_changed-requires-clause-below c = below-at _ _ _ _ (c.deref-2.ensures.value ∙ c.requires.plan.wiring.drives) (c.put_marked.auto.values ∙ c.requires.ready.signals) (latches-below c.args.netlist.now c.parts-draft.ensures.checked)
 
 pub settle_marked-count-requires-clause-made : goal.settle_marked-count-requires-clause-made
-settle_marked-count-requires-clause-made c = covers-made c.args.netlist.now _ _ c.parts-draft.ensures.checked (c.as_slice.ensures ∙ ap (λ d. d.covers) c.parts-draft.ensures.parts) (c.put_marked-2.auto.values ∙ c.put_marked.auto.values ∙ c.requires.ready.signals)
+settle_marked-count-requires-clause-made c = covers-made c.args.netlist.now _ _ c.parts-draft.ensures.checked (c.as_slice.ensures ∙ ap (λ d. d.covers) c.parts-draft.ensures.parts) (c.put_changed.auto.values ∙ c.put_marked.auto.values ∙ c.requires.ready.signals)
 
 pub read_bits-requires-clause-within : goal.read_bits-requires-clause-within
-read_bits-requires-clause-within c = below-at _ _ _ _ (c.deref-4.ensures.value ∙ c.requires.plan.wiring.outputs) (c.settle_marked-count.auto.values ∙ c.put_marked-2.auto.values ∙ c.put_marked.auto.values ∙ c.requires.ready.signals) (outputs-below c.args.netlist.now c.parts-draft.ensures.checked)
+read_bits-requires-clause-within c = below-at _ _ _ _ (c.deref-4.ensures.value ∙ c.requires.plan.wiring.outputs) (c.settle_marked-count.auto.values ∙ c.put_changed.auto.values ∙ c.put_marked.auto.values ∙ c.requires.ready.signals) (outputs-below c.args.netlist.now c.parts-draft.ensures.checked)
 
 pub read_bits-requires-2-clause-within : goal.read_bits-requires-2-clause-within
-read_bits-requires-2-clause-within c = below-at _ _ _ _ (c.deref-5.ensures.value ∙ c.requires.plan.wiring.reads) (c.settle_marked-count.auto.values ∙ c.put_marked-2.auto.values ∙ c.put_marked.auto.values ∙ c.requires.ready.signals) (froms-below c.args.netlist.now c.parts-draft.ensures.checked)
+read_bits-requires-2-clause-within c = below-at _ _ _ _ (c.deref-5.ensures.value ∙ c.requires.plan.wiring.reads) (c.settle_marked-count.auto.values ∙ c.put_changed.auto.values ∙ c.put_marked.auto.values ∙ c.requires.ready.signals) (froms-below c.args.netlist.now c.parts-draft.ensures.checked)
 
 pub returns-clause-ready : goal.returns-clause-ready
 returns-clause-ready c =
     ready-is c.args.netlist.now c.parts-draft.ensures.checked c.args.values.now c.args.state.now c.args.vector.now c.requires.ready c.requires.inputs c.settle_marked-count.new.values (settled-as c.args.netlist.now c.parts-draft.ensures.checked c.args.values.now c.args.state.now c.args.vector.now c.requires.ready c.requires.inputs _ _ _ _ c.settle_marked-count.new.values _
-    (c.deref.ensures.value ∙ c.requires.plan.wiring.inputs) (c.deref-2.ensures.value ∙ c.requires.plan.wiring.drives) c.put_marked.ensures.values c.put_marked-2.ensures.values (c.as_slice.ensures ∙ ap (λ d. d.covers) c.parts-draft.ensures.parts) c.settle_marked-count.ensures.settled) c.read_bits-2.new.out
-    (c.settle_marked-count.auto.values ∙ c.put_marked-2.auto.values ∙ c.put_marked.auto.values ∙ c.requires.ready.signals)
+    (c.deref.ensures.value ∙ c.requires.plan.wiring.inputs) (c.deref-2.ensures.value ∙ c.requires.plan.wiring.drives) c.put_marked.ensures.values c.put_changed.ensures.values (c.as_slice.ensures ∙ ap (λ d. d.covers) c.parts-draft.ensures.parts) c.settle_marked-count.ensures.settled) c.read_bits-2.new.out
+    (c.settle_marked-count.auto.values ∙ c.put_changed.auto.values ∙ c.put_marked.auto.values ∙ c.requires.ready.signals)
     (c.read_bits-2.ensures ∙ ap (map (bit_at c.settle_marked-count.new.values)) (c.deref-5.ensures.value ∙ c.requires.plan.wiring.reads))
 
 pub returns-clause-step : goal.returns-clause-step
 returns-clause-step c =
     step-is c.args.netlist.now c.parts-draft.ensures.checked c.args.values.now c.args.state.now c.args.vector.now c.requires.ready c.requires.inputs c.settle_marked-count.new.values (settled-as c.args.netlist.now c.parts-draft.ensures.checked c.args.values.now c.args.state.now c.args.vector.now c.requires.ready c.requires.inputs _ _ _ _ c.settle_marked-count.new.values _
-    (c.deref.ensures.value ∙ c.requires.plan.wiring.inputs) (c.deref-2.ensures.value ∙ c.requires.plan.wiring.drives) c.put_marked.ensures.values c.put_marked-2.ensures.values (c.as_slice.ensures ∙ ap (λ d. d.covers) c.parts-draft.ensures.parts) c.settle_marked-count.ensures.settled) c.read_bits.new.out c.read_bits-2.new.out
+    (c.deref.ensures.value ∙ c.requires.plan.wiring.inputs) (c.deref-2.ensures.value ∙ c.requires.plan.wiring.drives) c.put_marked.ensures.values c.put_changed.ensures.values (c.as_slice.ensures ∙ ap (λ d. d.covers) c.parts-draft.ensures.parts) c.settle_marked-count.ensures.settled) c.read_bits.new.out c.read_bits-2.new.out
     (c.read_bits.ensures ∙ ap (map (bit_at c.settle_marked-count.new.values)) (c.deref-4.ensures.value ∙ c.requires.plan.wiring.outputs))
     (c.read_bits-2.ensures ∙ ap (map (bit_at c.settle_marked-count.new.values)) (c.deref-5.ensures.value ∙ c.requires.plan.wiring.reads))
 
@@ -44,15 +44,28 @@ settle_marked-count-requires-clause-kept c =
     let covers = c.as_slice.ensures ∙ ap (λ d. d.covers) c.parts-draft.ensures.parts in
     let first = c.put_marked.ensures.kept d.covers order (length d.names) c.requires.plan.readers
     (subst (AreFree d.covers order) (sym (c.deref.ensures.value ∙ c.requires.plan.wiring.inputs)) (inputs-free d checked order within)) c.requires.marked.kept in
-    let second = c.put_marked-2.ensures.kept d.covers order (length d.names) c.requires.plan.readers
+    let second = c.put_changed.ensures.kept d.covers order (length d.names) c.requires.plan.readers
     (subst (AreFree d.covers order) (sym (c.deref-2.ensures.value ∙ c.requires.plan.wiring.drives)) (latches-free d checked order within)) first in
     rw (covers, c.deref-3.ensures.value) second
 
 pub returns-clause-marked : goal.returns-clause-marked
 returns-clause-marked c =
     let settled = settled-as c.args.netlist.now c.parts-draft.ensures.checked c.args.values.now c.args.state.now c.args.vector.now c.requires.ready c.requires.inputs _ _ _ _ c.settle_marked-count.new.values _
-    (c.deref.ensures.value ∙ c.requires.plan.wiring.inputs) (c.deref-2.ensures.value ∙ c.requires.plan.wiring.drives) c.put_marked.ensures.values c.put_marked-2.ensures.values (c.as_slice.ensures ∙ ap (λ d. d.covers) c.parts-draft.ensures.parts) c.settle_marked-count.ensures.settled in
+    (c.deref.ensures.value ∙ c.requires.plan.wiring.inputs) (c.deref-2.ensures.value ∙ c.requires.plan.wiring.drives) c.put_marked.ensures.values c.put_changed.ensures.values (c.as_slice.ensures ∙ ap (λ d. d.covers) c.parts-draft.ensures.parts) c.settle_marked-count.ensures.settled in
     record {
       size = c.settle_marked-count.ensures.size;
       kept = settled-kept c.args.netlist.now.covers (places c.args.plan.now.turns.items) c.settle_marked-count.new.marks c.settle_marked-count.new.values c.requires.plan.turns.order settled.truths;
     }
+
+pub put_changed-requires-clause-apart : goal.put_changed-requires-clause-apart
+put_changed-requires-clause-apart c = drives-apart-at c.args.netlist.now c.parts-draft.ensures.checked _ (c.deref-2.ensures.value ∙ c.requires.plan.wiring.drives)
+
+pub put_changed-requires-clause-given : goal.put_changed-requires-clause-given
+put_changed-requires-clause-given c =
+    given-inputs c.args.netlist.now c.parts-draft.ensures.checked _ _ c.args.last.now c.args.values.now c.args.vector.now c.put_marked.new.values (c.deref.ensures.value ∙ c.requires.plan.wiring.inputs)
+    (c.deref-2.ensures.value ∙ c.requires.plan.wiring.drives) c.put_marked.ensures.values (rw c.deref-2.ensures.value c.requires.given)
+
+pub returns-clause-given : goal.returns-clause-given
+returns-clause-given c =
+    given-settled c.args.netlist.now c.parts-draft.ensures.checked _ _ c.put_changed.new.last c.put_changed.new.values c.settle_marked-count.new.values c.requires.plan.wiring.drives
+    (c.as_slice.ensures ∙ ap (λ d. d.covers) c.parts-draft.ensures.parts) c.settle_marked-count.ensures.settled (rw (← c.deref-2.ensures.value) c.put_changed.ensures.given)

@@ -5,7 +5,7 @@ use Rattle.netlist_eval.proofs.MarkLemmas.{still-none, still-more, still-all}
 use Rattle.netlist_eval.proofs.marks.put_marked.Goals as goal
 
 pub signals-init : goal.signals-init
-signals-init c = (sym (put-none c.args.values.now), c.requires.size, still-none c.args.readers.now c.args.marks.now c.args.values.now)
+signals-init c = (sym (put-none c.args.values.now), c.requires.size, still-none c.args.readers.now c.args.marks.now c.args.values.now, c.requires.hints)
 
 pub signals-preserved : goal.signals-preserved
 signals-preserved c =
@@ -19,6 +19,7 @@ signals-preserved c =
       c.give.ensures.len ∙ c.signals.invariant.1,
       still-more c.args.readers.now c.args.signals.now c.signals.k b c.args.marks.now c.args.values.now c.signals.marks c.signals.values c.give.new.marks c.give.new.values
           c.signals-test.true c.give.ensures within c.signals.invariant.2,
+      c.give.auto.hints ∙ c.signals.invariant.3,
     )
 
 pub returns-clause-kept : goal.returns-clause-kept

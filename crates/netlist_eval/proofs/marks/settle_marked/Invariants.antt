@@ -1,8 +1,7 @@
-use Rattle.std.proofs.Common.{◌≡◌, ◌≤◌, length}
-use Rattle.netlist.specs.Valuations.{IsSettledTo}
+use Rattle.std.proofs.Common.{◌≡◌, ◌≤◌, ◌*◌, length}
 use Rattle.netlist_eval.specs.Turns.{places}
-use Rattle.netlist_eval.specs.Marks.{AreKept}
+use Rattle.netlist_eval.specs.Marks.{AreKept, AreOthersSame}
 use Rattle.netlist_eval.proofs.marks.settle_marked.Given as goal
 
-abbrev pub invariant-turns : goal.invariant-turns
-invariant-turns l = IsSettledTo l.covers (places l.turns) l.k l.fn.values l.values × (length l.marks ≡ 65536) × AreKept l.covers (places l.turns) l.k l.marks l.values × (l.count ≤ l.k)
+abbrev pub invariant-words : goal.invariant-words
+invariant-words l = (length l.values ≡ length l.fn.values) × (length l.marks ≡ 65536) × (length l.hints ≡ 1024) × AreKept l.covers (places l.turns) 0 l.marks l.values × AreOthersSame l.covers l.fn.values l.values × (l.count ≤ 64 * l.place)
