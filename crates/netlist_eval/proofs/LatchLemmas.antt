@@ -116,10 +116,10 @@ take-one first reads k state marks values lk size h j lj f = by (cases_eq j k)
     by (inr other) = h j lj (clear-kept marks (first + k) (first + j) (λ e. other (omega (arith, e))) f) ∙ sym (get_or-set_other state k j bit false other)
 
 -- all have taken what they read
-pub take-all : (first : ℕ) (reads : List ℕ) (state marks values : List Bool) → length state ≡ length reads → AreTaken first reads state marks values → ((k : ℕ) → k < first + length reads → bit_at marks k ≡ false) → state ≡ map (bit_at values) reads
+pub take-all : (first : ℕ) (reads : List ℕ) (state marks values : List Bool) → length state ≡ length reads → AreTaken first reads state marks values → ((k : ℕ) → first ≤ k → k < first + length reads → bit_at marks k ≡ false) → state ≡ map (bit_at values) reads
 take-all first reads state marks values size h none =
     ext_get_or false state (map (bit_at values) reads) (size ∙ sym (length-map reads (bit_at values)))
-    (λ i li. (let lt : i < length reads = omega (arith, li, size) in sym (h i lt (none (first + i) (omega (arith, lt)))) ∙ sym (get_or-map (bit_at values) reads i 0 false lt)))
+    (λ i li. (let lt : i < length reads = omega (arith, li, size) in sym (h i lt (none (first + i) (omega arith) (omega (arith, lt)))) ∙ sym (get_or-map (bit_at values) reads i 0 false lt)))
 
 pub take-map : (first : ℕ) (reads : List ℕ) (state marks values : List Bool) → state ≡ map (bit_at values) reads → AreTaken first reads state marks values
 take-map first reads state marks values e k lk f = sym (ap (λ (xs : List Bool). bit_at xs k) e ∙ get_or-map (bit_at values) reads k 0 false lk)

@@ -194,7 +194,7 @@ pub fn take_changed(
     'words: for place in first / WORD as usize..past / WORD as usize + 1 {
         take_word(reads, first, place, marks, hints, values, state);
     }
-    if is_one_marked(marks, past) {
+    if is_one_marked(marks, first, past) {
         read_bits(values, reads, state);
     }
 }

@@ -8,7 +8,7 @@ pub returns-else-is_one_marked-clause-settled : goal.returns-else-is_one_marked-
 returns-else-is_one_marked-clause-settled c =
     let inv = c.words.invariant in
     settled-of c.args.covers.now (places c.args.turns.now) c.words.marks c.args.values.now c.words.values c.requires.turns.order inv.3
-    (λ k lk. c.if-is_one_marked.ensures refl k (omega (arith, lk, turns-size c.args.turns.now))) inv.4
+    (λ k lk. c.if-is_one_marked.ensures refl k (omega arith) (omega (arith, lk, turns-size c.args.turns.now))) inv.4
 
 pub words-preserved : goal.words-preserved
 words-preserved c = (
