@@ -1,5 +1,5 @@
 -- Latches that give what has changed.
-use Rattle.std.proofs.Common.{◌≡◌, ◌⊎◌, ℕ, ◌+◌, ◌*◌, ◌<◌, ◌≤◌, Bool, false, List, length, get_or, map, refl, sym, ap, subst, ◌∙◌, inl, inr, arith, get_or-set_same, get_or-set_other}
+use Rattle.std.proofs.Common.{◌≡◌, ◌⊎◌, ℕ, ◌+◌, ◌*◌, ◌<◌, ◌≤◌, Bool, false, List, length, map, refl, sym, ap, subst, ◌∙◌, inl, inr, arith, get_or-set_same, get_or-set_other}
 use Rattle.std.specs.Prelude.{slice_set}
 use Rattle.std.proofs.lemmas.Bool.{cases_eq, cases_lt}
 use Rattle.std.proofs.lemmas.List.{length-set, length-map, get_or-map, ext_get_or}
@@ -7,7 +7,7 @@ use Rattle.netlist.specs.Valuations.{number_at, bit_at}
 use Rattle.netlist_eval.specs.declared.readers.Readers.{Readers}
 use Rattle.netlist_eval.specs.Bits.{bits_put, AreApart, AreBelow}
 use Rattle.netlist_eval.specs.Latches.{HaveBits, HavePut}
-use Rattle.netlist_eval.specs.Marks.{HasGiven, StillKept, AreTaken}
+use Rattle.netlist_eval.specs.Marks.{HasGiven, AreTaken}
 use Rattle.netlist_eval.proofs.BitLemmas.{put-over, put-same, put-has}
 use Rattle.netlist_eval.proofs.MarkLemmas.{keeps-give, given-taken, taken-none, taken-both, clear-kept}
 

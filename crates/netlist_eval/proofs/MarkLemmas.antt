@@ -1,5 +1,5 @@
 -- Covers that are marked where an input changes.
-use Rattle.std.proofs.Common.{◌≡◌, ◌⊎◌, ℕ, ◌+◌, ◌%◌, ◌<◌, ◌≤◌, Bool, true, false, List, [], length, take, get_or, refl, sym, ap, subst, ◌∙◌, inl, inr, arith, get_or-set_same, get_or-set_other}
+use Rattle.std.proofs.Common.{◌≡◌, ◌⊎◌, ℕ, ◌+◌, ◌<◌, ◌≤◌, Bool, true, false, List, [], length, take, refl, sym, ap, subst, ◌∙◌, inl, inr, arith, get_or-set_same, get_or-set_other}
 use Rattle.std.specs.Prelude.{slice_set, replicate}
 use Rattle.std.proofs.lemmas.Bool.{cases_eq, cases_lt}
 use Rattle.std.proofs.lemmas.List.{set-get_or, get_or-take, length-take, length-take-le, take_all, get_or-replicate}
@@ -8,11 +8,11 @@ use Rattle.netlist.specs.Covers.{cover_at, truth}
 use Rattle.netlist.specs.Valuations.{number_at, bit_at, IsOrder, IsSettled}
 use Rattle.netlist.proofs.ValuationLemmas.{same_truth}
 use Rattle.netlist_eval.specs.declared.readers.Readers.{Readers}
-use Rattle.netlist_eval.specs.Readers.{IsListed, AreListed, AreReaders, ins_at}
+use Rattle.netlist_eval.specs.Readers.{IsListed, AreReaders, ins_at}
 use Rattle.netlist_eval.specs.declared.turns.Turn.{Turn}
 use Rattle.netlist_eval.specs.Turns.{turn_at, places, AreTurns}
 use Rattle.netlist_eval.proofs.TurnLemmas.{turns-size, out-is, truth-is, place-within}
-use Rattle.netlist_eval.specs.Marks.{HoldsAt, AreKept, AreOthersSame, HaveMarked, HasGiven, AreFree, StillKept, AreTaken, StillTaken}
+use Rattle.netlist_eval.specs.Marks.{HoldsAt, AreKept, AreOthersSame, HaveMarked, HasGiven, StillKept, StillTaken}
 
 -- one more mark
 pub mark-kept : (marks : List Bool) (q : ℕ) → q < length marks → (k : ℕ) → bit_at (slice_set marks q true) k ≡ false → bit_at marks k ≡ false

@@ -1,5 +1,5 @@
 -- The readers of signals, found by sorted keys.
-use Rattle.std.proofs.Common.{◌≡◌, ◌⊎◌, ℕ, ◌+◌, ◌*◌, ◌%◌, ◌<◌, ◌≤◌, List, [], ◌∷◌, ◌++◌, length, take, get_or, map, refl, sym, ap, subst, ◌∙◌, inl, inr, arith}
+use Rattle.std.proofs.Common.{◌≡◌, ◌⊎◌, ℕ, ◌+◌, ◌*◌, ◌%◌, ◌<◌, ◌≤◌, List, [], ◌∷◌, ◌++◌, length, take, map, refl, sym, ap, subst, ◌∙◌, inl, inr, arith}
 use Rattle.std.specs.List.{Contains}
 use Rattle.std.specs.List.Sorted.{IsPermutation, IsSorted}
 use Rattle.std.specs.Ordering.{nat_cmp}
@@ -10,10 +10,9 @@ use Rattle.std.proofs.lemmas.List.{get_or-map, get_or-take, length-map, length-t
 use Rattle.std.proofs.lemmas.List.Elements.{Contains-append_left, Contains-append_right}
 use Rattle.std.proofs.lemmas.List.Sorted.{Contains-permutation, IsNonDecreasingBy-from_sort}
 use Rattle.netlist.specs.declared.draft.Cover.{Cover}
-use Rattle.netlist.specs.Covers.{cover_at}
 use Rattle.netlist.specs.Valuations.{number_at}
 use Rattle.netlist_eval.specs.declared.readers.Readers.{Readers}
-use Rattle.netlist_eval.specs.Readers.{reader_key, HaveKeys, AreListed, ins_at, AreKeys, AreInOrder, IsFrom, Splits, AreStarts, IsListed, AreReaders}
+use Rattle.netlist_eval.specs.Readers.{reader_key, HaveKeys, AreListed, ins_at, AreKeys, AreInOrder, IsFrom, Splits, AreStarts, AreReaders}
 
 pub keys-none : (covers : List Cover) (order keys : List ℕ) → AreKeys covers order 0 keys
 keys-none covers order keys k i lk li = absurd (omega arith)

@@ -1,4 +1,4 @@
-use Rattle.std.proofs.Common.{length, refl, arith}
+use Rattle.std.proofs.Common.{refl}
 use Rattle.netlist_eval.proofs.LatchLemmas.{take-all}
 use Rattle.netlist_eval.proofs.latches.take_changed.Goals as goal
 

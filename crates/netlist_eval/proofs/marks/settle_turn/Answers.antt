@@ -1,5 +1,4 @@
-use Rattle.std.proofs.Common.{length, arith, ◌∙◌}
-use Rattle.std.proofs.lemmas.List.{length-set}
+use Rattle.std.proofs.Common.{length, arith}
 use Rattle.netlist_eval.proofs.TurnLemmas.{place-within, out-below}
 use Rattle.netlist_eval.specs.Turns.{turn_at}
 use Rattle.netlist_eval.proofs.MarkLemmas.{marked-keeps, marked-others, marked-taken}

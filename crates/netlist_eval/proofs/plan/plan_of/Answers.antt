@@ -1,4 +1,4 @@
-use Rattle.std.proofs.Common.{◌≡◌, ◌≤◌, ◌+◌, ℕ, List, length, map, ap, refl, arith, ◌∙◌, sym, subst}
+use Rattle.std.proofs.Common.{ℕ, List, length, map, ap, refl, arith, ◌∙◌, subst}
 use Rattle.std.proofs.lemmas.List.{length-map}
 use Rattle.netlist.specs.Valuations.{IsOrder}
 use Rattle.netlist_eval.specs.declared.turns.Turn.{Turn}
