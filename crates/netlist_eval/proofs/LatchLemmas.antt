@@ -1,15 +1,15 @@
 -- Latches that give what has changed.
-use Rattle.std.proofs.Common.{◌≡◌, ◌⊎◌, ℕ, ◌+◌, ◌*◌, ◌<◌, ◌≤◌, Bool, false, List, length, get_or, refl, sym, ap, subst, ◌∙◌, inl, inr, arith, get_or-set_same, get_or-set_other}
+use Rattle.std.proofs.Common.{◌≡◌, ◌⊎◌, ℕ, ◌+◌, ◌*◌, ◌<◌, ◌≤◌, Bool, false, List, length, map, refl, sym, ap, subst, ◌∙◌, inl, inr, arith, get_or-set_same, get_or-set_other}
 use Rattle.std.specs.Prelude.{slice_set}
 use Rattle.std.proofs.lemmas.Bool.{cases_eq, cases_lt}
-use Rattle.std.proofs.lemmas.List.{length-set}
+use Rattle.std.proofs.lemmas.List.{length-set, length-map, get_or-map, ext_get_or}
 use Rattle.netlist.specs.Valuations.{number_at, bit_at}
 use Rattle.netlist_eval.specs.declared.readers.Readers.{Readers}
 use Rattle.netlist_eval.specs.Bits.{bits_put, AreApart, AreBelow}
 use Rattle.netlist_eval.specs.Latches.{HaveBits, HavePut}
-use Rattle.netlist_eval.specs.Marks.{HasGiven, StillKept}
+use Rattle.netlist_eval.specs.Marks.{HasGiven, AreTaken}
 use Rattle.netlist_eval.proofs.BitLemmas.{put-over, put-same, put-has}
-use Rattle.netlist_eval.proofs.MarkLemmas.{keeps-give}
+use Rattle.netlist_eval.proofs.MarkLemmas.{keeps-give, given-taken, taken-none, taken-both, clear-kept}
 
 pub put-nothing : (r : Readers) (drives : List ℕ) (state last marks values : List Bool) → HavePut r drives state last marks values last marks values
 put-nothing r drives state last marks values = record {
@@ -20,6 +20,7 @@ put-nothing r drives state last marks values = record {
   whole = refl;
   stays = λ k e. e;
   kept = λ covers order count are free h. h;
+  taken = taken-none 0 r marks values;
 }
 
 pub put-both : (r : Readers) (drives : List ℕ) (state last0 marks0 values0 last marks values last' marks' values' : List Bool) → HavePut r drives state last0 marks0 values0 last marks values → HavePut r drives state last marks values last' marks' values' → HavePut r drives state last0 marks0 values0 last' marks' values'
@@ -31,6 +32,7 @@ put-both r drives state last0 marks0 values0 last marks values last' marks' valu
   whole = b.whole ∙ a.whole;
   stays = λ k e. b.stays k (a.stays k e);
   kept = λ covers order count are free h. b.kept covers order count are free (a.kept covers order count are free h);
+  taken = taken-both 0 r marks0 values0 marks values marks' values' a.taken b.taken;
 }
 
 module _ (r : Readers) (drives : List ℕ) (state last marks values marks' values' : List Bool) (k : ℕ) (g : HasGiven r (number_at drives k) (bit_at state k) marks values marks' values') (lk : k < length drives) (size : length state ≡ length drives) (len : length last ≡ length drives) (below : AreBelow (length values) drives) (apart : AreApart drives) where
@@ -72,6 +74,7 @@ module _ (r : Readers) (drives : List ℕ) (state last marks values marks' value
     whole = ap (λ (vs : List Bool). bits_put vs drives state) g.is ∙ put-over values drives state k apart lk (omega arith);
     stays = stays-on;
     kept = λ covers order count are free h. keeps-give covers order count r are 0 (number_at drives k) (bit_at state k) marks values marks' values' g (below k lk) (λ j mj lj e. free j k lj lk e) h;
+    taken = given-taken r (number_at drives k) (bit_at state k) marks values marks' values' g (below k lk);
   }
 
 -- all were given their bits
@@ -98,3 +101,25 @@ chunk-more state last last' i count to h stays e reach j ji jc = by (cases_lt j 
     by : (j < 64 * i) ⊎ (64 * i ≤ j) → bit_at last' j ≡ bit_at state j
     by (inl lt) = stays j (h j lt jc)
     by (inr ge) = e j (omega (arith, ge)) (reach j jc (omega (arith, ji)))
+
+-- a latch takes what it reads
+pub take-one : (first : ℕ) (reads : List ℕ) (k : ℕ) (state marks values : List Bool) → k < length reads → length state ≡ length reads → AreTaken first reads state marks values → AreTaken first reads (slice_set state k (bit_at values (number_at reads k))) (slice_set marks (first + k) false) values
+take-one first reads k state marks values lk size h j lj f = by (cases_eq j k)
+  where
+    bit : Bool
+    bit = bit_at values (number_at reads k)
+
+    by : (j ≡ k) ⊎ (j ≡ k → ⊥) → bit_at values (number_at reads j) ≡ bit_at (slice_set state k bit) j
+    by (inl same) =
+        subst (λ (x : ℕ). bit_at values (number_at reads x) ≡ bit_at (slice_set state k bit) x) (sym same)
+        (sym (get_or-set_same state k bit false (omega (arith, lk, size))))
+    by (inr other) = h j lj (clear-kept marks (first + k) (first + j) (λ e. other (omega (arith, e))) f) ∙ sym (get_or-set_other state k j bit false other)
+
+-- all have taken what they read
+pub take-all : (first : ℕ) (reads : List ℕ) (state marks values : List Bool) → length state ≡ length reads → AreTaken first reads state marks values → ((k : ℕ) → first ≤ k → k < first + length reads → bit_at marks k ≡ false) → state ≡ map (bit_at values) reads
+take-all first reads state marks values size h none =
+    ext_get_or false state (map (bit_at values) reads) (size ∙ sym (length-map reads (bit_at values)))
+    (λ i li. (let lt : i < length reads = omega (arith, li, size) in sym (h i lt (none (first + i) (omega arith) (omega (arith, lt)))) ∙ sym (get_or-map (bit_at values) reads i 0 false lt)))
+
+pub take-map : (first : ℕ) (reads : List ℕ) (state marks values : List Bool) → state ≡ map (bit_at values) reads → AreTaken first reads state marks values
+take-map first reads state marks values e k lk f = sym (ap (λ (xs : List Bool). bit_at xs k) e ∙ get_or-map (bit_at values) reads k 0 false lk)

@@ -1,5 +1,5 @@
 -- Covers that are marked where an input changes.
-use Rattle.std.proofs.Common.{◌≡◌, ◌⊎◌, ℕ, ◌+◌, ◌%◌, ◌<◌, ◌≤◌, Bool, true, false, List, [], length, take, get_or, refl, sym, ap, subst, ◌∙◌, inl, inr, arith, get_or-set_same, get_or-set_other}
+use Rattle.std.proofs.Common.{◌≡◌, ◌⊎◌, ℕ, ◌+◌, ◌<◌, ◌≤◌, Bool, true, false, List, [], length, take, refl, sym, ap, subst, ◌∙◌, inl, inr, arith, get_or-set_same, get_or-set_other}
 use Rattle.std.specs.Prelude.{slice_set, replicate}
 use Rattle.std.proofs.lemmas.Bool.{cases_eq, cases_lt}
 use Rattle.std.proofs.lemmas.List.{set-get_or, get_or-take, length-take, length-take-le, take_all, get_or-replicate}
@@ -12,7 +12,7 @@ use Rattle.netlist_eval.specs.Readers.{IsListed, AreReaders, ins_at}
 use Rattle.netlist_eval.specs.declared.turns.Turn.{Turn}
 use Rattle.netlist_eval.specs.Turns.{turn_at, places, AreTurns}
 use Rattle.netlist_eval.proofs.TurnLemmas.{turns-size, out-is, truth-is, place-within}
-use Rattle.netlist_eval.specs.Marks.{HoldsAt, AreKept, AreOthersSame, HaveMarked, HasGiven, AreFree, StillKept}
+use Rattle.netlist_eval.specs.Marks.{HoldsAt, AreKept, AreOthersSame, HaveMarked, HasGiven, StillKept, StillTaken}
 
 -- one more mark
 pub mark-kept : (marks : List Bool) (q : ℕ) → q < length marks → (k : ℕ) → bit_at (slice_set marks q true) k ≡ false → bit_at marks k ≡ false
@@ -30,7 +30,7 @@ mark-stays marks q lq k e = by (cases_eq k q)
     by (inr other) = get_or-set_other marks q k true false other ∙ e
 
 -- a mark that is taken away
-clear-kept : (marks : List Bool) (q k : ℕ) → (k ≡ q → ⊥) → bit_at (slice_set marks q false) k ≡ false → bit_at marks k ≡ false
+pub clear-kept : (marks : List Bool) (q k : ℕ) → (k ≡ q → ⊥) → bit_at (slice_set marks q false) k ≡ false → bit_at marks k ≡ false
 clear-kept marks q k other e = sym (get_or-set_other marks q k false false other) ∙ e
 
 pub given-same : (r : Readers) (signal : ℕ) (bit : Bool) (marks values : List Bool) → bit_at values signal ≡ bit → HasGiven r signal bit marks values marks values
@@ -91,6 +91,28 @@ module _ (covers : List Cover) (order : List ℕ) (count : ℕ) (r : Readers) (a
           sym (truth-stays out bit (slice_set marks m false) values marks' values' g lo m lm (subst (λ (x : ℕ). bit_at marks' x ≡ false) same f))))
       by (inr other) = holds-still out bit (slice_set marks m false) values marks' values' g lo k lk (apart (cases_lt k m) other) f (h k mk lk (clear-kept marks m k other (g.kept k f)))
 
+-- a signal that is given a bit has it already, or its readers are marked
+pub given-taken : (r : Readers) (signal : ℕ) (bit : Bool) (marks values marks' values' : List Bool) → HasGiven r signal bit marks values marks' values' → signal < length values → StillTaken 0 r marks values marks' values'
+given-taken r signal bit marks values marks' values' g ls first signals bits lo hi listed h k lk f =
+    ap (λ (vs : List Bool). bit_at vs (number_at signals k)) g.is ∙ by (cases_eq (number_at signals k) signal) ∙ h k lk (g.kept (first + k) f)
+  where
+    by : (number_at signals k ≡ signal) ⊎ (number_at signals k ≡ signal → ⊥) → bit_at (slice_set values signal bit) (number_at signals k) ≡ bit_at values (number_at signals k)
+    by (inl same) =
+        subst (λ (x : ℕ). bit_at (slice_set values signal bit) x ≡ bit_at values x) (sym same)
+        (get_or-set_same values signal bit false ls ∙ sym (g.listed (first + k) (subst (λ (x : ℕ). IsListed r x (first + k)) same (listed k lk)) f))
+    by (inr other) = get_or-set_other values signal (number_at signals k) bit false other
+
+pub taken-none : (least : ℕ) (r : Readers) (marks values : List Bool) → StillTaken least r marks values marks values
+taken-none least r marks values first signals bits lo hi listed h = h
+
+pub taken-both : (least : ℕ) (r : Readers) (marks0 values0 marks values marks' values' : List Bool) → StillTaken least r marks0 values0 marks values → StillTaken least r marks values marks' values' → StillTaken least r marks0 values0 marks' values'
+taken-both least r marks0 values0 marks values marks' values' a b first signals bits lo hi listed h = b first signals bits lo hi listed (a first signals bits lo hi listed h)
+
+-- where all turns are marked nothing is said
+pub taken-any : (least : ℕ) (r : Readers) (marks0 values0 marks values : List Bool) → ((k : ℕ) → k < 65536 → bit_at marks k ≡ true) → StillTaken least r marks0 values0 marks values
+taken-any least r marks0 values0 marks values all first signals bits lo hi listed h k lk f =
+    absurd (let t : bit_at marks (first + k) ≡ true = all (first + k) (omega (arith, hi, lk)) in let no : true ≡ false = sym t ∙ f in cc)
+
 pub still-none : (r : Readers) (marks values : List Bool) → StillKept r [] marks values marks values
 still-none r marks values covers order count are free h = h
 
@@ -137,6 +159,11 @@ module _ (covers : List Cover) (turns : List Turn) (are : AreTurns covers turns)
       keeps-turn covers (places turns) signals r readers k bit marks values marks' values' are.order (omega (arith, turns-size turns)) (subst (λ (x : ℕ). x < length values) e lo)
       (t ∙ truth-is covers turns are (bit_at values) k lk)
       (subst (λ (x : ℕ). HasGiven r x bit (slice_set marks k false) values marks' values') e g) h
+
+  pub marked-taken : (r : Readers) (k : ℕ) (bit : Bool) (marks values marks' values' : List Bool) → k < length turns → (turn_at turns k).out < length values → HasGiven r (turn_at turns k).out bit (slice_set marks k false) values marks' values' → StillTaken (length turns) r marks values marks' values'
+  marked-taken r k bit marks values marks' values' lk lo g first signals bits least hi listed h =
+      given-taken r (turn_at turns k).out bit (slice_set marks k false) values marks' values' g lo first signals bits (omega arith) hi listed
+      (λ j lj f. h j lj (clear-kept marks k (first + j) (λ e. absurd (omega (arith, e, least, lk))) f))
 
   pub marked-others : (r : Readers) (k : ℕ) (bit : Bool) (marks values marks' values' : List Bool) → k < length turns → HasGiven r (turn_at turns k).out bit marks values marks' values' → AreOthersSame covers values values'
   marked-others r k bit marks values marks' values' lk g s none =

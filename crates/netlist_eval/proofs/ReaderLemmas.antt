@@ -1,19 +1,18 @@
 -- The readers of signals, found by sorted keys.
-use Rattle.std.proofs.Common.{◌≡◌, ◌⊎◌, ℕ, ◌+◌, ◌*◌, ◌%◌, ◌<◌, ◌≤◌, List, [], ◌∷◌, ◌++◌, length, take, get_or, map, sym, ap, subst, ◌∙◌, inl, inr, arith}
+use Rattle.std.proofs.Common.{◌≡◌, ◌⊎◌, ℕ, ◌+◌, ◌*◌, ◌%◌, ◌<◌, ◌≤◌, List, [], ◌∷◌, ◌++◌, length, take, map, refl, sym, ap, subst, ◌∙◌, inl, inr, arith}
 use Rattle.std.specs.List.{Contains}
 use Rattle.std.specs.List.Sorted.{IsPermutation, IsSorted}
 use Rattle.std.specs.Ordering.{nat_cmp}
 use Rattle.std.proofs.lemmas.Bool.{cases_lt, cases_eq}
 use Rattle.std.proofs.lemmas.Grind.{get_or_default_zero}
 use Rattle.std.proofs.Math.Seq.{get_or-append_seam}
-use Rattle.std.proofs.lemmas.List.{get_or-map, length-map, get_or_append_left}
+use Rattle.std.proofs.lemmas.List.{get_or-map, get_or-take, length-map, length-take, length-take-le, get_or_append_left}
 use Rattle.std.proofs.lemmas.List.Elements.{Contains-append_left, Contains-append_right}
 use Rattle.std.proofs.lemmas.List.Sorted.{Contains-permutation, IsNonDecreasingBy-from_sort}
 use Rattle.netlist.specs.declared.draft.Cover.{Cover}
-use Rattle.netlist.specs.Covers.{cover_at}
 use Rattle.netlist.specs.Valuations.{number_at}
 use Rattle.netlist_eval.specs.declared.readers.Readers.{Readers}
-use Rattle.netlist_eval.specs.Readers.{reader_key, ins_at, AreKeys, AreInOrder, IsFrom, Splits, AreStarts, IsListed, AreReaders}
+use Rattle.netlist_eval.specs.Readers.{reader_key, HaveKeys, AreListed, ins_at, AreKeys, AreInOrder, IsFrom, Splits, AreStarts, AreReaders}
 
 pub keys-none : (covers : List Cover) (order keys : List ℕ) → AreKeys covers order 0 keys
 keys-none covers order keys k i lk li = absurd (omega arith)
@@ -37,6 +36,28 @@ keys-more covers order k keys keys' ins h e n j i lj li = by (cases_eq j k)
 
 pub keys-sorted : (covers : List Cover) (order : List ℕ) (count : ℕ) (keys keys' : List ℕ) → AreKeys covers order count keys → IsPermutation keys keys' → AreKeys covers order count keys'
 keys-sorted covers order count keys keys' h p k i lk li = Contains-permutation keys keys' (reader_key k (number_at (ins_at covers order k) i)) p (h k i lk li)
+
+-- the key of one more latch
+pub latches-more : (first : ℕ) (reads : List ℕ) (k : ℕ) (keys : List ℕ) (key : ℕ) → k < length reads → HaveKeys first (take k reads) keys → key ≡ reader_key (first + k) (number_at reads k) → HaveKeys first (take (k + 1) reads) (keys ++ key ∷ [])
+latches-more first reads k keys key lk h e j lj = by (cases_lt j k)
+  where
+    one : j < k + 1
+    one = omega (arith, lj, length-take (k + 1) reads)
+
+    at : number_at (take (k + 1) reads) j ≡ number_at reads j
+    at = get_or-take (k + 1) reads j 0 one
+
+    by : (j < k) ⊎ (k ≤ j) → Contains (keys ++ key ∷ []) (reader_key (first + j) (number_at (take (k + 1) reads) j))
+    by (inl lt) =
+        subst (λ (s : ℕ). Contains (keys ++ key ∷ []) (reader_key (first + j) s)) (get_or-take k reads j 0 lt ∙ sym at)
+        (Contains-append_left keys (key ∷ []) (reader_key (first + j) (number_at (take k reads) j)) (h j (omega (arith, lt, length-take-le k reads (omega (arith, lk))))))
+    by (inr ge) =
+        let same : j ≡ k = omega (arith, ge, one) in
+        subst (λ (x : ℕ). Contains (keys ++ key ∷ []) x) (e ∙ ap (λ (x : ℕ). reader_key (first + x) (number_at reads x)) (sym same) ∙ ap (reader_key (first + j)) (sym at))
+        (Contains-append_right keys (key ∷ []) key (0, omega arith, refl))
+
+pub latches-sorted : (first : ℕ) (reads keys keys' : List ℕ) → HaveKeys first reads keys → IsPermutation keys keys' → HaveKeys first reads keys'
+latches-sorted first reads keys keys' h p k lk = Contains-permutation keys keys' (reader_key (first + k) (number_at reads k)) p (h k lk)
 
 pub in-order : (keys : List ℕ) → IsSorted nat_cmp keys → AreInOrder keys
 in-order keys h i j le lj = IsNonDecreasingBy-from_sort (λ (x : ℕ). x) keys h i j 0 le lj
@@ -94,3 +115,15 @@ module _ (covers : List Cover) (order keys starts : List ℕ) (signals : ℕ) (a
           is = rw ek (key-turn s k (number_at keys c.0) (omega arith) at);
         });
   }
+
+  pub latches-are : (first : ℕ) (reads : List ℕ) → HaveKeys first reads keys → first + length reads ≤ 65535 → ((k : ℕ) → k < length reads → number_at reads k < signals) → (r : Readers) → r.keys.items ≡ keys → r.starts.items ≡ starts → AreListed r first reads
+  latches-are first reads have few below r ek es k lk =
+      let s : ℕ = number_at reads k in
+      let c = have k lk in
+      let at : number_at keys c.0 ≡ reader_key (first + k) s = sym (get_or_default_zero keys c.0 (reader_key (first + k) s) c.1) ∙ c.2 in
+      record {
+        place = c.0;
+        from = rw es (begins-before s (first + k) c.0 (omega (arith, below k lk)) c.1 at);
+        to = rw es (ends-behind s (first + k) c.0 (below k lk) (omega (arith, lk, few)) c.1 at);
+        is = rw ek (key-turn s (first + k) (number_at keys c.0) (omega (arith, lk, few)) at);
+      }

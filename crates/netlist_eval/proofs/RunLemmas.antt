@@ -12,16 +12,17 @@ use Rattle.netlist.specs.declared.draft.LatchDef.{LatchDef}
 use Rattle.netlist.specs.declared.draft.PortDef.{PortDef}
 use Rattle.netlist.specs.Covers.{no_cover, cover_at, IsCoverOver}
 use Rattle.netlist.specs.Drafts.{word, signal_at, cover_drive, latch_drive, cover_reads, latch_read, drives_of, reads_of, IsDriven}
-use Rattle.netlist.specs.Valuations.{number_at, bit_at, IsSettled}
+use Rattle.netlist.specs.Valuations.{number_at, bit_at, IsOrder, IsSettled}
 use Rattle.netlist.specs.Checks.{IsChecked}
 use Rattle.netlist.specs.Rows.{IsRight}
+use Rattle.netlist.proofs.ListLemmas.{few_numbers}
 use Rattle.netlist.proofs.RightLemmas.{settled_is_right}
 use Rattle.netlist.proofs.ValuationLemmas.{map_same}
 use Rattle.netlist_eval.specs.declared.plan.Plan.{Plan}
 use Rattle.netlist_eval.specs.declared.turns.Turn.{Turn}
 use Rattle.netlist_eval.specs.Bits.{bits_put, AreApart, AreBelow, AreReady, IsWiring}
 use Rattle.netlist_eval.specs.Turns.{AreTurns, places}
-use Rattle.netlist_eval.specs.Readers.{AreReaders}
+use Rattle.netlist_eval.specs.Readers.{AreListed, AreReaders}
 use Rattle.netlist_eval.specs.Plans.{IsPlan, IsMarked, IsHeld}
 use Rattle.netlist_eval.proofs.TurnLemmas.{turns-size}
 use Rattle.netlist_eval.proofs.MarkLemmas.{fresh-kept}
@@ -107,6 +108,20 @@ module _ (d : Draft) (is : IsChecked d) where
       (omega (arith, within k lk, length-map d.covers (λ (c : Cover). c.out), length-append (signals d.inputs) (map (λ (c : Cover). c.out) d.covers))) li
       (get_or-append-add (signals d.inputs) (map (λ (c : Cover). c.out) d.covers) (number_at order k) 0 ∙
       get_or-map (λ (c : Cover). c.out) d.covers (number_at order k) no_cover 0 (within k lk) ∙ sym e)
+
+  -- covers and latches drive different signals, so together they are no more than the signals
+  pub room-is : (order : List ℕ) → IsOrder d.covers order → length order + length d.latches ≤ 65535
+  room-is order o =
+      omega (
+        arith,
+        few_numbers (length d.names) (front d ++ outs d.latches) drives-below drives-apart,
+        few_numbers (length d.covers) order o.within (λ i j lt lj e. o.once i j lt lj (ap (λ (x : ℕ). (cover_at d.covers x).out) e)),
+        length-append (front d) (outs d.latches),
+        length-append (signals d.inputs) (map (λ (c : Cover). c.out) d.covers),
+        length-map d.covers (λ (c : Cover). c.out),
+        length-map d.latches (λ (l : LatchDef). l.out),
+        is.made.names,
+      )
 
   latches-apart : AreApart (outs d.latches)
   latches-apart = apart-right (front d) (outs d.latches) drives-apart
@@ -213,26 +228,32 @@ taken n new rest e = subst (λ (m : ℕ). take m (new ++ rest) ≡ new) e (take-
 pub words-size : (n word : ℕ) (words : List ℕ) → words ≡ replicate n word → length words ≡ n
 words-size n word words e = ap (λ (xs : List ℕ). length xs) e ∙ length-replicate n word
 
--- at first nothing was given
-pub held-first : (p : Plan) (hints : List ℕ) (word n : ℕ) (last values state : List Bool) (m : ℕ) → hints ≡ replicate 1024 word → last ≡ replicate n false → values ≡ replicate m false → length state ≡ n → IsHeld p hints last state values
-held-first p hints word n last values state m h l v s = record {
+-- at first nothing was given, and all is marked
+pub held-first : (p : Plan) (hints : List ℕ) (word n : ℕ) (marks last values state : List Bool) (m : ℕ) → length p.turns.items + length p.wiring.reads.items ≤ 65535 → hints ≡ replicate 1024 word → marks ≡ replicate 65536 true → last ≡ replicate n false → values ≡ replicate m false → length state ≡ n → IsHeld p hints marks last state values
+held-first p hints word n marks last values state m room h e l v s = record {
   hints_len = words-size 1024 word hints h;
   last_len = ap (λ (xs : List Bool). length xs) l ∙ length-replicate n false ∙ sym s;
   given = λ k lk. ap (λ (xs : List Bool). bit_at xs (number_at p.wiring.drives.items k)) v ∙ zero m (number_at p.wiring.drives.items k) ∙ sym (ap (λ (xs : List Bool). bit_at xs k) l ∙ zero n k);
+  taken =
+      λ k lk f. absurd (let t : bit_at marks (length p.turns.items + k) ≡ true =
+      ap (λ (xs : List Bool). bit_at xs (length p.turns.items + k)) e ∙ get_or-replicate 65536 (length p.turns.items + k) true false (omega (arith, room, lk)) in
+      let no : true ≡ false = sym t ∙ f in cc);
 }
   where
     zero : (n k : ℕ) → bit_at (replicate n false) k ≡ false
     zero n k = elim (cases_lt k n) [ inl lt ↦ get_or-replicate n k false false lt | inr ge ↦ get_or_past (replicate n false) k false (omega (arith, ge, length-replicate n false)) ]
 
-pub plan-is : (d draft : Draft) (covers : List Cover) (p : Plan) (turns : List Turn) (n : ℕ) → draft ≡ d → covers ≡ draft.covers → turns ≡ p.turns.items → n ≡ length draft.names → IsWiring draft p.wiring → AreTurns covers p.turns.items → length turns ≤ 65535 → AreReaders covers (places turns) n p.readers → IsPlan d p
-plan-is d draft covers p turns n e f t m w a few r =
+pub plan-is : (d draft : Draft) (covers : List Cover) (p : Plan) (turns : List Turn) (reads : List ℕ) (n : ℕ) → draft ≡ d → covers ≡ draft.covers → turns ≡ p.turns.items → reads ≡ p.wiring.reads.items → n ≡ length draft.names → IsWiring draft p.wiring → AreTurns covers p.turns.items → length turns + length reads ≤ 65535 → AreReaders covers (places turns) n p.readers → AreListed p.readers (length turns) reads → IsPlan d p
+plan-is d draft covers p turns reads n e f t i m w a few r l =
     subst (λ (x : Draft). IsPlan x p) e (record {
       wiring = w;
       turns = subst (λ (cs : List Cover). AreTurns cs p.turns.items) f a;
-      few = subst (λ (ts : List Turn). length ts ≤ 65535) t few;
+      few = omega (arith, few, ap (λ (ts : List Turn). length ts) t);
       readers =
           subst (λ (k : ℕ). AreReaders draft.covers (places p.turns.items) k p.readers) m
           (subst (λ (ts : List Turn). AreReaders draft.covers (places ts) n p.readers) t (subst (λ (cs : List Cover). AreReaders cs (places turns) n p.readers) f r));
+      latches = subst (AreListed p.readers (length p.turns.items)) i (subst (λ (ts : List Turn). AreListed p.readers (length ts) reads) t l);
+      room = omega (arith, few, ap (λ (ts : List Turn). length ts) t, ap (λ (xs : List ℕ). length xs) i);
     })
 
 -- nothing was evaluated yet

@@ -3,7 +3,7 @@ use Rattle.std.specs.Prelude.{◌≡◌, ℕ, ◌<◌, List, Bool, length}
 use Rattle.netlist.specs.Valuations.{number_at, bit_at}
 use Rattle.netlist_eval.specs.declared.readers.Readers.{Readers}
 use Rattle.netlist_eval.specs.Bits.{bits_put}
-use Rattle.netlist_eval.specs.Marks.{StillKept}
+use Rattle.netlist_eval.specs.Marks.{StillKept, StillTaken}
 
 -- signals have these bits
 abbrev pub HaveBits : List ℕ → List Bool → List Bool → Type 0
@@ -18,3 +18,4 @@ pub record HavePut (r : Readers) (drives : List ℕ) (state last marks values la
   pub whole : bits_put values' drives state ≡ bits_put values drives state
   pub stays : (k : ℕ) → bit_at last k ≡ bit_at state k → bit_at last' k ≡ bit_at state k
   pub kept : StillKept r drives marks values marks' values'
+  pub taken : StillTaken 0 r marks values marks' values'

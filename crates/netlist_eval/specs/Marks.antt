@@ -1,10 +1,10 @@
 -- Covers that are marked: an input may have changed since they were evaluated.
-use Rattle.std.specs.Prelude.{◌≡◌, ℕ, ◌<◌, ◌≤◌, List, Bool, false, true, length, slice_set}
+use Rattle.std.specs.Prelude.{◌≡◌, ℕ, ◌+◌, ◌<◌, ◌≤◌, List, Bool, false, true, length, slice_set}
 use Rattle.netlist.specs.declared.draft.Cover.{Cover}
 use Rattle.netlist.specs.Covers.{cover_at, truth}
 use Rattle.netlist.specs.Valuations.{number_at, bit_at}
 use Rattle.netlist_eval.specs.declared.readers.Readers.{Readers}
-use Rattle.netlist_eval.specs.Readers.{IsListed, AreReaders}
+use Rattle.netlist_eval.specs.Readers.{IsListed, AreListed, AreReaders}
 
 -- the cover in a turn has the truth of its inputs' bits
 abbrev pub HoldsAt : List Cover → List ℕ → (ℕ → Bool) → ℕ → Type 0
@@ -30,6 +30,14 @@ pub record HasGiven (r : Readers) (signal : ℕ) (bit : Bool) (marks values mark
   pub is : values' ≡ slice_set values signal bit
   pub kept : (k : ℕ) → bit_at marks' k ≡ false → bit_at marks k ≡ false
   pub listed : (k : ℕ) → IsListed r signal k → bit_at marks' k ≡ false → bit_at values signal ≡ bit
+
+-- signals have these bits, where the turns from one on that read them aren't marked
+abbrev pub AreTaken : ℕ → List ℕ → List Bool → List Bool → List Bool → Type 0
+AreTaken first signals bits marks values = (k : ℕ) → k < length signals → bit_at marks (first + k) ≡ false → bit_at values (number_at signals k) ≡ bit_at bits k
+
+-- this stays so, for turns that aren't those of covers
+abbrev pub StillTaken : ℕ → Readers → (marks values marks' values' : List Bool) → Type 0
+StillTaken least r marks values marks' values' = (first : ℕ) (signals : List ℕ) (bits : List Bool) → least ≤ first → first + length signals ≤ 65536 → AreListed r first signals → AreTaken first signals bits marks values → AreTaken first signals bits marks' values'
 
 -- signals that no cover drives
 abbrev pub AreFree : List Cover → List ℕ → List ℕ → Type 0

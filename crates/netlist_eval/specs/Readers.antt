@@ -43,6 +43,14 @@ pub record IsListed (r : Readers) (signal turn : ℕ) : Type 0 where
   pub to : place < number_at r.starts.items (signal + 1)
   pub is : number_at r.keys.items place % 65536 ≡ turn
 
+-- signals are read by turns from one on, one each
+abbrev pub AreListed : Readers → ℕ → List ℕ → Type 0
+AreListed r first signals = (k : ℕ) → k < length signals → IsListed r (number_at signals k) (first + k)
+
+-- there is a key for each of these signals, of turns from one on
+abbrev pub HaveKeys : ℕ → List ℕ → List ℕ → Type 0
+HaveKeys first signals keys = (k : ℕ) → k < length signals → Contains keys (reader_key (first + k) (number_at signals k))
+
 -- each cover stands among the readers of its inputs
 pub record AreReaders (covers : List Cover) (order : List ℕ) (signals : ℕ) (r : Readers) : Type 0 where
   pub len : length r.starts.items ≡ signals + 1

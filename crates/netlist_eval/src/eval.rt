@@ -3,12 +3,14 @@
 ghost use Rattle.std.specs.Prelude.{◌≡◌, ◌<◌, ℕ, length, map, IfOk};
 ghost use Rattle.netlist_eval.specs.Evals.{first_eval, IsStep};
 ghost use Rattle.netlist_eval.specs.Bits.{AreReady};
+ghost use Rattle.netlist.specs.Valuations.{bit_at};
 ghost use Rattle.netlist_eval.specs.Latches.{HaveBits};
+ghost use Rattle.netlist_eval.specs.Marks.{AreTaken};
 ghost use Rattle.netlist_eval.specs.Plans.{IsPlan, IsMarked, AllHold};
 
 use crate::bits::{put_bits, read_bits};
 use crate::block::{Block, give_ahead, no_vectors};
-use crate::latches::put_changed;
+use crate::latches::{put_changed, take_changed};
 use crate::marks::{put_marked, settle_marked};
 use crate::plan::{Plan, plan_of};
 use crate::readers::MOST;
@@ -57,7 +59,7 @@ impl<'a> Model for Eval<'a> {
 
     ghost view = { λ e. record { netlist = e.netlist.now; state = e.state.items } };
 
-    ghost invariant = { λ e. IsPlan e.netlist.now e.plan × AreReady e.netlist.now e.values.items e.state.items × IsMarked e.netlist.now e.plan e.marks.items e.values.items × IsHeld e.plan e.hints.items e.last.items e.state.items e.values.items × IsBlock e.netlist.now e.block };
+    ghost invariant = { λ e. IsPlan e.netlist.now e.plan × AreReady e.netlist.now e.values.items e.state.items × IsMarked e.netlist.now e.plan e.marks.items e.values.items × IsHeld e.plan e.hints.items e.marks.items e.last.items e.state.items e.values.items × IsBlock e.netlist.now e.block };
 }
 
 impl<'a> Eval<'a> {
@@ -173,6 +175,7 @@ fn run(
     requires outputs { length out.old ≡ length netlist.now.outputs }
     ensures ready { AreReady netlist.now values.new state.new }
     ensures given { HaveBits plan.now.wiring.drives.items last.new values.new }
+    ensures next { state.new ≡ map (bit_at values.new) plan.now.wiring.reads.items }
     ensures hold { AllHold netlist.now values.new }
     ensures step { IsStep (record { netlist = netlist.now; state = state.old }) vector.now out.new (record { netlist = netlist.now; state = state.new }) }
 {
@@ -204,10 +207,12 @@ fn run_marked(
     requires hints { length hints.old ≡ 1024 }
     requires last { length last.old ≡ length state.old }
     requires given { HaveBits plan.now.wiring.drives.items last.old values.old }
+    requires taken { AreTaken (length plan.now.turns.items) plan.now.wiring.reads.items state.old marks.old values.old }
     requires inputs { length vector.now ≡ length netlist.now.inputs }
     requires outputs { length out.old ≡ length netlist.now.outputs }
     ensures ready { AreReady netlist.now values.new state.new }
     ensures given { HaveBits plan.now.wiring.drives.items last.new values.new }
+    ensures next { state.new ≡ map (bit_at values.new) plan.now.wiring.reads.items }
     ensures marked { IsMarked netlist.now plan.now marks.new values.new }
     ensures step { IsStep (record { netlist = netlist.now; state = state.old }) vector.now out.new (record { netlist = netlist.now; state = state.new }) }
 {
@@ -238,7 +243,14 @@ fn run_marked(
         values,
     );
     read_bits(values, &plan.wiring.outputs, out);
-    read_bits(values, &plan.wiring.reads, state);
+    take_changed(
+        &plan.wiring.reads,
+        plan.turns.len(),
+        marks,
+        hints,
+        values,
+        state,
+    );
     count > plan.turns.len() / 4
 }
 

@@ -1,12 +1,13 @@
-//! What latches give.
+//! What latches give, and what they take.
 
-ghost use Rattle.std.specs.Prelude.{◌≡◌, ◌+◌, ◌<◌, ◌≤◌, ℕ, false, length};
+ghost use Rattle.std.specs.Prelude.{◌≡◌, ◌+◌, ◌<◌, ◌≤◌, ℕ, false, length, map};
 ghost use Rattle.netlist.specs.Valuations.{bit_at, number_at};
 ghost use Rattle.netlist_eval.specs.Bits.{bits_put, AreApart, AreBelow};
 ghost use Rattle.netlist_eval.specs.Latches.{HaveBits, HavePut};
-ghost use Rattle.netlist_eval.specs.Marks.{StillKept};
+ghost use Rattle.netlist_eval.specs.Marks.{AreTaken, StillKept, StillTaken};
 
-use crate::marks::give;
+use crate::bits::read_bits;
+use crate::marks::{WORD, give, is_one_marked};
 use crate::readers::Readers;
 
 /// How many latches are compared at once.
@@ -108,11 +109,92 @@ pub fn put_changed(
     ensures given { HaveBits drives.now last.new values.new }
     ensures size { length marks.new ≡ 65536 }
     ensures kept { StillKept readers.now drives.now marks.old values.old marks.new values.new }
+    ensures taken { StillTaken 0 readers.now marks.old values.old marks.new values.new }
 {
     let count = drives.len();
     'chunks: for i in 0..count / CHUNK + 1 {
         let from = i * CHUNK;
         let to = (from + CHUNK).min(count);
         put_chunk(readers, drives, state, from, to, last, marks, hints, values);
+    }
+}
+
+// A latch takes the bit of what it reads.
+fn take_latch(
+    reads: &[u32],
+    first: usize,
+    k: usize,
+    marks: &mut [bool],
+    values: &[bool],
+    state: &mut [bool],
+)
+    requires within { k < length reads.now }
+    requires room { first + length reads.now ≤ length marks.old }
+    requires bits { length state.old ≡ length reads.now }
+    requires below { AreBelow (length values.now) reads.now }
+    requires taken { AreTaken first reads.now state.old marks.old values.now }
+    ensures taken { AreTaken first reads.now state.new marks.new values.now }
+{
+    marks[first + k] = false;
+    state[k] = values[reads[k] as usize];
+}
+
+// The latches that a word of hints names take their bits. The turn of the first one is given.
+fn take_word(
+    reads: &[u32],
+    first: usize,
+    place: usize,
+    marks: &mut [bool],
+    hints: &mut [u64],
+    values: &[bool],
+    state: &mut [bool],
+)
+    requires place { place < 1024 }
+    requires size { length marks.old ≡ 65536 }
+    requires hints { length hints.old ≡ 1024 }
+    requires room { first + length reads.now ≤ 65535 }
+    requires bits { length state.old ≡ length reads.now }
+    requires below { AreBelow (length values.now) reads.now }
+    requires taken { AreTaken first reads.now state.old marks.old values.now }
+    ensures taken { AreTaken first reads.now state.new marks.new values.now }
+{
+    'bits: for _ in 0..WORD {
+        let word = hints[place];
+        if word == 0 {
+            return;
+        }
+        let turn = place * WORD as usize + word.trailing_zeros() as usize;
+        hints[place] = word & (word - 1);
+        if turn >= first && turn - first < reads.len() {
+            take_latch(reads, first, turn - first, marks, values, state);
+        }
+    }
+}
+
+/// Each latch takes the bit of what it reads. The turn of the first one is given.
+///
+/// Those that are marked are looked for where hints are. These may be wrong: if a mark is left, all take their bits.
+pub fn take_changed(
+    reads: &[u32],
+    first: usize,
+    marks: &mut [bool],
+    hints: &mut [u64],
+    values: &[bool],
+    state: &mut [bool],
+)
+    requires size { length marks.old ≡ 65536 }
+    requires hints { length hints.old ≡ 1024 }
+    requires room { first + length reads.now ≤ 65535 }
+    requires bits { length state.old ≡ length reads.now }
+    requires below { AreBelow (length values.now) reads.now }
+    requires taken { AreTaken first reads.now state.old marks.old values.now }
+    ensures { state.new ≡ map (bit_at values.now) reads.now }
+{
+    let past = first + reads.len();
+    'words: for place in first / WORD as usize..past / WORD as usize + 1 {
+        take_word(reads, first, place, marks, hints, values, state);
+    }
+    if is_one_marked(marks, first, past) {
+        read_bits(values, reads, state);
     }
 }

@@ -1,19 +1,19 @@
 //! Covers that are marked, and evaluated only then.
 
-ghost use Rattle.std.specs.Prelude.{◌≡◌, ◌+◌, ◌<◌, ◌≤◌, ℕ, false, length};
+ghost use Rattle.std.specs.Prelude.{◌≡◌, ◌+◌, ◌<◌, ◌≤◌, ℕ, false, true, length};
 ghost use Rattle.netlist.specs.Covers.{cover_at, IsCoverOver};
 ghost use Rattle.netlist.specs.Valuations.{bit_at, number_at, IsSettled};
 ghost use Rattle.netlist_eval.specs.Bits.{bits_put, AreBelow};
 ghost use Rattle.netlist_eval.specs.Turns.{AreTurns, places};
 ghost use Rattle.netlist_eval.specs.Readers.{AreReaders};
-ghost use Rattle.netlist_eval.specs.Marks.{AreKept, AreOthersSame, HaveMarked, HasGiven, StillKept};
+ghost use Rattle.netlist_eval.specs.Marks.{AreKept, AreOthersSame, HaveMarked, HasGiven, StillKept, StillTaken};
 
 use crate::readers::{MOST, Readers};
 use crate::turns::{Turn, settle, value_of};
 use netlist::Cover;
 
 /// How many turns one word of hints stands for.
-const WORD: u32 = 64;
+pub const WORD: u32 = 64;
 
 // Hints that a turn is marked.
 fn hint(hints: &mut [u64], turn: u32)
@@ -81,6 +81,7 @@ pub fn put_marked(
     ensures values { values.new ≡ bits_put values.old signals.now bits.now }
     ensures size { length marks.new ≡ 65536 }
     ensures kept { StillKept readers.now signals.now marks.old values.old marks.new values.new }
+    ensures taken { StillTaken 0 readers.now marks.old values.old marks.new values.new }
 {
     'signals: for k in 0..signals.len() {
         give(readers, signals[k], bits[k], marks, hints, values);
@@ -108,6 +109,7 @@ fn settle_turn(
     ensures size { length marks.new ≡ 65536 }
     ensures kept { AreKept covers.now (places turns.now) 0 marks.new values.new }
     ensures others { AreOthersSame covers.now values.old values.new }
+    ensures taken { StillTaken (length turns.now) readers.now marks.old values.old marks.new values.new }
 {
     marks[k] = false;
     let turn = &turns[k];
@@ -138,6 +140,7 @@ fn settle_word(
     ensures size { length marks.new ≡ 65536 }
     ensures kept { AreKept covers.now (places turns.now) 0 marks.new values.new }
     ensures others { AreOthersSame covers.now values.old values.new }
+    ensures taken { StillTaken (length turns.now) readers.now marks.old values.old marks.new values.new }
 {
     'bits: for count in 0..WORD as usize {
         let word = hints[place];
@@ -151,13 +154,24 @@ fn settle_word(
     WORD as usize
 }
 
-// Whether one of the first turns is marked.
-fn is_one_marked(marks: &[bool], count: usize) -> bool
-    requires { count ≤ length marks.now }
-    ensures { result ≡ false → (k : ℕ) → k < count → bit_at marks.now k ≡ false }
+// Marks all turns.
+fn mark_all(marks: &mut [bool])
+    requires { length marks.old ≡ 65536 }
+    ensures size { length marks.new ≡ 65536 }
+    ensures all { (k : ℕ) → k < 65536 → bit_at marks.new k ≡ true }
+{
+    'marks: for k in 0..marks.len() {
+        marks[k] = true;
+    }
+}
+
+/// Whether a turn between two is marked. A loop without a way out is quicker here.
+pub fn is_one_marked(marks: &[bool], from: usize, to: usize) -> bool
+    requires { to ≤ length marks.now }
+    ensures { result ≡ false → (k : ℕ) → from ≤ k → k < to → bit_at marks.now k ≡ false }
 {
     let mut found = false;
-    'marks: for k in 0..count {
+    'marks: for k in from..to {
         found |= marks[k];
     }
     found
@@ -183,13 +197,15 @@ pub fn settle_marked(
     requires kept { AreKept covers.now (places turns.now) 0 marks.old values.old }
     ensures settled { IsSettled covers.now (bit_at values.old) (bit_at values.new) }
     ensures size { length marks.new ≡ 65536 }
+    ensures taken { StillTaken (length turns.now) readers.now marks.old values.old marks.new values.new }
 {
     let mut count = 0;
     'words: for place in 0..turns.len() / WORD as usize + 1 {
         count += settle_word(turns, covers, readers, place, marks, hints, values);
     }
-    if is_one_marked(marks, turns.len()) {
+    if is_one_marked(marks, 0, turns.len()) {
         settle(turns, covers, values);
+        mark_all(marks);
     }
     count
 }

@@ -28,7 +28,7 @@ pub fn plan_of(alloc: Global, netlist: &Netlist) -> Result<Plan, AllocError>
     let covers = draft.covers.as_slice();
     let wiring = wiring_of(alloc, draft)?;
     let turns = turns_of(alloc, covers, netlist.order())?;
-    let readers = readers_of(alloc, covers, &turns, draft.names.len())?;
+    let readers = readers_of(alloc, covers, &turns, &wiring.reads, draft.names.len())?;
     Ok(Plan {
         wiring,
         turns,

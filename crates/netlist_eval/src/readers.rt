@@ -1,10 +1,11 @@
 //! The covers that read a signal.
 
 ghost use Rattle.std.specs.Prelude.{◌≡◌, ◌+◌, ◌*◌, ◌<◌, ◌≤◌, ◌++◌, ℕ, length, map, slice_index_or, IfOk, OnOk};
+ghost use Rattle.std.specs.List.{Contains};
 ghost use Rattle.netlist.specs.Covers.{cover_at, IsCoverOver};
 ghost use Rattle.netlist_eval.specs.Bits.{AreBelow};
 ghost use Rattle.netlist_eval.specs.Turns.{AreTurns, places};
-ghost use Rattle.netlist_eval.specs.Readers.{reader_key, AreKeys, AreInOrder, AreStarts, Splits, IsFrom, AreReaders};
+ghost use Rattle.netlist_eval.specs.Readers.{reader_key, HaveKeys, AreListed, AreKeys, AreInOrder, AreStarts, Splits, IsFrom, AreReaders};
 
 use crate::turns::Turn;
 use netlist::Cover;
@@ -13,10 +14,10 @@ use std::alloc::{AllocError, Global};
 /// A design has fewer signals than this, and so fewer covers.
 pub const MOST: u32 = 65_536;
 
-/// For each signal the turns of the covers that read it.
+/// For each signal the turns of the covers that read it, and behind them those of latches.
 #[derive(Drop)]
 pub struct Readers {
-    /// A signal, times 65,536, and the turn of a cover that reads it; in order.
+    /// A signal, times 65,536, and a turn that reads it; in order.
     pub keys: Vec<u32>,
     /// Where each signal's keys begin, and where the last one's end.
     pub starts: Vec<usize>,
@@ -34,19 +35,51 @@ fn push_keys(keys: &mut Vec<u32>, ins: &[u32], turn: u32) -> Result<(), AllocErr
     Ok(())
 }
 
+// Adds a key for each of the signals that latches read, whose turns are those from one on.
+fn push_latches(keys: &mut Vec<u32>, reads: &[u32], first: usize) -> Result<(), AllocError>
+    requires signals { AreBelow 65535 reads.now }
+    requires few { first + length reads.now ≤ 65535 }
+    ensures more { OnOk result ((key : ℕ) → Contains keys.old.items key → Contains keys.new.items key) }
+    ensures keys { OnOk result (HaveKeys first reads.now keys.new.items) }
+{
+    'reads: for k in 0..reads.len() {
+        keys.push(reads[k] * MOST + (first + k) as u32)?;
+    }
+    Ok(())
+}
+
 // The keys of all covers.
-fn keys_of(alloc: Global, covers: &[Cover], turns: &[Turn]) -> Result<Vec<u32>, AllocError>
+fn cover_keys(alloc: Global, covers: &[Cover], turns: &[Turn]) -> Result<Vec<u32>, AllocError>
     requires turns { AreTurns covers.now turns.now }
     requires made { (i : ℕ) → i < length covers.now → IsCoverOver (cover_at covers.now i) 65535 }
     requires few { length turns.now ≤ 65535 }
-    ensures keys { IfOk result (λ keys. AreKeys covers.now (places turns.now) (length turns.now) keys.items) }
-    ensures sorted { IfOk result (λ keys. AreInOrder keys.items) }
+    ensures { IfOk result (λ keys. AreKeys covers.now (places turns.now) (length turns.now) keys.items) }
 {
     let mut keys = Vec::new(alloc);
     'turns: for k in 0..turns.len() {
         let cover = &covers[turns[k].place as usize];
         push_keys(&mut keys, cover.ins.as_slice(), k as u32)?;
     }
+    Ok(keys)
+}
+
+// The keys of all covers, and of latches behind them.
+fn keys_of(
+    alloc: Global,
+    covers: &[Cover],
+    turns: &[Turn],
+    reads: &[u32],
+) -> Result<Vec<u32>, AllocError>
+    requires turns { AreTurns covers.now turns.now }
+    requires made { (i : ℕ) → i < length covers.now → IsCoverOver (cover_at covers.now i) 65535 }
+    requires reads { AreBelow 65535 reads.now }
+    requires few { length turns.now + length reads.now ≤ 65535 }
+    ensures keys { IfOk result (λ keys. AreKeys covers.now (places turns.now) (length turns.now) keys.items) }
+    ensures latches { IfOk result (λ keys. HaveKeys (length turns.now) reads.now keys.items) }
+    ensures sorted { IfOk result (λ keys. AreInOrder keys.items) }
+{
+    let mut keys = cover_keys(alloc, covers, turns)?;
+    push_latches(&mut keys, reads, turns.len())?;
     keys.sort()?;
     Ok(keys)
 }
@@ -79,20 +112,23 @@ fn starts_of(alloc: Global, keys: &[u32], signals: usize) -> Result<Vec<usize>, 
     Ok(starts)
 }
 
-/// The readers of a design's signals.
+/// The readers of a design's signals: its covers, and behind them the latches that read these signals.
 pub fn readers_of(
     alloc: Global,
     covers: &[Cover],
     turns: &[Turn],
+    reads: &[u32],
     signals: usize,
 ) -> Result<Readers, AllocError>
     requires turns { AreTurns covers.now turns.now }
     requires made { (i : ℕ) → i < length covers.now → IsCoverOver (cover_at covers.now i) signals }
-    requires few { length turns.now ≤ 65535 }
+    requires reads { AreBelow signals reads.now }
+    requires few { length turns.now + length reads.now ≤ 65535 }
     requires signals { signals ≤ 65535 }
-    ensures { IfOk result (λ readers. AreReaders covers.now (places turns.now) signals readers) }
+    ensures covers { IfOk result (λ readers. AreReaders covers.now (places turns.now) signals readers) }
+    ensures latches { IfOk result (λ readers. AreListed readers (length turns.now) reads.now) }
 {
-    let keys = keys_of(alloc, covers, turns)?;
+    let keys = keys_of(alloc, covers, turns, reads)?;
     let starts = starts_of(alloc, &keys, signals)?;
     Ok(Readers { keys, starts })
 }

@@ -1,4 +1,4 @@
-use Rattle.std.proofs.Common.{◌≡◌, ◌*◌, ◌⊎◌, ℕ, ◌<◌, ◌≤◌, length}
+use Rattle.std.proofs.Common.{◌≡◌, ◌*◌, ℕ, ◌<◌, length}
 use Rattle.netlist.specs.Valuations.{bit_at}
 use Rattle.netlist_eval.specs.Latches.{HavePut}
 use Rattle.netlist_eval.proofs.latches.put_changed.Given as goal

@@ -1,4 +1,4 @@
-use Rattle.std.proofs.Common.{arith, ◌∙◌}
+use Rattle.std.proofs.Common.{◌∙◌}
 use Rattle.netlist_eval.proofs.LatchLemmas.{put-both, done-more}
 use Rattle.netlist_eval.proofs.latches.put_chunk.Goals as goal
 

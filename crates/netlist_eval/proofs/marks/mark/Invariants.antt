@@ -1,4 +1,4 @@
-use Rattle.std.proofs.Common.{◌≡◌, ℕ, ◌<◌, ◌≤◌, ◌%◌, Bool, true, false, length, get_or}
+use Rattle.std.proofs.Common.{◌≡◌, ℕ, ◌<◌, ◌≤◌, ◌%◌, true, false, length}
 use Rattle.netlist.specs.Valuations.{number_at, bit_at}
 use Rattle.netlist_eval.proofs.marks.mark.Given as goal
 

@@ -1,11 +1,11 @@
 use Rattle.std.proofs.Common.{◌<◌, ℕ, Bool, List, false, length, get_or, sym, ap, ◌∙◌, arith, add-one}
 use Rattle.std.specs.Prelude.{slice_set}
 use Rattle.netlist_eval.proofs.BitLemmas.{length-put, put-none, put-more}
-use Rattle.netlist_eval.proofs.MarkLemmas.{still-none, still-more, still-all}
+use Rattle.netlist_eval.proofs.MarkLemmas.{still-none, still-more, still-all, given-taken, taken-none, taken-both}
 use Rattle.netlist_eval.proofs.marks.put_marked.Goals as goal
 
 pub signals-init : goal.signals-init
-signals-init c = (sym (put-none c.args.values.now), c.requires.size, still-none c.args.readers.now c.args.marks.now c.args.values.now, c.requires.hints)
+signals-init c = (sym (put-none c.args.values.now), c.requires.size, still-none c.args.readers.now c.args.marks.now c.args.values.now, c.requires.hints, taken-none 0 c.args.readers.now c.args.marks.now c.args.values.now)
 
 pub signals-preserved : goal.signals-preserved
 signals-preserved c =
@@ -20,6 +20,8 @@ signals-preserved c =
       still-more c.args.readers.now c.args.signals.now c.signals.k b c.args.marks.now c.args.values.now c.signals.marks c.signals.values c.give.new.marks c.give.new.values
           c.signals-test.true c.give.ensures within c.signals.invariant.2,
       c.give.auto.hints ∙ c.signals.invariant.3,
+      taken-both 0 c.args.readers.now c.args.marks.now c.args.values.now c.signals.marks c.signals.values c.give.new.marks c.give.new.values c.signals.invariant.4
+          (given-taken c.args.readers.now s b c.signals.marks c.signals.values c.give.new.marks c.give.new.values c.give.ensures within),
     )
 
 pub returns-clause-kept : goal.returns-clause-kept

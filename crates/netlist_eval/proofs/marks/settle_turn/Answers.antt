@@ -1,8 +1,7 @@
-use Rattle.std.proofs.Common.{length, arith, ◌∙◌}
-use Rattle.std.proofs.lemmas.List.{length-set}
+use Rattle.std.proofs.Common.{length, arith}
 use Rattle.netlist_eval.proofs.TurnLemmas.{place-within, out-below}
 use Rattle.netlist_eval.specs.Turns.{turn_at}
-use Rattle.netlist_eval.proofs.MarkLemmas.{marked-keeps, marked-others}
+use Rattle.netlist_eval.proofs.MarkLemmas.{marked-keeps, marked-others, marked-taken}
 use Rattle.netlist_eval.proofs.marks.settle_turn.Goals as goal
 
 pub value_of-bit-requires-clause-within : goal.value_of-bit-requires-clause-within
@@ -27,3 +26,8 @@ pub returns-clause-others : goal.returns-clause-others
 returns-clause-others c =
     marked-others c.args.covers.now c.args.turns.now c.requires.turns c.args.readers.now c.args.k c.value_of-bit.result _ c.args.values.now c.give.new.marks c.give.new.values c.requires.within
     c.give.ensures
+
+pub returns-clause-taken : goal.returns-clause-taken
+returns-clause-taken c =
+    marked-taken c.args.covers.now c.args.turns.now c.requires.turns c.args.readers.now c.args.k c.value_of-bit.result c.args.marks.now c.args.values.now c.give.new.marks c.give.new.values
+    c.requires.within (out-below c.args.covers.now c.args.turns.now c.requires.turns c.args.k (length c.args.values.now) c.requires.within c.requires.made) c.give.ensures

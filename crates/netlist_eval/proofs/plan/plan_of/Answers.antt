@@ -1,8 +1,10 @@
-use Rattle.std.proofs.Common.{◌≡◌, ◌≤◌, ℕ, List, length, ap, refl, arith, ◌∙◌, sym, subst}
+use Rattle.std.proofs.Common.{ℕ, List, length, map, ap, refl, arith, ◌∙◌, subst}
+use Rattle.std.proofs.lemmas.List.{length-map}
+use Rattle.netlist.specs.Valuations.{IsOrder}
 use Rattle.netlist_eval.specs.declared.turns.Turn.{Turn}
 use Rattle.netlist_eval.specs.Turns.{places}
-use Rattle.netlist_eval.proofs.TurnLemmas.{turns-size, few-turns}
-use Rattle.netlist_eval.proofs.RunLemmas.{covers-made, plan-is}
+use Rattle.netlist_eval.proofs.TurnLemmas.{turns-size}
+use Rattle.netlist_eval.proofs.RunLemmas.{covers-made, plan-is, room-is, froms-below, below-at}
 use Rattle.netlist_eval.proofs.plan.plan_of.Goals as goal
 
 pub turns_of-requires-clause-made : goal.turns_of-requires-clause-made
@@ -10,19 +12,28 @@ turns_of-requires-clause-made c = λ i li. (length c.args.netlist.now.names, cov
 
 pub readers_of-requires-clause-few : goal.readers_of-requires-clause-few
 readers_of-requires-clause-few c =
-    let checked = c.parts-draft.ensures.checked in
-    let signals = length c.args.netlist.now.names in
     let turns : List Turn = c.in_ok-turns.turns.items in
-    let made = covers-made c.args.netlist.now c.as_slice-covers.result.now signals checked (c.as_slice-covers.ensures ∙ ap (λ d. d.covers) c.parts-draft.ensures.parts) refl in
-    let few : length turns ≤ 65535 = omega (arith, turns-size turns, few-turns c.as_slice-covers.result.now (places turns) signals c.in_ok-turns.ensures.order made, checked.made.names) in
-    subst (λ (ts : List Turn). length ts ≤ 65535) (sym c.deref.ensures.value) few
+    let order = subst (λ cs. IsOrder cs (places turns)) (c.as_slice-covers.ensures ∙ ap (λ d. d.covers) c.parts-draft.ensures.parts) c.in_ok-turns.ensures.order in
+    omega (
+      arith,
+      turns-size turns,
+      room-is c.args.netlist.now c.parts-draft.ensures.checked (places turns) order,
+      ap (λ (ts : List Turn). length ts) c.deref.ensures.value,
+      ap (λ (xs : List ℕ). length xs) c.deref-2.ensures.value,
+      ap (λ (xs : List ℕ). length xs) c.in_ok-wiring.ensures.reads,
+      length-map c.parts-draft.result.now.latches (λ l. l.from),
+      ap (λ d. length d.latches) c.parts-draft.ensures.parts,
+    )
+
+pub readers_of-requires-clause-reads : goal.readers_of-requires-clause-reads
+readers_of-requires-clause-reads c =
+    below-at _ _ _ _ (c.deref-2.ensures.value ∙ c.in_ok-wiring.ensures.reads ∙ ap (λ d. map (λ l. l.from) d.latches) c.parts-draft.ensures.parts)
+    (c.len.ensures ∙ ap (λ d. length d.names) c.parts-draft.ensures.parts) (froms-below c.args.netlist.now c.parts-draft.ensures.checked)
 
 pub returns : goal.returns
 returns c =
-    let checked = c.parts-draft.ensures.checked in
-    let signals = length c.args.netlist.now.names in
     let turns : List Turn = c.in_ok-turns.turns.items in
-    let made = covers-made c.args.netlist.now c.as_slice-covers.result.now signals checked (c.as_slice-covers.ensures ∙ ap (λ d. d.covers) c.parts-draft.ensures.parts) refl in
-    let few : length turns ≤ 65535 = omega (arith, turns-size turns, few-turns c.as_slice-covers.result.now (places turns) signals c.in_ok-turns.ensures.order made, checked.made.names) in
-    plan-is c.args.netlist.now c.parts-draft.result.now c.as_slice-covers.result.now _ c.deref.result.now c.len.result c.parts-draft.ensures.parts c.as_slice-covers.ensures
-    c.deref.ensures.value c.len.ensures c.in_ok-wiring.ensures c.in_ok-turns.ensures (subst (λ (ts : List Turn). length ts ≤ 65535) (sym c.deref.ensures.value) few) c.in_ok-readers.ensures
+    let order = subst (λ cs. IsOrder cs (places turns)) (c.as_slice-covers.ensures ∙ ap (λ d. d.covers) c.parts-draft.ensures.parts) c.in_ok-turns.ensures.order in
+    plan-is c.args.netlist.now c.parts-draft.result.now c.as_slice-covers.result.now _ c.deref.result.now c.deref-2.result.now c.len.result c.parts-draft.ensures.parts c.as_slice-covers.ensures
+    c.deref.ensures.value c.deref-2.ensures.value c.len.ensures c.in_ok-wiring.ensures c.in_ok-turns.ensures (omega (arith, turns-size turns, room-is c.args.netlist.now c.parts-draft.ensures.checked (places turns) order, ap (λ (ts : List Turn). length ts) c.deref.ensures.value, ap (λ (xs : List ℕ). length xs) c.deref-2.ensures.value, ap (λ (xs : List ℕ). length xs) c.in_ok-wiring.ensures.reads, length-map c.parts-draft.result.now.latches (λ l. l.from), ap (λ d. length d.latches) c.parts-draft.ensures.parts)) c.in_ok-readers.ensures.covers
+    c.in_ok-readers.ensures.latches

@@ -1,6 +1,6 @@
 use Rattle.std.proofs.Common.{◌≡◌, ℕ, ◌<◌, length}
 use Rattle.netlist.specs.Valuations.{number_at}
-use Rattle.netlist_eval.specs.Readers.{IsFrom, Splits, AreStarts}
+use Rattle.netlist_eval.specs.Readers.{IsFrom, Splits}
 use Rattle.netlist_eval.proofs.readers.starts_of.Given as goal
 
 abbrev pub invariant-signals : goal.invariant-signals

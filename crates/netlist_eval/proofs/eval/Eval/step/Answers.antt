@@ -1,6 +1,7 @@
 use Rattle.std.proofs.Common.{length, drop, arith}
 use Rattle.netlist_eval.specs.Turns.{places}
 use Rattle.netlist_eval.proofs.MarkLemmas.{settled-kept}
+use Rattle.netlist_eval.proofs.LatchLemmas.{take-map}
 use Rattle.netlist_eval.proofs.RunLemmas.{taken}
 use Rattle.netlist_eval.proofs.eval.Eval.step.Goals as goal
 
@@ -21,6 +22,7 @@ invariant_of-self c =
         hints_len = c.self.invariant.3.hints_len;
         last_len = omega (arith, c.run.auto.last, c.run.auto.state, c.deref_mut-then-self-gt0.ensures.len, c.deref_mut-then-self-gt0-2.ensures.len, c.self.invariant.3.last_len);
         given = c.run.ensures.given;
+        taken = take-map (length c.self.inside.plan.turns.items) c.self.inside.plan.wiring.reads.items c.run.new.state c.self.inside.marks.items c.run.new.values c.run.ensures.next;
       },
       c.self.invariant.4,
     )
@@ -40,6 +42,7 @@ invariant_of-self-then-busy c =
         hints_len = omega (arith, c.run_marked-busy.auto.hints, c.deref_mut-3.ensures.len, c.self.invariant.3.hints_len);
         last_len = omega (arith, c.run_marked-busy.auto.last, c.run_marked-busy.auto.state, c.deref_mut-5.ensures.len, c.deref_mut-6.ensures.len, c.self.invariant.3.last_len);
         given = c.run_marked-busy.ensures.given;
+        taken = take-map (length c.self.inside.plan.turns.items) c.self.inside.plan.wiring.reads.items c.run_marked-busy.new.state c.run_marked-busy.new.marks c.run_marked-busy.new.values c.run_marked-busy.ensures.next;
       },
       c.self.invariant.4,
     )
@@ -59,6 +62,7 @@ invariant_of-self-else-busy c =
         hints_len = omega (arith, c.run_marked-busy.auto.hints, c.deref_mut-3.ensures.len, c.self.invariant.3.hints_len);
         last_len = omega (arith, c.run_marked-busy.auto.last, c.run_marked-busy.auto.state, c.deref_mut-5.ensures.len, c.deref_mut-6.ensures.len, c.self.invariant.3.last_len);
         given = c.run_marked-busy.ensures.given;
+        taken = take-map (length c.self.inside.plan.turns.items) c.self.inside.plan.wiring.reads.items c.run_marked-busy.new.state c.run_marked-busy.new.marks c.run_marked-busy.new.values c.run_marked-busy.ensures.next;
       },
       c.self.invariant.4,
     )
