@@ -14,3 +14,5 @@ pub mod Logging
 pub mod Sessions
 pub mod Going
 pub mod Naming
+pub mod Queueing
+pub mod Reading

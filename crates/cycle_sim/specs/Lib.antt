@@ -4,6 +4,8 @@ pub mod Building
 pub mod Gates
 pub mod Cycles
 pub mod Settling
+pub mod Queues
+pub mod Readers
 pub mod Boards
 pub mod Tracks
 pub mod BitLogs
