@@ -16,3 +16,4 @@ pub mod Going
 pub mod Naming
 pub mod Queueing
 pub mod Reading
+pub mod Pulling

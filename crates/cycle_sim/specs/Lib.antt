@@ -4,6 +4,7 @@ pub mod Building
 pub mod Gates
 pub mod Cycles
 pub mod Settling
+pub mod Pulls
 pub mod Queues
 pub mod Readers
 pub mod Boards

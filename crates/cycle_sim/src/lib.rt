@@ -10,6 +10,7 @@ mod cycle;
 mod gates;
 mod marks;
 mod named;
+mod pulls;
 mod queue;
 mod ranks;
 mod readers;
