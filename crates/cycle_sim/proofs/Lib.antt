@@ -17,3 +17,4 @@ pub mod Naming
 pub mod Queueing
 pub mod Reading
 pub mod Pulling
+pub mod Eventing

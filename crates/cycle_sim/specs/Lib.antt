@@ -7,6 +7,7 @@ pub mod Settling
 pub mod Pulls
 pub mod Queues
 pub mod Readers
+pub mod Events
 pub mod Boards
 pub mod Tracks
 pub mod BitLogs

@@ -7,6 +7,7 @@ mod board;
 mod classes;
 mod closing;
 mod cycle;
+mod events;
 mod gates;
 mod marks;
 mod named;
