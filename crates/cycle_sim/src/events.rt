@@ -13,7 +13,7 @@ use crate::classes::Knot;
 use crate::gates::{Gate, ticked};
 use crate::marks::clear_tables;
 use crate::pulls::{clear_pulls, count_pulls, give};
-use crate::queue::{Queue, add_all, empty};
+use crate::queue::{Queue, add_all, empty, place_at};
 use crate::readers::{Readers, add_readers};
 use fault_model::FaultSet;
 
@@ -62,7 +62,7 @@ fn evaluate(
 {
     let mut count = 0;
     'due: for i in 0..queue.count {
-        let place = queue.due[i];
+        let place = place_at(queue, i);
         let gate = ticked(faults, knots, low_pins, low_tables, gates[place]);
         if gate.output == gates[place].output {
             continue;

@@ -1,6 +1,6 @@
 //! The tables that are to be evaluated.
 
-ghost use Rattle.std.specs.Prelude.{◌≡◌, ℕ, ◌<◌, true, false, length};
+ghost use Rattle.std.specs.Prelude.{◌≡◌, ℕ, ◌<◌, true, false, length, slice_index};
 ghost use Rattle.cycle_sim.specs.Queues.{is_marked, IsQueue, KeepsMarks};
 
 /// The places of tables that are to be evaluated, each once.
@@ -40,6 +40,16 @@ pub fn add_all(queue: &mut Queue)
     'places: for k in 0..queue.marks.len() {
         add(queue, k);
     }
+}
+
+/// A place that is listed.
+pub fn place_at(queue: &Queue, i: usize) -> usize
+    requires queue { IsQueue queue.now }
+    requires within { i < queue.now.count }
+    ensures place { result ≡ slice_index queue.now.due.items i }
+    ensures within { result < length queue.now.marks.items }
+{
+    queue.due[i]
 }
 
 /// Takes all marks away.
