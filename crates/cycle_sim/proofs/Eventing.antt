@@ -11,13 +11,14 @@ use Rattle.cycle_sim.specs.declared.gates.Gate.{Gate}
 use Rattle.cycle_sim.specs.declared.queue.Queue.{Queue}
 use Rattle.cycle_sim.specs.declared.readers.Readers.{Readers}
 use Rattle.cycle_sim.specs.declared.events.Flip.{Flip}
+use Rattle.cycle_sim.specs.declared.events.Events.{Events}
 use Rattle.cycle_sim.specs.Classes.{knot_at}
 use Rattle.cycle_sim.specs.Gates.{is_low, IsClear, Fits, level_of, level_at, address_by, cell_by, ticked}
 use Rattle.cycle_sim.specs.Cycles.{IsTick}
 use Rattle.cycle_sim.specs.Pulls.{AreCounted, giving, HasGiven}
 use Rattle.cycle_sim.specs.Queues.{is_marked, IsDue, IsQueue, KeepsMarks}
 use Rattle.cycle_sim.specs.Readers.{StartsAt, AreReaders}
-use Rattle.cycle_sim.specs.Events.{IsStill, AreStill, AreFlips, HasFlip, HaveFlips, AreAlike, ArePut, PutFlips, InputsKept, IsSound}
+use Rattle.cycle_sim.specs.Events.{IsStill, AreStill, AreFlips, HasFlip, HaveFlips, AreAlike, ArePut, PutFlips, InputsKept, IsSound, AreEvents}
 use Rattle.cycle_sim.proofs.Levels.{no_gate, six_alike}
 use Rattle.cycle_sim.proofs.Twins.{twin_is}
 use Rattle.cycle_sim.proofs.Pulling.{clear_before, marked_by_counts}
@@ -277,3 +278,11 @@ all_still f level gates marks still none =
 -- where all are listed it doesn't matter what they give
 pub all_marked : (f : Faults) (level : ℕ → Bool) (gates : List Gate) (marks : List Bool) → length marks ≡ length gates → ((k : ℕ) → k < length marks → is_marked marks k ≡ true) → AreStill f level gates marks
 all_marked f level gates marks len all k d h none = absurd (false≢true (sym none ∙ all k (omega (arith, h, len))))
+
+pub events_stay : (xs ys : List Gate) (e : Events) → AreAlike xs ys → AreEvents xs e → AreEvents ys e
+events_stay xs ys e alike are = record {
+  readers = alike_readers xs ys alike e.readers are.readers;
+  queue = are.queue;
+  marks = are.marks ∙ sym alike.len;
+  flips = are.flips ∙ sym alike.len;
+}

@@ -116,3 +116,12 @@ due_place q is i x h e =
     let l = count_within q is in
     let s : x ≡ get_or q.due.items i 0 = e ∙ get_or_default q.due.items i x 0 (omega (arith, h, l)) in
     (s, (let w = is.within i h in omega (arith, s, w)))
+
+-- with no marks
+pub queue_none : (q : Queue) → length q.due.items ≡ length q.marks.items → q.count ≡ 0 → ((k : ℕ) → is_marked q.marks.items k ≡ false) → IsQueue q
+queue_none q len count none = record {
+  room = len;
+  count = count ∙ sym (none_counted q.marks.items none);
+  within = λ i l. absurd (omega (arith, l, count));
+  listed = λ k e. absurd (false≢true (sym (none k) ∙ e));
+}

@@ -1,6 +1,6 @@
 //! Ticks that evaluate the tables whose inputs changed, and no others.
 
-ghost use Rattle.std.specs.Prelude.{◌≡◌, ℕ, ◌<◌, ◌≤◌, true, false, length, slice_index_or, All};
+ghost use Rattle.std.specs.Prelude.{◌≡◌, ℕ, ◌<◌, ◌≤◌, true, false, length, slice_index_or, All, IfOk, OnOk};
 ghost use Rattle.hierarchy.specs.Shape.{tables_of};
 ghost use Rattle.cycle_sim.specs.declared.events.Flip.{Flip};
 ghost use Rattle.cycle_sim.specs.Gates.{is_low, level_at, Fits, IsClear};
@@ -13,9 +13,10 @@ use crate::classes::Knot;
 use crate::gates::{Gate, ticked};
 use crate::marks::clear_tables;
 use crate::pulls::{clear_pulls, count_pulls, give};
-use crate::queue::{Queue, add_all, empty, place_at};
-use crate::readers::{Readers, add_readers};
+use crate::queue::{Queue, add_all, empty, make_room, place_at};
+use crate::readers::{Readers, add_readers, fill_readers};
 use fault_model::FaultSet;
+use std::alloc::{AllocError, Global};
 
 /// A table that gives something else after a tick.
 #[derive(Clone, Copy, Debug)]
@@ -37,6 +38,57 @@ pub struct Events {
     pub pulls: Vec<usize>,
     /// Whether the readers are those of the tables that are on.
     pub listed: bool,
+}
+
+/// With nothing listed.
+pub fn new_events(alloc: Global, wires: usize) -> Result<Events, AllocError>
+    ensures len { IfOk result (λ e. length e.pulls.items ≡ wires) }
+    ensures zero { IfOk result (λ e. AreZero e.pulls.items) }
+{
+    Ok(Events {
+        readers: Readers {
+            list: Vec::new(alloc),
+            starts: Vec::new(alloc),
+        },
+        queue: Queue {
+            due: Vec::new(alloc),
+            count: 0,
+            marks: Vec::new(alloc),
+        },
+        flips: Vec::new(alloc),
+        pulls: vec![in alloc; 0; wires]?,
+        listed: false,
+    })
+}
+
+/// Makes room for the changes of so many tables.
+fn make_flips(flips: &mut Vec<Flip>, places: usize) -> Result<(), AllocError>
+    ensures { OnOk result (length flips.new.items ≡ places) }
+{
+    flips.clear();
+    'places: for _k in 0..places {
+        flips.push(Flip {
+            place: 0,
+            output: false,
+        })?;
+    }
+    Ok(())
+}
+
+/// Finds the readers of what these tables give, if that is worth while.
+pub fn list_tables(events: &mut Events, gates: &[Gate], is_worth: bool) -> Result<(), AllocError>
+    ensures pulls { events.new.pulls ≡ events.old.pulls }
+    ensures events { OnOk result (events.new.listed ≡ true → AreEvents gates.now events.new) }
+{
+    events.listed = false;
+    if !is_worth {
+        return Ok(());
+    }
+    fill_readers(&mut events.readers, gates)?;
+    make_room(&mut events.queue, gates.len())?;
+    make_flips(&mut events.flips, gates.len())?;
+    events.listed = true;
+    Ok(())
 }
 
 /// Evaluates the tables that are listed, and notes those that give something else. How many these are.

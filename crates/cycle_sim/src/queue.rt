@@ -1,7 +1,9 @@
 //! The tables that are to be evaluated.
 
-ghost use Rattle.std.specs.Prelude.{◌≡◌, ℕ, ◌<◌, true, false, length, slice_index};
+ghost use Rattle.std.specs.Prelude.{◌≡◌, ℕ, ◌<◌, true, false, length, slice_index, OnOk};
 ghost use Rattle.cycle_sim.specs.Queues.{is_marked, IsQueue, KeepsMarks};
+
+use std::alloc::AllocError;
 
 /// The places of tables that are to be evaluated, each once.
 #[derive(Drop)]
@@ -11,6 +13,21 @@ pub struct Queue {
     pub count: usize,
     /// Whether a place is listed.
     pub marks: Vec<bool>,
+}
+
+/// Makes room for so many places, and lists none.
+pub fn make_room(queue: &mut Queue, places: usize) -> Result<(), AllocError>
+    ensures queue { OnOk result (IsQueue queue.new) }
+    ensures len { OnOk result (length queue.new.marks.items ≡ places) }
+{
+    queue.count = 0;
+    queue.due.clear();
+    queue.marks.clear();
+    'places: for _k in 0..places {
+        queue.due.push(0)?;
+        queue.marks.push(false)?;
+    }
+    Ok(())
 }
 
 /// Lists a place, if it isn't yet.

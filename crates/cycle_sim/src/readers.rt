@@ -63,11 +63,7 @@ fn start_of(list: &[Reader], class: u32) -> usize
 }
 
 /// Where the readers of what each table gives begin.
-fn fill_starts(
-    starts: &mut Vec<usize>,
-    list: &[Reader],
-    gates: &[Gate],
-) -> Result<(), AllocError>
+fn fill_starts(starts: &mut Vec<usize>, list: &[Reader], gates: &[Gate]) -> Result<(), AllocError>
     requires { IsNonDecreasingBy (λ (x : Reader). x.class) list.now }
     ensures len { OnOk result (length starts.new.items ≡ length gates.now) }
     ensures starts { OnOk result (AreStarts gates.now (length gates.now) list.now starts.new.items) }
