@@ -1,8 +1,8 @@
 -- The tables whose inputs changed are evaluated, and no others.
-use Rattle.std.proofs.Common.{◌≡◌, ◌≢◌, ◌⊎◌, inl, inr, ⊎_elim, ℕ, zero, suc, ◌+◌, ◌<◌, ◌≤◌, Bool, true, false, not, ◌||◌, cond, List, [], length, get_or, set, map, replicate, refl, sym, ap, ◌∙◌, subst, arith, add-one}
+use Rattle.std.proofs.Common.{◌≡◌, ◌≢◌, ◌⊎◌, inl, inr, ⊎_elim, ℕ, ◌+◌, ◌<◌, Bool, true, false, ◌||◌, cond, List, length, get_or, set, map, replicate, refl, sym, ap, ◌∙◌, subst, arith}
 use Rattle.std.specs.Prelude.{slice_index}
 use Rattle.std.specs.List.{All, Contains}
-use Rattle.std.proofs.lemmas.Bool.{false≢true, cases_eq, cases_lt, cases_Bool, false_from_ne_true}
+use Rattle.std.proofs.lemmas.Bool.{false≢true, cases_eq, cases_Bool, false_from_ne_true}
 use Rattle.std.proofs.lemmas.List.{get_or-set_other, get_or-set_same, length-set, get_or_default, get_or-map, length-map, same_lists}
 use Rattle.hierarchy.specs.Faults.{Faults}
 use Rattle.config_set.specs.Run.{number_of}
@@ -13,7 +13,7 @@ use Rattle.cycle_sim.specs.declared.readers.Readers.{Readers}
 use Rattle.cycle_sim.specs.declared.events.Flip.{Flip}
 use Rattle.cycle_sim.specs.declared.events.Events.{Events}
 use Rattle.cycle_sim.specs.Classes.{knot_at}
-use Rattle.cycle_sim.specs.Gates.{is_low, IsClear, Fits, level_of, level_at, address_by, cell_by, ticked}
+use Rattle.cycle_sim.specs.Gates.{is_low, Fits, level_of, level_at, address_by, cell_by, ticked}
 use Rattle.cycle_sim.specs.Cycles.{IsTick}
 use Rattle.cycle_sim.specs.Pulls.{AreCounted, giving, HasGiven}
 use Rattle.cycle_sim.specs.Queues.{is_marked, IsDue, IsQueue, KeepsMarks}
@@ -101,32 +101,43 @@ sound_given place o xs ys r p q pulls old low new h g is queue marks len counted
       counted = counted;
     }
 
-pub inputs_same : (xs : List Gate) (marks low new : List Bool) → ((r : ℕ) → is_low new r ≡ is_low low r) → InputsKept xs marks low new
-inputs_same xs marks low new same k j d h m e = same (slice_index (get_or xs k d).ins j)
+-- a class's level hangs on its own mark
+level_there : (knots : List Knot) (pins low new : List Bool) (r : ℕ) → is_low new r ≡ is_low low r → level_at knots pins new r ≡ level_at knots pins low r
+level_there knots pins low new r e = ap (λ b. level_of (knot_at knots r).held (is_low pins r || b)) e
 
--- those that read the class are listed
-pub inputs_listed : (xs : List Gate) (r : Readers) (place class : ℕ) (d : Gate) (marks low new : List Bool) → AreReaders xs r → class ≡ (get_or xs place d).out → ((c : ℕ) (e : Gate) → c ≢ (get_or xs place e).out → is_low new c ≡ is_low low c) →
-    ((k : ℕ) → Contains r.list.items (record { class = class; place = k }) → is_marked marks k ≡ true) → InputsKept xs marks low new
-inputs_listed xs r place class d marks low new are is others marked k j e h m none = by (cases_eq c class)
-  where
-    c : ℕ
-    c = slice_index (get_or xs k e).ins j
+-- where the level stays, and where those that read the class are listed
+module _ (xs : List Gate) (place class : ℕ) (d : Gate) (marks : List Bool) (knots : List Knot) (pins low new : List Bool) (is : class ≡ (get_or xs place d).out) (others : (c : ℕ) (e : Gate) → c ≢ (get_or xs place e).out → is_low new c ≡ is_low low c) where
+  elsewhere : (c : ℕ) → (c ≡ class → ⊥) → level_at knots pins new c ≡ level_at knots pins low c
+  elsewhere c other = level_there knots pins low new c (others c d (λ q. other (q ∙ sym is)))
 
-    by : (c ≡ class) ⊎ (c ≡ class → ⊥) → is_low new c ≡ is_low low c
-    by (inl same) = absurd (false≢true (sym none ∙ marked k (subst (λ (n : ℕ). Contains r.list.items (record { class = n; place = k })) same (are.listed k j e h m))))
-    by (inr other) = others c d (λ q. other (q ∙ sym is))
+  pub inputs_same : level_at knots pins new class ≡ level_at knots pins low class → InputsKept xs marks (level_at knots pins low) (level_at knots pins new)
+  inputs_same same k j e h m none = by (cases_eq c class)
+    where
+      c : ℕ
+      c = slice_index (get_or xs k e).ins j
+
+      by : (c ≡ class) ⊎ (c ≡ class → ⊥) → level_at knots pins new c ≡ level_at knots pins low c
+      by (inl q) = subst (λ r. level_at knots pins new r ≡ level_at knots pins low r) (sym q) same
+      by (inr other) = elsewhere c other
+
+  pub inputs_listed : (r : Readers) → AreReaders xs r → ((k : ℕ) → Contains r.list.items (record { class = class; place = k }) → is_marked marks k ≡ true) → InputsKept xs marks (level_at knots pins low) (level_at knots pins new)
+  inputs_listed r are marked k j e h m none = by (cases_eq c class)
+    where
+      c : ℕ
+      c = slice_index (get_or xs k e).ins j
+
+      by : (c ≡ class) ⊎ (c ≡ class → ⊥) → level_at knots pins new c ≡ level_at knots pins low c
+      by (inl same) = absurd (false≢true (sym none ∙ marked k (subst (λ (n : ℕ). Contains r.list.items (record { class = n; place = k })) same (are.listed k j e h m))))
+      by (inr other) = elsewhere c other
 
 unmarked_before : (old new : List Bool) → KeepsMarks old new → (k : ℕ) → is_marked new k ≡ false → is_marked old k ≡ false
 unmarked_before old new kept k e = false_from_ne_true (is_marked old k) (λ t. false≢true (sym e ∙ kept k t))
 
-pub inputs_none : (xs : List Gate) (marks low : List Bool) → InputsKept xs marks low low
-inputs_none xs marks low k j d h m e = refl
-
-pub inputs_on : (xs ys : List Gate) (old new low mid end : List Bool) → AreAlike xs ys → KeepsMarks old new → InputsKept xs old low mid → InputsKept ys new mid end → InputsKept xs new low end
+pub inputs_on : (xs ys : List Gate) (old new : List Bool) (low mid end : ℕ → Bool) → AreAlike xs ys → KeepsMarks old new → InputsKept xs old low mid → InputsKept ys new mid end → InputsKept xs new low end
 inputs_on xs ys old new low mid end alike kept a b k j d h m e =
     let two = b k j d (let l = alike.len in omega (arith, h, l)) m e in
     let one = a k j d h m (unmarked_before old new kept k e) in
-    subst (λ (is : List ℕ). is_low end (slice_index is j) ≡ is_low mid (slice_index is j)) (alike_ins xs ys alike k d h) two ∙ one
+    subst (λ (is : List ℕ). end (slice_index is j) ≡ mid (slice_index is j)) (alike_ins xs ys alike k d h) two ∙ one
 
 -- what changes
 module _ (f : Faults) (level : ℕ → Bool) where
@@ -239,10 +250,10 @@ again f la lb x e =
     (ap (λ a. cond x.setting.latched (cond x.setting.latched x.output (cell_by f x (address_by la x.ins))) (cell_by f x a)) e
     ∙ cond_twice x.setting.latched x.output (cell_by f x (address_by la x.ins)))
 
-pub still_after : (f : Faults) (knots : List Knot) (pins low end : List Bool) (old new : List Gate) (marks : List Bool) → new ≡ map (ticked f (level_at knots pins low)) old → InputsKept old marks low end → AreStill f (level_at knots pins end) new marks
+pub still_after : (f : Faults) (knots : List Knot) (pins low end : List Bool) (old new : List Gate) (marks : List Bool) → new ≡ map (ticked f (level_at knots pins low)) old → InputsKept old marks (level_at knots pins low) (level_at knots pins end) → AreStill f (level_at knots pins end) new marks
 still_after f knots pins low end old new marks e kept k d h none =
     subst (IsStill f lb) (sym (ap (λ zs. get_or zs k d) e ∙ get_or-map (ticked f la) old k d d l))
-    (again f la lb x (ap number_of (six_alike (λ j. lb (get_or x.ins j 0)) (λ j. la (get_or x.ins j 0)) (λ j m. ap (λ b. level_of (knot_at knots (get_or x.ins j 0)).held (is_low pins (get_or x.ins j 0) || b)) (kept k j d l m none)))))
+    (again f la lb x (ap number_of (six_alike (λ j. lb (get_or x.ins j 0)) (λ j. la (get_or x.ins j 0)) (λ j m. kept k j d l m none))))
   where
     la : ℕ → Bool
     la = level_at knots pins low

@@ -4,12 +4,12 @@ use Rattle.std.proofs.Math.Dec.{eqb}
 use Rattle.std.proofs.Math.Bool.{beq}
 use Rattle.std.specs.List.{count_by, All}
 use Rattle.std.proofs.lemmas.Bool.{false≢true, cases_eq, cases_lt, cases_Bool, eq-eqb, eqb-true, leb-true, le-leb}
-use Rattle.std.proofs.lemmas.Bool.Decides.{eqb_tells, leb_tells}
+use Rattle.std.proofs.lemmas.Bool.Decides.{eqb_tells}
 use Rattle.std.proofs.lemmas.List.{get_or-set_other, get_or-set_same, length-set, get_or_default, get_or_past, get_or-replicate, length-replicate, set-get_or, take_all, length-take-le}
 use Rattle.std.proofs.lemmas.List.Sums.{sum_by-set, sum_by-take-le, count_by-le-length, count_by_more_no, count_by_more_yes}
 use Rattle.cycle_sim.specs.declared.gates.Gate.{Gate}
 use Rattle.cycle_sim.specs.Gates.{is_low, IsClear, IsPulledBy, IsOutputOf, AreMarkedToo}
-use Rattle.cycle_sim.specs.Pulls.{pulls_to, AreCounted, AreZero, giving, HasGiven}
+use Rattle.cycle_sim.specs.Pulls.{pulls_to, AreCounted, giving, HasGiven}
 use Rattle.cycle_sim.proofs.Levels.{no_gate}
 
 -- what a read beyond the list would give

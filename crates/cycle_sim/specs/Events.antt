@@ -1,13 +1,12 @@
 -- Ticks that evaluate the tables whose inputs changed, and no others.
-use Rattle.std.specs.Prelude.{◌≡◌, ◌⊎◌, ℕ, ◌<◌, ◌≤◌, Bool, false, List, length, slice_index, slice_index_or, All}
+use Rattle.std.specs.Prelude.{◌≡◌, ◌⊎◌, ℕ, ◌<◌, Bool, false, List, length, slice_index, slice_index_or, All}
 use Rattle.hierarchy.specs.Faults.{Faults}
-use Rattle.cycle_sim.specs.declared.classes.Knot.{Knot}
 use Rattle.cycle_sim.specs.declared.gates.Gate.{Gate}
 use Rattle.cycle_sim.specs.declared.queue.Queue.{Queue}
 use Rattle.cycle_sim.specs.declared.readers.Readers.{Readers}
 use Rattle.cycle_sim.specs.declared.events.Flip.{Flip}
 use Rattle.cycle_sim.specs.declared.events.Events.{Events}
-use Rattle.cycle_sim.specs.Gates.{is_low, level_at, ticked}
+use Rattle.cycle_sim.specs.Gates.{ticked}
 use Rattle.cycle_sim.specs.Pulls.{AreCounted, giving}
 use Rattle.cycle_sim.specs.Queues.{is_marked, IsDue, IsQueue}
 use Rattle.cycle_sim.specs.Readers.{AreReaders}
@@ -49,9 +48,9 @@ pub record ArePut (f : Faults) (level : ℕ → Bool) (old : List Gate) (flips :
 abbrev pub PutFlips : List Gate → List Flip → ℕ → ℕ → List Gate → Type 0
 PutFlips old flips all n new = (f : Faults) (level : ℕ → Bool) → AreFlips f level old flips all → ArePut f level old flips n new
 
--- no class that a table without a mark reads is pulled where it wasn't, or no longer
-abbrev pub InputsKept : List Gate → List Bool → List Bool → List Bool → Type 0
-InputsKept gates marks old new = (k j : ℕ) (d : Gate) → k < length gates → j < 6 → is_marked marks k ≡ false → is_low new (slice_index (slice_index_or gates k d).ins j) ≡ is_low old (slice_index (slice_index_or gates k d).ins j)
+-- no class that a table without a mark reads has another level
+abbrev pub InputsKept : List Gate → List Bool → (ℕ → Bool) → (ℕ → Bool) → Type 0
+InputsKept gates marks old new = (k j : ℕ) (d : Gate) → k < length gates → j < 6 → is_marked marks k ≡ false → new (slice_index (slice_index_or gates k d).ins j) ≡ old (slice_index (slice_index_or gates k d).ins j)
 
 -- what is kept while tables change
 pub record IsSound (gates : List Gate) (r : Readers) (q : Queue) (pulls : List ℕ) (low : List Bool) : Type 0 where

@@ -1,5 +1,5 @@
 -- Tables that are to be evaluated.
-use Rattle.std.specs.Prelude.{◌≡◌, ℕ, ◌<◌, ◌≤◌, Bool, true, false, List, length, slice_index, slice_index_or}
+use Rattle.std.specs.Prelude.{◌≡◌, ℕ, ◌<◌, Bool, true, false, List, length, slice_index, slice_index_or}
 use Rattle.std.specs.List.{count_by}
 use Rattle.cycle_sim.specs.declared.queue.Queue.{Queue}
 

@@ -10,7 +10,7 @@ ghost use Rattle.cycle_sim.specs.Queues.{IsQueue, KeepsMarks};
 ghost use Rattle.cycle_sim.specs.Events.{AreStill, AreFlips, HaveFlips, AreAlike, PutFlips, InputsKept, IsSound, AreEvents};
 
 use crate::classes::Knot;
-use crate::gates::{Gate, ticked};
+use crate::gates::{Gate, level_at, ticked};
 use crate::marks::clear_tables;
 use crate::pulls::{clear_pulls, count_pulls, give};
 use crate::queue::{Queue, add_all, empty, make_room, place_at};
@@ -128,10 +128,11 @@ fn evaluate(
     count
 }
 
-/// Lets a table give something else, and lists the tables that read its class if that is pulled now and wasn't, or
-/// no longer.
+/// Lets a table give something else, and lists the tables that read its class if its level changes so.
 fn flip_one(
     flip: Flip,
+    knots: &[Knot],
+    low_pins: &[bool],
     readers: &Readers,
     queue: &mut Queue,
     pulls: &mut Vec<usize>,
@@ -139,25 +140,30 @@ fn flip_one(
     gates: &mut [Gate],
 )
     requires place { flip.place < length gates.old }
+    requires pins { length low_pins.now ≡ length knots.now }
+    requires tables { length low_tables.old ≡ length knots.now }
     requires sound { IsSound gates.old readers.now queue.old pulls.old.items low_tables.old }
     ensures len { length low_tables.new ≡ length low_tables.old }
     ensures sound { IsSound gates.new readers.now queue.new pulls.new.items low_tables.new }
     ensures gates { HasGiven flip.place flip.output gates.old gates.new }
     ensures kept { KeepsMarks queue.old.marks.items queue.new.marks.items }
-    ensures inputs { InputsKept gates.old queue.new.marks.items low_tables.old low_tables.new }
+    ensures inputs { InputsKept gates.old queue.new.marks.items (level_at knots.now low_pins.now low_tables.old) (level_at knots.now low_pins.now low_tables.new) }
 {
     let class = gates[flip.place].out;
-    if !give(gates, pulls, low_tables, flip.place, flip.output) {
+    let before = level_at(knots, low_pins, low_tables, class);
+    give(gates, pulls, low_tables, flip.place, flip.output);
+    if level_at(knots, low_pins, low_tables, class) == before {
         return;
     }
     add_readers(readers, flip.place, class, queue);
 }
 
-/// Lets the tables that change give something else, and lists those that read a class that is pulled now and wasn't,
-/// or no longer.
+/// Lets the tables that change give something else, and lists those that read a class whose level changes so.
 fn flip_all(
     flips: &Vec<Flip>,
     count: usize,
+    knots: &[Knot],
+    low_pins: &[bool],
     readers: &Readers,
     queue: &mut Queue,
     pulls: &mut Vec<usize>,
@@ -166,15 +172,19 @@ fn flip_all(
 )
     requires room { count ≤ length flips.now.items }
     requires within { (j : ℕ) (d : Flip) → j < count → (slice_index_or flips.now.items j d).place < length gates.old }
+    requires pins { length low_pins.now ≡ length knots.now }
+    requires tables { length low_tables.old ≡ length knots.now }
     requires sound { IsSound gates.old readers.now queue.old pulls.old.items low_tables.old }
     ensures len { length low_tables.new ≡ length low_tables.old }
     ensures sound { IsSound gates.new readers.now queue.new pulls.new.items low_tables.new }
     ensures alike { AreAlike gates.old gates.new }
     ensures put { PutFlips gates.old flips.now.items count count gates.new }
-    ensures inputs { InputsKept gates.old queue.new.marks.items low_tables.old low_tables.new }
+    ensures inputs { InputsKept gates.old queue.new.marks.items (level_at knots.now low_pins.now low_tables.old) (level_at knots.now low_pins.now low_tables.new) }
 {
     'flips: for j in 0..count {
-        flip_one(flips[j], readers, queue, pulls, low_tables, gates);
+        flip_one(
+            flips[j], knots, low_pins, readers, queue, pulls, low_tables, gates,
+        );
     }
 }
 
@@ -214,6 +224,8 @@ fn tick_listed(
     flip_all(
         &events.flips,
         count,
+        knots,
+        low_pins,
         &events.readers,
         &mut events.queue,
         &mut events.pulls,

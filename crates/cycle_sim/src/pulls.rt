@@ -53,14 +53,14 @@ fn recount(count: usize, output: bool) -> usize
     count + 1
 }
 
-/// Lets a table give this. Whether its class is pulled now and wasn't before, or the other way round.
+/// Lets a table give this.
 pub fn give(
     gates: &mut [Gate],
     pulls: &mut Vec<usize>,
     low: &mut [bool],
     place: usize,
     output: bool,
-) -> bool
+)
     requires place { place < length gates.old }
     requires outs { All (λ gate. gate.out < length low.old) gates.old }
     requires counted { AreCounted gates.old pulls.old.items low.old }
@@ -69,18 +69,14 @@ pub fn give(
     ensures pulls { length pulls.new.items ≡ length pulls.old.items }
     ensures counted { AreCounted gates.new pulls.new.items low.new }
     ensures others { (r : ℕ) (d : Gate) → r ≢ (slice_index_or gates.old place d).out → is_low low.new r ≡ is_low low.old r }
-    ensures same { result ≡ false → (r : ℕ) → is_low low.new r ≡ is_low low.old r }
 {
     let gate = gates[place];
     if gate.output == output {
-        return false;
+        return;
     }
     let class = gate.out as usize;
     let count = recount(pulls[class], output);
-    let pulled = count > 0;
-    let changed = low[class] != pulled;
     gates[place] = Gate { output, ..gate };
     pulls[class] = count;
-    low[class] = pulled;
-    changed
+    low[class] = count > 0;
 }

@@ -1,4 +1,5 @@
 use Rattle.std.proofs.Common.{◌≡◌, length}
+use Rattle.cycle_sim.specs.Gates.{level_at}
 use Rattle.cycle_sim.specs.Events.{AreAlike, PutFlips, InputsKept, IsSound}
 use Rattle.cycle_sim.proofs.events.flip_all.Given as goal
 
@@ -8,5 +9,5 @@ invariant-flips l = record {
   sound : IsSound l.gates l.readers l.queue l.pulls.items l.low_tables;
   alike : AreAlike l.fn.gates l.gates;
   put : PutFlips l.fn.gates l.flips.items l.count l.j l.gates;
-  inputs : InputsKept l.fn.gates l.queue.marks.items l.fn.low_tables l.low_tables;
+  inputs : InputsKept l.fn.gates l.queue.marks.items (level_at l.knots l.low_pins l.fn.low_tables) (level_at l.knots l.low_pins l.low_tables);
 }

@@ -1,4 +1,4 @@
-use Rattle.std.proofs.Common.{◌≡◌, ◌<◌, ◌+◌, ◌∙◌, ℕ, true, length, get_or, sym, arith}
+use Rattle.std.proofs.Common.{◌≡◌, ◌<◌, ◌∙◌, ℕ, true, length, get_or, arith}
 use Rattle.std.proofs.lemmas.List.{get_or_default, length-set}
 use Rattle.cycle_sim.proofs.Pulling.{plain, few_counted, counted_next}
 use Rattle.cycle_sim.proofs.pulls.count_pulls.Goals as goal

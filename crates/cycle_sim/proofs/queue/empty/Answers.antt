@@ -1,4 +1,4 @@
-use Rattle.std.proofs.Common.{◌<◌, ◌∙◌, ℕ, length, get_or, sym, ap, refl, arith}
+use Rattle.std.proofs.Common.{◌∙◌, get_or, ap, refl, arith}
 use Rattle.std.proofs.lemmas.List.{length-set}
 use Rattle.cycle_sim.proofs.Queueing.{due_place, left_less, none_left, emptied}
 use Rattle.cycle_sim.proofs.queue.empty.Goals as goal

@@ -1,5 +1,5 @@
 use Rattle.cycle_sim.proofs.Queueing.{due_place, count_within}
-use Rattle.std.proofs.Common.{◌<◌, length, arith}
+use Rattle.std.proofs.Common.{arith}
 use Rattle.cycle_sim.proofs.queue.place_at.Goals as goal
 
 pub index-requires : goal.index-requires

@@ -1,4 +1,4 @@
-use Rattle.std.proofs.Common.{ℕ, suc, ◌≤◌, ◌<◌, length, leb, leb-true, arith, rules}
+use Rattle.std.proofs.Common.{suc, leb, leb-true, arith, rules}
 use Rattle.std.specs.List.Sorted.{IsNonDecreasingBy}
 use Rattle.std.proofs.lemmas.List.Sorted.{IsPartitionPoint-from_clause, IsPartitionedBy-leb}
 use Rattle.cycle_sim.specs.declared.readers.Reader.{Reader}
