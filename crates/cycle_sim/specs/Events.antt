@@ -17,12 +17,14 @@ IsStill f level gate = ticked f level gate ≡ gate
 
 -- each table without a mark does
 abbrev pub AreStill : Faults → (ℕ → Bool) → List Gate → List Bool → Type 0
-AreStill f level gates marks = (k : ℕ) (d : Gate) → k < length gates → is_marked marks k ≡ false → IsStill f level (slice_index_or gates k d)
+AreStill f level gates marks = (k : ℕ) (d : Gate) → k < length gates → is_marked marks k ≡ false →
+    IsStill f level (slice_index_or gates k d)
 
 -- the first n changes are what a tick makes of their tables
 pub record AreFlips (f : Faults) (level : ℕ → Bool) (gates : List Gate) (flips : List Flip) (n : ℕ) : Type 0 where
   pub within : (j : ℕ) (d : Flip) → j < n → (slice_index_or flips j d).place < length gates
-  pub output : (j : ℕ) (d : Flip) (e : Gate) → j < n → (slice_index_or flips j d).output ≡ (ticked f level (slice_index_or gates (slice_index_or flips j d).place e)).output
+  pub output : (j : ℕ) (d : Flip) (e : Gate) → j < n →
+      (slice_index_or flips j d).output ≡ (ticked f level (slice_index_or gates (slice_index_or flips j d).place e)).output
 
 -- a table is among those that change
 pub record HasFlip (flips : List Flip) (n k : ℕ) : Type 0 where
@@ -32,7 +34,8 @@ pub record HasFlip (flips : List Flip) (n k : ℕ) : Type 0 where
 
 -- each table that is listed changes or is still
 abbrev pub HaveFlips : Faults → (ℕ → Bool) → List Gate → List ℕ → ℕ → List Flip → ℕ → Type 0
-HaveFlips f level gates due i flips n = (k : ℕ) (d : Gate) → k < length gates → IsDue due i k → HasFlip flips n k ⊎ IsStill f level (slice_index_or gates k d)
+HaveFlips f level gates due i flips n = (k : ℕ) (d : Gate) → k < length gates → IsDue due i k →
+    HasFlip flips n k ⊎ IsStill f level (slice_index_or gates k d)
 
 -- the same tables, which may give something else
 pub record AreAlike (old new : List Gate) : Type 0 where
@@ -41,7 +44,8 @@ pub record AreAlike (old new : List Gate) : Type 0 where
 
 -- those that change first do, and the others are as they were or as after a tick
 pub record ArePut (f : Faults) (level : ℕ → Bool) (old : List Gate) (flips : List Flip) (n : ℕ) (new : List Gate) : Type 0 where
-  pub each : (k : ℕ) (d : Gate) → k < length old → (slice_index_or new k d ≡ ticked f level (slice_index_or old k d)) ⊎ (slice_index_or new k d ≡ slice_index_or old k d)
+  pub each : (k : ℕ) (d : Gate) → k < length old →
+      (slice_index_or new k d ≡ ticked f level (slice_index_or old k d)) ⊎ (slice_index_or new k d ≡ slice_index_or old k d)
   pub put : (k : ℕ) (d : Gate) → k < length old → HasFlip flips n k → slice_index_or new k d ≡ ticked f level (slice_index_or old k d)
 
 -- whatever a tick is, of which these are the changes
@@ -50,7 +54,8 @@ PutFlips old flips all n new = (f : Faults) (level : ℕ → Bool) → AreFlips 
 
 -- no class that a table without a mark reads has another level
 abbrev pub InputsKept : List Gate → List Bool → (ℕ → Bool) → (ℕ → Bool) → Type 0
-InputsKept gates marks old new = (k j : ℕ) (d : Gate) → k < length gates → j < 6 → is_marked marks k ≡ false → new (slice_index (slice_index_or gates k d).ins j) ≡ old (slice_index (slice_index_or gates k d).ins j)
+InputsKept gates marks old new = (k j : ℕ) (d : Gate) → k < length gates → j < 6 → is_marked marks k ≡ false →
+    new (slice_index (slice_index_or gates k d).ins j) ≡ old (slice_index (slice_index_or gates k d).ins j)
 
 -- what is kept while tables change
 pub record IsSound (gates : List Gate) (r : Readers) (q : Queue) (pulls : List ℕ) (low : List Bool) : Type 0 where

@@ -110,7 +110,8 @@ fn evaluate(
     ensures len { length flips.new.items ≡ length flips.old.items }
     ensures room { result ≤ length flips.new.items }
     ensures flips { AreFlips faults.now.faults (level_at knots.now low_pins.now low_tables.now) gates.now flips.new.items result }
-    ensures due { HaveFlips faults.now.faults (level_at knots.now low_pins.now low_tables.now) gates.now queue.now.due.items queue.now.count flips.new.items result }
+    ensures due { HaveFlips faults.now.faults (level_at knots.now low_pins.now low_tables.now) gates.now queue.now.due.items
+        queue.now.count flips.new.items result }
 {
     let mut count = 0;
     'due: for i in 0..queue.count {
@@ -147,7 +148,8 @@ fn flip_one(
     ensures sound { IsSound gates.new readers.now queue.new pulls.new.items low_tables.new }
     ensures gates { HasGiven flip.place flip.output gates.old gates.new }
     ensures kept { KeepsMarks queue.old.marks.items queue.new.marks.items }
-    ensures inputs { InputsKept gates.old queue.new.marks.items (level_at knots.now low_pins.now low_tables.old) (level_at knots.now low_pins.now low_tables.new) }
+    ensures inputs { InputsKept gates.old queue.new.marks.items (level_at knots.now low_pins.now low_tables.old)
+        (level_at knots.now low_pins.now low_tables.new) }
 {
     let class = gates[flip.place].out;
     let before = level_at(knots, low_pins, low_tables, class);
@@ -179,7 +181,8 @@ fn flip_all(
     ensures sound { IsSound gates.new readers.now queue.new pulls.new.items low_tables.new }
     ensures alike { AreAlike gates.old gates.new }
     ensures put { PutFlips gates.old flips.now.items count count gates.new }
-    ensures inputs { InputsKept gates.old queue.new.marks.items (level_at knots.now low_pins.now low_tables.old) (level_at knots.now low_pins.now low_tables.new) }
+    ensures inputs { InputsKept gates.old queue.new.marks.items (level_at knots.now low_pins.now low_tables.old)
+        (level_at knots.now low_pins.now low_tables.new) }
 {
     'flips: for j in 0..count {
         flip_one(

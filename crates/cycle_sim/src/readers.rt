@@ -94,7 +94,8 @@ pub fn add_readers(readers: &Readers, place: usize, class: u32, queue: &mut Queu
     ensures queue { IsQueue queue.new }
     ensures len { length queue.new.marks.items ≡ length queue.old.marks.items }
     ensures kept { KeepsMarks queue.old.marks.items queue.new.marks.items }
-    ensures marked { (k : ℕ) → Contains readers.now.list.items (record { class = class; place = k }) → is_marked queue.new.marks.items k ≡ true }
+    ensures marked { (k : ℕ) → Contains readers.now.list.items (record { class = class; place = k }) →
+        is_marked queue.new.marks.items k ≡ true }
 {
     'readers: for i in readers.starts[place]..readers.list.len() {
         let reader = readers.list[i];
