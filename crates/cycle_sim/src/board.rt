@@ -147,7 +147,8 @@ pub fn prepare(alloc: Global, faults: &FaultSet) -> Result<Board, AllocError>
 }
 
 /// Loads a configuration. Its cost grows with what is closed, on and faulty, with the pins, and, where there are more
-/// than two ticks, with the longest way through combinational tables.
+/// than two ticks, with the longest way through combinational tables. If that is longer than the ticks, what the tables
+/// read is sorted.
 pub fn load(board: &mut Board, faults: &FaultSet, config: &Config) -> Result<(), AllocError>
     requires prepared { IsPrepared faults.now.shape faults.now.faults board.old }
     requires shape { config.now.config.shape ≡ faults.now.shape }
