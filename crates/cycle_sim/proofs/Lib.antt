@@ -14,3 +14,7 @@ pub mod Logging
 pub mod Sessions
 pub mod Going
 pub mod Naming
+pub mod Queueing
+pub mod Reading
+pub mod Pulling
+pub mod Eventing

@@ -9,8 +9,10 @@ use Rattle.cycle_sim.specs.Building.{AreBase, AreKept}
 use Rattle.cycle_sim.specs.Gates.{IsClear, Fits}
 use Rattle.cycle_sim.specs.Cycles.{IsWired}
 use Rattle.cycle_sim.specs.Settling.{Settles}
+use Rattle.cycle_sim.specs.Pulls.{AreZero}
+use Rattle.cycle_sim.specs.Events.{AreEvents}
 
--- its faults are prepared, and no class has a mark
+-- its faults are prepared, and no class has a mark or a count
 pub record IsPrepared (m : Shape) (f : Faults) (b : Board) : Type 0 where
   pub base : AreBase m f b.classes.base.items
   pub kept : AreKept b.classes
@@ -19,11 +21,14 @@ pub record IsPrepared (m : Shape) (f : Faults) (b : Board) : Type 0 where
   pub ranks : length b.ranks.items ≡ wires_of m
   pub pins_clear : IsClear b.low_pins.items
   pub tables_clear : IsClear b.low_tables.items
+  pub pulls : length b.events.pulls.items ≡ wires_of m
+  pub pulls_zero : AreZero b.events.pulls.items
 
--- the tables and pins are of the machine
+-- the tables and pins are of the machine, and so are the readers where they are listed
 pub record AreFitting (m : Shape) (b : Board) : Type 0 where
   pub gates : All (Fits (tables_of m) (wires_of m)) b.gates.items
   pub pins : All (λ r. r < wires_of m) b.pins.items
+  pub events : b.events.listed ≡ true → AreEvents b.gates.items b.events
 
 -- the configuration is loaded
 pub record IsLoaded (f : Faults) (g : Configuration) (b : Board) : Type 0 where

@@ -4,6 +4,10 @@ pub mod Building
 pub mod Gates
 pub mod Cycles
 pub mod Settling
+pub mod Pulls
+pub mod Queues
+pub mod Readers
+pub mod Events
 pub mod Boards
 pub mod Tracks
 pub mod BitLogs

@@ -12,8 +12,9 @@ ghost use Rattle.cycle_sim.specs.Gates.{Fits, IsGate, AreGates, AreOutputs};
 use crate::base::classes_of;
 use crate::classes::{Classes, Knot, root_of};
 use crate::closing::close_all;
+use crate::events::{Events, list_tables, new_events};
 use crate::gates::Gate;
-use crate::ranks::{Turn, order_gates};
+use crate::ranks::{FEW_TICKS, Turn, order_gates};
 use config_set::{Config, Setting};
 use fault_model::FaultSet;
 use hierarchy::{Shape, Table};
@@ -36,6 +37,8 @@ pub struct Board {
     pub turns: Vec<Turn>,
     /// Whether no way through combinational tables is longer than the ticks.
     pub ranked: bool,
+    /// The readers of what tables give, where the tables aren't ranked.
+    pub events: Events,
 }
 
 /// The root of a table's pin.
@@ -139,11 +142,13 @@ pub fn prepare(alloc: Global, faults: &FaultSet) -> Result<Board, AllocError>
         ranks: vec![in alloc; 0; wires]?,
         turns: Vec::new(alloc),
         ranked: false,
+        events: new_events(alloc, wires)?,
     })
 }
 
 /// Loads a configuration. Its cost grows with what is closed, on and faulty, with the pins, and, where there are more
-/// than two ticks, with the longest way through combinational tables.
+/// than two ticks, with the longest way through combinational tables. If that is longer than the ticks, what the tables
+/// read is sorted.
 pub fn load(board: &mut Board, faults: &FaultSet, config: &Config) -> Result<(), AllocError>
     requires prepared { IsPrepared faults.now.shape faults.now.faults board.old }
     requires shape { config.now.config.shape ≡ faults.now.shape }
@@ -161,5 +166,7 @@ pub fn load(board: &mut Board, faults: &FaultSet, config: &Config) -> Result<(),
         &board.gates,
         config.ticks(),
     )?;
+    let is_worth = !board.ranked && config.ticks() >= FEW_TICKS;
+    list_tables(&mut board.events, &board.gates, is_worth)?;
     Ok(())
 }

@@ -9,9 +9,12 @@ ghost use Rattle.cycle_sim.specs.Boards.{IsPrepared, AreFitting, IsLoaded};
 ghost use Rattle.cycle_sim.specs.Tracks.{GivesCycle};
 ghost use Rattle.cycle_sim.specs.Cycles.{IsTick, HaveTicked, IsEdge};
 ghost use Rattle.cycle_sim.specs.Settling.{Settles};
+ghost use Rattle.cycle_sim.specs.Pulls.{AreZero};
+ghost use Rattle.cycle_sim.specs.Events.{AreEvents};
 
 use crate::board::Board;
 use crate::classes::Knot;
+use crate::events::{Events, settle_listed};
 use crate::gates::{Gate, clock_all, read_pins, tick_all};
 use crate::marks::{clear_pins, clear_tables, mark_pins, mark_tables};
 use crate::ranks::Turn;
@@ -68,8 +71,9 @@ fn tick_times(
     }
 }
 
-/// Makes so many ticks. Where what the combinational tables gave before doesn't matter after them, all that is left to do
-/// is to come to rest, for which the tables are evaluated in their order first.
+/// Makes so many ticks. Where the readers are listed, each tick costs what changed. Where what the combinational tables
+/// gave before doesn't matter after the ticks, all that is left to do is to come to rest, for which the tables are
+/// evaluated in their order first.
 fn settle(
     faults: &FaultSet,
     knots: &[Knot],
@@ -78,17 +82,28 @@ fn settle(
     gates: &mut [Gate],
     turns: &[Turn],
     ranked: bool,
+    events: &mut Events,
     ticks: u16,
 )
     requires fits { All (Fits (tables_of faults.now.shape) (length knots.now)) gates.old }
     requires pins { length low_pins.now ≡ length knots.now }
     requires tables { length low_tables.old ≡ length knots.now }
     requires clear { IsClear low_tables.old }
+    requires pulls { length events.old.pulls.items ≡ length knots.now }
+    requires zero { AreZero events.old.pulls.items }
+    requires events { events.old.listed ≡ true → AreEvents gates.old events.old }
     ensures fits { All (Fits (tables_of faults.now.shape) (length knots.now)) gates.new }
     ensures tables { length low_tables.new ≡ length knots.now }
     ensures clear { IsClear low_tables.new }
+    ensures pulls { length events.new.pulls.items ≡ length knots.now }
+    ensures zero { AreZero events.new.pulls.items }
+    ensures events { events.new.listed ≡ true → AreEvents gates.new events.new }
     ensures ticked { (ranked ≡ true → Settles gates.old ticks) → HaveTicked faults.now.faults knots.now low_pins.now gates.old ticks gates.new }
 {
+    if events.listed {
+        settle_listed(events, faults, knots, low_pins, low_tables, gates, ticks);
+        return;
+    }
     if !ranked {
         tick_times(faults, knots, low_pins, low_tables, gates, ticks);
         return;
@@ -124,8 +139,8 @@ fn clock(
     clear_tables(gates, low_tables);
 }
 
-/// Makes a cycle of so many ticks. Its cost grows with the tables that are on, the pins, and the ticks until nothing
-/// changes. Where the tables are ranked that is the first one.
+/// Makes a cycle of so many ticks. Its cost grows with the tables that are on, the pins, and what changes in the ticks.
+/// Where there are fewer than three ticks, each tick costs what is on.
 pub fn cycle(board: &mut Board, faults: &FaultSet, ticks: u16, drive: &PinBits, read: &mut PinBits)
     requires prepared { IsPrepared faults.now.shape faults.now.faults board.old }
     requires fitting { AreFitting faults.now.shape board.old }
@@ -148,6 +163,7 @@ pub fn cycle(board: &mut Board, faults: &FaultSet, ticks: u16, drive: &PinBits, 
         &mut board.gates,
         &board.turns,
         board.ranked,
+        &mut board.events,
         ticks,
     );
     clock(

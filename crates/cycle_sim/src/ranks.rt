@@ -6,8 +6,8 @@ ghost use Rattle.cycle_sim.specs.Settling.{IsWithin, IsRankedOrLatched, Settles}
 use crate::gates::{Gate, INPUTS};
 use std::alloc::AllocError;
 
-/// With fewer ticks, evaluating the tables in order first saves nothing.
-const FEW_TICKS: u16 = 3;
+/// With fewer ticks neither an order of the tables nor a list of readers saves anything.
+pub const FEW_TICKS: u16 = 3;
 
 /// When a table is evaluated: the tables come by their ranks.
 #[derive(Clone, Copy, Debug, PartialEq, Eq, PartialOrd, Ord)]

@@ -9,6 +9,7 @@ use Rattle.cycle_sim.specs.Building.{base_most}
 use Rattle.cycle_sim.specs.Classes.{HasRoots}
 use Rattle.cycle_sim.specs.Gates.{Fits, AreGates}
 use Rattle.cycle_sim.specs.Settling.{Settles}
+use Rattle.cycle_sim.specs.Events.{AreEvents}
 use Rattle.cycle_sim.proofs.Counts.{closed_below, among_closed}
 use Rattle.cycle_sim.proofs.Loading.{wired_by}
 use Rattle.cycle_sim.proofs.board.load.Goals as goal
@@ -31,6 +32,7 @@ returns-clause-loaded c =
       fitting = record {
         gates = subst (λ (s : Shape). All (Fits (tables_of s) (wires_of s)) c.fill_gates.new.gates.items) (sym c.requires.shape) c.in_ok-fill_gates.ensures.fits;
         pins = subst (λ (s : Shape). All (λ (r : ℕ). r < wires_of s) c.fill_pins.new.pins.items) c.shape-shape.ensures.shape c.in_ok-fill_pins.ensures.within;
+        events = λ e. subst (λ (gs : List Gate). AreEvents gs c.list_tables.new.events) c.deref-4.ensures.value (c.in_ok-list_tables.ensures.events e);
       };
       root = t.root;
       wired = wired_by m f g c.closed.result.now knots c.fill_pins.new.pins.items c.fill_gates.new.gates.items (base_most + length c.closed.result.now) c.requires.shape (among_closed g c.closed.result.now c.closed.ensures) t gates_are

@@ -1,4 +1,4 @@
-use Rattle.std.proofs.Common.{rules, ◌≡◌, ◌∙◌, ℕ, Bool, true, List, All, length, sym, ap, subst}
+use Rattle.std.proofs.Common.{rules, ◌≡◌, ◌∙◌, ℕ, Bool, true, List, All, length, refl, sym, ap, subst}
 use Rattle.std.specs.Vec.{with_items}
 use Rattle.std.proofs.lemmas.List.{with_items_is}
 use Rattle.hierarchy.specs.declared.Shape.{Shape}
@@ -6,11 +6,13 @@ use Rattle.hierarchy.specs.Shape.{wires_of, tables_of}
 use Rattle.hierarchy.specs.Circuit.{Outputs}
 use Rattle.config_set.specs.Configuration.{Configuration}
 use Rattle.cycle_sim.specs.declared.gates.Gate.{Gate}
-use Rattle.cycle_sim.specs.Gates.{Fits, level_at, AreOutputs, IsDrivenBy, AreMarkedToo}
+use Rattle.cycle_sim.specs.Gates.{Fits, level_at, clocked, AreOutputs, IsDrivenBy, AreMarkedToo}
 use Rattle.cycle_sim.specs.Boards.{IsLoaded}
 use Rattle.cycle_sim.specs.Cycles.{IsWired, AreDriven, IsEdge, HaveTicked, HasCycled}
 use Rattle.cycle_sim.specs.Settling.{Settles}
+use Rattle.cycle_sim.specs.Events.{AreEvents}
 use Rattle.cycle_sim.specs.Tracks.{GivesCycle}
+use Rattle.cycle_sim.proofs.Eventing.{alike_map, events_stay}
 use Rattle.cycle_sim.proofs.Cycling.{driven_by_marks, whole_cycle}
 use Rattle.cycle_sim.proofs.Twins.{settles_on, settles_clocked}
 use Rattle.cycle_sim.proofs.cycle.cycle.Goals as goal
@@ -58,6 +60,12 @@ module _ (c : goal.After-board-6-1) where
     settled : c.args.board.now.ranked ≡ true → Settles c.clock.new.gates g.ticks
     settled e = settles_clocked c.args.faults.now.faults (level_at c.args.board.now.classes.knots.items c.mark_pins.new.low edge.marks) g.ticks c.settle.new.gates c.clock.new.gates edge.next (settles_on g.ticks (loaded.settles e) went)
 
+  events_on : c.settle.new.events.listed ≡ true → AreEvents c.clock.new.gates c.settle.new.events
+  events_on e =
+      events_stay c.settle.new.gates c.clock.new.gates c.settle.new.events
+      (alike_map (clocked c.args.faults.now.faults (level_at c.args.board.now.classes.knots.items c.mark_pins.new.low edge.marks)) (λ x. refl) c.settle.new.gates c.clock.new.gates edge.next)
+      (c.settle.ensures.events e)
+
 pub returns-clause-cycled : goal.returns-clause-cycled
 returns-clause-cycled c = λ g before shape ticks loaded gives.
     let h = cycled c g before shape ticks loaded gives in
@@ -73,6 +81,7 @@ returns-clause-loaded c = λ g before shape ticks loaded gives.
             (subst (λ (n : ℕ). All (Fits (tables_of g.shape) n) c.clock.new.gates) len
             (subst (λ (s : Shape). All (Fits (tables_of s) (length c.deref-5.result.now)) c.clock.new.gates) (sym shape) c.clock.ensures.fits));
         pins = loaded.fitting.pins;
+        events = λ e. subst (λ (gs : List Gate). AreEvents gs c.settle.new.events) (sym (gates_end c)) (events_on c e);
       };
       root = loaded.root;
       wired = subst (λ gs. IsWired c.args.faults.now.faults g loaded.root c.args.board.now.classes.knots.items c.args.board.now.pins.items gs) (sym (gates_end c)) h.wired;
