@@ -1,6 +1,6 @@
 -- Crosspoints that are kept, one after the other.
 use Rattle.std.proofs.Common.{◌≡◌, ◌<◌, ◌+◌, ℕ, Bool, true, false, Some, List, length, take, refl, subst, arith}
-use Rattle.std.specs.Prelude.{◌==◌, ◌||◌, slice_get}
+use Rattle.std.specs.Prelude.{◌==◌, slice_get}
 use Rattle.std.proofs.lemmas.Bool.Decides.{nat_tests}
 use Rattle.config_set.specs.Groups.{among}
 use Rattle.evidence.specs.Kept.{Kept, keeps_cross}

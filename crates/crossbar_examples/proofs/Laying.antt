@@ -1,5 +1,5 @@
 -- What is closed where two routes and more are.
-use Rattle.std.proofs.Common.{◌≡◌, ℕ, Bool, true, false, List, refl, ◌∙◌, sym}
+use Rattle.std.proofs.Common.{◌≡◌, ℕ, Bool, true, false, List, refl, ◌∙◌}
 use Rattle.std.specs.Prelude.{◌||◌}
 use Rattle.hierarchy.specs.declared.Shape.{Shape}
 use Rattle.config_set.specs.Configuration.{Configuration, is_closed}

@@ -1,6 +1,5 @@
 //! Questions to a machine that a test of `evidence` answers.
-ghost use Rattle.std.specs.Prelude.{◌≡◌, ℕ, true, Some, IsTrue, length};
-ghost use Rattle.hierarchy.specs.Shape.{pins_of};
+ghost use Rattle.std.specs.Prelude.{◌≡◌, ℕ, true, Some, IsTrue};
 ghost use Rattle.config_set.specs.Groups.{among};
 ghost use Rattle.rig.specs.Rig.{shape_of};
 ghost use Rattle.test_configs.specs.Routes.{IsRoute};

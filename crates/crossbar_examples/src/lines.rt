@@ -1,5 +1,5 @@
 //! The lines of a case: what comes of each, and whether it is what has to come.
-ghost use Rattle.std.specs.Prelude.{◌≡◌, Some, OnOk, length};
+ghost use Rattle.std.specs.Prelude.{◌≡◌, Some};
 ghost use Rattle.rig.specs.Rig.{shape_of};
 ghost use Rattle.evidence.specs.Kept.{Advances};
 ghost use Rattle.crossbar_walk.specs.Found.{AreFound};

@@ -1,14 +1,14 @@
 -- The classes before any crosspoint is closed.
-use Rattle.std.proofs.Common.{◌≡◌, ◌≢◌, ◌⊎◌, inl, inr, ⊎_elim, ℕ, ◌+◌, ◌^◌, ◌<◌, ◌≤◌, Bool, true, false, Option, Some, None, IsSome, List, [], ◌∷◌, length, get_or, take, refl, sym, ap, ◌∙◌, subst, arith}
+use Rattle.std.proofs.Common.{◌≡◌, ◌≢◌, ◌⊎◌, ⊎_elim, ℕ, ◌<◌, ◌≤◌, Bool, true, false, Option, Some, None, IsSome, List, [], length, refl, sym, ap, ◌∙◌, subst, arith}
 use Rattle.std.proofs.lemmas.Bool.{false≢true, cases_lt}
 use Rattle.std.proofs.lemmas.List.{get_or_past}
 use Rattle.std.specs.FinSet as set
 use Rattle.hierarchy.specs.declared.Shape.{Shape}
 use Rattle.hierarchy.specs.Shape.{wires_of}
 use Rattle.hierarchy.specs.Faults.{Faults, AreFaultsOf, stuck_wire, pair_cmp}
-use Rattle.hierarchy.specs.Joined.{Net, Linked, crossed, bridged, Joined, here, then}
+use Rattle.hierarchy.specs.Joined.{Linked, crossed, bridged, Joined, here, then}
 use Rattle.cycle_sim.specs.declared.classes.Knot.{Knot}
-use Rattle.cycle_sim.specs.Classes.{knot_at, HasRoots, AreClasses, HoldsAt, IsHeldAs, AreKnots, AreRooted, AreTied}
+use Rattle.cycle_sim.specs.Classes.{knot_at, HasRoots, IsHeldAs, AreTied}
 use Rattle.cycle_sim.specs.Building.{bridged_net}
 
 -- a knot of its own

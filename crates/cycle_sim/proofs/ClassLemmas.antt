@@ -1,12 +1,9 @@
 -- Classes: what one more link makes of them.
-use Rattle.std.proofs.Common.{◌≡◌, ◌≢◌, ◌⊎◌, inl, inr, ⊎_elim, ℕ, ◌+◌, ◌^◌, ◌<◌, ◌≤◌, Bool, true, false, Option, Some, None, List, length, get_or, refl, sym, ap, ◌∙◌, subst, arith, cond, eqb}
-use Rattle.std.proofs.lemmas.Bool.{false≢true, cases_eq, eq-eqb, ne_eqb, cond-true, cond-false}
+use Rattle.std.proofs.Common.{◌≡◌, ◌≢◌, ◌⊎◌, inl, inr, ℕ, ◌+◌, ◌<◌, ◌≤◌, None, List, length, get_or, refl, sym, ap, ◌∙◌, subst, arith, cond, eqb}
+use Rattle.std.proofs.lemmas.Bool.{cases_eq, eq-eqb, ne_eqb, cond-true, cond-false}
 use Rattle.std.proofs.lemmas.List.{get_or_default}
-use Rattle.hierarchy.specs.Shape.{Ends, in_order, turned}
-use Rattle.hierarchy.specs.Joined.{Net, Linked, Joined, here, then}
-use Rattle.hierarchy.proofs.JoinedLemmas.{Joined-trans, Joined-sym}
 use Rattle.cycle_sim.specs.declared.classes.Knot.{Knot}
-use Rattle.cycle_sim.specs.Classes.{knot_at, HasRoots, AreClasses, HoldsAt, IsHeldAs, AreKnots, AreRooted, AreTied, HasLink, HaveSameLinks, stronger, IsHung}
+use Rattle.cycle_sim.specs.Classes.{knot_at, HasRoots, IsHung}
 
 -- within the list the default has no say
 pub knot_is : (knots : List Knot) (w : ℕ) (d : Knot) → w < length knots → get_or knots w d ≡ knot_at knots w

@@ -1,5 +1,5 @@
 -- Lists in which each number of a set stands once.
-use Rattle.std.proofs.Common.{◌≡◌, ◌≢◌, ◌⊎◌, inl, inr, ⊎_elim, ℕ, zero, suc, ◌+◌, ◌<◌, ◌≤◌, Bool, true, false, cond, eqb, Option, Some, None, IsSome, List, [], ◌∷◌, length, get_or, refl, sym, ap, ◌∙◌, subst, arith}
+use Rattle.std.proofs.Common.{◌≡◌, ◌≢◌, ◌⊎◌, ⊎_elim, ℕ, zero, suc, ◌+◌, ◌<◌, ◌≤◌, Bool, true, false, cond, eqb, None, IsSome, List, [], ◌∷◌, length, get_or, refl, sym, ap, ◌∙◌, arith}
 use Rattle.std.specs.Prelude.{is_some, count_by}
 use Rattle.std.specs.List.{list_any, All}
 use Rattle.std.proofs.lemmas.Bool.{false≢true, cases_Bool, cases_lt, or_left, eq-eqb, eqb-true}
@@ -8,7 +8,6 @@ use Rattle.std.proofs.lemmas.List.Sums.{sum_by-cons}
 use Rattle.hierarchy.specs.declared.Cross.{Cross}
 use Rattle.hierarchy.specs.declared.Table.{Table}
 use Rattle.hierarchy.specs.Shape.{tables_of, crosses_of}
-use Rattle.config_set.specs.declared.Setting.{Setting}
 use Rattle.config_set.specs.Configuration.{Configuration, IsConfiguration, is_closed, setting_of}
 use Rattle.cycle_sim.specs.Building.{is_among}
 

@@ -1,23 +1,21 @@
 -- A session goes on.
-use Rattle.std.proofs.Common.{◌≡◌, ℕ, suc, ◌+◌, ◌*◌, ◌-◌, ◌<◌, ◌≤◌, Bool, true, false, cond, Option, Some, None, List, [], ◌∷◌, ◌++◌, length, refl, sym, ap, ◌∙◌, subst, arith, add-one}
+use Rattle.std.proofs.Common.{◌≡◌, ℕ, suc, ◌+◌, ◌*◌, ◌-◌, ◌<◌, ◌≤◌, Bool, true, false, cond, Some, None, [], ◌∷◌, ◌++◌, length, refl, sym, ap, ◌∙◌, subst, arith, add-one}
 use Rattle.std.specs.Prelude.{option_map}
 use Rattle.std.proofs.Math.Nat.{mul-le-mul_left}
 use Rattle.std.proofs.lemmas.List.FromFn.{length-map-range_with_len}
 use Rattle.hierarchy.specs.Shape.{tables_of, pins_of}
-use Rattle.hierarchy.specs.Faults.{Faults}
 use Rattle.hierarchy.specs.Circuit.{Outputs, Pins}
 use Rattle.config_set.specs.Configuration.{Configuration}
 use Rattle.fault_model.specs.Adding.{Faulty}
-use Rattle.rig.specs.Rig.{Exchange, Session, drives_of, readings_of}
+use Rattle.rig.specs.Rig.{Session}
 use Rattle.cycle_sim.specs.declared.board.Board.{Board}
-use Rattle.cycle_sim.specs.declared.gates.Gate.{Gate}
 use Rattle.cycle_sim.specs.declared.sim.Sim.TheInside.{Inside}
 use Rattle.cycle_sim.specs.Boards.{IsLoaded, AreFitting}
 use Rattle.cycle_sim.specs.Gates.{AreOutputs}
 use Rattle.cycle_sim.specs.States.{SimState, GoesOnFrom, HasGoneOn}
 use Rattle.cycle_sim.specs.Stored.{setting_in, config_in, cycles_in}
-use Rattle.cycle_sim.specs.Sims.{config_of_sim, cycles_of_sim, session_of_sim, state_of_sim, IsRunning, IsSim}
-use Rattle.cycle_sim.specs.Tracks.{GivesCycle, HasRun}
+use Rattle.cycle_sim.specs.Sims.{config_of_sim, cycles_of_sim, state_of_sim, IsRunning, IsSim}
+use Rattle.cycle_sim.specs.Tracks.{GivesCycle}
 use Rattle.cycle_sim.proofs.Sessions.{has_session, config_is, cycles_more, run_more}
 
 pub room_for : (used n p bits room : ℕ) → bits ≡ used * (2 * p) → used < n → n * (2 * p) ≤ room → bits + (p + p) ≤ room

@@ -1,11 +1,11 @@
 -- What classes are once two of them are joined.
-use Rattle.std.proofs.Common.{◌≡◌, ◌≢◌, ◌⊎◌, inl, inr, ⊎_elim, ℕ, ◌+◌, ◌<◌, ◌≤◌, Bool, true, false, Option, Some, None, List, length, get_or, refl, sym, ap, ◌∙◌, subst, arith}
+use Rattle.std.proofs.Common.{◌≡◌, ◌≢◌, ◌⊎◌, inl, inr, ⊎_elim, ℕ, ◌+◌, ◌<◌, ◌≤◌, Bool, true, false, Option, Some, None, List, length, refl, sym, ap, ◌∙◌, arith}
 use Rattle.std.proofs.lemmas.Bool.{cases_eq}
 use Rattle.hierarchy.specs.Shape.{Ends, in_order, turned}
 use Rattle.hierarchy.specs.Joined.{Net, Linked, Joined, here, then}
 use Rattle.hierarchy.proofs.JoinedLemmas.{Joined-trans, Joined-sym}
 use Rattle.cycle_sim.specs.declared.classes.Knot.{Knot}
-use Rattle.cycle_sim.specs.Classes.{knot_at, HasRoots, AreClasses, HoldsAt, IsHeldAs, AreKnots, AreRooted, AreTied, HasLink, HaveSameLinks, stronger, IsHung}
+use Rattle.cycle_sim.specs.Classes.{knot_at, HasRoots, AreClasses, HoldsAt, IsHeldAs, AreKnots, AreTied, HasLink, HaveSameLinks, stronger, IsHung}
 use Rattle.cycle_sim.proofs.ClassLemmas.{merged, merged-low, merged-other, merged-same, hung_roots}
 
 pub Joined-kept : {old new : Net} → ((u v : ℕ) → Linked old u v → Linked new u v) → {a b : ℕ} → Joined old a b → Joined new a b

@@ -1,12 +1,12 @@
 -- What a load leaves.
-use Rattle.std.proofs.Common.{◌≡◌, ℕ, ◌+◌, ◌<◌, Bool, List, All, length, get_or, refl, sym, ap, ◌∙◌, subst, arith}
+use Rattle.std.proofs.Common.{◌≡◌, ℕ, ◌<◌, List, length, sym, ap, ◌∙◌, subst}
 use Rattle.std.proofs.Math.Path.{fun_ext}
 use Rattle.std.specs.Prelude.{slice_index}
 use Rattle.hierarchy.specs.declared.Shape.{Shape}
 use Rattle.hierarchy.specs.declared.Cross.{Cross}
-use Rattle.hierarchy.specs.Shape.{wires_of, tables_of, pins_of, pin_wire}
+use Rattle.hierarchy.specs.Shape.{pins_of, pin_wire}
 use Rattle.hierarchy.specs.Faults.{Faults, stuck_wire}
-use Rattle.hierarchy.specs.Joined.{Net, net_of}
+use Rattle.hierarchy.specs.Joined.{net_of}
 use Rattle.config_set.specs.Configuration.{Configuration, is_closed}
 use Rattle.config_set.specs.Faulty.{circuit_of}
 use Rattle.cycle_sim.specs.declared.classes.Knot.{Knot}

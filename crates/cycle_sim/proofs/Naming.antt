@@ -1,8 +1,8 @@
 -- Names and their faults.
-use Rattle.std.proofs.Common.{◌≡◌, ◌⊎◌, ⊎_elim, ℕ, ◌^◌, ◌<◌, ◌≤◌, Bool, true, false, cond, leb, ◌&&◌, Option, Some, None, List, [], ◌∷◌, length, refl, sym, ap, ◌∙◌, subst, arith}
+use Rattle.std.proofs.Common.{◌≡◌, ◌⊎◌, ⊎_elim, ℕ, ◌≤◌, Bool, true, false, cond, leb, ◌&&◌, Some, None, List, length, refl, sym, ap, ◌∙◌, subst, arith}
 use Rattle.std.specs.Prelude.{IfSome, bytes_eq}
 use Rattle.std.specs.Fmt.{decimal}
-use Rattle.std.proofs.lemmas.Bool.{cases_lt, cases_Bool, le-leb, leb-true, and_parts}
+use Rattle.std.proofs.lemmas.Bool.{cases_lt, le-leb, leb-true, and_parts}
 use Rattle.std.proofs.lemmas.Slice.Eq.{bytes_eq-Decides}
 use Rattle.std.proofs.lemmas.Fmt.{digits_value-decimal}
 use Rattle.hierarchy.specs.declared.Shape.{Shape}
@@ -15,7 +15,7 @@ use Rattle.fault_model.specs.Refusals.{IsFaultAt}
 use Rattle.fault_model.specs.declared.kind.FaultsKind.{FaultsKind}
 use Rattle.tm_outside.specs.Told.{Told, untold, absent, holds, bytes_of, IfTold}
 use Rattle.rig.specs.Rig.{IsNoText}
-use Rattle.cycle_sim.specs.Named.{number_of_word, generated_of}
+use Rattle.cycle_sim.specs.Named.{number_of_word}
 
 pub no_text : (m : Shape) (told : Told) (text bytes : List ℕ) (line : ℕ) (kind : FaultsKind) → IfTold told (λ b. (text ≡ b) × (length b ≤ 16777216)) → bytes ≡ text → IsFaultAt m bytes line kind →
     ((f : Faults) → IsFaultText m bytes f → length bytes ≤ most_bytes → ⊥) → IfSome (bytes_of told) (λ b. IsNoText m b line kind)

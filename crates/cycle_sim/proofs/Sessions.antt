@@ -1,13 +1,12 @@
 -- What is kept of a session is the session.
-use Rattle.std.proofs.Common.{◌≡◌, ◌≢◌, ◌⊎◌, inl, inr, ⊎_elim, ℕ, zero, suc, ◌+◌, ◌*◌, ◌-◌, ◌<◌, ◌≤◌, Bool, true, false, cond, eqb, Option, Some, None, IsSome, List, [], ◌∷◌, ◌++◌, All, length, take, drop, get_or, map, refl, sym, ap, ◌∙◌, subst, arith, append_assoc}
-use Rattle.std.specs.Prelude.{is_some, count_by, find, option_map}
+use Rattle.std.proofs.Common.{◌≡◌, ◌⊎◌, inl, inr, ⊎_elim, ℕ, zero, suc, ◌+◌, ◌*◌, ◌<◌, ◌≤◌, Bool, true, false, cond, eqb, Option, Some, None, List, [], ◌∷◌, ◌++◌, length, take, drop, get_or, map, refl, sym, ap, ◌∙◌, arith, append_assoc}
+use Rattle.std.specs.Prelude.{is_some, count_by, option_map}
 use Rattle.std.specs.List.{range_with_len}
-use Rattle.std.proofs.lemmas.Bool.{false≢true, cases_Bool, eqb-true, eq-eqb}
-use Rattle.std.proofs.lemmas.List.{length-append, length-drop, take_at, drop_at, take-append-le, drop-append-le, map-append, append-nil, take_all}
-use Rattle.std.proofs.lemmas.List.FromFn.{length-map-range_with_len, fill_by_all}
+use Rattle.std.proofs.lemmas.Bool.{cases_Bool, eqb-true, eq-eqb}
+use Rattle.std.proofs.lemmas.List.{length-drop, take_at, drop_at, take-append-le, drop-append-le, map-append, take_all}
+use Rattle.std.proofs.lemmas.List.FromFn.{fill_by_all}
 use Rattle.std.specs.FinSet as set_
 use Rattle.std.specs.FinSet.{same_set, nat_cmp-IsAntisymmetric}
-use Rattle.std.specs.Ordering.{nat_cmp}
 use Rattle.std.specs.Cmp.{nat_cmp_total}
 use Rattle.hierarchy.specs.declared.Shape.{Shape}
 use Rattle.hierarchy.specs.declared.Cross.{Cross}
@@ -22,7 +21,7 @@ use Rattle.config_set.proofs.Runs.{Cycles-push}
 use Rattle.config_set.specs.Faulty.{circuit_of}
 use Rattle.rig.specs.Rig.{Exchange, Session, drives_of, readings_of}
 use Rattle.cycle_sim.specs.declared.gates.Gate.{Gate}
-use Rattle.cycle_sim.specs.Gates.{IsGate, Stands, AreGates}
+use Rattle.cycle_sim.specs.Gates.{Stands, AreGates}
 use Rattle.cycle_sim.specs.Stored.{setting_in, config_in, cycles_in}
 use Rattle.cycle_sim.specs.Tracks.{GivesCycle, HasRun}
 

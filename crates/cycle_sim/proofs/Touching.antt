@@ -1,9 +1,9 @@
 -- Knots that differ from the base at some wires at most.
-use Rattle.std.proofs.Common.{◌≡◌, ◌≢◌, ◌⊎◌, inl, inr, ⊎_elim, ℕ, ◌+◌, ◌<◌, ◌≤◌, Some, List, [], ◌∷◌, ◌++◌, length, get_or, set, refl, sym, ap, ◌∙◌, subst, arith}
-use Rattle.std.specs.List.{Contains, All}
+use Rattle.std.proofs.Common.{◌≡◌, ◌≢◌, ◌⊎◌, inl, inr, ⊎_elim, ℕ, ◌+◌, ◌<◌, Some, List, [], ◌∷◌, ◌++◌, length, set, sym, ◌∙◌, subst, arith}
+use Rattle.std.specs.List.{Contains}
 use Rattle.std.proofs.lemmas.Bool.{cases_eq}
-use Rattle.std.proofs.lemmas.List.{get_or-set_other, get_or-set_same, length-set, ext_get_or, same_lists, get_or_default}
-use Rattle.std.proofs.lemmas.List.Elements.{All-push, All-nil, All-pop, Contains-push, Contains-append_left, Contains-push_cases}
+use Rattle.std.proofs.lemmas.List.{get_or-set_other, get_or-set_same, length-set, same_lists}
+use Rattle.std.proofs.lemmas.List.Elements.{All-push, All-pop, Contains-push, Contains-append_left, Contains-push_cases}
 use Rattle.cycle_sim.specs.declared.classes.Knot.{Knot}
 use Rattle.cycle_sim.specs.Classes.{knot_at, IsHung}
 use Rattle.cycle_sim.specs.Building.{AreTouched}

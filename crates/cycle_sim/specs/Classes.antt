@@ -1,6 +1,5 @@
 -- Wires in classes: each class has a root, to which the parents of its wires lead.
-use Rattle.std.specs.Prelude.{◌≡◌, ◌≢◌, ◌⊎◌, ◌↔◌, ℕ, ◌+◌, ◌^◌, ◌<◌, ◌≤◌, Bool, true, false, ◌==◌, if◌then◌else◌, Option, Some, None, List, length, slice_index_or, map}
-use Rattle.std.specs.List.{list_any}
+use Rattle.std.specs.Prelude.{◌≡◌, ◌≢◌, ◌⊎◌, ℕ, ◌+◌, ◌^◌, ◌<◌, ◌≤◌, Bool, true, false, Option, Some, None, List, length, slice_index_or}
 use Rattle.hierarchy.specs.Shape.{Ends}
 use Rattle.hierarchy.specs.Joined.{Net, Linked, Joined}
 use Rattle.cycle_sim.specs.declared.classes.Knot.{Knot}

@@ -1,7 +1,7 @@
 -- The switched-on tables of a loaded machine, and what its wires are at a tick.
 use Rattle.std.specs.Prelude.{◌≡◌, ◌⊎◌, ℕ, ◌<◌, ◌≤◌, Bool, true, false, not, ◌||◌, if◌then◌else◌, Option, Some, None, IsSome, List, length, map, slice_index, slice_index_or, unwrap_or, All}
 use Rattle.std.specs.List.{range_with_len}
-use Rattle.hierarchy.specs.Shape.{pin_wire, table_wire, pins_of, tables_of}
+use Rattle.hierarchy.specs.Shape.{table_wire, tables_of}
 use Rattle.hierarchy.specs.Circuit.{Outputs, Pins}
 use Rattle.hierarchy.specs.Faults.{Faults, wrong_cell}
 use Rattle.config_set.specs.Configuration.{Configuration, setting_of, cell_of}

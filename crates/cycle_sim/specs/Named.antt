@@ -1,5 +1,5 @@
 -- The faults that a name stands for.
-use Rattle.std.specs.Prelude.{◌≡◌, ◌⊎◌, ℕ, ◌≤◌, ◌&&◌, nat_le, ◌==◌, Bool, true, false, if◌then◌else◌, Option, Some, None, IfSome, List, [], ◌∷◌, ◌++◌, length, slice_index, drop, bytes_eq}
+use Rattle.std.specs.Prelude.{◌≡◌, ◌⊎◌, ℕ, ◌≤◌, ◌&&◌, nat_le, ◌==◌, if◌then◌else◌, Option, Some, None, IfSome, List, [], ◌∷◌, ◌++◌, length, slice_index, drop, bytes_eq}
 use Rattle.std.specs.Fmt.{decimal}
 use Rattle.hierarchy.specs.declared.Shape.{Shape}
 use Rattle.hierarchy.specs.Faults.{Faults}
@@ -9,7 +9,6 @@ use Rattle.tm_outside.specs.Told.{Told, bytes_of, IfTold}
 use Rattle.tm_outside.specs.Store.{StoreState}
 use Rattle.fault_model.specs.Text.{IsFaultText}
 use Rattle.tm_text.specs.Size.{most_bytes}
-use Rattle.fault_model.specs.declared.kind.FaultsFault.{FaultsFault}
 use Rattle.fault_model.specs.declared.kind.FaultsFault.TheVariants as text
 use Rattle.bench_gen.specs.Faults.{AreBenchFaults}
 use Rattle.rig.specs.Rig.{IsNoText}

@@ -1,19 +1,10 @@
 -- A simulated machine and its session.
-use Rattle.std.specs.Prelude.{◌≡◌, ℕ, zero, suc, ◌+◌, ◌*◌, ◌-◌, ◌≤◌, Bool, true, false, ◌==◌, if◌then◌else◌, Option, Some, None, List, [], ◌∷◌, length, take, drop, map, find, option_map, refl}
-use Rattle.std.specs.List.{range_with_len}
-use Rattle.std.specs.Coded.{Coded, code_by, coded×, coded_ℕ, coded_bool, coded_list, coded_option}
-use Rattle.hierarchy.specs.declared.Shape.{Shape}
-use Rattle.hierarchy.specs.declared.Cross.{Cross}
-use Rattle.hierarchy.specs.Shape.{tables_of, pins_of}
+use Rattle.std.specs.Prelude.{◌≡◌, ◌*◌, ◌-◌, ◌≤◌, true, if◌then◌else◌, Option, Some, None, List, length}
+use Rattle.hierarchy.specs.Shape.{pins_of}
 use Rattle.hierarchy.specs.Faults.{Faults, AreFaultsOf}
-use Rattle.hierarchy.specs.Circuit.{Pins}
-use Rattle.config_set.specs.declared.Setting.{Setting}
-use Rattle.config_set.specs.Configuration.{Configuration, coded_configuration}
-use Rattle.config_set.specs.Kept.{set_of}
-use Rattle.fault_model.specs.Adding.{Faulty, coded_faulty}
+use Rattle.config_set.specs.Configuration.{Configuration}
 use Rattle.rig.specs.Rig.{Exchange, Session, drives_of, readings_of}
 use Rattle.cycle_sim.specs.declared.board.Board.{Board}
-use Rattle.cycle_sim.specs.declared.gates.Gate.{Gate}
 use Rattle.cycle_sim.specs.declared.sim.Sim.TheInside.{Inside}
 use Rattle.cycle_sim.specs.Boards.{IsPrepared, IsLoaded}
 use Rattle.cycle_sim.specs.States.{SimState}

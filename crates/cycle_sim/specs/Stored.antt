@@ -1,5 +1,5 @@
 -- What is kept of a session.
-use Rattle.std.specs.Prelude.{ℕ, zero, suc, ◌+◌, ◌*◌, Bool, ◌==◌, Option, List, [], ◌∷◌, take, drop, map, find, option_map}
+use Rattle.std.specs.Prelude.{ℕ, zero, suc, ◌*◌, Bool, ◌==◌, Option, List, [], ◌∷◌, take, drop, map, find, option_map}
 use Rattle.std.specs.List.{range_with_len}
 use Rattle.hierarchy.specs.declared.Shape.{Shape}
 use Rattle.hierarchy.specs.declared.Cross.{Cross}

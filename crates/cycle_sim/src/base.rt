@@ -1,10 +1,10 @@
 //! The classes of what the faults alone join.
 
-ghost use Rattle.std.specs.Prelude.{◌≡◌, ℕ, ◌+◌, ◌^◌, ◌<◌, ◌≤◌, [], length, IfOk};
+ghost use Rattle.std.specs.Prelude.{◌≡◌, ◌<◌, [], length, IfOk};
 ghost use Rattle.hierarchy.specs.Faults.{stuck_wire};
-ghost use Rattle.hierarchy.specs.Shape.{wires_of, crosses_of};
+ghost use Rattle.hierarchy.specs.Shape.{wires_of};
 ghost use Rattle.cycle_sim.specs.Classes.{AreTied};
-ghost use Rattle.cycle_sim.specs.Building.{bridged_net, stuck_net, closed_net, AreBase, AreKept};
+ghost use Rattle.cycle_sim.specs.Building.{bridged_net, stuck_net, AreBase, AreKept};
 
 use crate::classes::{Classes, Knot, join};
 use fault_model::FaultSet;

@@ -1,6 +1,6 @@
 //! A list of bits that grows without moving.
 
-ghost use Rattle.std.specs.Prelude.{◌≡◌, ℕ, ◌+◌, ◌*◌, ◌/◌, ◌%◌, ◌^◌, ◌<◌, ◌≤◌, [], ◌∷◌, ◌++◌, max, length, take, All, OnOk, IfOk};
+ghost use Rattle.std.specs.Prelude.{◌≡◌, ℕ, ◌+◌, ◌*◌, ◌/◌, ◌%◌, ◌<◌, ◌≤◌, [], ◌∷◌, ◌++◌, max, length, take, All, OnOk};
 ghost use Rattle.cycle_sim.specs.BitLogs.{bit_in, bits_in, AreBlocks};
 
 use std::alloc::{AllocError, Global};

@@ -1,6 +1,6 @@
 //! A machine that is prepared for its faults, and loaded.
 
-ghost use Rattle.std.specs.Prelude.{◌≡◌, ℕ, ◌+◌, ◌^◌, ◌<◌, Some, None, OnOk, IfOk, length, map, slice_index, All, unwrap_or};
+ghost use Rattle.std.specs.Prelude.{◌≡◌, ℕ, ◌<◌, Some, None, OnOk, IfOk, length, slice_index, All, unwrap_or};
 ghost use Rattle.hierarchy.specs.Shape.{wires_of, tables_of, pins_of, pin_wire, table_wire};
 ghost use Rattle.config_set.specs.Configuration.{Configuration, setting_of};
 ghost use Rattle.config_set.specs.Faulty.{circuit_of};

@@ -1,8 +1,8 @@
 //! Wires in classes: those that are joined have one root.
 
-ghost use Rattle.std.specs.Prelude.{◌≡◌, ◌≢◌, ◌⊎◌, ℕ, ◌+◌, ◌-◌, ◌^◌, ◌<◌, ◌≤◌, Bool, true, false, Option, length, OnOk, OnErr, IfOk};
+ghost use Rattle.std.specs.Prelude.{◌≡◌, ◌≢◌, ◌⊎◌, ℕ, ◌+◌, ◌-◌, ◌^◌, ◌<◌, ◌≤◌, Bool, false, Option, length};
 ghost use Rattle.hierarchy.specs.Joined.{Net};
-ghost use Rattle.cycle_sim.specs.Classes.{knot_at, HasRoots, AreRooted, AreTied, AreKnots, HasLink, IsHung, stronger};
+ghost use Rattle.cycle_sim.specs.Classes.{knot_at, HasRoots, AreRooted, AreTied, HasLink, IsHung, stronger};
 
 /// What is kept of a wire.
 #[derive(Clone, Copy, Debug)]

@@ -1,9 +1,9 @@
 //! The classes once crosspoints are closed.
 
-ghost use Rattle.std.specs.Prelude.{◌≡◌, ℕ, ◌+◌, ◌^◌, ◌<◌, ◌≤◌, Bool, Option, [], length, All, IfOk, OnOk};
+ghost use Rattle.std.specs.Prelude.{◌≡◌, ℕ, ◌+◌, ◌<◌, Bool, Option, length, All, OnOk};
 ghost use Rattle.hierarchy.specs.Faults.{stuck_wire};
 ghost use Rattle.hierarchy.specs.Joined.{Net};
-ghost use Rattle.hierarchy.specs.Shape.{wires_of, crosses_of};
+ghost use Rattle.hierarchy.specs.Shape.{crosses_of};
 ghost use Rattle.cycle_sim.specs.Classes.{AreTied, AreRooted, HasLink};
 ghost use Rattle.cycle_sim.specs.Building.{closed_net, base_most, AreBase, AreKept};
 

@@ -1,6 +1,6 @@
 //! A cycle of a loaded machine.
 
-ghost use Rattle.std.specs.Prelude.{◌≡◌, ◌<◌, ℕ, true, false, length, All};
+ghost use Rattle.std.specs.Prelude.{◌≡◌, ◌<◌, true, false, length, All};
 ghost use Rattle.hierarchy.specs.Circuit.{Outputs};
 ghost use Rattle.hierarchy.specs.Shape.{tables_of};
 ghost use Rattle.config_set.specs.Configuration.{Configuration};

@@ -3,7 +3,7 @@
 ghost use Rattle.std.specs.Prelude.{◌≡◌, ℕ, ◌<◌, ◌≤◌, true, false, length, slice_index_or, All, IfOk, OnOk};
 ghost use Rattle.hierarchy.specs.Shape.{tables_of};
 ghost use Rattle.cycle_sim.specs.declared.events.Flip.{Flip};
-ghost use Rattle.cycle_sim.specs.Gates.{is_low, level_at, Fits, IsClear};
+ghost use Rattle.cycle_sim.specs.Gates.{level_at, Fits, IsClear};
 ghost use Rattle.cycle_sim.specs.Cycles.{IsTick, HaveTicked};
 ghost use Rattle.cycle_sim.specs.Pulls.{AreZero, HasGiven};
 ghost use Rattle.cycle_sim.specs.Queues.{IsQueue, KeepsMarks};

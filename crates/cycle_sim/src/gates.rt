@@ -1,7 +1,6 @@
 //! The tables that are on, and what they give.
 
-ghost use Rattle.std.specs.Prelude.{◌≡◌, ◌⊎◌, ℕ, ◌+◌, ◌<◌, ◌≤◌, ◌||◌, Bool, true, false, length, map, slice_index, All};
-ghost use Rattle.hierarchy.specs.Circuit.{Pins};
+ghost use Rattle.std.specs.Prelude.{◌≡◌, ℕ, ◌+◌, ◌<◌, ◌||◌, true, false, length, map, slice_index, All};
 ghost use Rattle.hierarchy.specs.Shape.{tables_of};
 ghost use Rattle.cycle_sim.specs.Gates.{level_at, address_by, cell_by, ticked, clocked, Fits};
 

@@ -1,6 +1,6 @@
 //! Ranks: each combinational table reads what has lower ranks than what it gives.
 
-ghost use Rattle.std.specs.Prelude.{◌≡◌, ◌<◌, ℕ, true, length, slice_index, All, IfOk};
+ghost use Rattle.std.specs.Prelude.{◌≡◌, ◌<◌, true, length, slice_index, All, IfOk};
 ghost use Rattle.cycle_sim.specs.Settling.{IsWithin, IsRankedOrLatched, Settles};
 
 use crate::gates::{Gate, INPUTS};

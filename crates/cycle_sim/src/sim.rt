@@ -1,6 +1,6 @@
 //! A machine with its session.
 
-ghost use Rattle.std.specs.Prelude.{◌≡◌, ℕ, ◌+◌, ◌*◌, ◌<◌, ◌≤◌, Some, None, [], ◌∷◌, ◌++◌, length, IfOk, IfSome, OnOk, OnErr, option_map};
+ghost use Rattle.std.specs.Prelude.{◌≡◌, ◌+◌, ◌*◌, ◌<◌, ◌≤◌, Some, None, [], ◌++◌, length, IfOk, IfSome, OnOk, OnErr, option_map};
 ghost use Rattle.hierarchy.specs.Shape.{pins_of};
 ghost use Rattle.hierarchy.specs.Faults.{AreFaultsOf};
 ghost use Rattle.rig.specs.Rig.{Session};

@@ -1,9 +1,9 @@
 //! The simulated rig.
 
-ghost use Rattle.std.specs.Prelude.{◌≡◌, ◌⊎◌, ◌^◌, ◌<◌, ◌≤◌, ◌∷◌, [], None, Some, IfOk, IfErr, IfSome, OnOk, OnErr, length, option_map, option_and_then, string_bytes};
+ghost use Rattle.std.specs.Prelude.{◌≡◌, ◌⊎◌, ◌^◌, ◌<◌, ◌≤◌, [], None, Some, IfOk, IfErr, OnOk, OnErr, length, option_map, option_and_then, string_bytes};
 ghost use Rattle.hierarchy.specs.Faults.{AreFaultsOf};
 ghost use Rattle.tm_outside.specs.Counts.{next_count, Rose};
-ghost use Rattle.rig.specs.Rig.{RigState, shape_of, width_of, IsDetached, Attaches, AttachFails, HasFaultsOf, Begins, LoadFails, GoesOn, CycleFails};
+ghost use Rattle.rig.specs.Rig.{shape_of, width_of, IsDetached, Attaches, AttachFails, HasFaultsOf, Begins, LoadFails, GoesOn, CycleFails};
 ghost use Rattle.rig.specs.declared.rig.RigFail.TheVariants as work;
 ghost use Rattle.cycle_sim.specs.Named.{generated_of, texts_of, AreNamed, TellsNamed, Asks, AsksAtMost, NamesFail};
 

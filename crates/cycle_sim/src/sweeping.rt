@@ -1,8 +1,8 @@
 //! The tables evaluated one after the other.
 
-ghost use Rattle.std.specs.Prelude.{◌≡◌, ◌<◌, ℕ, true, length, All};
+ghost use Rattle.std.specs.Prelude.{◌≡◌, ◌<◌, true, length, All};
 ghost use Rattle.hierarchy.specs.Shape.{tables_of};
-ghost use Rattle.cycle_sim.specs.Gates.{is_low, Fits, IsClear, IsOutputOf};
+ghost use Rattle.cycle_sim.specs.Gates.{Fits, IsClear};
 ghost use Rattle.cycle_sim.specs.Settling.{IsLatched, AreTwins, AreAtOutputs};
 
 use crate::classes::Knot;

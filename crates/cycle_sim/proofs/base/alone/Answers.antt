@@ -1,4 +1,4 @@
-use Rattle.std.proofs.Common.{rules, ◌≡◌, ◌<◌, ℕ, length, subst, ap, ◌∙◌, sym, arith}
+use Rattle.std.proofs.Common.{rules, ◌≡◌, length, arith}
 use Rattle.hierarchy.specs.Shape.{wires_of}
 use Rattle.cycle_sim.proofs.Bases.{all_alone}
 use Rattle.cycle_sim.proofs.base.alone.Goals as goal

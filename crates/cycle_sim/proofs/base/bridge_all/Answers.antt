@@ -1,8 +1,7 @@
-use Rattle.std.proofs.Common.{rules, ◌≡◌, ◌<◌, ◌≤◌, ◌+◌, ◌^◌, ℕ, length, take, subst, ap, ◌∙◌, sym, arith}
+use Rattle.std.proofs.Common.{◌≡◌, ◌≤◌, take, subst, ◌∙◌, arith}
 use Rattle.std.proofs.lemmas.List.{take_all}
-use Rattle.hierarchy.specs.Shape.{wires_of}
 use Rattle.hierarchy.specs.Faults.{stuck_wire}
-use Rattle.cycle_sim.specs.Classes.{AreRooted, AreTied}
+use Rattle.cycle_sim.specs.Classes.{AreTied}
 use Rattle.cycle_sim.specs.Building.{bridged_net}
 use Rattle.cycle_sim.proofs.Joining.{tied_alike}
 use Rattle.cycle_sim.proofs.Links.{bridged_more, all_bridged, bridge_is}

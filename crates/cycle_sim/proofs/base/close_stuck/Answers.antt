@@ -1,7 +1,7 @@
-use Rattle.std.proofs.Common.{rules, ◌≡◌, ◌<◌, ◌≤◌, ◌+◌, ◌^◌, ℕ, true, false, length, take, subst, ap, ◌∙◌, sym, arith}
+use Rattle.std.proofs.Common.{◌≡◌, ◌≤◌, ◌+◌, ℕ, true, false, length, subst, ap, ◌∙◌, sym, arith}
 use Rattle.std.specs.Prelude.{unwrap_or}
-use Rattle.hierarchy.specs.Shape.{wires_of, crosses_of, ends_of}
-use Rattle.hierarchy.specs.Faults.{stuck_wire, stuck_cross}
+use Rattle.hierarchy.specs.Shape.{crosses_of, ends_of}
+use Rattle.hierarchy.specs.Faults.{stuck_wire}
 use Rattle.cycle_sim.specs.Classes.{AreTied, HasLink}
 use Rattle.cycle_sim.specs.Building.{stuck_net, base_most}
 use Rattle.cycle_sim.proofs.Joining.{tied_alike}

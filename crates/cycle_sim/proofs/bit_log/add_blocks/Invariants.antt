@@ -1,4 +1,4 @@
-use Rattle.std.proofs.Common.{◌≡◌, ◌≤◌, length, take, All, vec_len, max}
+use Rattle.std.proofs.Common.{◌≡◌, ◌≤◌, length, take, All, max}
 use Rattle.cycle_sim.proofs.bit_log.add_blocks.Given as goal
 
 abbrev pub invariant-more : goal.invariant-more

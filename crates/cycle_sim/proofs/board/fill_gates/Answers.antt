@@ -1,4 +1,4 @@
-use Rattle.std.proofs.Common.{rules, ◌≡◌, ◌<◌, ◌+◌, ◌∙◌, ℕ, All, Some, None, List, [], ◌∷◌, ◌++◌, map, take, length, get_or, sym, ap, subst, arith}
+use Rattle.std.proofs.Common.{◌≡◌, ◌<◌, ◌+◌, ◌∙◌, All, Some, None, List, [], ◌∷◌, ◌++◌, map, take, length, get_or, sym, ap, subst, arith}
 use Rattle.std.proofs.lemmas.List.{map-append, take_more, take_all, length-map, get_or-map}
 use Rattle.std.proofs.lemmas.List.Elements.{All-push}
 use Rattle.std.proofs.lemmas.Bool.{false≢true}

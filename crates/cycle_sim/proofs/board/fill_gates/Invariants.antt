@@ -1,4 +1,4 @@
-use Rattle.std.proofs.Common.{◌≡◌, ℕ, ◌<◌, vec_len, All, map, take}
+use Rattle.std.proofs.Common.{◌≡◌, ℕ, All, map, take}
 use Rattle.std.specs.Prelude.{unwrap_or}
 use Rattle.hierarchy.specs.Shape.{wires_of, tables_of}
 use Rattle.cycle_sim.specs.Classes.{HasRoots}

@@ -1,4 +1,4 @@
-use Rattle.std.proofs.Common.{◌≡◌, ◌≢◌, ◌∙◌, sym, arith}
+use Rattle.std.proofs.Common.{◌≢◌, ◌∙◌, sym}
 use Rattle.cycle_sim.proofs.Joining.{tied_roots, same_knots}
 use Rattle.cycle_sim.proofs.classes.join.Goals as goal
 

@@ -1,5 +1,4 @@
-use Rattle.std.proofs.Common.{◌≡◌, ◌<◌, ◌^◌, ◌∙◌, sym, ap, subst, length, refl, arith}
-use Rattle.cycle_sim.specs.Classes.{knot_at}
+use Rattle.std.proofs.Common.{◌<◌, ◌∙◌, sym, ap, subst, length, refl, arith}
 use Rattle.cycle_sim.proofs.ClassLemmas.{knot_is}
 use Rattle.cycle_sim.proofs.classes.root_of.Goals as goal
 

@@ -1,10 +1,10 @@
-use Rattle.std.proofs.Common.{rules, ◌≡◌, ◌<◌, ◌≤◌, ◌+◌, ◌^◌, ℕ, Bool, Option, None, Some, true, false, length, take, get_or, subst, ap, ◌∙◌, sym, refl, arith}
+use Rattle.std.proofs.Common.{◌≡◌, ◌+◌, ℕ, Bool, Option, None, Some, true, false, take, get_or, subst, ap, ◌∙◌, sym, refl, arith}
 use Rattle.std.specs.Prelude.{is_some}
 use Rattle.hierarchy.specs.declared.Shape.{Shape}
 use Rattle.hierarchy.specs.declared.Cross.{Cross}
-use Rattle.hierarchy.specs.Shape.{wires_of, crosses_of, ends_of}
+use Rattle.hierarchy.specs.Shape.{ends_of}
 use Rattle.hierarchy.specs.Faults.{stuck_wire, stuck_cross}
-use Rattle.cycle_sim.specs.Classes.{AreTied, HasLink, HaveSameLinks}
+use Rattle.cycle_sim.specs.Classes.{AreTied, HasLink}
 use Rattle.cycle_sim.specs.Building.{AreTouched, closed_net, base_most}
 use Rattle.cycle_sim.proofs.Joining.{tied_alike}
 use Rattle.cycle_sim.proofs.Links.{closed_more, stuck_same}

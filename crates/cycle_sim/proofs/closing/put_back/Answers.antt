@@ -1,7 +1,4 @@
-use Rattle.std.proofs.Common.{rules, ◌≡◌, ◌<◌, ◌++◌, ◌∷◌, [], ◌∙◌, List, ℕ, set, length, sym, ap, subst, arith}
-use Rattle.std.proofs.lemmas.List.{get_or_read}
-use Rattle.cycle_sim.specs.declared.classes.Knot.{Knot}
-use Rattle.cycle_sim.specs.Classes.{knot_at}
+use Rattle.std.proofs.Common.{rules, ◌≡◌, ◌∙◌, set, length, sym, subst}
 use Rattle.cycle_sim.specs.Building.{AreTouched}
 use Rattle.cycle_sim.proofs.ClassLemmas.{knot_is}
 use Rattle.cycle_sim.proofs.Touching.{put_one_back, all_put_back}

@@ -1,4 +1,4 @@
-use Rattle.std.proofs.Common.{◌≡◌, ◌<◌, ◌∙◌, ℕ, List, All, map, length, sym, refl, subst, arith}
+use Rattle.std.proofs.Common.{◌≡◌, ◌<◌, ◌∙◌, ℕ, List, All, map, length, sym, refl, subst}
 use Rattle.hierarchy.specs.Shape.{tables_of}
 use Rattle.cycle_sim.specs.declared.gates.Gate.{Gate}
 use Rattle.cycle_sim.specs.Gates.{level_at, clocked, Fits, IsOutputOf}

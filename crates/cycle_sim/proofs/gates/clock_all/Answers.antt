@@ -1,4 +1,4 @@
-use Rattle.std.proofs.Common.{◌≡◌, ◌<◌, ◌++◌, ◌∙◌, List, map, take, drop, set, length, get_or, sym, ap, arith}
+use Rattle.std.proofs.Common.{◌<◌, ◌∙◌, List, set, length, ap, arith}
 use Rattle.std.proofs.lemmas.List.{get_or_default}
 use Rattle.std.proofs.lemmas.List.Edits.{map_over_more}
 use Rattle.cycle_sim.specs.declared.gates.Gate.{Gate}

@@ -1,4 +1,4 @@
-use Rattle.std.proofs.Common.{◌≡◌, ◌++◌, map, take, drop, length}
+use Rattle.std.proofs.Common.{◌≡◌, ◌++◌, map, take, drop}
 use Rattle.cycle_sim.specs.Gates.{level_at, clocked}
 use Rattle.cycle_sim.proofs.gates.clock_all.Given as goal
 

@@ -1,7 +1,5 @@
-use Rattle.std.proofs.Common.{◌≡◌, ◌<◌, ◌+◌, true, length, get_or, sym, subst, arith}
+use Rattle.std.proofs.Common.{◌+◌, true, sym, subst}
 use Rattle.std.proofs.lemmas.Bool.{not-true, not-false}
-use Rattle.hierarchy.specs.declared.Table.{Table}
-use Rattle.cycle_sim.specs.declared.gates.Gate.{Gate}
 use Rattle.cycle_sim.specs.Gates.{IsPulledBy, AreMarkedToo}
 use Rattle.cycle_sim.proofs.Marking.{none_marked, no_pull, marked_more, marked_same, pull_here, pull_kept, pull_last, pull_not}
 use Rattle.cycle_sim.proofs.marks.mark_tables.Goals as goal

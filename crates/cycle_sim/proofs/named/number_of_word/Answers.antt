@@ -1,4 +1,4 @@
-use Rattle.std.proofs.Common.{◌≤◌, ◌∙◌, subst, sym, arith}
+use Rattle.std.proofs.Common.{arith}
 use Rattle.cycle_sim.proofs.Naming.{some_number, no_number}
 use Rattle.cycle_sim.proofs.named.number_of_word.Goals as goal
 

@@ -1,12 +1,9 @@
-use Rattle.std.proofs.Common.{rules, ◌≡◌, ◌+◌, ◌*◌, ◌-◌, ◌<◌, ◌≤◌, ◌∙◌, ◌++◌, ◌∷◌, ℕ, Bool, List, [], true, Some, None, cond, length, refl, sym, ap, subst, arith}
-use Rattle.std.specs.Prelude.{IfSome, IsSome}
+use Rattle.std.proofs.Common.{◌≡◌, ◌+◌, ◌*◌, ◌-◌, ◌≤◌, ◌∙◌, ◌++◌, ℕ, true, Some, None, cond, length, sym, ap, subst, arith}
 use Rattle.std.proofs.lemmas.List.{length-append}
 use Rattle.hierarchy.specs.Shape.{pins_of}
-use Rattle.rig.specs.Rig.{Session}
-use Rattle.cycle_sim.specs.Boards.{AreFitting}
 use Rattle.cycle_sim.specs.States.{SimState, GoesOnFrom, HasGoneOn}
 use Rattle.cycle_sim.specs.Stored.{config_in, cycles_in}
-use Rattle.cycle_sim.specs.Sims.{config_of_sim, cycles_of_sim, state_of_sim, IsRunning}
+use Rattle.cycle_sim.specs.Sims.{config_of_sim, cycles_of_sim, IsRunning}
 use Rattle.cycle_sim.proofs.Going.{room_for, is_running, width_is, pins_count, fitting, goes_on, same_config, more_cycles, gone_on}
 use Rattle.cycle_sim.proofs.sim.Sim.cycle.Goals as goal
 

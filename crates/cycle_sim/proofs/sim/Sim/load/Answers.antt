@@ -1,11 +1,8 @@
-use Rattle.std.proofs.Common.{rules, ◌≡◌, ◌+◌, ◌*◌, ◌-◌, ◌<◌, ◌≤◌, ◌∙◌, ◌++◌, ℕ, List, [], true, Some, length, refl, sym, ap, subst, arith}
-use Rattle.hierarchy.specs.declared.Shape.{Shape}
+use Rattle.std.proofs.Common.{◌≡◌, ◌+◌, ◌*◌, ◌-◌, ◌≤◌, ◌∙◌, ◌++◌, List, [], Some, length, sym, ap, subst, arith}
 use Rattle.hierarchy.specs.declared.Cross.{Cross}
 use Rattle.hierarchy.specs.Shape.{tables_of, pins_of}
-use Rattle.config_set.specs.Configuration.{Configuration}
 use Rattle.config_set.specs.Kept.{set_of}
 use Rattle.config_set.specs.Run.{none}
-use Rattle.rig.specs.Rig.{Session}
 use Rattle.cycle_sim.specs.Stored.{config_in}
 use Rattle.cycle_sim.specs.Sims.{IsRunning}
 use Rattle.cycle_sim.proofs.Sessions.{config_is, closed_is}
