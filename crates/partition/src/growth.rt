@@ -8,20 +8,20 @@ use crate::seats::Seat;
 use crate::trial::{Trial, take};
 use std::alloc::{AllocError, Global};
 
-/// What a net counts for a table by where the net is already: in the seat's hextant, its chip, its module, elsewhere.
+/// What a net adds to the score of a table by where it has a table already: in the seat's hextant, chip, module, elsewhere.
 const NEAR: [u32; 4] = [8, 6, 4, 2];
 
-/// What a net counts besides that ends in the seat's hextant with the table.
+/// What a net without a pin adds besides if it is in the seat's hextant already and lacks no other table.
 const ENDS: u32 = 4;
 
-/// What a net takes away that is nowhere yet.
+/// What a net takes away that has no table anywhere yet.
 const NEW: u32 = 2;
 
-/// What a table counts by itself: more than its nets can take away.
-const TABLE: u32 = 1000;
+/// The score without any net: more than the nets of a table can take away.
+const BEGIN: u32 = 1000;
 
 /// Nets with more tables lead to most of the network, so they say little about which table is to come next.
-const MOST_TABLES: usize = 16;
+const MOST_REACHED: usize = 16;
 
 // A net while tables are seated: where the last of its tables has its seat, and how many have none.
 #[derive(Clone, Copy)]
@@ -55,7 +55,7 @@ fn growth_of(alloc: Global, links: &Links) -> Result<Growth, AllocError> {
     })
 }
 
-// What a net counts whose last table is here.
+// What a net adds whose last table is here.
 fn nearness(last: Seat, seat: Seat) -> u32 {
     if last.hextant == seat.hextant {
         NEAR[0]
@@ -68,42 +68,42 @@ fn nearness(last: Seat, seat: Seat) -> u32 {
     }
 }
 
-// What is counted, with a net of the table.
-fn with_net(count: u32, net: &Net, spread: Spread, seat: Seat) -> u32 {
+// The score with a net of the table.
+fn with_net(score: u32, net: &Net, spread: Spread, seat: Seat) -> u32 {
     match spread.last {
-        None => count.saturating_sub(NEW),
+        None => score.saturating_sub(NEW),
         Some(last) => {
             let ends = last.hextant == seat.hextant && spread.left == 1 && !net.pinned;
             let more = if ends { ENDS } else { 0 };
-            count
+            score
                 .saturating_add(nearness(last, seat))
                 .saturating_add(more)
         }
     }
 }
 
-// How much speaks for a table on a seat.
-fn count_of(links: &Links, spreads: &[Spread], table: usize, seat: Seat) -> u32 {
-    let mut count = TABLE;
+// The score of a table for a seat.
+fn score_of(links: &Links, spreads: &[Spread], table: usize, seat: Seat) -> u32 {
+    let mut score = BEGIN;
     if table < links.nets_of.len() {
         for net in links.nets_of[table].as_slice() {
             if *net < links.nets.len() && *net < spreads.len() {
-                count = with_net(count, &links.nets[*net], spreads[*net], seat);
+                score = with_net(score, &links.nets[*net], spreads[*net], seat);
             }
         }
     }
-    count
+    score
 }
 
-// The table that most speaks for, the first of several; the highest number if none is given.
+// The table of the highest score, the first of several; no table's number if none is given.
 fn best_of(tables: &[usize], links: &Links, spreads: &[Spread], seat: Seat) -> usize {
     let mut best = usize::MAX;
-    let mut most = 0;
+    let mut highest = 0;
     for table in tables {
-        let count = count_of(links, spreads, *table, seat);
-        if count > most || count == most && *table < best {
+        let score = score_of(links, spreads, *table, seat);
+        if score > highest || score == highest && *table < best {
             best = *table;
-            most = count;
+            highest = score;
         }
     }
     best
@@ -111,7 +111,7 @@ fn best_of(tables: &[usize], links: &Links, spreads: &[Spread], seat: Seat) -> u
 
 // Lets tables wait for a seat.
 fn reach(queue: &mut Queue, tables: &[usize]) {
-    if tables.len() <= MOST_TABLES {
+    if tables.len() <= MOST_REACHED {
         for table in tables {
             queue.reach(*table);
         }
