@@ -8,7 +8,7 @@ use crate::count::crossings_of;
 use crate::search::search;
 use crate::seats::{seats_of, tables_at};
 use defect_db::Defects;
-use place::Plan;
+use place::{Plan, fits};
 use std::alloc::{AllocError, Global};
 use table_map::Network;
 use tm_items::Items;
@@ -47,7 +47,8 @@ fn found(
 }
 
 /// A plan in which tables have exchanged their places, or have gone to free tables that none had, so that fewer nets cross
-/// nodes, summed over all nodes. Where none is found the answer is the plan itself; it never has more crossings in sum.
+/// nodes, summed over all nodes. Where none that fits is found the answer is the plan itself; it never has more crossings in
+/// sum.
 ///
 /// # Errors
 ///
@@ -68,11 +69,13 @@ pub fn improve(
     let before = crossings_of(alloc, network, &plan, defects)?;
     let of_near = crossings_of(alloc, network, &near, defects)?;
     let of_other = crossings_of(alloc, network, &other, defects)?;
-    if of_near < before && of_near <= of_other {
-        return Ok(near);
-    }
-    if of_other < before {
+    let near_fits = fits(alloc, network, &near, defects)?;
+    let other_fits = fits(alloc, network, &other, defects)?;
+    if other_fits && of_other < before && (of_other < of_near || !near_fits) {
         return Ok(other);
+    }
+    if near_fits && of_near < before {
+        return Ok(near);
     }
     Ok(plan)
 }
