@@ -1,7 +1,7 @@
 #!/usr/bin/env python3
 """Makes machines, lists of defects and designs for `teramac compile` and `teramac run`.
 
-usage: route.py FOLDER shift|chain|local|large|blocks|mixed|grid|bench [PERCENT]
+usage: route.py FOLDER shift|chain|local|large|blocks|mixed|grid|counters|systolic|bench [PERCENT]
 
 FOLDER gets d.machine, d.defects, d.blif, d.vec and an empty file `none`, the faults of a sound machine.
 
@@ -13,6 +13,9 @@ blocks 1,280 such covers, shuffled within each 80 of them, on 32 hextants of 40 
 mixed  512 such covers, shuffled all together, on 32 hextants of 16 tables each.
 chain  A shift register of 768 latches, which stand shuffled, on 32 hextants of 24 tables each.
 grid   38 rows of 38 covers each, row by row, which read the cover above and the one before, on 16 hextants of 91 tables each.
+counters  16 counters of 16 bits each, all covers before all latches, on 32 hextants of 24 tables each.
+systolic  12 rows of 12 cells of a cover and three latches each, which hand values on to the right and down, all covers
+       before all latches, on 32 hextants of 18 tables each.
 bench  A shift register of 16 latches with the parity of its bits, on the machine that
        `bench` of the generator stands for (128 tables), with 100,000 vectors.
 
@@ -31,6 +34,8 @@ MACHINES = {
     "mixed": (2, 4, 4, 16, (464, 260, 80), (464, 496, 260, 80), 20),
     "chain": (2, 4, 4, 24, (400, 184, 48), (400, 552, 192, 64), 2),
     "grid": (2, 2, 4, 91, (40, 80, 80), (48, 80, 192, 136), 2),
+    "counters": (2, 4, 4, 24, (400, 192, 48), (404, 520, 192, 48), 18),
+    "systolic": (2, 4, 4, 18, (404, 288, 72), (412, 580, 288, 72), 36),
     "bench": (2, 2, 4, 8, (24, 24, 24), (32, 32, 32, 32), 28),
 }
 
@@ -113,6 +118,28 @@ def grid_text(rows, columns):
     return "\n".join(lines + [".end"]) + "\n"
 
 
+def counters_text(counters, bits):
+    lines = [".model c", ".inputs e", ".outputs " + " ".join(f"y{k}_{bits - 1}" for k in range(counters))]
+    for k in range(counters):
+        for i in range(bits):
+            carry = f"y{k}_{i - 1}" if i else "e"
+            lines += [f".names q{k}_{i} {carry} d{k}_{i}", "01 1", "10 1"]
+            lines += [f".names q{k}_{i} {carry} y{k}_{i}", "11 1", f".latch d{k}_{i} q{k}_{i} 0"]
+    return "\n".join(lines + [".end"]) + "\n"
+
+
+def systolic_text(rows, columns):
+    lines = [".model y", ".inputs " + " ".join([f"x{i}" for i in range(rows)] + [f"y{j}" for j in range(columns)])]
+    lines.append(".outputs " + " ".join(f"h{i}_{columns - 1}" for i in range(rows)))
+    for i in range(rows):
+        for j in range(columns):
+            left = f"h{i}_{j - 1}" if j else f"x{i}"
+            top = f"v{i - 1}_{j}" if i else f"y{j}"
+            lines += [f".names {left} {top} z{i}_{j} d{i}_{j}", "110 1", "0-1 1", "-01 1", f".latch d{i}_{j} z{i}_{j} 0"]
+            lines += [f".latch {left} h{i}_{j} 0", f".latch {top} v{i}_{j} 0"]
+    return "\n".join(lines + [".end"]) + "\n"
+
+
 def parity_text(latches):
     lines = shift_text(latches).splitlines()
     lines[2] = ".outputs p"
@@ -137,6 +164,8 @@ def main():
         "mixed": lambda: (local_text(512, 10, 512), 10, 100),
         "chain": lambda: (shift_text(768, 768), 1, 1000),
         "grid": lambda: (grid_text(38, 38), 1, 100),
+        "counters": lambda: (counters_text(16, 16), 1, 100),
+        "systolic": lambda: (systolic_text(12, 12), 24, 100),
         "bench": lambda: (parity_text(16), 1, 100000),
     }[kind]()
     draw = random.Random(2)

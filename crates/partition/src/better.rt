@@ -5,18 +5,13 @@ ghost use Rattle.place.specs.Plans.{IsPlan};
 ghost use Rattle.partition.specs.Crossings.{HasNoMore};
 
 use crate::count::crossings_of;
+use crate::search::search;
 use crate::seats::{seats_of, tables_at};
-use crate::trial::search;
 use defect_db::Defects;
-use place::Plan;
+use place::{Plan, fits};
 use std::alloc::{AllocError, Global};
 use table_map::Network;
 use tm_items::Items;
-
-// With little heat what is good in the plan stays; with much the order of the plan is forgotten.
-const COOL: u32 = 4;
-
-const HOT: u32 = 48;
 
 // These numbers.
 fn copied(alloc: Global, numbers: &[u32]) -> Result<Items<u32>, AllocError>
@@ -26,20 +21,20 @@ fn copied(alloc: Global, numbers: &[u32]) -> Result<Items<u32>, AllocError>
     Ok(Items::new(copy))
 }
 
-// The plan that a search finds, which may be worse.
+// The plan that a search finds from this one on, or anew; it may be worse.
 fn found(
     alloc: Global,
     network: &Network,
     plan: &Plan,
     defects: &Defects,
-    heat: u32,
+    anew: bool,
 ) -> Result<Plan, AllocError>
     requires { IsPlan defects.now.shape defects.now.list network.now plan.now }
     ensures { IfOk result (IsPlan defects.now.shape defects.now.list network.now) }
 {
     let tables = plan.tables.as_slice();
     let seats = seats_of(alloc, tables, defects)?;
-    let moved = search(alloc, &defects.shape(), network, seats, heat)?;
+    let moved = search(alloc, &defects.shape(), network, seats, anew)?;
     let first = &moved[..tables.len()];
     let tables = tables_at(alloc, first)?;
     let inputs = copied(alloc, plan.inputs.as_slice())?;
@@ -52,7 +47,8 @@ fn found(
 }
 
 /// A plan in which tables have exchanged their places, or have gone to free tables that none had, so that fewer nets cross
-/// nodes, summed over all nodes. Where none is found the answer is the plan itself; it never has more crossings in sum.
+/// nodes, summed over all nodes. Where none that fits is found the answer is the plan itself; it never has more crossings in
+/// sum.
 ///
 /// # Errors
 ///
@@ -68,16 +64,18 @@ pub fn improve(
     ensures plan { IfOk result (IsPlan defects.now.shape defects.now.list network.now) }
     ensures crossings { IfOk result (HasNoMore defects.now.shape network.now plan) }
 {
-    let near = found(alloc, network, &plan, defects, COOL)?;
-    let far = found(alloc, network, &plan, defects, HOT)?;
+    let near = found(alloc, network, &plan, defects, false)?;
+    let other = found(alloc, network, &plan, defects, true)?;
     let before = crossings_of(alloc, network, &plan, defects)?;
     let of_near = crossings_of(alloc, network, &near, defects)?;
-    let of_far = crossings_of(alloc, network, &far, defects)?;
-    if of_near < before && of_near <= of_far {
-        return Ok(near);
+    let of_other = crossings_of(alloc, network, &other, defects)?;
+    let near_fits = fits(alloc, network, &near, defects)?;
+    let other_fits = fits(alloc, network, &other, defects)?;
+    if other_fits && of_other < before && (of_other < of_near || !near_fits) {
+        return Ok(other);
     }
-    if of_far < before {
-        return Ok(far);
+    if near_fits && of_near < before {
+        return Ok(near);
     }
     Ok(plan)
 }
