@@ -8,6 +8,7 @@ pub mod RowLemmas
 pub mod BitLemmas
 pub mod RunLemmas
 pub mod TableLemmas
+pub mod SmallLemmas
 pub mod TurnLemmas
 pub mod ReaderLemmas
 pub mod MarkLemmas

@@ -21,6 +21,7 @@ use Rattle.netlist.proofs.ValuationLemmas.{map_same}
 use Rattle.netlist_eval.specs.declared.plan.Plan.{Plan}
 use Rattle.netlist_eval.specs.declared.turns.Turn.{Turn}
 use Rattle.netlist_eval.specs.Bits.{bits_put, AreApart, AreBelow, AreReady, IsWiring}
+use Rattle.netlist_eval.specs.Smalls.{AreQuick}
 use Rattle.netlist_eval.specs.Turns.{AreTurns, places}
 use Rattle.netlist_eval.specs.Readers.{AreListed, AreReaders}
 use Rattle.netlist_eval.specs.Plans.{IsPlan, IsMarked, IsHeld}
@@ -243,11 +244,12 @@ held-first p hints word n marks last values state m room h e l v s = record {
     zero : (n k : ℕ) → bit_at (replicate n false) k ≡ false
     zero n k = elim (cases_lt k n) [ inl lt ↦ get_or-replicate n k false false lt | inr ge ↦ get_or_past (replicate n false) k false (omega (arith, ge, length-replicate n false)) ]
 
-pub plan-is : (d draft : Draft) (covers : List Cover) (p : Plan) (turns : List Turn) (reads : List ℕ) (n : ℕ) → draft ≡ d → covers ≡ draft.covers → turns ≡ p.turns.items → reads ≡ p.wiring.reads.items → n ≡ length draft.names → IsWiring draft p.wiring → AreTurns covers p.turns.items → length turns + length reads ≤ 65535 → AreReaders covers (places turns) n p.readers → AreListed p.readers (length turns) reads → IsPlan d p
-plan-is d draft covers p turns reads n e f t i m w a few r l =
+pub plan-is : (d draft : Draft) (covers : List Cover) (p : Plan) (turns : List Turn) (reads : List ℕ) (n : ℕ) → draft ≡ d → covers ≡ draft.covers → turns ≡ p.turns.items → reads ≡ p.wiring.reads.items → n ≡ length draft.names → IsWiring draft p.wiring → AreTurns covers p.turns.items → length turns + length reads ≤ 65535 → AreReaders covers (places turns) n p.readers → AreListed p.readers (length turns) reads → AreQuick covers p.turns.items p.quicks.items → IsPlan d p
+plan-is d draft covers p turns reads n e f t i m w a few r l q =
     subst (λ (x : Draft). IsPlan x p) e (record {
       wiring = w;
       turns = subst (λ (cs : List Cover). AreTurns cs p.turns.items) f a;
+      quicks = subst (λ (cs : List Cover). AreQuick cs p.turns.items p.quicks.items) f q;
       few = omega (arith, few, ap (λ (ts : List Turn). length ts) t);
       readers =
           subst (λ (k : ℕ). AreReaders draft.covers (places p.turns.items) k p.readers) m

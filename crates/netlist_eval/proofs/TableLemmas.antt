@@ -22,11 +22,11 @@ lowest : (b : Bool) (n : ℕ) → (((if b then 1 else 0) + 2 * n) % 2 == 1) ≡ 
 lowest true n = let e : (1 + 2 * n) % 2 ≡ 1 = omega arith in rw e refl
 lowest false n = let e : (0 + 2 * n) % 2 ≡ 0 = omega arith in rw e refl
 
-address-half : (given : ℕ → Bool) (s : ℕ) (ss : List ℕ) → address given (s ∷ ss) / 2 ≡ address given ss
+pub address-half : (given : ℕ → Bool) (s : ℕ) (ss : List ℕ) → address given (s ∷ ss) / 2 ≡ address given ss
 unfolding address
 address-half given s ss = halved (given s) (address given ss)
 
-address-low : (given : ℕ → Bool) (s : ℕ) (ss : List ℕ) → (address given (s ∷ ss) % 2 == 1) ≡ given s
+pub address-low : (given : ℕ → Bool) (s : ℕ) (ss : List ℕ) → (address given (s ∷ ss) % 2 == 1) ≡ given s
 unfolding address
 address-low given s ss = lowest (given s) (address given ss)
 
@@ -73,6 +73,10 @@ pub address-small : (given : ℕ → Bool) (wires : List ℕ) → length wires �
 unfolding doubled
 address-small given wires size = let h : address given wires < doubled 6 = subst (λ (n : ℕ). address given wires < doubled n) size (address-below given wires) in h
 
+pub address-sixteen : (given : ℕ → Bool) (wires : List ℕ) → length wires ≡ 4 → address given wires < 16
+unfolding doubled
+address-sixteen given wires size = let h : address given wires < doubled 4 = subst (λ (n : ℕ). address given wires < doubled n) size (address-below given wires) in h
+
 few : (n : ℕ) → n ≤ 5 → doubled n ≤ 32
 unfolding doubled
 few zero h = omega arith
@@ -110,7 +114,7 @@ place-below (suc (suc (suc (suc (suc (suc k)))))) = omega arith
 pub places-below : (count : ℕ) → AreBelow 6 (take count (0 ∷ 1 ∷ 2 ∷ 3 ∷ 4 ∷ 5 ∷ []))
 places-below count k lk = omega (arith, place-below k, get_or-take {A = ℕ} count (0 ∷ 1 ∷ 2 ∷ 3 ∷ 4 ∷ 5 ∷ []) k 0 (omega (arith, length-take {A = ℕ} count (0 ∷ 1 ∷ 2 ∷ 3 ∷ 4 ∷ 5 ∷ []))))
 
-wires-below : (c : Cover) (wires : List ℕ) (n : ℕ) → AreWires c wires → IsCoverOver c n → AreBelow n wires
+pub wires-below : (c : Cover) (wires : List ℕ) (n : ℕ) → AreWires c wires → IsCoverOver c n → AreBelow n wires
 wires-below c wires n w made k lk = by (cases_lt k (length c.ins))
   where
     by : (k < length c.ins) ⊎ (length c.ins ≤ k) → get_or wires k 0 < n
@@ -131,7 +135,7 @@ pub bool-small : (b : Bool) → from_bool b ≤ 1
 bool-small true = omega arith
 bool-small false = omega arith
 
-bool-is : (b : Bool) → from_bool b ≡ (if b then 1 else 0)
+pub bool-is : (b : Bool) → from_bool b ≡ (if b then 1 else 0)
 bool-is true = refl
 bool-is false = refl
 

@@ -9,6 +9,7 @@ pub mod Kept
 pub mod Bits
 pub mod Tables
 pub mod Turns
+pub mod Smalls
 pub mod Readers
 pub mod Marks
 pub mod Latches

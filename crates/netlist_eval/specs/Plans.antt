@@ -6,6 +6,7 @@ use Rattle.netlist.specs.Valuations.{bit_at}
 use Rattle.netlist_eval.specs.declared.plan.Plan.{Plan}
 use Rattle.netlist_eval.specs.Bits.{IsWiring}
 use Rattle.netlist_eval.specs.Turns.{AreTurns, places}
+use Rattle.netlist_eval.specs.Smalls.{AreQuick}
 use Rattle.netlist_eval.specs.Readers.{AreListed, AreReaders}
 use Rattle.netlist_eval.specs.Marks.{AreKept, AreTaken}
 use Rattle.netlist_eval.specs.Latches.{HaveBits}
@@ -14,6 +15,7 @@ use Rattle.netlist_eval.specs.Latches.{HaveBits}
 pub record IsPlan (d : Draft) (p : Plan) : Type 0 where
   pub wiring : IsWiring d p.wiring
   pub turns : AreTurns d.covers p.turns.items
+  pub quicks : AreQuick d.covers p.turns.items p.quicks.items
   pub few : length p.turns.items ≤ 65535
   pub readers : AreReaders d.covers (places p.turns.items) (length d.names) p.readers
   pub latches : AreListed p.readers (length p.turns.items) p.wiring.reads.items

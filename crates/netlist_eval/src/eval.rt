@@ -236,6 +236,7 @@ fn run_marked(
     );
     let count = settle_marked(
         &plan.turns,
+        &plan.quicks,
         draft.covers.as_slice(),
         &plan.readers,
         marks,

@@ -13,6 +13,7 @@ mod plan;
 mod readers;
 mod reading;
 mod row_text;
+mod smalls;
 mod table_word;
 mod tables;
 mod turns;

@@ -5,11 +5,13 @@ ghost use Rattle.netlist.specs.Covers.{cover_at, IsCoverOver};
 ghost use Rattle.netlist.specs.Valuations.{bit_at, number_at, IsSettled};
 ghost use Rattle.netlist_eval.specs.Bits.{bits_put, AreBelow};
 ghost use Rattle.netlist_eval.specs.Turns.{AreTurns, places};
+ghost use Rattle.netlist_eval.specs.Smalls.{AreQuick};
 ghost use Rattle.netlist_eval.specs.Readers.{AreReaders};
 ghost use Rattle.netlist_eval.specs.Marks.{AreKept, AreOthersSame, HaveMarked, HasGiven, StillKept, StillTaken};
 
 use crate::readers::{MOST, Readers};
-use crate::turns::{Turn, settle, value_of};
+use crate::smalls::{Quick, quick_value};
+use crate::turns::{Turn, settle};
 use netlist::Cover;
 
 /// How many turns one word of hints stands for.
@@ -91,6 +93,7 @@ pub fn put_marked(
 // Takes the mark of a turn away and gives its cover its truth.
 fn settle_turn(
     turns: &[Turn],
+    quicks: &[Quick],
     covers: &[Cover],
     readers: &Readers,
     k: usize,
@@ -100,6 +103,7 @@ fn settle_turn(
 )
     requires within { k < length turns.now }
     requires turns { AreTurns covers.now turns.now }
+    requires quicks { AreQuick covers.now turns.now quicks.now }
     requires made { (i : ℕ) → i < length covers.now → IsCoverOver (cover_at covers.now i) (length values.old) }
     requires readers { AreReaders covers.now (places turns.now) (length values.old) readers.now }
     requires size { length marks.old ≡ 65536 }
@@ -112,15 +116,16 @@ fn settle_turn(
     ensures taken { StillTaken (length turns.now) readers.now marks.old values.old marks.new values.new }
 {
     marks[k] = false;
-    let turn = &turns[k];
-    let bit = value_of(turn, covers, values);
-    give(readers, turn.out, bit, marks, hints, values);
+    let quick = &quicks[k];
+    let bit = quick_value(quick, &turns[k], covers, values);
+    give(readers, quick.out, bit, marks, hints, values);
 }
 
 // Settles the turns that a word of hints names, until it names none, and says how many they were. Turns come in
 // order, so a turn is named again only where two covers read each other.
 fn settle_word(
     turns: &[Turn],
+    quicks: &[Quick],
     covers: &[Cover],
     readers: &Readers,
     place: usize,
@@ -130,6 +135,7 @@ fn settle_word(
 ) -> usize
     requires place { place < 1024 }
     requires turns { AreTurns covers.now turns.now }
+    requires quicks { AreQuick covers.now turns.now quicks.now }
     requires made { (i : ℕ) → i < length covers.now → IsCoverOver (cover_at covers.now i) (length values.old) }
     requires readers { AreReaders covers.now (places turns.now) (length values.old) readers.now }
     requires size { length marks.old ≡ 65536 }
@@ -149,7 +155,7 @@ fn settle_word(
             return count;
         }
         hints[place] = word & (word - 1);
-        settle_turn(turns, covers, readers, k, marks, hints, values);
+        settle_turn(turns, quicks, covers, readers, k, marks, hints, values);
     }
     WORD as usize
 }
@@ -182,6 +188,7 @@ pub fn is_one_marked(marks: &[bool], from: usize, to: usize) -> bool
 /// The marks are looked for where hints are. These may be wrong: if a mark is left, all covers are evaluated.
 pub fn settle_marked(
     turns: &[Turn],
+    quicks: &[Quick],
     covers: &[Cover],
     readers: &Readers,
     marks: &mut [bool],
@@ -189,6 +196,7 @@ pub fn settle_marked(
     values: &mut [bool],
 ) -> usize
     requires turns { AreTurns covers.now turns.now }
+    requires quicks { AreQuick covers.now turns.now quicks.now }
     requires made { (i : ℕ) → i < length covers.now → IsCoverOver (cover_at covers.now i) (length values.old) }
     requires readers { AreReaders covers.now (places turns.now) (length values.old) readers.now }
     requires size { length marks.old ≡ 65536 }
@@ -201,7 +209,7 @@ pub fn settle_marked(
 {
     let mut count = 0;
     'words: for place in 0..turns.len() / WORD as usize + 1 {
-        count += settle_word(turns, covers, readers, place, marks, hints, values);
+        count += settle_word(turns, quicks, covers, readers, place, marks, hints, values);
     }
     if is_one_marked(marks, 0, turns.len()) {
         settle(turns, covers, values);

@@ -4,6 +4,7 @@ ghost use Rattle.std.specs.Prelude.{IfOk};
 ghost use Rattle.netlist_eval.specs.Plans.{IsPlan};
 
 use crate::readers::{Readers, readers_of};
+use crate::smalls::{Quick, quick_turns};
 use crate::turns::{Turn, turns_of};
 use crate::wiring::{Wiring, wiring_of};
 use netlist::Netlist;
@@ -18,6 +19,8 @@ pub struct Plan {
     pub turns: Vec<Turn>,
     /// The covers that read each signal.
     pub readers: Readers,
+    /// What the evaluations of covers read, in their turns.
+    pub quicks: Vec<Quick>,
 }
 
 /// What is known of a design.
@@ -29,9 +32,11 @@ pub fn plan_of(alloc: Global, netlist: &Netlist) -> Result<Plan, AllocError>
     let wiring = wiring_of(alloc, draft)?;
     let turns = turns_of(alloc, covers, netlist.order())?;
     let readers = readers_of(alloc, covers, &turns, &wiring.reads, draft.names.len())?;
+    let quicks = quick_turns(alloc, covers, &turns)?;
     Ok(Plan {
         wiring,
         turns,
         readers,
+        quicks,
     })
 }

@@ -41,8 +41,8 @@ fn six_bits(n: usize) -> [bool; 6]
     ]
 }
 
-// The truths of a cover of at most six inputs, by the bits of these.
-fn cells_of(cover: &Cover, count: usize) -> [bool; 64]
+/// The truths of a cover of at most six inputs, by the bits of these.
+pub fn cells_of(cover: &Cover, count: usize) -> [bool; 64]
     requires count { count ≡ length cover.now.ins }
     requires few { count ≤ 6 }
     requires rows { (k : ℕ) → k < length cover.now.rows → length (slice_index_or cover.now.rows k []) ≡ length cover.now.ins }
@@ -60,8 +60,8 @@ fn cells_of(cover: &Cover, count: usize) -> [bool; 64]
     cells
 }
 
-// The inputs of a cover, and its output in the places that are left.
-fn wires_of(cover: &Cover) -> [u32; 6]
+/// The inputs of a cover, and its output in the places that are left.
+pub fn wires_of(cover: &Cover) -> [u32; 6]
     requires few { length cover.now.ins ≤ 6 }
     ensures { AreWires cover.now result }
 {

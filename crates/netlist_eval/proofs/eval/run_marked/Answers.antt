@@ -4,6 +4,7 @@ use Rattle.netlist_eval.proofs.RunLemmas.{step-is, ready-is, below-at, covers-ma
 use Rattle.netlist_eval.specs.Turns.{places}
 use Rattle.netlist_eval.specs.Marks.{AreFree, AreTaken}
 use Rattle.netlist_eval.proofs.MarkLemmas.{settled-kept}
+use Rattle.netlist_eval.proofs.SmallLemmas.{quick-covers}
 use Rattle.netlist_eval.proofs.eval.run_marked.Goals as goal
 
 pub put_marked-requires-clause-within : goal.put_marked-requires-clause-within
@@ -16,24 +17,24 @@ pub settle_marked-count-requires-clause-made : goal.settle_marked-count-requires
 settle_marked-count-requires-clause-made c = covers-made c.args.netlist.now _ _ c.parts-draft.ensures.checked (c.as_slice.ensures ∙ ap (λ d. d.covers) c.parts-draft.ensures.parts) (c.put_changed.auto.values ∙ c.put_marked.auto.values ∙ c.requires.ready.signals)
 
 pub read_bits-requires-clause-within : goal.read_bits-requires-clause-within
-read_bits-requires-clause-within c = below-at _ _ _ _ (c.deref-4.ensures.value ∙ c.requires.plan.wiring.outputs) (c.settle_marked-count.auto.values ∙ c.put_changed.auto.values ∙ c.put_marked.auto.values ∙ c.requires.ready.signals) (outputs-below c.args.netlist.now c.parts-draft.ensures.checked)
+read_bits-requires-clause-within c = below-at _ _ _ _ (c.deref-5.ensures.value ∙ c.requires.plan.wiring.outputs) (c.settle_marked-count.auto.values ∙ c.put_changed.auto.values ∙ c.put_marked.auto.values ∙ c.requires.ready.signals) (outputs-below c.args.netlist.now c.parts-draft.ensures.checked)
 
 pub take_changed-requires-clause-below : goal.take_changed-requires-clause-below
-take_changed-requires-clause-below c = below-at _ _ _ _ (c.deref-5.ensures.value ∙ c.requires.plan.wiring.reads) (c.settle_marked-count.auto.values ∙ c.put_changed.auto.values ∙ c.put_marked.auto.values ∙ c.requires.ready.signals) (froms-below c.args.netlist.now c.parts-draft.ensures.checked)
+take_changed-requires-clause-below c = below-at _ _ _ _ (c.deref-6.ensures.value ∙ c.requires.plan.wiring.reads) (c.settle_marked-count.auto.values ∙ c.put_changed.auto.values ∙ c.put_marked.auto.values ∙ c.requires.ready.signals) (froms-below c.args.netlist.now c.parts-draft.ensures.checked)
 
 pub returns-clause-ready : goal.returns-clause-ready
 returns-clause-ready c =
     ready-is c.args.netlist.now c.parts-draft.ensures.checked c.args.values.now c.args.state.now c.args.vector.now c.requires.ready c.requires.inputs c.settle_marked-count.new.values (settled-as c.args.netlist.now c.parts-draft.ensures.checked c.args.values.now c.args.state.now c.args.vector.now c.requires.ready c.requires.inputs _ _ _ _ c.settle_marked-count.new.values _
     (c.deref.ensures.value ∙ c.requires.plan.wiring.inputs) (c.deref-2.ensures.value ∙ c.requires.plan.wiring.drives) c.put_marked.ensures.values c.put_changed.ensures.values (c.as_slice.ensures ∙ ap (λ d. d.covers) c.parts-draft.ensures.parts) c.settle_marked-count.ensures.settled) c.take_changed.new.state
     (c.settle_marked-count.auto.values ∙ c.put_changed.auto.values ∙ c.put_marked.auto.values ∙ c.requires.ready.signals)
-    (c.take_changed.ensures ∙ ap (map (bit_at c.settle_marked-count.new.values)) (c.deref-5.ensures.value ∙ c.requires.plan.wiring.reads))
+    (c.take_changed.ensures ∙ ap (map (bit_at c.settle_marked-count.new.values)) (c.deref-6.ensures.value ∙ c.requires.plan.wiring.reads))
 
 pub returns-clause-step : goal.returns-clause-step
 returns-clause-step c =
     step-is c.args.netlist.now c.parts-draft.ensures.checked c.args.values.now c.args.state.now c.args.vector.now c.requires.ready c.requires.inputs c.settle_marked-count.new.values (settled-as c.args.netlist.now c.parts-draft.ensures.checked c.args.values.now c.args.state.now c.args.vector.now c.requires.ready c.requires.inputs _ _ _ _ c.settle_marked-count.new.values _
     (c.deref.ensures.value ∙ c.requires.plan.wiring.inputs) (c.deref-2.ensures.value ∙ c.requires.plan.wiring.drives) c.put_marked.ensures.values c.put_changed.ensures.values (c.as_slice.ensures ∙ ap (λ d. d.covers) c.parts-draft.ensures.parts) c.settle_marked-count.ensures.settled) c.read_bits.new.out c.take_changed.new.state
-    (c.read_bits.ensures ∙ ap (map (bit_at c.settle_marked-count.new.values)) (c.deref-4.ensures.value ∙ c.requires.plan.wiring.outputs))
-    (c.take_changed.ensures ∙ ap (map (bit_at c.settle_marked-count.new.values)) (c.deref-5.ensures.value ∙ c.requires.plan.wiring.reads))
+    (c.read_bits.ensures ∙ ap (map (bit_at c.settle_marked-count.new.values)) (c.deref-5.ensures.value ∙ c.requires.plan.wiring.outputs))
+    (c.take_changed.ensures ∙ ap (map (bit_at c.settle_marked-count.new.values)) (c.deref-6.ensures.value ∙ c.requires.plan.wiring.reads))
 
 pub settle_marked-count-requires-clause-kept : goal.settle_marked-count-requires-clause-kept
 settle_marked-count-requires-clause-kept c =
@@ -79,5 +80,10 @@ take_changed-requires-clause-taken c =
     let one = c.put_marked.ensures.taken first reads c.args.state.now (omega arith) room listed c.requires.taken in
     let two = c.put_changed.ensures.taken first reads c.args.state.now (omega arith) room listed one in
     let three = c.settle_marked-count.ensures.taken first reads c.args.state.now (omega (arith, ap (λ ts. length ts) c.deref-3.ensures.value)) room listed two in
-    subst (λ (n : ℕ). AreTaken n c.deref-5.result.now c.args.state.now c.settle_marked-count.new.marks c.settle_marked-count.new.values) (let e : first ≡ c.len.result = omega (arith, c.len.ensures, c.deref-3.ensures.len, ap (λ ts. length ts) c.deref-3.ensures.value) in e)
-    (subst (λ (xs : List ℕ). AreTaken first xs c.args.state.now c.settle_marked-count.new.marks c.settle_marked-count.new.values) (sym c.deref-5.ensures.value) three)
+    subst (λ (n : ℕ). AreTaken n c.deref-6.result.now c.args.state.now c.settle_marked-count.new.marks c.settle_marked-count.new.values) (let e : first ≡ c.len.result = omega (arith, c.len.ensures, c.deref-3.ensures.len, ap (λ ts. length ts) c.deref-3.ensures.value) in e)
+    (subst (λ (xs : List ℕ). AreTaken first xs c.args.state.now c.settle_marked-count.new.marks c.settle_marked-count.new.values) (sym c.deref-6.ensures.value) three)
+
+pub settle_marked-count-requires-clause-quicks : goal.settle_marked-count-requires-clause-quicks
+settle_marked-count-requires-clause-quicks c =
+    quick-covers c.args.netlist.now.covers _ c.args.plan.now.turns.items _ c.args.plan.now.quicks.items _ (sym (c.as_slice.ensures ∙ ap (λ d. d.covers) c.parts-draft.ensures.parts))
+    (sym c.deref-3.ensures.value) (sym c.deref-4.ensures.value) c.requires.plan.quicks

@@ -3,6 +3,7 @@ use Rattle.std.proofs.lemmas.List.{length-map}
 use Rattle.netlist.specs.Valuations.{IsOrder}
 use Rattle.netlist_eval.specs.declared.turns.Turn.{Turn}
 use Rattle.netlist_eval.specs.Turns.{places}
+use Rattle.netlist_eval.specs.Smalls.{AreQuick}
 use Rattle.netlist_eval.proofs.TurnLemmas.{turns-size}
 use Rattle.netlist_eval.proofs.RunLemmas.{covers-made, plan-is, room-is, froms-below, below-at}
 use Rattle.netlist_eval.proofs.plan.plan_of.Goals as goal
@@ -37,3 +38,7 @@ returns c =
     plan-is c.args.netlist.now c.parts-draft.result.now c.as_slice-covers.result.now _ c.deref.result.now c.deref-2.result.now c.len.result c.parts-draft.ensures.parts c.as_slice-covers.ensures
     c.deref.ensures.value c.deref-2.ensures.value c.len.ensures c.in_ok-wiring.ensures c.in_ok-turns.ensures (omega (arith, turns-size turns, room-is c.args.netlist.now c.parts-draft.ensures.checked (places turns) order, ap (λ (ts : List Turn). length ts) c.deref.ensures.value, ap (λ (xs : List ℕ). length xs) c.deref-2.ensures.value, ap (λ (xs : List ℕ). length xs) c.in_ok-wiring.ensures.reads, length-map c.parts-draft.result.now.latches (λ l. l.from), ap (λ d. length d.latches) c.parts-draft.ensures.parts)) c.in_ok-readers.ensures.covers
     c.in_ok-readers.ensures.latches
+    (subst (λ (ts : List Turn). AreQuick c.as_slice-covers.result.now ts c.in_ok-quicks.quicks.items) c.deref-3.ensures.value c.in_ok-quicks.ensures)
+
+pub quick_turns-requires-clause-made : goal.quick_turns-requires-clause-made
+quick_turns-requires-clause-made c = λ i li. (length c.args.netlist.now.names, covers-made c.args.netlist.now c.as_slice-covers.result.now (length c.args.netlist.now.names) c.parts-draft.ensures.checked (c.as_slice-covers.ensures ∙ ap (λ d. d.covers) c.parts-draft.ensures.parts) refl i li)
