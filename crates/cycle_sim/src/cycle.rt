@@ -14,7 +14,7 @@ ghost use Rattle.cycle_sim.specs.Events.{AreEvents};
 
 use crate::board::Board;
 use crate::classes::Knot;
-use crate::events::{Events, settle_listed};
+use crate::events::{Events, give_up, settle_listed};
 use crate::gates::{Gate, clock_all, read_pins, tick_all};
 use crate::marks::{clear_pins, clear_tables, mark_pins, mark_tables};
 use crate::ranks::Turn;
@@ -71,7 +71,7 @@ fn tick_times(
     }
 }
 
-/// Makes so many ticks. Where the readers are listed, each tick costs what changed. Where what the combinational tables
+/// Makes so many ticks. Where the readers are listed, each tick costs what changed, unless nearly everything does. Where what the combinational tables
 /// gave before doesn't matter after the ticks, all that is left to do is to come to rest, for which the tables are
 /// evaluated in their order first.
 fn settle(
@@ -101,7 +101,8 @@ fn settle(
     ensures ticked { (ranked ≡ true → Settles gates.old ticks) → HaveTicked faults.now.faults knots.now low_pins.now gates.old ticks gates.new }
 {
     if events.listed {
-        settle_listed(events, faults, knots, low_pins, low_tables, gates, ticks);
+        let busy = settle_listed(events, faults, knots, low_pins, low_tables, gates, ticks);
+        give_up(events, busy);
         return;
     }
     if !ranked {

@@ -191,7 +191,7 @@ fn flip_all(
     }
 }
 
-/// Makes one tick.
+/// Makes one tick. How many tables give something else after it.
 fn tick_listed(
     events: &mut Events,
     faults: &FaultSet,
@@ -199,7 +199,7 @@ fn tick_listed(
     low_pins: &[bool],
     low_tables: &mut [bool],
     gates: &mut [Gate],
-)
+) -> usize
     requires fits { All (Fits (tables_of faults.now.shape) (length knots.now)) gates.old }
     requires pins { length low_pins.now ≡ length knots.now }
     requires tables { length low_tables.old ≡ length knots.now }
@@ -235,9 +235,11 @@ fn tick_listed(
         low_tables,
         gates,
     );
+    count
 }
 
-/// Makes so many ticks. Once no table is to be evaluated all further ones change nothing, and are left out.
+/// Makes so many ticks. Once no table is to be evaluated all further ones change nothing, and are left out. How many ticks
+/// changed more than a quarter of the tables.
 fn tick_listed_times(
     events: &mut Events,
     faults: &FaultSet,
@@ -246,7 +248,7 @@ fn tick_listed_times(
     low_tables: &mut [bool],
     gates: &mut [Gate],
     ticks: u16,
-)
+) -> usize
     requires fits { All (Fits (tables_of faults.now.shape) (length knots.now)) gates.old }
     requires pins { length low_pins.now ≡ length knots.now }
     requires tables { length low_tables.old ≡ length knots.now }
@@ -260,15 +262,20 @@ fn tick_listed_times(
     ensures ticked { HaveTicked faults.now.faults knots.now low_pins.now gates.old ticks gates.new }
     ensures listed { events.new.listed ≡ events.old.listed }
 {
+    let few = gates.len() / 4;
+    let mut busy = 0usize;
     'ticks: for _n in 0..ticks {
         if events.queue.count == 0 {
-            return;
+            return busy;
         }
-        tick_listed(events, faults, knots, low_pins, low_tables, gates);
+        let count = tick_listed(events, faults, knots, low_pins, low_tables, gates);
+        busy = busy.saturating_add(usize::from(count > few));
     }
+    busy
 }
 
 /// Makes so many ticks, of which the first evaluates all tables, and each further one those of which an input changed.
+/// Whether more than half of them changed more than a quarter of the tables.
 pub fn settle_listed(
     events: &mut Events,
     faults: &FaultSet,
@@ -277,7 +284,7 @@ pub fn settle_listed(
     low_tables: &mut [bool],
     gates: &mut [Gate],
     ticks: u16,
-)
+) -> bool
     requires fits { All (Fits (tables_of faults.now.shape) (length knots.now)) gates.old }
     requires pins { length low_pins.now ≡ length knots.now }
     requires tables { length low_tables.old ≡ length knots.now }
@@ -296,7 +303,18 @@ pub fn settle_listed(
 {
     count_pulls(gates, &mut events.pulls, low_tables);
     add_all(&mut events.queue);
-    tick_listed_times(events, faults, knots, low_pins, low_tables, gates, ticks);
+    let busy = tick_listed_times(events, faults, knots, low_pins, low_tables, gates, ticks);
     clear_pulls(gates, &mut events.pulls);
     clear_tables(gates, low_tables);
+    busy > ticks as usize / 2
+}
+
+/// Leaves it at evaluating all tables in each tick from now on, if so much changes that this is quicker.
+pub fn give_up(events: &mut Events, busy: bool)
+    ensures pulls { events.new.pulls ≡ events.old.pulls }
+    ensures listed { events.new.listed ≡ true → events.new ≡ events.old }
+{
+    if busy {
+        events.listed = false;
+    }
 }

@@ -19,13 +19,13 @@ ticks-init c = record {
 
 pub ticks-preserved : goal.ticks-preserved
 ticks-preserved c = record {
-  fits = c.tick_listed.ensures.fits;
-  tables = c.tick_listed.ensures.tables;
-  flips = c.tick_listed.ensures.flips;
-  sound = c.tick_listed.ensures.sound;
-  still = c.tick_listed.ensures.still;
-  ticked = subst (λ n. HaveTicked c.args.faults.now.faults c.args.knots.now c.args.low_pins.now c.args.gates.now n c.tick_listed.new.gates) (sym (add-one c.ticks._n)) (once_more c.ticks.invariant.ticked c.tick_listed.ensures.tick);
-  listed = c.tick_listed.ensures.listed ∙ c.ticks.invariant.listed;
+  fits = c.tick_listed-count.ensures.fits;
+  tables = c.tick_listed-count.ensures.tables;
+  flips = c.tick_listed-count.ensures.flips;
+  sound = c.tick_listed-count.ensures.sound;
+  still = c.tick_listed-count.ensures.still;
+  ticked = subst (λ n. HaveTicked c.args.faults.now.faults c.args.knots.now c.args.low_pins.now c.args.gates.now n c.tick_listed-count.new.gates) (sym (add-one c.ticks._n)) (once_more c.ticks.invariant.ticked c.tick_listed-count.ensures.tick);
+  listed = c.tick_listed-count.ensures.listed ∙ c.ticks.invariant.listed;
 }
 
 pub returns-then-events-eq0-clause-ticked : goal.returns-then-events-eq0-clause-ticked
