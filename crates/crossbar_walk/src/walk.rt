@@ -1,5 +1,5 @@
 //! The crossbars of a machine, from the root down.
-ghost use Rattle.std.specs.Prelude.{◌≡◌, ◌<◌, ◌+◌, ◌++◌, ◌∷◌, [], Some, None, IfOk, IfSome, IfNone, OnOk, OnErr, IsTrue, length};
+ghost use Rattle.std.specs.Prelude.{◌≡◌, ◌<◌, ◌+◌, ◌++◌, ◌∷◌, [], Some, None, IfOk, IfSome, IfNone, OnOk, OnErr, IsTrue, false, length};
 ghost use Rattle.hierarchy.specs.Shape.{parent_of};
 ghost use Rattle.rig.specs.Rig.{shape_of};
 ghost use Rattle.evidence.specs.Kept.{Advances};
@@ -104,11 +104,12 @@ fn add(found: &mut Vec<Tested>, tested: Tested) -> Result<(), RigFail>
     }
 }
 
-/// Adds the tested crossbar of the next node, and says how many loads that took. False where it has no trunk.
+/// Adds the tested crossbar of the next node, and says how many loads that took. False where no trunk of it is found; then,
+/// and where it refuses, what was found before stays as it was.
 ///
 /// # Errors
 ///
-/// The rig's fault, or want of memory: then what was found before stays as it was.
+/// The rig's fault, or want of memory.
 pub fn test_next(
     alloc: Global,
     rig: &mut Box<dyn Rig>,
@@ -124,6 +125,8 @@ pub fn test_next(
     ensures advances { Advances (rig_state rig.old) (rig_state rig.new) proof.old proof.new }
     ensures found { AreFound (rig_state rig.old).machine.faults proof.new found.new.items }
     ensures length { IfOk result (λ yes. IsTrue yes → length found.new.items ≡ node.0 + 1) }
+    ensures none { IfOk result (λ yes. yes ≡ false → found.new.items ≡ found.old.items) }
+    ensures same { OnErr result (found.new.items ≡ found.old.items) }
 {
     let Some(tested) = test_one(alloc, rig, proof, found, node, loads)? else {
         return Ok(false);
