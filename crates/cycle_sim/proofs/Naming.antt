@@ -7,8 +7,8 @@ use Rattle.std.proofs.lemmas.Slice.Eq.{bytes_eq-Decides}
 use Rattle.std.proofs.lemmas.Fmt.{digits_value-decimal}
 use Rattle.hierarchy.specs.declared.Shape.{Shape}
 use Rattle.hierarchy.specs.Faults.{Faults}
-use Rattle.tm_text.specs.Number.{read_on}
-use Rattle.tm_text.proofs.NumberLemmas.{own}
+use Rattle.numerals.specs.Number.{read_on}
+use Rattle.numerals.proofs.NumberLemmas.{own}
 use Rattle.fault_model.specs.Text.{IsFaultText}
 use Rattle.tm_text.specs.Size.{most_bytes}
 use Rattle.fault_model.specs.Refusals.{IsFaultAt}

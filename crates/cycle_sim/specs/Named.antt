@@ -3,7 +3,7 @@ use Rattle.std.specs.Prelude.{◌≡◌, ◌⊎◌, ℕ, ◌≤◌, ◌&&◌, na
 use Rattle.std.specs.Fmt.{decimal}
 use Rattle.hierarchy.specs.declared.Shape.{Shape}
 use Rattle.hierarchy.specs.Faults.{Faults}
-use Rattle.tm_text.specs.Number.{read_on}
+use Rattle.numerals.specs.Number.{read_on}
 use Rattle.tm_outside.specs.Counts.{Rose}
 use Rattle.tm_outside.specs.Told.{Told, bytes_of, IfTold}
 use Rattle.tm_outside.specs.Store.{StoreState}

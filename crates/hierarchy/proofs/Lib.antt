@@ -1,39 +1,40 @@
-pub mod Walks
-pub mod Ways
-pub mod Taps
-pub mod Numbering
+-- What is cited above.
 pub mod Crossings
-pub mod Meanings
-pub mod Tapped
-pub mod Parents
-pub mod Running
-pub mod Weighing
 pub mod Sites
-pub mod Barred
 pub mod Totals
-pub mod Whereabouts
-pub mod Meeting
-pub mod Decimals
 pub mod Naming
 pub mod PlainNames
-pub mod NumeralLemmas
-pub mod Dotted
-pub mod Readable
-pub mod Called
-pub mod CalledTables
-pub mod OneName
 pub mod Full
 pub mod JoinedLemmas
 pub mod Values
 pub mod ValuesExist
-pub mod ByList
-pub mod Bounded
 pub mod Clear
 pub mod Faultless
-pub mod Faulty
 pub mod Covered
-pub mod TapsAndLines
 pub mod Serving
-pub mod Fairness
-pub mod PartNames
-pub mod Sums
+-- For the proofs of this crate alone.
+mod Walks
+mod Ways
+mod Taps
+mod Numbering
+mod Meanings
+mod Tapped
+mod Parents
+mod Running
+mod Weighing
+mod Barred
+mod Whereabouts
+mod Meeting
+mod Decimals
+mod Dotted
+mod Readable
+mod Called
+mod CalledTables
+mod OneName
+mod ByList
+mod Bounded
+mod Faulty
+mod TapsAndLines
+mod Fairness
+mod PartNames
+mod Sums

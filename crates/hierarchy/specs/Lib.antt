@@ -1,14 +1,10 @@
+-- What public contracts say, and what is cited above.
 pub mod Walk
 pub mod Counts
 pub mod Shape
-pub mod Kinds
-pub mod Bars
-pub mod Weights
 pub mod Limits
 pub mod Said
 pub mod Names
-pub mod Numerals
-pub mod Reading
 pub mod Laws
 pub mod PartNames
 pub mod Sites
@@ -20,3 +16,8 @@ pub mod Sound
 pub mod Defects
 pub mod Served
 pub mod Sums
+-- For the bodies of this crate alone.
+pub mod Kinds
+pub mod Bars
+pub mod Weights
+pub mod Reading

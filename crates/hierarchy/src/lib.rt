@@ -16,7 +16,6 @@ mod laws;
 mod limits;
 mod names;
 mod numbers;
-mod numerals;
 mod order;
 mod part;
 mod places;

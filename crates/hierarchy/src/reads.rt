@@ -3,16 +3,16 @@ ghost use Rattle.std.specs.Prelude.{◌≡◌, ◌≢◌, ◌<◌, ◌≤◌, �
 ghost use Rattle.std.specs.List.{position};
 ghost use Rattle.hierarchy.specs.Counts.{AreFull};
 ghost use Rattle.hierarchy.specs.Kinds.{path_of};
-ghost use Rattle.hierarchy.specs.Names.{part_name, wire_name, table_name};
+ghost use Rattle.hierarchy.specs.Names.{numbered, part_name, wire_name, table_name};
 ghost use Rattle.hierarchy.specs.Reading.{IsRead, IsReadable, NoDot};
 ghost use Rattle.hierarchy.specs.Shape.{levels_of, wires_of, tables_of, place_of};
 ghost use Rattle.hierarchy.specs.Walk.{wires_in};
 
-use crate::numerals::read_numbered;
 use crate::places::{first_table, first_wire, levels_of, steps_of};
 use crate::tree::{below, under};
 use crate::way::{Read, Way};
 use crate::{Level, Shape, Table, Wire};
+use numerals::read_number;
 
 /// The place of the first dot.
 fn dot_in(text: &[u8]) -> Option<usize>
@@ -35,6 +35,22 @@ fn after(text: &[u8], place: usize) -> &[u8]
     ensures { result.now ≡ drop place text.now }
 {
     &text[place..]
+}
+
+/// The number below `limit` that follows the letter in a word.
+fn read_numbered(word: &[u8], letter: u8, limit: u32) -> Option<u32>
+    ensures some { IfSome result (λ n. (word.now ≡ numbered letter n) × (n < limit)) }
+    ensures none { IfNone result ((n : ℕ) → n < limit → word.now ≢ numbered letter n) }
+{
+    match word {
+        [first, digits @ ..] if *first == letter && limit > 0 => {
+            match read_number(digits, u64::from(limit - 1)) {
+                Some(n) => Some(n as u32),
+                None => None,
+            }
+        }
+        _ => None,
+    }
 }
 
 /// Reads the words of a way, from the node with these levels on, and leaves the last word.

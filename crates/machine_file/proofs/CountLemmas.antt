@@ -15,7 +15,7 @@ use Rattle.std.proofs.lemmas.Bool.{cases_Bool, and_parts, and_from, false≢true
 use native.Mathlib.Decide.{dec_lt}
 use Rattle.std.proofs.lemmas.Bool.Decides.{Decides-and, Decides-ltb, Decides-by_and}
 use Rattle.std.proofs.lemmas.Slice.Eq.{bytes_eq-Decides}
-use Rattle.tm_text.proofs.NumberLemmas.{read_on-decimal}
+use Rattle.numerals.proofs.NumberLemmas.{read_on-decimal}
 use Rattle.machine_file.specs.declared.kind.MachineKind.{MachineKind}
 use Rattle.machine_file.specs.declared.kind.MachineKind.TheVariants as kind
 use Rattle.machine_file.specs.Reading.{value_of, is_count, counts_fault, is_full, is_within, is_shape}

@@ -8,7 +8,7 @@ use Rattle.hierarchy.specs.declared.Counts.{Counts}
 use Rattle.hierarchy.specs.declared.Which.TheVariants.{Tables, Wires, Crosspoints}
 use Rattle.hierarchy.specs.Limits.{amount_of}
 use Rattle.tm_text.specs.Lines.{LogicalLine, is_bad_line}
-use Rattle.tm_text.specs.Number.{read_on}
+use Rattle.numerals.specs.Number.{read_on}
 use Rattle.machine_file.specs.declared.head.Head.{Head}
 use Rattle.machine_file.specs.declared.head.Head.TheVariants as head
 use Rattle.machine_file.specs.declared.kind.MachineKind.{MachineKind}

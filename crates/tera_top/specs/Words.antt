@@ -3,7 +3,7 @@ use Rattle.std.specs.Prelude.{ℕ, Bool, false, List, [], ◌∷◌, length, Opt
 use Rattle.std.specs.Prelude.{if◌then◌else◌, ◌==◌, ◌&&◌, codes, bytes_eq, slice_index_or, nat_le, option_map}
 use Rattle.std.specs.List.{list_any}
 use Rattle.std.specs.Fmt.{decimal}
-use Rattle.tm_text.specs.Number.{read_on}
+use Rattle.numerals.specs.Number.{read_on}
 use Rattle.steps.specs.Jobs.{Job, wrong_words}
 use Rattle.tera_eval.specs.Eval.{eval_job}
 use Rattle.tera_compile.specs.Compile.{compile_job}

@@ -1,4 +1,5 @@
-pub mod BytesLemmas
-pub mod LinesLemmas
-pub mod NumberLemmas
+-- What is cited above.
 pub mod WrittenLemmas
+-- For the proofs of this crate alone.
+mod BytesLemmas
+mod LinesLemmas

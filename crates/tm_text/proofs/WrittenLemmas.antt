@@ -10,7 +10,7 @@ use Rattle.std.specs.Char.{is_ascii_digit}
 use Rattle.std.specs.Fmt.{decimal}
 use Rattle.std.specs.Str.{all_ascii_digits}
 use Rattle.std.proofs.lemmas.Fmt.{decimal_nonempty, digits_decimal}
-use Rattle.tm_text.proofs.NumberLemmas.{own}
+use Rattle.numerals.proofs.NumberLemmas.{own}
 use Rattle.tm_text.specs.Bytes.{is_blank, is_bad, has_bad_byte, physical_lines, uncommented, words_of}
 use Rattle.tm_text.specs.Lines.{LogicalLine, texts_of, line_of, with_words, lines_from}
 use Rattle.tm_text.specs.Written.{spaced, written, is_graphic, IsWord, AreRows, numbered}

@@ -7,10 +7,9 @@
 
 mod bytes;
 mod lines;
-mod number;
 mod size;
 
 pub use bytes::place_of;
 pub use lines::{Line, LineFault, Lines, written_lines_are_read};
-pub use number::{put_number, read_number};
+pub use numerals::{put_number, read_number};
 pub use size::MOST_BYTES;

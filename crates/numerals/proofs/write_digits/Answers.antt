@@ -1,7 +1,7 @@
 use Rattle.std.proofs.Common.{arith}
 use Rattle.std.proofs.Math.ListN.{length-set}
-use Rattle.tm_text.proofs.NumberLemmas.{starts, room_before, last_digit, more_digits, less_room}
-use Rattle.tm_text.proofs.number.write_digits.Goals as goal
+use Rattle.numerals.proofs.NumberLemmas.{starts, room_before, last_digit, more_digits, less_room}
+use Rattle.numerals.proofs.write_digits.Goals as goal
 
 pub digits-init : goal.digits-init
 digits-init c =

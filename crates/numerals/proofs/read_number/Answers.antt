@@ -1,7 +1,7 @@
 use Rattle.std.proofs.Common.{arith, refl}
 use Rattle.std.proofs.lemmas.Bool.{false≢true}
-use Rattle.tm_text.proofs.NumberLemmas.{not_plain, some_is, none_is}
-use Rattle.tm_text.proofs.number.read_number.Goals as goal
+use Rattle.numerals.proofs.NumberLemmas.{not_plain, some_is, none_is}
+use Rattle.numerals.proofs.read_number.Goals as goal
 
 pub returns-then-not-is_plain-clause-none : goal.returns-then-not-is_plain-clause-none
 returns-then-not-is_plain-clause-none c = not_plain c.args.word.now c.args.most (omega arith) (λ p. false≢true (c.if-not-is_plain.ensures.1 p))

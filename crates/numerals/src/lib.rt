@@ -1,14 +1,15 @@
-//! Numerals: decimal digits without a leading zero.
+//! Decimal numerals: digits without a leading zero.
+#![tactic(auto)]
 
 ghost use Rattle.std.specs.Prelude.{◌≡◌, ◌++◌, ◌∷◌, [], OnOk, OnErr, drop, ◌<◌, ◌≤◌, ◌+◌, ◌*◌, ◌-◌, ◌^◌, ℕ, true, length, IfSome, IfNone, MatchOption, SomeIff, IsTrue, ◌↔◌};
 ghost use Rattle.std.specs.Str.{all_ascii_digits};
 ghost use Rattle.std.specs.Fmt.{decimal};
-ghost use Rattle.tm_text.specs.Number.{read_on, IsPlain};
+ghost use Rattle.numerals.specs.Number.{read_on, IsPlain};
 
 use std::alloc::AllocError;
 
 /// A `u64` has at most this many digits.
-const MOST_DIGITS: usize = 20;
+pub const MOST_DIGITS: usize = 20;
 
 /// The number after one more digit, if it is at most `most`.
 fn with_digit(number: u64, digit: u8, most: u64) -> Option<u64>
@@ -52,7 +53,8 @@ fn is_plain(word: &[u8]) -> bool
     }
 }
 
-/// The number of at most `most` whose decimal numeral, without leading zeros, the word is.
+/// The number of at most `most` whose decimal numeral, without leading zeros, the word is. `None` exactly where it is the numeral of no
+/// such number.
 pub fn read_number(word: &[u8], most: u64) -> Option<u64>
     ensures some { IfSome result (λ n. (word.now ≡ decimal n) × (n ≤ most)) }
     ensures none { IfNone result ((n : ℕ) → n ≤ most → word.now ≡ decimal n → ⊥) }
@@ -64,7 +66,7 @@ pub fn read_number(word: &[u8], most: u64) -> Option<u64>
 }
 
 /// Writes the numeral of a number at the end of the digits, and answers the place where it begins.
-fn write_digits(digits: &mut [u8; MOST_DIGITS], n: u64) -> usize
+pub fn write_digits(digits: &mut [u8; MOST_DIGITS], n: u64) -> usize
     ensures within { result ≤ 20 }
     ensures numeral { drop result digits.new ≡ decimal n }
 {

@@ -1,6 +1,6 @@
 use Rattle.std.proofs.Common.{◌≡◌, ◌++◌, ◌≤◌, drop, length}
 use Rattle.std.specs.Fmt.{decimal}
-use Rattle.tm_text.proofs.number.write_digits.Given as goal
+use Rattle.numerals.proofs.write_digits.Given as goal
 
 abbrev pub invariant-digits : goal.invariant-digits
 invariant-digits l = record {
