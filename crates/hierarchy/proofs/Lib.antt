@@ -38,3 +38,5 @@ mod TapsAndLines
 mod Fairness
 mod PartNames
 mod Sums
+mod Standing
+mod Tightness

@@ -21,9 +21,16 @@ ample_at {ls = []} h stop n = absurd (omega arith)
 ample_at {ls = l ∷ ls} h stop n = h 0 l (omega arith)
 ample_at h (step b s) n = ample_at (λ k d e. h (suc k) d (omega arith)) s n
 
-zero_or : (n : ℕ) → (n ≡ 0) ⊎ (n ≢ 0)
+pub zero_or : (n : ℕ) → (n ≡ 0) ⊎ (n ≢ 0)
 zero_or zero = inl refl
 zero_or (suc n) = inr (λ e. omega arith)
+
+module _ (m : Shape) where
+  pub sound_cross : (f : Faults) (x t l : ℕ) → x < crosses_of m → ends_of m x ≡ (t, l) → IsSoundWire m f t → IsWholeLine m f l → IsSoundCross m f x
+  sound_cross f x t l h e sound whole =
+      let to_t : t ≡ (ends_of m x).0 = sym (ap (λ p. p.0) e) in
+      let to_l : l ≡ (ends_of m x).1 = sym (ap (λ p. p.1) e) in
+      record { not_stuck = whole.crosses x h (sym to_l); tap = subst (IsSoundWire m f) to_t sound; line = subst (IsSoundWire m f) to_l whole.sound }
 
 module _ (m : Shape) (numbered : IsNumbered m) (tree : IsTree m) (meanings : HasMeanings m) (parents : HasParents m) (crosses : HasCrosses m) (meetings : HasMeetings m) (sites : HasSites m) where
   home : (w : ℕ) → w < wires_of m → IsTap m (node_of m w) w ⊎ IsLine m (node_of m w) w
@@ -72,20 +79,14 @@ module _ (m : Shape) (numbered : IsNumbered m) (tree : IsTree m) (meanings : Has
       }
       by (inr other) = let p = s.ports n itself other in record { one = p.one; two = p.two; different = p.different; first = (tap_port p.first.0, p.first.1); second = (tap_port p.second.0, p.second.1) }
 
-  sound_cross : (f : Faults) (x t l : ℕ) → x < crosses_of m → ends_of m x ≡ (t, l) → IsSoundWire m f t → IsWholeLine m f l → IsSoundCross m f x
-  sound_cross f x t l h e sound whole =
-      let to_t : t ≡ (ends_of m x).0 = sym (ap (λ p. p.0) e) in
-      let to_l : l ≡ (ends_of m x).1 = sym (ap (λ p. p.1) e) in
-      record { not_stuck = whole.crosses x h (sym to_l); tap = subst (IsSoundWire m f) to_t sound; line = subst (IsSoundWire m f) to_l whole.sound }
-
   use_of_whole : (f : Faults) (n l : ℕ) → IsServed m f n → IsLine m n l → IsWholeLine m f l → IsOfUse m f l
   use_of_whole f n l s line whole = record {
     crosses = λ _. record {
       one = one.0;
       two = two.0;
       different = λ e. o.different (ap (λ p. p.0) (sym one.2 ∙ ap (ends_of m) e ∙ two.2));
-      first = (one.1, ap (λ p. p.1) one.2, sound_cross f one.0 o.one l one.1 one.2 o.first.1 whole);
-      second = (two.1, ap (λ p. p.1) two.2, sound_cross f two.0 o.two l two.1 two.2 o.second.1 whole);
+      first = (one.1, ap (λ p. p.1) one.2, sound_cross m f one.0 o.one l one.1 one.2 o.first.1 whole);
+      second = (two.1, ap (λ p. p.1) two.2, sound_cross m f two.0 o.two l two.1 two.2 o.second.1 whole);
     };
   }
     where

@@ -15,6 +15,8 @@ pub mod Value
 pub mod Sound
 pub mod Defects
 pub mod Served
+pub mod Standing
+pub mod Tight
 pub mod Sums
 -- For the bodies of this crate alone.
 pub mod Kinds

@@ -21,6 +21,7 @@ mod part;
 mod places;
 mod reads;
 mod served;
+mod tight;
 mod tree;
 mod way;
 mod wires;
@@ -40,6 +41,7 @@ pub use served::{
     each_wire_has_a_home, fair_lists_leave_sound_parts, fair_lists_of_faultless_machines_are_empty,
     served_nodes_have_sound_parts, whole_lines_have_two_sound_crosspoints,
 };
+pub use tight::{parts_of_served_nodes_stand, tight_lists_are_fair, tight_lists_are_least};
 
 /// How many of each there are. Ports are per module, chip and hextant, lines per root, module, chip and hextant.
 #[derive(Clone, Copy, Debug, PartialEq, Eq)]
