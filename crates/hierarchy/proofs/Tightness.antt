@@ -13,7 +13,7 @@ use Rattle.hierarchy.specs.Sound.{IsSoundWire, IsSoundTable, IsServed}
 use Rattle.hierarchy.specs.Defects.{Defects, IsFreeWire, IsFreeCross, IsFreeTable, IsClear, IsOfUse, IsFair, Covers}
 use Rattle.hierarchy.specs.Served.{HasHomes}
 use Rattle.hierarchy.specs.Standing.{pin_stands, on_two, StandsWithout, Meets, IsSeated, IsSoundCrossOf, IsStanding, HasStandingParts}
-use Rattle.hierarchy.specs.Tight.{IsFreeWireOf, IsFreeCrossOf, IsAlone, two_feet, IsTight, AreDefectsOf, CouldStand, as_pin, on_feet, IsTakenOff, IsLeast, HasOneFree}
+use Rattle.hierarchy.specs.Tight.{IsFreeWireOf, IsFreeCrossOf, IsAlone, two, IsTight, AreDefectsOf, CouldStand, as_pin, on_feet, IsTakenOff, IsLeast, HasOneFree}
 use Rattle.hierarchy.proofs.JoinedLemmas.{Ends-swap, Joined-sym, Joined-trans}
 use Rattle.hierarchy.proofs.Clear.{clear_of_sound}
 use Rattle.hierarchy.proofs.Standing.{stands_is, stands_also}
@@ -47,7 +47,7 @@ module _ (m : Shape) (numbered : IsNumbered m) (d : Defects) (f : Faults) (tight
       let below = numbered.ends x w a cx.0 (Ends-swap ex) in (
         below,
         if_alone w sound (λ alone. tight.wires w below (clear_of_sound sound) alone
-            (two_feet x y a b cx.0 cy.0 ex ey ne (free_standing p) (free_standing q) cx.1.not_stuck cy.1.not_stuck)),
+            (two x y a b cx.0 cy.0 ex ey ne (free_standing p) (free_standing q) cx.1.not_stuck cy.1.not_stuck)),
       )
 
   pub unlisted : (x : ℕ) → x < crosses_of m → stuck_cross f x ≡ None → set.contains d.crosses x ≡ false

@@ -21,7 +21,7 @@ IsAlone m f wires w = (u : ℕ) → wires u → ¬ Shorted m f w u
 
 -- two of these crosspoints that aren't stuck lead from the wire to two different ones of these wires
 pub data HasFeet (m : Shape) (f : Faults) (crosses wires : ℕ → Type 0) (w : ℕ) : Type 0 where
-  two_feet : (x y a b : ℕ) → crosses x → crosses y → Ends (ends_of m x) a w → Ends (ends_of m y) b w → a ≢ b → wires a → wires b →
+  two : (x y a b : ℕ) → crosses x → crosses y → Ends (ends_of m x) a w → Ends (ends_of m y) b w → a ≢ b → wires a → wires b →
       stuck_cross f x ≡ None → stuck_cross f y ≡ None → HasFeet m f crosses wires w
 
 -- by any crosspoints of the machine, to free wires

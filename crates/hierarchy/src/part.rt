@@ -2,6 +2,7 @@
 ghost use Rattle.std.specs.Prelude.{◌≡◌, ◌<◌, ◌≤◌, ◌+◌, ◌++◌, ◌∷◌, [], length};
 ghost use Rattle.std.specs.Fmt.{decimal};
 
+use numerals::{MOST_DIGITS, write_digits};
 use std::marker::Model;
 
 /// The name of a node, a table or a wire: at most 48 bytes.
@@ -49,17 +50,24 @@ impl PartName {
         self.len += 1;
     }
 
+    /// Appends bytes.
+    fn push_all(&mut self, bytes: &[u8])
+        requires { length self.old + length bytes.now ≤ 48 }
+        ensures { self.new ≡ self.old ++ bytes.now }
+    {
+        'bytes: for byte in bytes {
+            self.push(*byte);
+        }
+    }
+
     /// Appends a numeral.
     fn push_number(&mut self, n: u32)
         requires { length self.old + length (decimal n) ≤ 48 }
         ensures { self.new ≡ self.old ++ decimal n }
     {
-        if n >= 10 {
-            self.push_number(n / 10);
-            self.push(b'0' + (n % 10) as u8);
-        } else {
-            self.push(b'0' + n as u8);
-        }
+        let mut digits = [0u8; MOST_DIGITS];
+        let place = write_digits(&mut digits, u64::from(n));
+        self.push_all(&digits[place..]);
     }
 
     /// Appends a letter and a number of at most five digits.
