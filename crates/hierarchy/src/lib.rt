@@ -5,7 +5,7 @@
 //! are numbered by one walk over the tree, a node before its children.
 #![tactic(auto)]
 
-ghost use Rattle.std.specs.Prelude.{◌≤◌, ℕ};
+ghost use Rattle.std.specs.Prelude.{◌≤◌};
 ghost use Rattle.hierarchy.specs.Counts.{levels_from, IsFull};
 ghost use Rattle.hierarchy.specs.Walk.{size, wires_in, nodes_in, crosses_in, tables_in};
 

@@ -1,5 +1,5 @@
 //! Which counts make a shape.
-ghost use Rattle.std.specs.Prelude.{◌≡◌, ◌+◌, ◌*◌, ◌<◌, ◌≤◌, ◌^◌, IfOk, IfErr, IfSome, IfNone, slice_index_or};
+ghost use Rattle.std.specs.Prelude.{◌≡◌, ◌+◌, ◌*◌, ◌<◌, ◌≤◌, ◌^◌, IfOk, IfErr, IfSome, IfNone};
 ghost use Rattle.hierarchy.specs.Counts.{IsFull, levels_from};
 ghost use Rattle.hierarchy.specs.Limits.{HasZero, IsShapeFault, IsFirstZero, MakeShape};
 ghost use Rattle.hierarchy.specs.Walk.{size, wires_in, crosses_in, tables_in};

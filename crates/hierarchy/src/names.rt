@@ -1,5 +1,5 @@
 //! The names of nodes, tables and wires.
-ghost use Rattle.std.specs.Prelude.{◌≡◌, ◌<◌, ◌≤◌, ◌+◌, ◌*◌, ◌++◌, ◌∷◌, All, length};
+ghost use Rattle.std.specs.Prelude.{◌≡◌, ◌<◌, ◌≤◌, ◌+◌, ◌*◌, ◌++◌, All, length};
 ghost use Rattle.hierarchy.specs.Names.{way_name, steps_name, port_letter, part_name, node_name, table_name, wire_name};
 ghost use Rattle.hierarchy.specs.Shape.{wires_of, tables_of, nodes_of};
 

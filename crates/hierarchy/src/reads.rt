@@ -1,7 +1,6 @@
 //! From names back to wires and tables.
-ghost use Rattle.std.specs.Prelude.{◌≡◌, ◌≢◌, ◌<◌, ◌≤◌, ◌==◌, ◌∷◌, ◌++◌, ◌^◌, [], ℕ, List, length, IfSome, IfNone, take, drop};
+ghost use Rattle.std.specs.Prelude.{◌≡◌, ◌≢◌, ◌<◌, ◌≤◌, ◌==◌, ◌∷◌, ◌^◌, [], ℕ, List, length, IfSome, IfNone, take, drop};
 ghost use Rattle.std.specs.List.{position};
-ghost use Rattle.hierarchy.specs.Counts.{AreFull};
 ghost use Rattle.hierarchy.specs.Kinds.{path_of};
 ghost use Rattle.hierarchy.specs.Names.{numbered, part_name, wire_name, table_name};
 ghost use Rattle.hierarchy.specs.Reading.{IsRead, IsReadable, NoDot};

@@ -2,7 +2,7 @@
 //!
 //! A node is given by the levels from it on, of which the first is its own. No levels are left at a table. The
 //! walk goes by the weights of the depths, one function for each depth, so that nothing is computed twice.
-ghost use Rattle.std.specs.Prelude.{◌≡◌, ◌<◌, ◌≤◌, ◌+◌, ◌-◌, ◌/◌, ◌%◌, ◌^◌, [], ◌∷◌, ℕ, drop, length};
+ghost use Rattle.std.specs.Prelude.{◌≡◌, ◌<◌, ◌≤◌, ◌+◌, ◌-◌, ◌/◌, ◌%◌, ◌^◌, [], ◌∷◌, drop, length};
 ghost use Rattle.hierarchy.specs.Kinds.{numbers_in, path_of};
 ghost use Rattle.hierarchy.specs.Walk.{next, ports_in, size, taps_in};
 ghost use Rattle.hierarchy.specs.Weights.{Fits, each_by, IsStep, IsSiteOf, place_by, start_by, weights_at, weights_in};

@@ -1,6 +1,6 @@
 //! The logical lines of a text.
 
-ghost use Rattle.std.specs.Prelude.{◌≡◌, ◌++◌, ◌∷◌, [], ◌+◌, ◌<◌, ◌≤◌, ◌^◌, ℕ, Bool, true, false, List, length, map, IfOk, OnOk, OnErr, MatchResult, MatchOption, Ok, Err, None, Some, slice_get, option_copied, if◌then◌else◌, IfErr, All};
+ghost use Rattle.std.specs.Prelude.{if◌then◌else◌, ◌≡◌, ◌∷◌, ◌+◌, ◌<◌, ◌≤◌, ◌^◌, ℕ, false, List, length, map, IfOk, OnErr, Ok, Err, None, Some, slice_get, option_copied, IfErr, All};
 ghost use Rattle.std.specs.Fmt.{decimal};
 ghost use Rattle.tm_text.specs.Bytes.{physical_lines, joining_part, has_bad_byte};
 ghost use Rattle.tm_text.specs.Written.{AreRows, IsWord, written, numbered};
