@@ -1,7 +1,8 @@
 -- A rig that fails at chosen calls.
 use Rattle.std.specs.Prelude.{ℕ, ◌+◌, ◌-◌, ◌^◌, min, Bool, List, None, if◌then◌else◌, Contains}
 use Rattle.tm_outside.specs.Counts.{next_count}
-use Rattle.rig.specs.Rig.{Asked, RigState}
+use Rattle.rig.specs.Rig.{Asked, RigState, IsDetached, AttachFails}
+use Rattle.rig.specs.declared.rig.AttachFail.TheVariants as attach
 
 -- two counts of failures as one, which stops at the last value of u64
 abbrev pub both_counts : ℕ → ℕ → ℕ
@@ -23,3 +24,7 @@ flaky_state inner asked is_attached in_session failures = record {
 -- the call after so many calls is one of those that are to fail
 abbrev pub IsChosen : List ℕ → ℕ → Type 0
 IsChosen fails calls = Contains fails (next_count calls)
+
+-- the inner rig was reached, and answered `Memory` itself
+abbrev pub WantsMemory : Asked → RigState → RigState → Type 0
+WantsMemory machine old new = IsDetached new × AttachFails attach.Memory machine old new

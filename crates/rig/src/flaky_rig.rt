@@ -1,8 +1,8 @@
 //! A rig that fails at chosen calls.
 ghost use Rattle.std.specs.Prelude.{◌≡◌, ◌⊎◌, ◌-◌, ◌^◌, ◌<◌, ◌≤◌, [], None, Some, min, length, IfErr, OnOk, OnErr, IsErrOf};
 ghost use Rattle.tm_outside.specs.Counts.{Rose, next_count};
-ghost use Rattle.rig.specs.Rig.{RigState, shape_of, width_of, IsDetached, Attaches, AttachFails, HasFaultsOf, Begins, LoadFails, GoesOn, CycleFails};
-ghost use Rattle.rig.specs.Flaky.{flaky_state, IsChosen};
+ghost use Rattle.rig.specs.Rig.{RigState, Asked, shape_of, width_of, IsDetached, Attaches, AttachFails, HasFaultsOf, Begins, LoadFails, GoesOn, CycleFails};
+ghost use Rattle.rig.specs.Flaky.{flaky_state, IsChosen, WantsMemory};
 
 use crate::{AskedMachines, AttachFail, PinBits, Rig, RigFail};
 use config_set::Config;
@@ -66,11 +66,14 @@ impl<R: Rig> Rig for FlakyRig<R> {
         ensures refused { IfErr result (λ e. AttachFails e (record { shape = shape.now; name = name.now }) (⟦<FlakyRig<R> as Rig>⟧.rig_state self.old) (⟦<FlakyRig<R> as Rig>⟧.rig_state self.new)) }
 
         // A chosen call fails and doesn't reach the inner rig; another call fails only where that one's count rose.
+        // It is short of memory without reaching the inner rig, or because that one is.
         ensures fails { self.new.fails.items ≡ self.old.fails.items }
         ensures calls { self.new.calls ≡ next_count self.old.calls }
         ensures chosen { IsChosen self.old.fails.items self.old.calls → IsErrOf result AttachFail.Failed ⊎ IsErrOf result AttachFail.Memory }
         ensures unreached { IsChosen self.old.fails.items self.old.calls → R.rig_state self.new.inner ≡ R.rig_state self.old.inner }
         ensures failed { IsErrOf result AttachFail.Failed → IsChosen self.old.fails.items self.old.calls ⊎ Rose (R.rig_state self.old.inner).failures (R.rig_state self.new.inner).failures }
+        ensures wanting { let machine : Asked = record { shape = shape.now; name = name.now } in
+            IsErrOf result AttachFail.Memory → (R.rig_state self.new.inner ≡ R.rig_state self.old.inner) ⊎ WantsMemory machine (R.rig_state self.old.inner) (R.rig_state self.new.inner) }
     {
         self.is_attached = false;
         self.in_session = false;

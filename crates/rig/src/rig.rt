@@ -7,6 +7,7 @@ use crate::PinBits;
 use config_set::Config;
 use fault_model::FaultsFault;
 use hierarchy::Shape;
+use std::alloc::AllocError;
 
 /// Why a rig attaches nothing.
 #[derive(Clone, Copy, Debug, PartialEq, Eq)]
@@ -26,6 +27,17 @@ pub enum RigFail {
     Failed,
     /// Memory is wanting.
     Memory,
+}
+
+impl From<AllocError> for RigFail {
+    ghost use Rattle.std.specs.Prelude.{◌≡◌};
+    ghost use Rattle.rig.specs.declared.rig.RigFail.TheVariants.{Memory};
+
+    ghost from_gives = { λ _ e. e ≡ Memory };
+
+    fn from(_e: AllocError) -> RigFail {
+        RigFail::Memory
+    }
 }
 
 /// A machine that is attached by name, loaded and driven.
