@@ -12,6 +12,7 @@ pub mod Clear
 pub mod Faultless
 pub mod Covered
 pub mod Serving
+pub mod Seats
 -- For the proofs of this crate alone.
 mod Walks
 mod Ways

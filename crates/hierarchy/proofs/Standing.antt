@@ -18,18 +18,6 @@ use Rattle.hierarchy.proofs.Totals.{four_levels}
 use Rattle.hierarchy.proofs.Serving.{zero_or, sound_cross}
 use Rattle.hierarchy.proofs.Fairness.{two_of_use}
 
--- what stands is one of the wires
-pub stands_is : {m : Shape} {W C : ℕ → Type 0} {w : ℕ} → StandsBy m W C w → W w
-stands_is (pin_stands k h s) = s
-stands_is (on_two w x y a b s cx cy ex ey ne p q) = s
-
--- with more wires and crosspoints more stands
-pub stands_also : {m : Shape} {W V C D : ℕ → Type 0} → ((w : ℕ) → W w → V w) →
-    ((x a b : ℕ) → C x → Ends (ends_of m x) a b → V a → V b → D x) → {w : ℕ} → StandsBy m W C w → StandsBy m V D w
-stands_also f g (pin_stands k h s) = pin_stands k h (f _ s)
-stands_also f g (on_two w x y a b s cx cy ex ey ne p q) = on_two w x y a b (f w s)
-    (g x a w cx ex (f a (stands_is p)) (f w s)) (g y b w cy ey (f b (stands_is q)) (f w s)) ex ey ne (stands_also f g p) (stands_also f g q)
-
 above_zero : (n : ℕ) → n ≢ 0 → 0 < n
 above_zero zero other = absurd (other refl)
 above_zero (suc n) other = omega arith

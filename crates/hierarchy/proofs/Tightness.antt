@@ -1,22 +1,22 @@
 -- What a tight list leaves free, and that nothing that could stand can be taken off it.
-use Rattle.std.proofs.Common.{◌≡◌, ◌⊎◌, ℕ, ◌<◌, Bool, true, false, Option, Some, None, refl, sym, ap, ◌∙◌, subst, inl, inr, arith}
+use Rattle.std.proofs.Common.{◌≡◌, ◌⊎◌, ℕ, ◌<◌, Bool, true, false, Option, Some, None, refl, sym, ◌∙◌, subst, inl, inr}
 use Rattle.std.specs.Prelude.{IsSome, unwrap_or}
 use Rattle.std.proofs.lemmas.Bool.{false≢true}
 use Rattle.std.specs.FinSet as set
 use native.Mathlib.Decide.{dec_lt}
 use Rattle.hierarchy.specs.declared.Shape.{Shape}
 use Rattle.hierarchy.specs.Laws.{IsNumbered}
-use Rattle.hierarchy.specs.Shape.{Ends, in_order, turned, ends_of, pin_wire, table_wire, wires_of, crosses_of, tables_of, node_of, hextant_of, IsLine, IsTap}
+use Rattle.hierarchy.specs.Shape.{Ends, in_order, turned, ends_of, pin_wire, table_wire, wires_of, crosses_of, tables_of, node_of, IsLine, IsTap}
 use Rattle.hierarchy.specs.Faults.{Faults, AreFaultsOf, stuck_cross}
 use Rattle.hierarchy.specs.Joined.{Linked, crossed, bridged, Joined, here, Shorted, net_of}
 use Rattle.hierarchy.specs.Sound.{IsSoundWire, IsSoundTable, IsServed}
 use Rattle.hierarchy.specs.Defects.{Defects, IsFreeWire, IsFreeCross, IsFreeTable, IsClear, IsOfUse, IsFair, Covers}
 use Rattle.hierarchy.specs.Served.{HasHomes}
-use Rattle.hierarchy.specs.Standing.{pin_stands, on_two, StandsWithout, Meets, IsSeated, IsSoundCrossOf, IsStanding, HasStandingParts}
+use Rattle.hierarchy.specs.Standing.{pin_stands, on_two, IsSeated, IsSoundCrossOf, IsStanding, HasStandingParts}
 use Rattle.hierarchy.specs.Tight.{IsFreeWireOf, IsFreeCrossOf, IsAlone, two, IsTight, AreDefectsOf, CouldStand, as_pin, on_feet, IsTakenOff, IsLeast, HasOneFree}
 use Rattle.hierarchy.proofs.JoinedLemmas.{Ends-swap, Joined-sym, Joined-trans}
 use Rattle.hierarchy.proofs.Clear.{clear_of_sound}
-use Rattle.hierarchy.proofs.Standing.{stands_is, stands_also}
+use Rattle.hierarchy.proofs.Seats.{seated_also}
 use Rattle.hierarchy.proofs.ValuesExist.{dec_place}
 
 -- listed or not
@@ -62,40 +62,9 @@ module _ (m : Shape) (numbered : IsNumbered m) (d : Defects) (f : Faults) (tight
   cross_between x a b is (in_order s t) p q = (is.0, record { itself = unlisted x is.0 is.1.not_stuck; tap = rw s p.1; line = rw t q.1 })
   cross_between x a b is (turned s t) p q = (is.0, record { itself = unlisted x is.0 is.1.not_stuck; tap = rw s q.1; line = rw t p.1 })
 
-  meets_free : {t l : ℕ} → Meets m (IsSoundCrossOf m f) t l → IsFreeWireOf m d t → IsFreeWireOf m d l → Meets m (IsFreeCrossOf m d) t l
-  meets_free {t} {l} x p q = (x.0, cross_between x.0 t l x.1 (in_order (ap (λ p. p.0) x.2) (ap (λ p. p.1) x.2)) p q, x.2)
-
   seated_free : (t : ℕ) → IsSeated m (IsStanding m f) (IsSoundCrossOf m f) t → IsSeated m (IsFreeWireOf m d) (IsFreeCrossOf m d) t
-  seated_free t s =
-      record {
-        pins = λ k b. free_standing (s.pins k b);
-        near = s.near;
-        far = s.far;
-        line = s.line;
-        near_port = s.near_port;
-        far_port = s.far_port;
-        different = s.different;
-        near_stands = without s.near_stands;
-        far_stands = without s.far_stands;
-        out = (
-          s.out.0,
-          free_standing s.out.1,
-          meets_free s.out.2 (stands_is (without s.far_stands)).0 (free_standing s.out.1),
-          meets_free s.out.3 (free_standing (s.pins 6 (omega arith))) (free_standing s.out.1),
-        );
-        inputs = λ k b. let i = s.inputs k b in (
-          i.0,
-          i.1,
-          free_standing i.2,
-          i.3,
-          meets_free i.4 (stands_is (without s.near_stands)).0 (free_standing i.2),
-          meets_free i.5 (free_standing (s.pins k (omega arith))) (free_standing i.2),
-        );
-      }
-    where
-      without : {w : ℕ} → StandsWithout m (IsStanding m f) (IsSoundCrossOf m f) (hextant_of m t) w →
-          StandsWithout m (IsFreeWireOf m d) (IsFreeCrossOf m d) (hextant_of m t) w
-      without h = stands_also (λ u is. (free_standing is.0, is.1)) (λ x a b is at p q. cross_between x a b is at p.0 q.0) h
+  seated_free t s = seated_also m (IsStanding m f) (IsFreeWireOf m d) (IsSoundCrossOf m f) (IsFreeCrossOf m d)
+      (λ w is. free_standing is) cross_between t s
 
   pub free_table : (t : ℕ) → t < tables_of m → IsSoundTable m f t → IsSeated m (IsStanding m f) (IsSoundCrossOf m f) t → IsFreeTable m d t
   free_table t h sound s = record {
