@@ -3,6 +3,9 @@ use Rattle.std.proofs.Common.{◌≡◌, ◌<◌, ◌≤◌, ◌+◌, ℕ, Optio
 use native.Mathlib.Decide.{dec_lt}
 use Rattle.std.proofs.lemmas.List.{get_or_append_left, length-append}
 use Rattle.std.proofs.Math.Seq.{get_or-append_seam}
+use Rattle.hierarchy.specs.declared.Shape.{Shape}
+use Rattle.hierarchy.specs.Shape.{nodes_of, parent_of}
+use Rattle.hierarchy.specs.Laws.{HasParents}
 use Rattle.hierarchy.specs.Faults.{Faults}
 use Rattle.evidence.specs.Kept.{Kept, HoldsFor, IsMore}
 use Rattle.evidence.specs.Held.{Findings, IsHeld, IsFull}
@@ -44,3 +47,11 @@ found_next {told} {k} {l} {found} t more p node held full = record {
         let last : n ≡ length found = omega (arith, below, past, length-append found (t ∷ [])) in
         subst (λ i. IsFoundAt told l i (get_or (found ++ t ∷ []) i d)) (sym last)
         (rw (get_or-append_seam found t [] d) (record { node = node; held = held; full = full_now more full }))
+
+-- below the root each node of the machine has a node above it, with a smaller number
+pub has_one_above : (m : Shape) (n : ℕ) → HasParents m → 0 < n → n < nodes_of m → ((i : ℕ) → parent_of m n ≡ Some i → n ≤ i) → ⊥
+has_one_above m n parents below_root within none =
+    let above = parents.others n below_root within in
+    let before = parents.before n above.0 above.1 in
+    let past = none above.0 above.1 in
+    omega (arith, before, past)

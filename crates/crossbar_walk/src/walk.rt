@@ -1,15 +1,18 @@
 //! The crossbars of a machine, from the root down.
-ghost use Rattle.std.specs.Prelude.{◌≡◌, ◌<◌, ◌+◌, ◌++◌, ◌∷◌, [], Some, None, IfOk, IfSome, IfNone, OnOk, OnErr, IsTrue, false, length};
-ghost use Rattle.hierarchy.specs.Shape.{parent_of};
+ghost use Rattle.std.specs.Prelude.{◌≡◌, ◌<◌, ◌≤◌, ◌+◌, ◌++◌, ◌∷◌, [], ℕ, Some, None, is_some, IfOk, IfSome, IfNone, IfErr, IsErrOf, OnOk, OnErr, IsTrue, false, length};
+ghost use Rattle.tm_outside.specs.Counts.{Rose};
+ghost use Rattle.hierarchy.specs.Shape.{nodes_of, parent_of};
 ghost use Rattle.rig.specs.Rig.{shape_of};
+ghost use Rattle.rig.specs.declared.rig.RigFail.TheVariants as work;
 ghost use Rattle.evidence.specs.Kept.{Advances};
 ghost use Rattle.evidence.specs.Held.{IsHeld};
+ghost use Rattle.crossbar_test.specs.Pins.{ServedIf};
 ghost use Rattle.crossbar_test.specs.Stages.{FullIf};
 ghost use Rattle.crossbar_walk.specs.Found.{AreFound};
 
 use crossbar_test::{find_trunk, test_crossbar};
 use evidence::{Proof, Tested};
-use hierarchy::{Node, Shape};
+use hierarchy::{Node, Shape, the_numbering_is_sound};
 use rig::{Rig, RigFail};
 use std::alloc::Global;
 
@@ -39,6 +42,8 @@ fn test_node(
     ensures node { IfOk result (λ found. IfSome found (λ tested. tested.node ≡ node.0)) }
     ensures held { IfOk result (λ found. IfSome found (IsHeld proof.new)) }
     ensures full { IfOk result (λ found. IfSome found (FullIf (rig_state rig.old).machine.faults proof.old proof.new)) }
+    ensures served { IfOk result (λ found. ServedIf (rig_state rig.old).machine.faults proof.old node.0 (is_some found)) }
+    ensures cause { IsErrOf result RigFail.Failed → Rose (rig_state rig.old).failures (rig_state rig.new).failures }
 {
     let shape = proof.shape();
     let at_first = rig.loads();
@@ -53,10 +58,11 @@ fn test_node(
     Ok(Some(tested))
 }
 
-// The number of the parent of a node, which is below this number.
+// The number of the parent of a node, where it is below this number.
 fn parent_below(shape: &Shape, node: Node, below: usize) -> Option<usize>
     ensures child { IfSome result (λ i. parent_of shape.now node.0 ≡ Some i) }
     ensures below { IfSome result (λ i. i < below) }
+    ensures none { IfNone result (node.0 < nodes_of shape.now → (i : ℕ) → parent_of shape.now node.0 ≡ Some i → below ≤ i) }
 {
     if node.0 >= shape.nodes() {
         return None;
@@ -82,10 +88,13 @@ fn test_one(
     ensures node { IfOk result (λ next. IfSome next (λ tested. tested.node ≡ node.0)) }
     ensures held { IfOk result (λ next. IfSome next (IsHeld proof.new)) }
     ensures full { IfOk result (λ next. IfSome next (FullIf (rig_state rig.old).machine.faults proof.old proof.new)) }
+    ensures served { node.0 ≡ length found.now → node.0 < nodes_of proof.old.shape → IfOk result (λ next. ServedIf (rig_state rig.old).machine.faults proof.old node.0 (is_some next)) }
+    ensures cause { IsErrOf result RigFail.Failed → Rose (rig_state rig.old).failures (rig_state rig.new).failures }
 {
     if node.0 == 0 {
         return test_node(alloc, rig, proof, None, node, loads);
     }
+    the_numbering_is_sound();
     let shape = proof.shape();
     let Some(place) = parent_below(&shape, node, found.len()) else {
         return Ok(None);
@@ -97,6 +106,7 @@ fn test_one(
 fn add(found: &mut Vec<Tested>, tested: Tested) -> Result<(), RigFail>
     ensures added { OnOk result (found.new.items ≡ found.old.items ++ tested ∷ []) }
     ensures same { OnErr result (found.new.items ≡ found.old.items) }
+    ensures memory { IfErr result (λ e. e ≡ work.Memory) }
 {
     match found.push(tested) {
         Ok(()) => Ok(()),
@@ -104,12 +114,13 @@ fn add(found: &mut Vec<Tested>, tested: Tested) -> Result<(), RigFail>
     }
 }
 
-/// Adds the tested crossbar of the next node, and says how many loads that took. False where no trunk of it is found; then,
-/// and where it refuses, what was found before stays as it was.
+/// Adds the tested crossbar of the next node, and says how many loads that took. False where no trunk of it is found: where the
+/// faults are told and the machine has such a node, only where it isn't served. Then, and where it refuses, what was found before
+/// stays as it was.
 ///
 /// # Errors
 ///
-/// The rig's fault, or want of memory.
+/// `Failed`, only where the rig's count rose, or want of memory.
 pub fn test_next(
     alloc: Global,
     rig: &mut Box<dyn Rig>,
@@ -127,6 +138,8 @@ pub fn test_next(
     ensures length { IfOk result (λ yes. IsTrue yes → length found.new.items ≡ node.0 + 1) }
     ensures none { IfOk result (λ yes. yes ≡ false → found.new.items ≡ found.old.items) }
     ensures same { OnErr result (found.new.items ≡ found.old.items) }
+    ensures served { node.0 < nodes_of proof.old.shape → IfOk result (ServedIf (rig_state rig.old).machine.faults proof.old node.0) }
+    ensures cause { IsErrOf result RigFail.Failed → Rose (rig_state rig.old).failures (rig_state rig.new).failures }
 {
     let Some(tested) = test_one(alloc, rig, proof, found, node, loads)? else {
         return Ok(false);

@@ -1,8 +1,9 @@
 //! The simulated rig.
 
-ghost use Rattle.std.specs.Prelude.{◌≡◌, ◌⊎◌, ◌^◌, ◌<◌, ◌≤◌, [], None, Some, IfOk, IfErr, OnOk, OnErr, length, option_map, option_and_then, string_bytes};
+ghost use Rattle.std.specs.Prelude.{◌≡◌, ◌⊎◌, ◌^◌, ◌<◌, ◌≤◌, [], None, Some, IfOk, IfErr, IsErrOf, OnOk, OnErr, length, option_map, option_and_then, string_bytes};
 ghost use Rattle.hierarchy.specs.Faults.{AreFaultsOf};
 ghost use Rattle.tm_outside.specs.Counts.{next_count, Rose};
+ghost use Rattle.tm_outside.specs.Told.{absent};
 ghost use Rattle.rig.specs.Rig.{shape_of, width_of, IsDetached, Attaches, AttachFails, HasFaultsOf, Begins, LoadFails, GoesOn, CycleFails};
 ghost use Rattle.rig.specs.declared.rig.RigFail.TheVariants as work;
 ghost use Rattle.cycle_sim.specs.Named.{generated_of, texts_of, AreNamed, TellsNamed, Asks, AsksAtMost, NamesFail};
@@ -52,6 +53,7 @@ fn sim_of<S: Store>(
     ensures asks { OnOk result (Asks (generated_of name.now) name.now (S.store_state store.old) (S.store_state store.new)) }
     ensures asks_at_most { AsksAtMost (generated_of name.now) name.now (S.store_state store.old) (S.store_state store.new) }
     ensures refused { IfErr result (λ e. NamesFail e shape.now (texts_of (S.store_state store.old).contents name.now) (S.store_state store.old) (S.store_state store.new)) }
+    ensures missing { generated_of name.now ≡ None → (S.store_state store.old).contents name.now ≡ absent → IsErrOf result AttachFail.Failed ⊎ IsErrOf result AttachFail.Memory }
 {
     match faults_of(alloc, store, shape, name) {
         Ok(faults) => match Sim::new(alloc, faults) {
@@ -101,7 +103,7 @@ impl<S: Store + Drop> Rig for SimRig<S> {
     } };
 
     /// The store is asked for the file of this name and no other, and for nothing where the name is `@n`. The rig
-    /// fails only where the store does.
+    /// fails only where the store does; so it does, but for want of memory, at a name whose file is told to be absent.
     fn attach(&mut self, shape: &Shape, name: &str) -> Result<(), AttachFail>
         ensures texts { (⟦<SimRig<S> as Rig>⟧.rig_state self.new).machine.texts ≡ (⟦<SimRig<S> as Rig>⟧.rig_state self.old).machine.texts }
         ensures loads { (⟦<SimRig<S> as Rig>⟧.rig_state self.new).loads ≡ (⟦<SimRig<S> as Rig>⟧.rig_state self.old).loads }
@@ -114,6 +116,7 @@ impl<S: Store + Drop> Rig for SimRig<S> {
         ensures asks { OnOk result (Asks (generated_of name.now) name.now (S.store_state self.old.store) (S.store_state self.new.store)) }
         ensures asks_at_most { AsksAtMost (generated_of name.now) name.now (S.store_state self.old.store) (S.store_state self.new.store) }
         ensures caused { IfErr result (λ e. NamesFail e shape.now ((⟦<SimRig<S> as Rig>⟧.rig_state self.old).machine.texts name.now) (S.store_state self.old.store) (S.store_state self.new.store)) }
+        ensures missing { generated_of name.now ≡ None → (S.store_state self.old.store).contents name.now ≡ absent → IsErrOf result AttachFail.Failed ⊎ IsErrOf result AttachFail.Memory }
         ensures rises { ((⟦<SimRig<S> as Rig>⟧.rig_state self.new).failures ≡ (⟦<SimRig<S> as Rig>⟧.rig_state self.old).failures) ⊎ Rose (S.store_state self.old.store).failures (S.store_state self.new.store).failures }
     {
         // A count that was read is known to be a u64.
