@@ -1,5 +1,5 @@
 -- What tests read, and where they are bound to pass. `told` is the faults of the machine, where they are told.
-use Rattle.std.specs.Prelude.{◌≡◌, ◌≢◌, ◌↔◌, ℕ, Bool, true, false, Option, Some, None, IsTrue, [], ◌∷◌, slice_index_or}
+use Rattle.std.specs.Prelude.{◌≡◌, ◌≢◌, ◌↔◌, ℕ, Bool, true, false, Option, Some, None, IsTrue, List, [], ◌∷◌, All, flat_map, slice_index_or}
 use Rattle.hierarchy.specs.Circuit.{Pins}
 use Rattle.hierarchy.specs.Faults.{Faults}
 use Rattle.hierarchy.specs.Shape.{pin_wire}
@@ -49,6 +49,15 @@ pub record TellsPins (told : Option Faults) (g : Configuration) (drive : Pins) (
   pub exact : (f : Faults) (r : Pins) → told ≡ Some f → IsRun f g (drive ∷ []) (r ∷ []) →
       (IsTrue yes ↔ (slice_index_or r k true ≢ slice_index_or r l true))
 
+-- yes exactly where the pin of a route reads otherwise, at one time, than that of each of some others
+pub record TellsFromAll (told : Option Faults) (g : Configuration) (drive : Pins) (left : Walk) (rights : List Walk) (yes : Bool) : Type 0 where
+  pub exact : (f : Faults) (r : Pins) → told ≡ Some f → IsRun f g (drive ∷ []) (r ∷ []) →
+      (IsTrue yes ↔ All (λ s. slice_index_or r left.pin true ≢ slice_index_or r s.pin true) rights)
+
+-- all wires that these routes lead over
+abbrev pub wires_over : List Walk → List ℕ
+wires_over rs = flat_map (λ r. r.wires) rs
+
 -- The route is one of the machine, and its crosspoints are closed and kept.
 pub record IsReady (k : Kept) (g : Configuration) (r : Walk) : Type 0 where
   pub route : IsRoute k.shape r
@@ -79,3 +88,9 @@ pub record SwingPasses (told : Option Faults) (g : Configuration) (low high : Pi
 pub record ApartPasses (told : Option Faults) (g : Configuration) (drive : Pins) (k l : ℕ) (yes : Bool) : Type 0 where
   pub at : (f : Faults) (left right : ℕ → Bool) → told ≡ Some f → AreOff g → AreGroups g.shape f (is_closed g) left right →
       left (pin_wire g.shape k) ≡ true → right (pin_wire g.shape l) ≡ true → IsDrivenAlone drive k → IsTrue yes
+
+-- .. all tables are off, and the pin of the left route is in one group and those of the right ones in another that is
+-- apart from it, of which the left one alone is driven
+pub record AllApartPasses (told : Option Faults) (g : Configuration) (drive : Pins) (left : Walk) (rights : List Walk) (yes : Bool) : Type 0 where
+  pub at : (f : Faults) (l r : ℕ → Bool) → told ≡ Some f → AreOff g → AreGroups g.shape f (is_closed g) l r →
+      l (pin_wire g.shape left.pin) ≡ true → All (λ s. r (pin_wire g.shape s.pin) ≡ true) rights → IsDrivenAlone drive left.pin → IsTrue yes

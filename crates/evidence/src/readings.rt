@@ -1,5 +1,5 @@
 //! Readings of a rig.
-ghost use Rattle.std.specs.Prelude.{◌≡◌, ◌≤◌, ◌<◌, ◌+◌, Some, length, IfOk, OnOk, IsErrOf};
+ghost use Rattle.std.specs.Prelude.{◌≡◌, ◌≢◌, ◌≤◌, ◌<◌, ◌+◌, true, false, Some, All, length, slice_index_or, IfOk, OnOk, IsTrue, IsErrOf};
 ghost use Rattle.tm_outside.specs.Counts.{Rose};
 ghost use Rattle.hierarchy.specs.Shape.{pins_of};
 ghost use Rattle.rig.specs.Rig.{shape_of};
@@ -8,6 +8,7 @@ ghost use Rattle.evidence.specs.Readings.{ReadsOnce, Reads, ReadsPins, ReadsTwic
 use crate::pins::Pins;
 use config_set::Config;
 use rig::{PinBits, Rig, RigFail, cycle, load};
+use test_configs::Route;
 
 // One reading after a load.
 fn read_once(
@@ -28,6 +29,47 @@ fn read_once(
 {
     load(rig, config, 1)?;
     cycle(rig, drive, read)
+}
+
+// What all pins read after a load.
+pub(crate) fn read_all(
+    pins: &mut Pins,
+    rig: &mut Box<dyn Rig>,
+    config: &Config,
+    drive: &PinBits,
+) -> Result<PinBits, RigFail>
+    requires pins { pins.old ≡ pins_of config.now.config.shape }
+    requires attached { shape_of (rig_state rig.old) ≡ Some config.now.config.shape }
+    requires drive { length drive.now ≡ pins_of config.now.config.shape }
+    ensures pins { pins.new ≡ pins.old }
+    ensures machine { (rig_state rig.new).machine ≡ (rig_state rig.old).machine }
+    ensures later { (rig_state rig.old).failures ≤ (rig_state rig.new).failures }
+    ensures loads { (rig_state rig.new).loads ≤ (rig_state rig.old).loads + 1 }
+    ensures cause { IsErrOf result RigFail.Failed → Rose (rig_state rig.old).failures (rig_state rig.new).failures }
+    ensures length { IfOk result (λ read. length read ≡ pins_of config.now.config.shape) }
+    ensures reads { IfOk result (λ read. ReadsOnce (rig_state rig.old).machine.faults config.now.config drive.now read) }
+{
+    let Ok(mut read) = pins.take() else {
+        return Err(RigFail::Memory);
+    };
+    read_once(rig, config, drive, &mut read)?;
+    Ok(read)
+}
+
+// Whether a pin reads otherwise than that of each of these routes.
+pub(crate) fn all_differ(read: &PinBits, pin: u32, routes: &[Route]) -> bool
+    requires pin { pin < length read.now }
+    requires routes { All (λ s. s.pin < length read.now) routes.now }
+    ensures yes { IsTrue result → All (λ s. slice_index_or read.now pin true ≢ slice_index_or read.now s.pin true) routes.now }
+    ensures no { result ≡ false → All (λ s. slice_index_or read.now pin true ≢ slice_index_or read.now s.pin true) routes.now → ⊥ }
+{
+    let bit = read.get(pin);
+    'routes: for k in 0..routes.len() {
+        if read.get(routes[k].pin()) == bit {
+            return false;
+        }
+    }
+    true
 }
 
 // What a pin reads after a load.
