@@ -13,6 +13,8 @@ use Rattle.hierarchy.specs.Faults.{Faults, wrong_cell}
 use Rattle.hierarchy.specs.Sound.{IsSoundWire}
 use Rattle.config_set.specs.Groups.{among, both, IsWithin}
 use Rattle.config_set.specs.Run.{number_of}
+use Rattle.config_set.specs.Tests.{IsLoose}
+use Rattle.config_set.proofs.Parts.{loose_of_sound}
 use Rattle.test_configs.specs.Routes.{Walk}
 use Rattle.evidence.specs.Kept.{Kept, HoldsFor, Gains, one_cell, one_register, keeps_cell, keeps_register}
 use Rattle.evidence.specs.Held.{IsTrunkEnd, at_pin, at_port}
@@ -214,9 +216,9 @@ module _ (k : Kept) (f : Faults) (free : ℕ → Bool) (holds : HoldsFor k f) (a
 
       by : (j : ℕ) → j < 6 → (b : Bool) → bits j ≡ b →
           ((bits j ≡ false) × (near (table_wire k.shape t j) ≡ true) × IsTied k.shape f ties left_line.end (table_wire k.shape t j)) ⊎
-          ((bits j ≡ true) × IsSoundWire k.shape f (table_wire k.shape t j) × (near (table_wire k.shape t j) ≡ false) × (far (table_wire k.shape t j) ≡ false))
+          ((bits j ≡ true) × IsLoose k.shape f near far (table_wire k.shape t j))
       by j h false e = inl (e, low_near j h e, tie_of left_line.end j x on_x.end (in_kept j h) (to_input j h e (in_kept j h).at))
-      by j h true e = inr (e, sound j h, not_true _ (high_out j h e), not_true _ (far_out j h))
+      by j h true e = inr (e, loose_of_sound k.shape f near far _ (sound j h) (not_true _ (high_out j h e)) (not_true _ (far_out j h)))
 
 no_inputs : (m : Shape) (t x y : ℕ) (ties : List ℕ) → AreTableTies m t (λ _. true) x y 0 (among ties) → AreTableTies m t (λ _. true) x y 6 (among ties)
 no_inputs m t x y ties a = record { only = λ c is. let o = a.only c is in (o.0, by c o.1); all = λ c h is. a.all c h (back c is) }

@@ -5,12 +5,11 @@ use Rattle.hierarchy.specs.Shape.{pin_wire, table_wire}
 use Rattle.hierarchy.specs.Circuit.{Pins}
 use Rattle.hierarchy.specs.Faults.{Faults, stuck_cross, stuck_register}
 use Rattle.hierarchy.specs.Joined.{Joined, here, then, crossed, net_of}
-use Rattle.hierarchy.specs.Sound.{IsSoundWire}
 use Rattle.hierarchy.proofs.JoinedLemmas.{Joined-sym}
 use Rattle.config_set.specs.Groups.{among, IsWithin, AreGroups}
 use Rattle.config_set.specs.declared.Setting.{Setting}
 use Rattle.config_set.specs.Configuration.{Configuration, is_closed, with_setting}
-use Rattle.config_set.specs.Tests.{IsCellTest, IsDrivenAlone, IsRegisterTest}
+use Rattle.config_set.specs.Tests.{IsCellTest, IsDrivenAlone, IsLoose, IsRegisterTest}
 use Rattle.config_set.proofs.Grouped.{LeadsTo-within, LeadsTo-start, LeadsTo-end}
 use Rattle.config_set.proofs.Readings.{conducting}
 use Rattle.test_configs.specs.Routes.{Walk, IsRoute}
@@ -75,8 +74,8 @@ module _ (f : Faults) (g : Configuration) (left right : Walk) (ties : List ℕ) 
     led = led;
   }
     where
-      input : (j : ℕ) → ((bits j ≡ false) × (l (table_wire g.shape t j) ≡ true) × IsTied g.shape f ties left.end (table_wire g.shape t j)) ⊎ ((bits j ≡ true) × IsSoundWire g.shape f (table_wire g.shape t j) × (l (table_wire g.shape t j) ≡ false) × (r (table_wire g.shape t j) ≡ false)) →
-          ((bits j ≡ false) × (l (table_wire g.shape t j) ≡ true) × Joined (net_of g.shape f (is_closed g)) (table_wire g.shape t j) (pin_wire g.shape left.pin)) ⊎ ((bits j ≡ true) × IsSoundWire g.shape f (table_wire g.shape t j) × (l (table_wire g.shape t j) ≡ false) × (r (table_wire g.shape t j) ≡ false))
+      input : (j : ℕ) → ((bits j ≡ false) × (l (table_wire g.shape t j) ≡ true) × IsTied g.shape f ties left.end (table_wire g.shape t j)) ⊎ ((bits j ≡ true) × IsLoose g.shape f l r (table_wire g.shape t j)) →
+          ((bits j ≡ false) × (l (table_wire g.shape t j) ≡ true) × Joined (net_of g.shape f (is_closed g)) (table_wire g.shape t j) (pin_wire g.shape left.pin)) ⊎ ((bits j ≡ true) × IsLoose g.shape f l r (table_wire g.shape t j))
       input j (inl h) = inl (h.0, h.1, Joined-sym (tied_joined left (table_wire g.shape t j) left_route lefts_on lefts_free h.2))
       input j (inr h) = inr h
 

@@ -7,7 +7,7 @@ use Rattle.config_set.specs.declared.Setting.{Setting}
 use Rattle.config_set.specs.Configuration.{Configuration, is_closed}
 use Rattle.config_set.specs.Faulty.{IsRun}
 use Rattle.config_set.specs.Groups.{AreGroups, among}
-use Rattle.config_set.specs.Tests.{AreOff, IsLoop, IsCellTest, IsRegisterTest, IsDrivenAlone, AreReleased}
+use Rattle.config_set.specs.Tests.{AreOff, IsLoop, IsCellTest, IsRegisterTest, IsDrivenAlone, IsDrivenIn, AreReleased}
 use Rattle.test_configs.specs.Routes.{Walk, IsRoute}
 use Rattle.evidence.specs.Kept.{Kept, keeps_cross}
 
@@ -66,9 +66,9 @@ pub record IsReady (k : Kept) (g : Configuration) (r : Walk) : Type 0 where
 
 -- Where the faults are told, the answer is yes if ..
 
--- .. the crosspoint closes a loop of two groups, and the pin of the one alone is driven
+-- .. the crosspoint closes a loop of two groups, the pin of the one is driven, and so is none outside this one
 pub record CrossPasses (told : Option Faults) (g : Configuration) (x : ℕ) (drive : Pins) (pin : ℕ) (yes : Bool) : Type 0 where
-  pub at : (f : Faults) (left right : ℕ → Bool) (k : ℕ) → told ≡ Some f → IsLoop f g x left right k pin → IsDrivenAlone drive k → IsTrue yes
+  pub at : (f : Faults) (left right : ℕ → Bool) (k : ℕ) → told ≡ Some f → IsLoop f g x left right k pin → IsDrivenIn g.shape drive k left → IsTrue yes
 
 -- .. the cell is tested by two groups, and the pin of the one alone is driven
 pub record CellPasses (told : Option Faults) (g : Configuration) (t a : ℕ) (drive : Pins) (pin : ℕ) (yes : Bool) : Type 0 where
