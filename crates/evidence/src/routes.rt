@@ -1,11 +1,11 @@
 //! Tests of the wires of routes.
-ghost use Rattle.std.specs.Prelude.{◌≡◌, ◌≤◌, ◌<◌, ◌+◌, ℕ, true, false, Some, All, length, IfOk, IsTrue, OnErr, IsErrOf};
+ghost use Rattle.std.specs.Prelude.{◌≡◌, ◌≤◌, ◌<◌, ◌+◌, ℕ, true, false, Some, [], ◌∷◌, All, length, IfOk, OnOk, IsTrue, OnErr, IsErrOf};
 ghost use Rattle.tm_outside.specs.Counts.{Rose};
 ghost use Rattle.hierarchy.specs.Shape.{pins_of};
 ghost use Rattle.config_set.specs.Groups.{among};
 ghost use Rattle.rig.specs.Rig.{shape_of};
 ghost use Rattle.evidence.specs.Kept.{Gains, Advances, these_wires, these_pairs};
-ghost use Rattle.evidence.specs.Readings.{IsReady, TellsSwing, TellsPins, TellsFromAll, SwingPasses, ApartPasses, AllApartPasses, wires_over};
+ghost use Rattle.evidence.specs.Readings.{HasCycled, IsReady, TellsSwing, TellsPins, TellsFromAll, SwingPasses, ApartPasses, AllApartPasses, wires_over};
 
 use crate::Proof;
 use crate::readings::{all_differ, read_all, read_pins, read_twice};
@@ -37,6 +37,7 @@ impl Proof {
         ensures refused { OnErr result (self.new ≡ self.old) }
         ensures advances { Advances (rig_state rig.old) (rig_state rig.new) self.old self.new }
         ensures loads { (rig_state rig.new).loads ≤ (rig_state rig.old).loads + 1 }
+        ensures session { OnOk result (HasCycled config.now.config (low.now ∷ high.now ∷ []) (rig_state rig.new)) }
         ensures cause { IsErrOf result RigFail.Failed → Rose (rig_state rig.old).failures (rig_state rig.new).failures }
     {
         let (first, second) = read_twice(&mut self.pins, rig, config, low, high, route.pin())?;
@@ -71,6 +72,7 @@ impl Proof {
         ensures refused { OnErr result (self.new ≡ self.old) }
         ensures advances { Advances (rig_state rig.old) (rig_state rig.new) self.old self.new }
         ensures loads { (rig_state rig.new).loads ≤ (rig_state rig.old).loads + 1 }
+        ensures session { OnOk result (HasCycled config.now.config (drive.now ∷ []) (rig_state rig.new)) }
         ensures cause { IsErrOf result RigFail.Failed → Rose (rig_state rig.old).failures (rig_state rig.new).failures }
     {
         let (near, far) = read_pins(&mut self.pins, rig, config, drive, left.pin(), right.pin())?;
@@ -104,6 +106,7 @@ impl Proof {
         ensures refused { OnErr result (self.new ≡ self.old) }
         ensures advances { Advances (rig_state rig.old) (rig_state rig.new) self.old self.new }
         ensures loads { (rig_state rig.new).loads ≤ (rig_state rig.old).loads + 1 }
+        ensures session { OnOk result (HasCycled config.now.config (drive.now ∷ []) (rig_state rig.new)) }
         ensures cause { IsErrOf result RigFail.Failed → Rose (rig_state rig.old).failures (rig_state rig.new).failures }
     {
         let read = read_all(&mut self.pins, rig, config, drive)?;
