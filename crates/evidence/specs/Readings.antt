@@ -15,7 +15,7 @@ use Rattle.evidence.specs.Kept.{Kept, keeps_cross}
 -- the session is of this configuration, and made one cycle under each of these drives, in order, and no other
 pub record HasCycled (g : Configuration) (drives : List Pins) (rig : RigState) : Type 0 where
   pub config : config_of rig ≡ Some g
-  pub drives : drives_of (cycles_of rig) ≡ drives
+  pub cycles : drives_of (cycles_of rig) ≡ drives
 
 -- the first reading after a load, where the faults are told
 pub record ReadsOnce (told : Option Faults) (g : Configuration) (drive reading : Pins) : Type 0 where
