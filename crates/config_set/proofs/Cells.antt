@@ -8,30 +8,22 @@ use Rattle.hierarchy.specs.Joined.{Joined, net_of}
 use Rattle.hierarchy.specs.Circuit.{Circuit, Table, Outputs, Pins}
 use Rattle.hierarchy.specs.Value.{Pulls, by_pin, by_table, IsValue, IsPulled, AreValues}
 use Rattle.config_set.specs.Run.{Ticks, unticked, tick, Cycles, none, cycle, at_load, after_tick, tick_output, first_output, number_of, address_at}
-use Rattle.hierarchy.specs.Sound.{IsSoundWire}
 use Rattle.config_set.specs.Groups.{among, both}
 use Rattle.config_set.specs.Groups.{IsWithin, AreGroups}
 use Rattle.hierarchy.proofs.Values.{IsValue-unique}
 use Rattle.config_set.proofs.Grouped.{groups_turned, left_unstuck, left_apart}
-use Rattle.hierarchy.proofs.Clear.{clear_of_sound}
-use Rattle.config_set.proofs.Parts.{clear_both, clear_one, unshorted_sound}
+use Rattle.config_set.proofs.Parts.{clear_both, clear_one, unshorted_one, unshorted_right}
 use Rattle.config_set.specs.declared.Setting.{Setting}
 use Rattle.config_set.specs.Configuration.{Configuration, is_closed, cell_of}
 use Rattle.config_set.specs.Faulty.{circuit_of, table_of, table_or_off, IsRun}
-use Rattle.config_set.specs.Tests.{IsDrivenAlone, IsCellTest}
+use Rattle.config_set.specs.Tests.{IsDrivenAlone, IsCellTest, IsLoose}
 use Rattle.config_set.proofs.Readings.{pin_value}
 use Rattle.config_set.proofs.Passing.{low_value, high_value}
 use Rattle.std.proofs.lemmas.Bool.Decides.{nat_tests}
 use Rattle.std.specs.Prelude.{◌||◌}
 
-only_one : (w v : ℕ) → among (w ∷ []) v ≡ true → w ≡ v
-only_one w v e = grind (arith, nat_tests)
-
 itself_in : (w : ℕ) → among (w ∷ []) w ≡ true
 itself_in w = grind (arith, nat_tests)
-
-both_false : (a b : Bool) → a ≡ false → b ≡ false → (a || b) ≡ false
-both_false a b p q = rw (p, q) refl
 
 module _ (f : Faults) (g : Configuration) (t a k l : ℕ) (s : Setting) (left right bits : ℕ → Bool) (drive : Pins) (p : IsCellTest f g t a s left right bits k l) (driven : IsDrivenAlone drive k) where
   abbrev c : Circuit
@@ -70,12 +62,12 @@ module _ (f : Faults) (g : Configuration) (t a k l : ℕ) (s : Setting) (left ri
       by_pull v j (by_table u low at) = false≢true (sym low ∙ quiet u)
 
   -- a loose wire
-  loose_groups : (w : ℕ) → IsSoundWire g.shape f w → left w ≡ false → right w ≡ false → AreGroups g.shape f (is_closed g) (among (w ∷ [])) (both left right)
-  loose_groups w sound nl nr = record {
+  loose_groups : (w : ℕ) → IsLoose g.shape f left right w → AreGroups g.shape f (is_closed g) (among (w ∷ [])) (both left right)
+  loose_groups w loose = record {
     within = λ x on. inr (grown x (p.groups.within x on));
-    left_clear = clear_one g.shape f w (clear_of_sound sound);
+    left_clear = clear_one g.shape f w loose.clear;
     right_clear = clear_both g.shape f left right p.groups.left_clear p.groups.right_clear;
-    apart = unshorted_sound g.shape f w (both left right) sound (both_false (left w) (right w) nl nr);
+    apart = unshorted_right g.shape f (among (w ∷ [])) left right (unshorted_one g.shape f w left loose.off_left) (unshorted_one g.shape f w right loose.off_right);
   }
     where
       or_l : (a b : Bool) → a ≡ true → (a || b) ≡ true
@@ -95,11 +87,11 @@ module _ (f : Faults) (g : Configuration) (t a k l : ℕ) (s : Setting) (left ri
   input_value : (value : ℕ → Bool) → AreValues c drive (at_load c) value → (j : ℕ) → j < 6 → value (table_wire g.shape t j) ≡ bits j
   input_value value are j h = by_bit (p.inputs j h)
     where
-      by_bit : ((bits j ≡ false) × (left (table_wire g.shape t j) ≡ true) × J (table_wire g.shape t j) (pin_wire g.shape k)) ⊎ ((bits j ≡ true) × IsSoundWire g.shape f (table_wire g.shape t j) × (left (table_wire g.shape t j) ≡ false) × (right (table_wire g.shape t j) ≡ false)) →
+      by_bit : ((bits j ≡ false) × (left (table_wire g.shape t j) ≡ true) × J (table_wire g.shape t j) (pin_wire g.shape k)) ⊎ ((bits j ≡ true) × IsLoose g.shape f left right (table_wire g.shape t j)) →
           value (table_wire g.shape t j) ≡ bits j
       by_bit (inl q) = IsValue-unique (are (table_wire g.shape t j)) (low_value (λ v i. left_unstuck p.groups q.1 i) (record { place = pin_wire g.shape k; joined = q.2; pulls = by_pin k p.k_pin driven.low refl })) ∙ sym q.0
       by_bit (inr q) =
-          let gs = loose_groups (table_wire g.shape t j) q.1 q.2 q.3 in
+          let gs = loose_groups (table_wire g.shape t j) q.1 in
           IsValue-unique (are (table_wire g.shape t j)) (high_value (λ v i. left_unstuck gs (itself_in _) i) (unpulled (at_load c) _ at_first (left_apart gs (itself_in _) pin_in_both))) ∙ sym q.0
 
   address : (value : ℕ → Bool) → AreValues c drive (at_load c) value → address_at c value t ≡ a

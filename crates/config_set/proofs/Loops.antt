@@ -18,7 +18,7 @@ use Rattle.hierarchy.proofs.JoinedLemmas.{Ends-swap, Joined-trans, Joined-sym, J
 use Rattle.config_set.proofs.Grouped.{left_unstuck, LeadsTo-joined, LeadsTo-within}
 use Rattle.config_set.specs.Configuration.{Configuration, is_closed, with_open}
 use Rattle.config_set.specs.Faulty.{circuit_of, IsRun}
-use Rattle.config_set.specs.Tests.{AreOff, IsDrivenAlone, IsLed, IsLoop}
+use Rattle.config_set.specs.Tests.{AreOff, IsDrivenIn, IsLed, IsLoop}
 use Rattle.config_set.proofs.Readings.{all_conduct, conducting}
 use Rattle.config_set.proofs.Changes.{same_number}
 use Rattle.config_set.proofs.Passing.{quiet_load, reads_low, right_high}
@@ -94,11 +94,11 @@ module _ (f : Faults) (g : Configuration) (x t s : ℕ) (left right : ℕ → Bo
 pub toggle_passes : (f : Faults) (g : Configuration) (x t s : ℕ) (left right : ℕ → Bool) (drive r q : Pins) (k l : ℕ) (xs ws ys vs : List ℕ) →
     AreOff g → is_closed g x ≡ true → stuck_cross f x ≡ None → Ends (ends_of g.shape x) t s →
     AreGroups g.shape f (is_closed (with_open g x)) left right →
-    left (pin_wire g.shape k) ≡ true → right (pin_wire g.shape l) ≡ true → left t ≡ true → right s ≡ true →
+    right (pin_wire g.shape l) ≡ true → left t ≡ true → right s ≡ true →
     IsLed f (with_open g x) k xs ws t → IsLed f (with_open g x) l ys vs s →
-    k < pins_of g.shape → l < pins_of g.shape → IsDrivenAlone drive k →
+    k < pins_of g.shape → l < pins_of g.shape → IsDrivenIn g.shape drive k left →
     IsRun f g (drive ∷ []) (r ∷ []) → IsRun f (with_open g x) (drive ∷ []) (q ∷ []) → (get_or r l true ≡ false) × (get_or q l true ≡ true)
-toggle_passes f g x t s left right drive r q k l xs ws ys vs off closed free at groups is_k on_l is_t on_s led_l led_r hk hl driven run_c run_o = (by_closed run_c.cycles, by_open run_o.cycles)
+toggle_passes f g x t s left right drive r q k l xs ws ys vs off closed free at groups on_l is_t on_s led_l led_r hk hl driven run_c run_o = (by_closed run_c.cycles, by_open run_o.cycles)
   where
     mono : {a b : ℕ} → Joined (net_of g.shape f (is_closed (with_open g x))) a b → Joined (net_of g.shape f (is_closed g)) a b
     mono j = Joined-mono g.shape f (is_closed (with_open g x)) (is_closed g) (closed_before g x) j
@@ -110,12 +110,12 @@ toggle_passes f g x t s left right drive r q k l xs ws ys vs off closed free at 
     by_closed (cycle c none) = reads_low f g off (quiet_load f g off) c l k hl hk (λ v j. left_unstuck (one_group f g x t s left right groups at is_t on_s) (or_right (left (pin_wire g.shape l)) (right (pin_wire g.shape l)) on_l) j) driven.low around
 
     by_open : {end : Outputs} → Cycles (circuit_of f (with_open g x)) (at_load (circuit_of f (with_open g x))) (drive ∷ []) (q ∷ []) end → get_or q l true ≡ true
-    by_open (cycle c none) = right_high f (with_open g x) off groups (quiet_load f (with_open g x) off) c k l hl is_k on_l driven
+    by_open (cycle c none) = right_high f (with_open g x) off groups (quiet_load f (with_open g x) off) c l hl on_l driven.within
 
-pub loop_toggles : (f : Faults) (g : Configuration) (x k l : ℕ) (left right : ℕ → Bool) (drive r q : Pins) → IsLoop f g x left right k l → IsDrivenAlone drive k →
+pub loop_toggles : (f : Faults) (g : Configuration) (x k l : ℕ) (left right : ℕ → Bool) (drive r q : Pins) → IsLoop f g x left right k l → IsDrivenIn g.shape drive k left →
     IsRun f g (drive ∷ []) (r ∷ []) → IsRun f (with_open g x) (drive ∷ []) (q ∷ []) → (get_or r l true ≡ false) × (get_or q l true ≡ true)
 loop_toggles f g x k l left right drive r q p driven run_c run_o =
-    toggle_passes f g x p.near p.far left right drive r q k l p.lefts p.left_wires p.rights p.right_wires p.off p.closed p.free p.at p.groups p.k_left p.l_right p.near_left p.far_right p.leads_left p.leads_right p.k_pin p.l_pin driven run_c run_o
+    toggle_passes f g x p.near p.far left right drive r q k l p.lefts p.left_wires p.rights p.right_wires p.off p.closed p.free p.at p.groups p.l_right p.near_left p.far_right p.leads_left p.leads_right p.k_pin p.l_pin driven run_c run_o
 
 -- the groups of two routes, where nothing else is closed
 pub groups_of_routes : (f : Faults) (m : Shape) (closed : ℕ → Bool) (a b d e : ℕ) (xs ws ys vs : List ℕ) → LeadsTo m a xs ws d → LeadsTo m b ys vs e →

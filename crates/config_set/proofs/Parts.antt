@@ -6,7 +6,9 @@ use Rattle.hierarchy.specs.Faults.{Faults}
 use Rattle.hierarchy.specs.Joined.{Shorted}
 use Rattle.hierarchy.specs.Defects.{IsClear}
 use Rattle.hierarchy.specs.Sound.{IsSoundWire}
+use Rattle.hierarchy.proofs.Clear.{clear_of_sound}
 use Rattle.config_set.specs.Groups.{among, both, AreClear, AreUnshorted}
+use Rattle.config_set.specs.Tests.{IsLoose}
 use Rattle.hierarchy.proofs.JoinedLemmas.{Joined-sym}
 use Rattle.hierarchy.proofs.Clear.{unshorted_of_sound}
 
@@ -51,3 +53,11 @@ module _ (m : Shape) (f : Faults) where
   -- a sound wire may go with either side
   pub add_sound : (p q : ℕ → Bool) (x : ℕ) → AreUnshorted m f p q → IsSoundWire m f x → q x ≡ false → AreUnshorted m f (both p (among (x ∷ []))) q
   add_sound p q x a s n = unshorted_left p (among (x ∷ [])) q a (unshorted_sound x q s n)
+
+  -- a sound wire that is in neither group is loose
+  pub loose_of_sound : (p q : ℕ → Bool) (x : ℕ) → IsSoundWire m f x → p x ≡ false → q x ≡ false → IsLoose m f p q x
+  loose_of_sound p q x s np nq = record {
+    clear = clear_of_sound s;
+    off_left = λ u is. unshorted_of_sound s (λ e. cc (subst (λ v. p v ≡ true) e is, np));
+    off_right = λ u is. unshorted_of_sound s (λ e. cc (subst (λ v. q v ≡ true) e is, nq));
+  }

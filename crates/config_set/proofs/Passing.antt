@@ -1,6 +1,7 @@
 -- Which readings a test takes, where its wires are as they should be.
 use Rattle.std.proofs.Common.{◌≡◌, ℕ, ◌<◌, Bool, true, false, Some, None, Option, [], ◌∷◌, get_or, refl, sym, ap, ◌∙◌, subst}
 use Rattle.std.proofs.lemmas.Bool.{false≢true}
+use Rattle.hierarchy.specs.declared.Shape.{Shape}
 use Rattle.hierarchy.specs.Shape.{pin_wire, pins_of}
 use Rattle.hierarchy.specs.Faults.{Faults, stuck_wire}
 use Rattle.hierarchy.specs.Joined.{Joined, here, net_of}
@@ -12,7 +13,7 @@ use Rattle.hierarchy.proofs.Values.{IsValue-unique}
 use Rattle.config_set.proofs.Grouped.{groups_turned, left_unstuck, left_apart}
 use Rattle.config_set.specs.Configuration.{Configuration, is_closed}
 use Rattle.config_set.specs.Faulty.{circuit_of, table_or_off, IsRun}
-use Rattle.config_set.specs.Tests.{AreOff, IsDrivenAlone, AreReleased}
+use Rattle.config_set.specs.Tests.{AreOff, IsDrivenAlone, IsDrivenIn, AreReleased}
 use Rattle.config_set.proofs.Readings.{pin_value}
 
 -- a wire that is joined to no stuck wire
@@ -80,10 +81,13 @@ module _ (f : Faults) (g : Configuration) (off : AreOff g) {left right : ℕ →
   pub left_high : (k : ℕ) → k < pins_of g.shape → left (pin_wire g.shape k) ≡ true → AreReleased drive → get_or read k true ≡ true
   left_high k h is free = reads_high f g off quiet s k h (λ v j. left_unstuck groups is j) (λ i low j. false≢true (sym low ∙ free i))
 
-  pub right_high : (k l : ℕ) → l < pins_of g.shape → left (pin_wire g.shape k) ≡ true → right (pin_wire g.shape l) ≡ true → IsDrivenAlone drive k → get_or read l true ≡ true
-  right_high k l h is on driven =
-      reads_high f g off quiet s l h (λ v j. left_unstuck (groups_turned groups) on j)
-      (λ i low j. left_apart (groups_turned groups) on (subst (λ n. left (pin_wire g.shape n) ≡ true) (sym (driven.alone i low)) is) j)
+  pub right_high : (l : ℕ) → l < pins_of g.shape → right (pin_wire g.shape l) ≡ true → ((i : ℕ) → get_or drive i true ≡ false → left (pin_wire g.shape i) ≡ true) → get_or read l true ≡ true
+  right_high l h on within =
+      reads_high f g off quiet s l h (λ v j. left_unstuck (groups_turned groups) on j) (λ i low j. left_apart (groups_turned groups) on (within i low) j)
+
+-- a pin that is driven alone is driven in its group
+pub driven_in : (m : Shape) (drive : Pins) (k : ℕ) (group : ℕ → Bool) → group (pin_wire m k) ≡ true → IsDrivenAlone drive k → IsDrivenIn m drive k group
+driven_in m drive k group is driven = record { low = driven.low; within = λ j low. subst (λ i. group (pin_wire m i) ≡ true) (sym (driven.alone j low)) is }
 
 -- `apart` passes
 pub apart_passes : (f : Faults) (g : Configuration) (left right : ℕ → Bool) (drive r : Pins) (k l : ℕ) → AreOff g → AreGroups g.shape f (is_closed g) left right →
@@ -92,7 +96,7 @@ pub apart_passes : (f : Faults) (g : Configuration) (left right : ℕ → Bool) 
 apart_passes f g left right drive r k l off groups hk hl is on driven run = by_cycles run.cycles
   where
     by_cycles : {end : Outputs} → Cycles (circuit_of f g) (at_load (circuit_of f g)) (drive ∷ []) (r ∷ []) end → (get_or r k true ≡ false) × (get_or r l true ≡ true)
-    by_cycles (cycle s none) = (left_low f g off groups (quiet_load f g off) s k hk is driven.low, right_high f g off groups (quiet_load f g off) s k l hl is on driven)
+    by_cycles (cycle s none) = (left_low f g off groups (quiet_load f g off) s k hk is driven.low, right_high f g off groups (quiet_load f g off) s l hl on (driven_in g.shape drive k left is driven).within)
 
 -- `swing` passes
 pub swing_passes : (f : Faults) (g : Configuration) (left right : ℕ → Bool) (low high r q : Pins) (k : ℕ) → AreOff g → AreGroups g.shape f (is_closed g) left right →

@@ -3,9 +3,10 @@ use Rattle.std.specs.Prelude.{◌≡◌, ◌≢◌, ◌⊎◌, ℕ, ◌<◌, Boo
 use Rattle.std.specs.List.{AllByRecursion, range_with_len}
 use Rattle.hierarchy.specs.Shape.{Ends, ends_of, pin_wire, table_wire, pins_of}
 use Rattle.hierarchy.specs.Faults.{Faults, stuck_cross, wrong_cell, stuck_register}
-use Rattle.hierarchy.specs.Joined.{Joined, net_of}
+use Rattle.hierarchy.specs.Joined.{Joined, Shorted, net_of}
 use Rattle.config_set.specs.Run.{number_of}
-use Rattle.hierarchy.specs.Sound.{IsSoundWire}
+use Rattle.hierarchy.specs.declared.Shape.{Shape}
+use Rattle.hierarchy.specs.Defects.{IsClear}
 use Rattle.config_set.specs.declared.Setting.{Setting}
 use Rattle.hierarchy.specs.Circuit.{Pins}
 use Rattle.config_set.specs.Groups.{AreGroups}
@@ -20,6 +21,11 @@ AreOff g = (t : ℕ) → setting_of g t ≡ None
 pub record IsDrivenAlone (drive : Pins) (k : ℕ) : Type 0 where
   pub low : slice_index_or drive k true ≡ false
   pub alone : (j : ℕ) → slice_index_or drive j true ≡ false → j ≡ k
+
+-- this pin is driven 0, and each pin that is driven 0 is in the group
+pub record IsDrivenIn (m : Shape) (drive : Pins) (k : ℕ) (group : ℕ → Bool) : Type 0 where
+  pub low : slice_index_or drive k true ≡ false
+  pub within : (j : ℕ) → slice_index_or drive j true ≡ false → group (pin_wire m j) ≡ true
 
 -- no pin is driven 0
 abbrev pub AreReleased : Pins → Type 0
@@ -54,8 +60,14 @@ pub record IsLoop (f : Faults) (g : Configuration) (x : ℕ) (left right : ℕ �
   pub right_wires : List ℕ
   pub leads_right : IsLed f (with_open g x) l rights right_wires far
 
+-- the wire is shorted to no stuck wire, and to none of either group
+pub record IsLoose (m : Shape) (f : Faults) (left right : ℕ → Bool) (w : ℕ) : Type 0 where
+  pub clear : IsClear m f w
+  pub off_left : (u : ℕ) → left u ≡ true → ¬ Shorted m f w u
+  pub off_right : (u : ℕ) → right u ≡ true → ¬ Shorted m f w u
+
 -- One table is on, and its own register doesn't matter. Of its inputs those whose bit is 0 are led to the left pin,
--- and the others are sound and in no group. Its output is led to the right pin.
+-- and the others are loose. Its output is led to the right pin.
 pub record IsCellTest (f : Faults) (g : Configuration) (t a : ℕ) (s : Setting) (left right bits : ℕ → Bool) (k l : ℕ) : Type 0 where
   pub on : setting_of g t ≡ Some s
   pub off : (u : ℕ) → u ≢ t → setting_of g u ≡ None
@@ -69,7 +81,7 @@ pub record IsCellTest (f : Faults) (g : Configuration) (t a : ℕ) (s : Setting)
   pub l_right : right (pin_wire g.shape l) ≡ true
   pub inputs : (j : ℕ) → j < 6 →
       ((bits j ≡ false) × (left (table_wire g.shape t j) ≡ true) × Joined (net_of g.shape f (is_closed g)) (table_wire g.shape t j) (pin_wire g.shape k)) ⊎
-      ((bits j ≡ true) × IsSoundWire g.shape f (table_wire g.shape t j) × (left (table_wire g.shape t j) ≡ false) × (right (table_wire g.shape t j) ≡ false))
+      ((bits j ≡ true) × IsLoose g.shape f left right (table_wire g.shape t j))
   pub number : number_of (map bits (range_with_len 0 6)) ≡ a
   pub led : Joined (net_of g.shape f (is_closed g)) (pin_wire g.shape l) (table_wire g.shape t 6)
 

@@ -7,12 +7,14 @@ ghost use Rattle.hierarchy.specs.Defects.{IsClear};
 ghost use Rattle.hierarchy.specs.Faults.{Faults, AreFaultsOf, stuck_cross, wrong_cell, stuck_register};
 ghost use Rattle.hierarchy.specs.Joined.{Joined, Shorted, net_of};
 ghost use Rattle.hierarchy.specs.Shape.{pin_wire, pins_of};
+ghost use Rattle.hierarchy.specs.Sound.{IsSoundWire};
+ghost use Rattle.hierarchy.specs.declared.Shape.{Shape};
 ghost use Rattle.config_set.specs.Configuration.{Configuration, IsConfiguration, is_closed, setting_of, with_closed, with_open, with_setting, cell_of, with_cell, with_init};
 ghost use Rattle.config_set.specs.Faulty.{circuit_of, IsRun};
 ghost use Rattle.config_set.specs.Groups.{AreGroups};
 ghost use Rattle.config_set.specs.Route.{LeadsTo};
 ghost use Rattle.config_set.specs.Run.{Cycle, Cycles, at_load};
-ghost use Rattle.config_set.specs.Tests.{AreOff, AreReleased, IsDrivenAlone, IsLoop, IsCellTest, IsRegisterTest};
+ghost use Rattle.config_set.specs.Tests.{AreOff, AreReleased, IsDrivenAlone, IsDrivenIn, IsLoose, IsLoop, IsCellTest, IsRegisterTest};
 ghost use Rattle.config_set.specs.declared.Setting.{Setting};
 
 /// What is closed once a crosspoint is closed or opened. Closing a closed one and opening an open one
@@ -110,10 +112,16 @@ pub fn tests_pass()
     ensures swing { (f : Faults) (g : Configuration) (left right : ℕ → Bool) (low high r q : Pins) (k : ℕ) → AreOff g → AreGroups g.shape f (is_closed g) left right →
         k < pins_of g.shape → left (pin_wire g.shape k) ≡ true → slice_index_or low k true ≡ false → AreReleased high →
         IsRun f g (low ∷ high ∷ []) (r ∷ q ∷ []) → (slice_index_or r k true ≡ false) × (slice_index_or q k true ≡ true) }
-    ensures toggle { (f : Faults) (g : Configuration) (x k l : ℕ) (left right : ℕ → Bool) (drive r q : Pins) → IsLoop f g x left right k l → IsDrivenAlone drive k →
+    ensures toggle { (f : Faults) (g : Configuration) (x k l : ℕ) (left right : ℕ → Bool) (drive r q : Pins) → IsLoop f g x left right k l → IsDrivenIn g.shape drive k left →
         IsRun f g (drive ∷ []) (r ∷ []) → IsRun f (with_open g x) (drive ∷ []) (q ∷ []) → (slice_index_or r l true ≡ false) × (slice_index_or q l true ≡ true) }
     ensures cell { (f : Faults) (g : Configuration) (t a k l : ℕ) (s : Setting) (left right bits : ℕ → Bool) (drive r : Pins) → IsCellTest f g t a s left right bits k l → IsDrivenAlone drive k →
         l < pins_of g.shape → IsRun f g (drive ∷ []) (r ∷ []) → slice_index_or r l true ≡ cell_of s a }
     ensures register { (f : Faults) (g : Configuration) (t l : ℕ) (s : Setting) (left right : ℕ → Bool) (drive r : Pins) →
         IsRegisterTest f g t s left right drive l → l < pins_of g.shape → IsRun f g (drive ∷ []) (r ∷ []) → slice_index_or r l true ≡ s.init }
+{}
+
+/// A pin that alone is driven 0 is driven in its group, and a sound wire that is in neither of two groups is loose.
+pub fn sound_parts_serve()
+    ensures driven { (m : Shape) (drive : Pins) (k : ℕ) (group : ℕ → Bool) → group (pin_wire m k) ≡ true → IsDrivenAlone drive k → IsDrivenIn m drive k group }
+    ensures loose { (m : Shape) (f : Faults) (left right : ℕ → Bool) (w : ℕ) → IsSoundWire m f w → left w ≡ false → right w ≡ false → IsLoose m f left right w }
 {}

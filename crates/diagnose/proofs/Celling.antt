@@ -9,10 +9,13 @@ use Rattle.hierarchy.specs.Laws.{IsNumbered, IsTree}
 use Rattle.hierarchy.specs.Served.{HasHomes}
 use Rattle.hierarchy.specs.Shape.{IsPort, turned, ends_of, table_wire, tables_of, crosses_of, hextant_of, IsLine, IsTap, tap_table}
 use Rattle.hierarchy.specs.Joined.{here}
-use Rattle.hierarchy.specs.Faults.{Faults, wrong_cell}
+use Rattle.hierarchy.specs.Faults.{Faults, stuck_cross, wrong_cell}
 use Rattle.hierarchy.specs.Sound.{IsSoundWire}
 use Rattle.config_set.specs.Groups.{among, both, IsWithin}
+use Rattle.config_set.specs.Route.{ends as leads_end, goes}
 use Rattle.config_set.specs.Run.{number_of}
+use Rattle.config_set.specs.Tests.{IsLoose}
+use Rattle.config_set.proofs.Parts.{loose_of_sound}
 use Rattle.test_configs.specs.Routes.{Walk}
 use Rattle.evidence.specs.Kept.{Kept, HoldsFor, Gains, one_cell, one_register, keeps_cell, keeps_register}
 use Rattle.evidence.specs.Held.{IsTrunkEnd, at_pin, at_port}
@@ -175,7 +178,13 @@ module _ (k : Kept) (f : Faults) (free : ℕ → Bool) (holds : HoldsFor k f) (a
 
   -- a tie that is kept
   tie_of : (e j z : ℕ) → e ≡ z → (kept : KeepsEnds k (table_wire k.shape t j) z) → IsTableTie k.shape t bits x y 6 kept.cross → IsTied k.shape f ties e (table_wire k.shape t j)
-  tie_of e j z same kept is = record { tie = kept.cross; among_ties = tied.all kept.cross kept.within is; free = holds.crosses kept.cross kept.kept; at = turned (ap (λ p. p.0) kept.at) (ap (λ p. p.1) kept.at ∙ sym same) }
+  tie_of e j z same kept is = record {
+    over = kept.cross ∷ [];
+    wires = e ∷ table_wire k.shape t j ∷ [];
+    leads = goes kept.within (turned (ap (λ p. p.0) kept.at) (ap (λ p. p.1) kept.at ∙ sym same)) leads_end;
+    free = λ y h. let s = is_it kept.cross y h in
+        (subst (λ z. among ties z ≡ true) s (tied.all kept.cross kept.within is), subst (λ z. stuck_cross f z ≡ None) s (holds.crosses kept.cross kept.kept));
+  }
 
   out_kept : KeepsEnds k (table_wire k.shape t 6) y
   out_kept = pair.second_kept (table_wire k.shape t 6) (pin_tap 6 (omega arith)) (pins_free 6 (omega arith))
@@ -214,9 +223,9 @@ module _ (k : Kept) (f : Faults) (free : ℕ → Bool) (holds : HoldsFor k f) (a
 
       by : (j : ℕ) → j < 6 → (b : Bool) → bits j ≡ b →
           ((bits j ≡ false) × (near (table_wire k.shape t j) ≡ true) × IsTied k.shape f ties left_line.end (table_wire k.shape t j)) ⊎
-          ((bits j ≡ true) × IsSoundWire k.shape f (table_wire k.shape t j) × (near (table_wire k.shape t j) ≡ false) × (far (table_wire k.shape t j) ≡ false))
+          ((bits j ≡ true) × IsLoose k.shape f near far (table_wire k.shape t j))
       by j h false e = inl (e, low_near j h e, tie_of left_line.end j x on_x.end (in_kept j h) (to_input j h e (in_kept j h).at))
-      by j h true e = inr (e, sound j h, not_true _ (high_out j h e), not_true _ (far_out j h))
+      by j h true e = inr (e, loose_of_sound k.shape f near far _ (sound j h) (not_true _ (high_out j h e)) (not_true _ (far_out j h)))
 
 no_inputs : (m : Shape) (t x y : ℕ) (ties : List ℕ) → AreTableTies m t (λ _. true) x y 0 (among ties) → AreTableTies m t (λ _. true) x y 6 (among ties)
 no_inputs m t x y ties a = record { only = λ c is. let o = a.only c is in (o.0, by c o.1); all = λ c h is. a.all c h (back c is) }

@@ -32,6 +32,7 @@ pub advances_on : (a b c : RigState) (k l m : Kept) → Advances a b k l → Adv
 advances_on a b c k l m p q = record {
   machine = q.machine ∙ p.machine;
   later = let x = p.later in let y = q.later in omega arith;
+  counted = let x = p.counted in let y = q.counted in omega arith;
   more = more_on k l m p.more q.more;
   holds = λ f told h. q.holds f (told_later a b k l f p told) (p.holds f told h);
 }

@@ -35,9 +35,9 @@ different_bits true false e = λ d. cc
 different_bits false true e = λ d. cc
 
 -- a gain of what is true
-pub advances_by : {old new : RigState} {k l : Kept} (gain : Gain) → new.machine ≡ old.machine → old.failures ≤ new.failures → Gains gain k l →
+pub advances_by : {old new : RigState} {k l : Kept} (gain : Gain) → new.machine ≡ old.machine → old.failures ≤ new.failures → old.loads ≤ new.loads → Gains gain k l →
     ((f : Faults) → old.machine.faults ≡ Some f → HoldsFor k f → GainHoldsFor k.shape gain f) → Advances old new k l
-advances_by {k = k} {l = l} gain same later gains true_ = record { machine = same; later = later; more = more_by_gain gain k l gains; holds = λ f told h. holds_by_gain gain k l f gains h (true_ f told h) }
+advances_by {k = k} {l = l} gain same later counted gains true_ = record { machine = same; later = later; counted = counted; more = more_by_gain gain k l gains; holds = λ f told h. holds_by_gain gain k l f gains h (true_ f told h) }
 
 pub cross_gain : {told : Option Faults} {drive : Pins} {pin : ℕ} {a b : Bool} (m : Shape) (g : Configuration) (x : ℕ) → is_closed g x ≡ true → (p : Reads told g drive pin a) (q : Reads told (with_open g x) drive pin b) → a ≢ b →
     (f : Faults) → told ≡ Some f → GainHoldsFor m (one_cross x) f

@@ -16,6 +16,7 @@ use Rattle.config_set.specs.Tests.{IsLed, IsLoop, IsDrivenAlone, AreReleased}
 use Rattle.config_set.proofs.Changes.{is_closed-open}
 use Rattle.config_set.proofs.Grouped.{LeadsTo-within, LeadsTo-start, LeadsTo-then}
 use Rattle.config_set.proofs.Loops.{closed_before}
+use Rattle.config_set.proofs.Passing.{driven_in}
 use Rattle.test_configs.specs.Routes.{Walk, IsRoute}
 use Rattle.test_configs.specs.Configs.{IsLoopConfig}
 use Rattle.evidence.specs.Kept.{Kept, keeps_cross}
@@ -155,9 +156,10 @@ pub loop_passes : (told : Option Faults) (k : Kept) (g : Configuration) (left ri
     ((y : ℕ) → among left.crosses y ≡ true → keeps_cross k y ≡ true) → ((y : ℕ) → among right.crosses y ≡ true → keeps_cross k y ≡ true) →
     among ties x ≡ true → IsDrivenAlone drive left.pin → CrossPasses told g x drive right.pin answer → LoopPasses told k left right ties x answer
 loop_passes told k g left right ties x drive answer config on off lefts rights tied driven passes = record {
-  at = λ f l r is h loop. passes.at f l r left.pin is
-      (loop_of_lists f g left right ties x l r (turn (λ m. IsLoopConfig m left right ties g) config) (turn (λ m. IsRoute m left) on) (turn (λ m. IsRoute m right) off)
-      (λ y a. h.crosses y (lefts y a)) (λ y a. h.crosses y (rights y a)) tied (turn (λ m. IsLoopBy m f left right ties x l r) loop)) driven;
+  at = λ f l r is h loop.
+      let it = loop_of_lists f g left right ties x l r (turn (λ m. IsLoopConfig m left right ties g) config) (turn (λ m. IsRoute m left) on) (turn (λ m. IsRoute m right) off)
+      (λ y a. h.crosses y (lefts y a)) (λ y a. h.crosses y (rights y a)) tied (turn (λ m. IsLoopBy m f left right ties x l r) loop) in
+      passes.at f l r left.pin is it (driven_in g.shape drive left.pin l it.k_left driven);
 }
   where
     turn : (P : Shape → Type 0) → P k.shape → P g.shape

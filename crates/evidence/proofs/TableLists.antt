@@ -4,13 +4,12 @@ use Rattle.hierarchy.specs.declared.Shape.{Shape}
 use Rattle.hierarchy.specs.Shape.{pin_wire, table_wire}
 use Rattle.hierarchy.specs.Circuit.{Pins}
 use Rattle.hierarchy.specs.Faults.{Faults, stuck_cross, stuck_register}
-use Rattle.hierarchy.specs.Joined.{Joined, here, then, crossed, net_of}
-use Rattle.hierarchy.specs.Sound.{IsSoundWire}
+use Rattle.hierarchy.specs.Joined.{Joined, here, net_of}
 use Rattle.hierarchy.proofs.JoinedLemmas.{Joined-sym}
 use Rattle.config_set.specs.Groups.{among, IsWithin, AreGroups}
 use Rattle.config_set.specs.declared.Setting.{Setting}
 use Rattle.config_set.specs.Configuration.{Configuration, is_closed, with_setting}
-use Rattle.config_set.specs.Tests.{IsCellTest, IsDrivenAlone, IsRegisterTest}
+use Rattle.config_set.specs.Tests.{IsCellTest, IsDrivenAlone, IsLoose, IsRegisterTest}
 use Rattle.config_set.proofs.Grouped.{LeadsTo-within, LeadsTo-start, LeadsTo-end}
 use Rattle.config_set.proofs.Readings.{conducting}
 use Rattle.test_configs.specs.Routes.{Walk, IsRoute}
@@ -52,8 +51,8 @@ module _ (f : Faults) (g : Configuration) (left right : Walk) (ties : List ℕ) 
   tied_joined : (from : Walk) (w : ℕ) → IsRoute g.shape from → ((y : ℕ) → among from.crosses y ≡ true → is_closed g y ≡ true) → ((y : ℕ) → among from.crosses y ≡ true → stuck_cross f y ≡ None) →
       IsTied g.shape f ties from.end w → Joined (net_of g.shape f (is_closed g)) (pin_wire g.shape from.pin) w
   tied_joined from w route on free tie =
-      then (joined_along {net = net_of g.shape f (is_closed g)} here route.leads (λ y is. conducting f g (stuck_cross f y) (is_closed g y) (on y is) (free y is)) from.end (LeadsTo-end route.leads))
-      (crossed tie.tie (conducting f g (stuck_cross f tie.tie) (is_closed g tie.tie) (ties_on tie.tie tie.among_ties) tie.free) tie.at)
+      joined_along (joined_along {net = net_of g.shape f (is_closed g)} here route.leads (λ y is. conducting f g (stuck_cross f y) (is_closed g y) (on y is) (free y is)) from.end (LeadsTo-end route.leads))
+      tie.leads (λ y is. let h = tie.free y is in conducting f g (stuck_cross f y) (is_closed g y) (ties_on y h.0) h.1) w (LeadsTo-end tie.leads)
 
   led : Joined (net_of g.shape f (is_closed g)) (pin_wire g.shape right.pin) (table_wire g.shape t 6)
   led = tied_joined right (table_wire g.shape t 6) right_route rights_on rights_free p.output
@@ -75,8 +74,8 @@ module _ (f : Faults) (g : Configuration) (left right : Walk) (ties : List ℕ) 
     led = led;
   }
     where
-      input : (j : ℕ) → ((bits j ≡ false) × (l (table_wire g.shape t j) ≡ true) × IsTied g.shape f ties left.end (table_wire g.shape t j)) ⊎ ((bits j ≡ true) × IsSoundWire g.shape f (table_wire g.shape t j) × (l (table_wire g.shape t j) ≡ false) × (r (table_wire g.shape t j) ≡ false)) →
-          ((bits j ≡ false) × (l (table_wire g.shape t j) ≡ true) × Joined (net_of g.shape f (is_closed g)) (table_wire g.shape t j) (pin_wire g.shape left.pin)) ⊎ ((bits j ≡ true) × IsSoundWire g.shape f (table_wire g.shape t j) × (l (table_wire g.shape t j) ≡ false) × (r (table_wire g.shape t j) ≡ false))
+      input : (j : ℕ) → ((bits j ≡ false) × (l (table_wire g.shape t j) ≡ true) × IsTied g.shape f ties left.end (table_wire g.shape t j)) ⊎ ((bits j ≡ true) × IsLoose g.shape f l r (table_wire g.shape t j)) →
+          ((bits j ≡ false) × (l (table_wire g.shape t j) ≡ true) × Joined (net_of g.shape f (is_closed g)) (table_wire g.shape t j) (pin_wire g.shape left.pin)) ⊎ ((bits j ≡ true) × IsLoose g.shape f l r (table_wire g.shape t j))
       input j (inl h) = inl (h.0, h.1, Joined-sym (tied_joined left (table_wire g.shape t j) left_route lefts_on lefts_free h.2))
       input j (inr h) = inr h
 

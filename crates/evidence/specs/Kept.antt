@@ -111,11 +111,12 @@ pub record Gains (gain : Gain) (old new : Kept) : Type 0 where
   pub cells : (t a : ℕ) → keeps_cell new t a ≡ (gain.cells t a || keeps_cell old t a)
   pub registers : (t : ℕ) → keeps_register new t ≡ (gain.registers t || keeps_register old t)
 
--- What calls that test a machine leave: the machine as it was, a count that didn't fall, all that was kept, and, where
--- the faults are told and what was kept is true of them, nothing kept that isn't.
+-- What calls that test a machine leave: the machine as it was, counts of failures and loads that didn't fall, all that was
+-- kept, and, where the faults are told and what was kept is true of them, nothing kept that isn't.
 pub record Advances (old new : RigState) (k l : Kept) : Type 0 where
   pub machine : new.machine ≡ old.machine
   pub later : old.failures ≤ new.failures
+  pub counted : old.loads ≤ new.loads
   pub more : IsMore k l
   pub holds : (f : Faults) → old.machine.faults ≡ Some f → HoldsFor k f → HoldsFor l f
 

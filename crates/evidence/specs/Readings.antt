@@ -1,5 +1,5 @@
 -- What tests read, and where they are bound to pass. `told` is the faults of the machine, where they are told.
-use Rattle.std.specs.Prelude.{◌≡◌, ◌≢◌, ◌↔◌, ℕ, Bool, true, false, Option, Some, None, IsTrue, [], ◌∷◌, slice_index_or}
+use Rattle.std.specs.Prelude.{◌≡◌, ◌≢◌, ◌↔◌, ℕ, Bool, true, false, Option, Some, None, IsTrue, List, [], ◌∷◌, All, flat_map, slice_index_or}
 use Rattle.hierarchy.specs.Circuit.{Pins}
 use Rattle.hierarchy.specs.Faults.{Faults}
 use Rattle.hierarchy.specs.Shape.{pin_wire}
@@ -7,9 +7,15 @@ use Rattle.config_set.specs.declared.Setting.{Setting}
 use Rattle.config_set.specs.Configuration.{Configuration, is_closed}
 use Rattle.config_set.specs.Faulty.{IsRun}
 use Rattle.config_set.specs.Groups.{AreGroups, among}
-use Rattle.config_set.specs.Tests.{AreOff, IsLoop, IsCellTest, IsRegisterTest, IsDrivenAlone, AreReleased}
+use Rattle.config_set.specs.Tests.{AreOff, IsLoop, IsCellTest, IsRegisterTest, IsDrivenAlone, IsDrivenIn, AreReleased}
+use Rattle.rig.specs.Rig.{RigState, config_of, cycles_of, drives_of}
 use Rattle.test_configs.specs.Routes.{Walk, IsRoute}
 use Rattle.evidence.specs.Kept.{Kept, keeps_cross}
+
+-- the session is of this configuration, and made one cycle under each of these drives, in order, and no other
+pub record HasCycled (g : Configuration) (drives : List Pins) (rig : RigState) : Type 0 where
+  pub config : config_of rig ≡ Some g
+  pub cycles : drives_of (cycles_of rig) ≡ drives
 
 -- the first reading after a load, where the faults are told
 pub record ReadsOnce (told : Option Faults) (g : Configuration) (drive reading : Pins) : Type 0 where
@@ -49,6 +55,15 @@ pub record TellsPins (told : Option Faults) (g : Configuration) (drive : Pins) (
   pub exact : (f : Faults) (r : Pins) → told ≡ Some f → IsRun f g (drive ∷ []) (r ∷ []) →
       (IsTrue yes ↔ (slice_index_or r k true ≢ slice_index_or r l true))
 
+-- yes exactly where the pin of a route reads otherwise, at one time, than that of each of some others
+pub record TellsFromAll (told : Option Faults) (g : Configuration) (drive : Pins) (left : Walk) (rights : List Walk) (yes : Bool) : Type 0 where
+  pub exact : (f : Faults) (r : Pins) → told ≡ Some f → IsRun f g (drive ∷ []) (r ∷ []) →
+      (IsTrue yes ↔ All (λ s. slice_index_or r left.pin true ≢ slice_index_or r s.pin true) rights)
+
+-- all wires that these routes lead over
+abbrev pub wires_over : List Walk → List ℕ
+wires_over rs = flat_map (λ r. r.wires) rs
+
 -- The route is one of the machine, and its crosspoints are closed and kept.
 pub record IsReady (k : Kept) (g : Configuration) (r : Walk) : Type 0 where
   pub route : IsRoute k.shape r
@@ -57,9 +72,9 @@ pub record IsReady (k : Kept) (g : Configuration) (r : Walk) : Type 0 where
 
 -- Where the faults are told, the answer is yes if ..
 
--- .. the crosspoint closes a loop of two groups, and the pin of the one alone is driven
+-- .. the crosspoint closes a loop of two groups, the pin of the one is driven, and so is none outside this one
 pub record CrossPasses (told : Option Faults) (g : Configuration) (x : ℕ) (drive : Pins) (pin : ℕ) (yes : Bool) : Type 0 where
-  pub at : (f : Faults) (left right : ℕ → Bool) (k : ℕ) → told ≡ Some f → IsLoop f g x left right k pin → IsDrivenAlone drive k → IsTrue yes
+  pub at : (f : Faults) (left right : ℕ → Bool) (k : ℕ) → told ≡ Some f → IsLoop f g x left right k pin → IsDrivenIn g.shape drive k left → IsTrue yes
 
 -- .. the cell is tested by two groups, and the pin of the one alone is driven
 pub record CellPasses (told : Option Faults) (g : Configuration) (t a : ℕ) (drive : Pins) (pin : ℕ) (yes : Bool) : Type 0 where
@@ -79,3 +94,9 @@ pub record SwingPasses (told : Option Faults) (g : Configuration) (low high : Pi
 pub record ApartPasses (told : Option Faults) (g : Configuration) (drive : Pins) (k l : ℕ) (yes : Bool) : Type 0 where
   pub at : (f : Faults) (left right : ℕ → Bool) → told ≡ Some f → AreOff g → AreGroups g.shape f (is_closed g) left right →
       left (pin_wire g.shape k) ≡ true → right (pin_wire g.shape l) ≡ true → IsDrivenAlone drive k → IsTrue yes
+
+-- .. all tables are off, and the pin of the left route is in one group and those of the right ones in another that is
+-- apart from it, of which the left one alone is driven
+pub record AllApartPasses (told : Option Faults) (g : Configuration) (drive : Pins) (left : Walk) (rights : List Walk) (yes : Bool) : Type 0 where
+  pub at : (f : Faults) (l r : ℕ → Bool) → told ≡ Some f → AreOff g → AreGroups g.shape f (is_closed g) l r →
+      l (pin_wire g.shape left.pin) ≡ true → All (λ s. r (pin_wire g.shape s.pin) ≡ true) rights → IsDrivenAlone drive left.pin → IsTrue yes

@@ -1,11 +1,12 @@
 //! Facts about one rig's faults.
-ghost use Rattle.std.specs.Prelude.{◌≡◌, ◌≢◌, ◌<◌, ◌||◌, ℕ, IfOk, length, true, false, [], ◌∷◌};
+ghost use Rattle.std.specs.Prelude.{◌≡◌, ◌≢◌, ◌<◌, ◌||◌, ℕ, All, IfOk, length, true, false, [], ◌∷◌};
 ghost use Rattle.tm_bits.specs.Numbers.{has_number};
 ghost use Rattle.tm_bits.specs.Pairs.{has_pair};
 ghost use Rattle.hierarchy.specs.Shape.{crosses_of, wires_of, tables_of};
 ghost use Rattle.config_set.specs.Groups.{among};
 ghost use Rattle.test_configs.specs.Routes.{IsRoute};
 ghost use Rattle.evidence.specs.Kept.{KeepsNothing, Gains, keeps_cross, keeps_wire, keeps_pair, keeps_cell, keeps_register, one_cross, these_wires, these_pairs, one_cell, one_register, is_between};
+ghost use Rattle.evidence.specs.Readings.{wires_over};
 
 use crate::pins::Pins;
 use config_set::Config;
@@ -16,7 +17,7 @@ use test_configs::Route;
 use tm_bits::{BitSet, PairSet};
 
 /// Facts about the faults of one rig's machine: kept crosspoints aren't stuck, kept wires are shorted to no stuck wire,
-/// kept pairs of wires aren't shorted, kept cells aren't wrong, and kept registers aren't stuck. Only the five tests
+/// kept pairs of wires aren't shorted, kept cells aren't wrong, and kept registers aren't stuck. Only the six tests
 /// add one.
 #[derive(Drop)]
 pub struct Proof {
@@ -152,6 +153,15 @@ impl Proof {
     {
         mark_pairs(&mut self.pairs, left, right);
     }
+
+    pub(crate) fn keep_all_pairs(&mut self, left: &Route, rights: &[Route])
+        requires left { IsRoute self.old.shape left.now }
+        requires rights { All (IsRoute self.old.shape) rights.now }
+        requires apart { (w : ℕ) → among left.now.wires w ≡ true → among (wires_over rights.now) w ≡ false }
+        ensures { Gains (these_pairs left.now.wires (wires_over rights.now)) self.old self.new }
+    {
+        mark_all(&mut self.pairs, left, rights);
+    }
 }
 
 // Marks the wires of a route.
@@ -188,5 +198,18 @@ fn mark_pairs(pairs: &mut PairSet, left: &Route, right: &Route)
 {
     'wires: for k in 0..=left.len() {
         mark_with(pairs, left.wire_at(k), right);
+    }
+}
+
+// Marks each wire of one route with each of the others.
+fn mark_all(pairs: &mut PairSet, left: &Route, rights: &[Route])
+    requires left { (w : ℕ) → among left.now.wires w ≡ true → w < pairs.old.n }
+    requires rights { All (λ s. (w : ℕ) → among s.wires w ≡ true → w < pairs.old.n) rights.now }
+    requires apart { (w : ℕ) → among left.now.wires w ≡ true → among (wires_over rights.now) w ≡ false }
+    ensures marked { (a b : ℕ) → has_pair pairs.new a b ≡ (is_between left.now.wires (wires_over rights.now) a b || has_pair pairs.old a b) }
+    ensures n { pairs.new.n ≡ pairs.old.n }
+{
+    'routes: for k in 0..rights.len() {
+        mark_pairs(pairs, left, &rights[k]);
     }
 }

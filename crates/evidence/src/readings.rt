@@ -1,13 +1,28 @@
 //! Readings of a rig.
-ghost use Rattle.std.specs.Prelude.{◌≡◌, ◌≤◌, ◌<◌, ◌+◌, Some, length, IfOk, OnOk, IsErrOf};
+ghost use Rattle.std.specs.Prelude.{◌≡◌, ◌≢◌, ◌≤◌, ◌<◌, ◌+◌, true, false, Some, [], ◌∷◌, All, length, slice_index_or, IfOk, OnOk, IsTrue, IsErrOf};
 ghost use Rattle.tm_outside.specs.Counts.{Rose};
 ghost use Rattle.hierarchy.specs.Shape.{pins_of};
-ghost use Rattle.rig.specs.Rig.{shape_of};
-ghost use Rattle.evidence.specs.Readings.{ReadsOnce, Reads, ReadsPins, ReadsTwice};
+ghost use Rattle.rig.specs.Rig.{shape_of, Begins};
+ghost use Rattle.evidence.specs.Readings.{HasCycled, ReadsOnce, Reads, ReadsPins, ReadsTwice};
 
 use crate::pins::Pins;
 use config_set::Config;
 use rig::{PinBits, Rig, RigFail, cycle, load};
+use test_configs::Route;
+
+// Begins a session. No load is lost from the count.
+fn begin(rig: &mut Box<dyn Rig>, config: &Config, room: u32) -> Result<(), RigFail>
+    requires { shape_of (rig_state rig.old) ≡ Some config.now.config.shape }
+    ensures machine { (rig_state rig.new).machine ≡ (rig_state rig.old).machine }
+    ensures later { (rig_state rig.old).failures ≤ (rig_state rig.new).failures }
+    ensures counted { (rig_state rig.old).loads ≤ (rig_state rig.new).loads }
+    ensures loads { (rig_state rig.new).loads ≤ (rig_state rig.old).loads + 1 }
+    ensures cause { IsErrOf result RigFail.Failed → Rose (rig_state rig.old).failures (rig_state rig.new).failures }
+    ensures begins { OnOk result (Begins config.now.config room (rig_state rig.new)) }
+{
+    let _loads = rig.loads();
+    load(rig, config, room)
+}
 
 // One reading after a load.
 fn read_once(
@@ -21,13 +36,58 @@ fn read_once(
     requires read { length read.old ≡ pins_of config.now.config.shape }
     ensures machine { (rig_state rig.new).machine ≡ (rig_state rig.old).machine }
     ensures later { (rig_state rig.old).failures ≤ (rig_state rig.new).failures }
+    ensures counted { (rig_state rig.old).loads ≤ (rig_state rig.new).loads }
     ensures loads { (rig_state rig.new).loads ≤ (rig_state rig.old).loads + 1 }
     ensures cause { IsErrOf result RigFail.Failed → Rose (rig_state rig.old).failures (rig_state rig.new).failures }
     ensures length { length read.new ≡ length read.old }
+    ensures session { OnOk result (HasCycled config.now.config (drive.now ∷ []) (rig_state rig.new)) }
     ensures run { OnOk result (ReadsOnce (rig_state rig.old).machine.faults config.now.config drive.now read.new) }
 {
-    load(rig, config, 1)?;
+    begin(rig, config, 1)?;
     cycle(rig, drive, read)
+}
+
+// What all pins read after a load.
+pub(crate) fn read_all(
+    pins: &mut Pins,
+    rig: &mut Box<dyn Rig>,
+    config: &Config,
+    drive: &PinBits,
+) -> Result<PinBits, RigFail>
+    requires pins { pins.old ≡ pins_of config.now.config.shape }
+    requires attached { shape_of (rig_state rig.old) ≡ Some config.now.config.shape }
+    requires drive { length drive.now ≡ pins_of config.now.config.shape }
+    ensures pins { pins.new ≡ pins.old }
+    ensures machine { (rig_state rig.new).machine ≡ (rig_state rig.old).machine }
+    ensures later { (rig_state rig.old).failures ≤ (rig_state rig.new).failures }
+    ensures counted { (rig_state rig.old).loads ≤ (rig_state rig.new).loads }
+    ensures loads { (rig_state rig.new).loads ≤ (rig_state rig.old).loads + 1 }
+    ensures cause { IsErrOf result RigFail.Failed → Rose (rig_state rig.old).failures (rig_state rig.new).failures }
+    ensures session { OnOk result (HasCycled config.now.config (drive.now ∷ []) (rig_state rig.new)) }
+    ensures length { IfOk result (λ read. length read ≡ pins_of config.now.config.shape) }
+    ensures reads { IfOk result (λ read. ReadsOnce (rig_state rig.old).machine.faults config.now.config drive.now read) }
+{
+    let Ok(mut read) = pins.take() else {
+        return Err(RigFail::Memory);
+    };
+    read_once(rig, config, drive, &mut read)?;
+    Ok(read)
+}
+
+// Whether a pin reads otherwise than that of each of these routes.
+pub(crate) fn all_differ(read: &PinBits, pin: u32, routes: &[Route]) -> bool
+    requires pin { pin < length read.now }
+    requires routes { All (λ s. s.pin < length read.now) routes.now }
+    ensures yes { IsTrue result → All (λ s. slice_index_or read.now pin true ≢ slice_index_or read.now s.pin true) routes.now }
+    ensures no { result ≡ false → All (λ s. slice_index_or read.now pin true ≢ slice_index_or read.now s.pin true) routes.now → ⊥ }
+{
+    let bit = read.get(pin);
+    'routes: for k in 0..routes.len() {
+        if read.get(routes[k].pin()) == bit {
+            return false;
+        }
+    }
+    true
 }
 
 // What a pin reads after a load.
@@ -45,8 +105,10 @@ pub(crate) fn read_pin(
     ensures pins { pins.new ≡ pins.old }
     ensures machine { (rig_state rig.new).machine ≡ (rig_state rig.old).machine }
     ensures later { (rig_state rig.old).failures ≤ (rig_state rig.new).failures }
+    ensures counted { (rig_state rig.old).loads ≤ (rig_state rig.new).loads }
     ensures loads { (rig_state rig.new).loads ≤ (rig_state rig.old).loads + 1 }
     ensures cause { IsErrOf result RigFail.Failed → Rose (rig_state rig.old).failures (rig_state rig.new).failures }
+    ensures session { OnOk result (HasCycled config.now.config (drive.now ∷ []) (rig_state rig.new)) }
     ensures reads { IfOk result (λ bit. Reads (rig_state rig.old).machine.faults config.now.config drive.now at bit) }
 {
     let Ok(mut read) = pins.take() else {
@@ -75,8 +137,10 @@ pub(crate) fn read_pins(
     ensures pins { pins.new ≡ pins.old }
     ensures machine { (rig_state rig.new).machine ≡ (rig_state rig.old).machine }
     ensures later { (rig_state rig.old).failures ≤ (rig_state rig.new).failures }
+    ensures counted { (rig_state rig.old).loads ≤ (rig_state rig.new).loads }
     ensures loads { (rig_state rig.new).loads ≤ (rig_state rig.old).loads + 1 }
     ensures cause { IsErrOf result RigFail.Failed → Rose (rig_state rig.old).failures (rig_state rig.new).failures }
+    ensures session { OnOk result (HasCycled config.now.config (drive.now ∷ []) (rig_state rig.new)) }
     ensures reads { IfOk result (λ bits. ReadsPins (rig_state rig.old).machine.faults config.now.config drive.now first second bits.0 bits.1) }
 {
     let Ok(mut read) = pins.take() else {
@@ -105,14 +169,16 @@ pub(crate) fn read_twice(
     ensures pins { pins.new ≡ pins.old }
     ensures machine { (rig_state rig.new).machine ≡ (rig_state rig.old).machine }
     ensures later { (rig_state rig.old).failures ≤ (rig_state rig.new).failures }
+    ensures counted { (rig_state rig.old).loads ≤ (rig_state rig.new).loads }
     ensures loads { (rig_state rig.new).loads ≤ (rig_state rig.old).loads + 1 }
     ensures cause { IsErrOf result RigFail.Failed → Rose (rig_state rig.old).failures (rig_state rig.new).failures }
+    ensures session { OnOk result (HasCycled config.now.config (low.now ∷ high.now ∷ []) (rig_state rig.new)) }
     ensures reads { IfOk result (λ bits. ReadsTwice (rig_state rig.old).machine.faults config.now.config low.now high.now at bits.0 bits.1) }
 {
     let Ok(mut read) = pins.take() else {
         return Err(RigFail::Memory);
     };
-    load(rig, config, 2)?;
+    begin(rig, config, 2)?;
     cycle(rig, low, &mut read)?;
     let first = read.get(at);
     cycle(rig, high, &mut read)?;

@@ -1,14 +1,14 @@
 //! Tests of the wires of routes.
-ghost use Rattle.std.specs.Prelude.{◌≡◌, ◌≤◌, ◌<◌, ◌+◌, ℕ, true, false, Some, length, IfOk, IsTrue, OnErr, IsErrOf};
+ghost use Rattle.std.specs.Prelude.{◌≡◌, ◌≤◌, ◌<◌, ◌+◌, ℕ, true, false, Some, [], ◌∷◌, All, length, IfOk, OnOk, IsTrue, OnErr, IsErrOf};
 ghost use Rattle.tm_outside.specs.Counts.{Rose};
 ghost use Rattle.hierarchy.specs.Shape.{pins_of};
 ghost use Rattle.config_set.specs.Groups.{among};
 ghost use Rattle.rig.specs.Rig.{shape_of};
 ghost use Rattle.evidence.specs.Kept.{Gains, Advances, these_wires, these_pairs};
-ghost use Rattle.evidence.specs.Readings.{IsReady, TellsSwing, TellsPins, SwingPasses, ApartPasses};
+ghost use Rattle.evidence.specs.Readings.{HasCycled, IsReady, TellsSwing, TellsPins, TellsFromAll, SwingPasses, ApartPasses, AllApartPasses, wires_over};
 
 use crate::Proof;
-use crate::readings::{read_pins, read_twice};
+use crate::readings::{all_differ, read_all, read_pins, read_twice};
 use config_set::Config;
 use rig::{PinBits, Rig, RigFail};
 use test_configs::Route;
@@ -37,6 +37,7 @@ impl Proof {
         ensures refused { OnErr result (self.new ≡ self.old) }
         ensures advances { Advances (rig_state rig.old) (rig_state rig.new) self.old self.new }
         ensures loads { (rig_state rig.new).loads ≤ (rig_state rig.old).loads + 1 }
+        ensures session { OnOk result (HasCycled config.now.config (low.now ∷ high.now ∷ []) (rig_state rig.new)) }
         ensures cause { IsErrOf result RigFail.Failed → Rose (rig_state rig.old).failures (rig_state rig.new).failures }
     {
         let (first, second) = read_twice(&mut self.pins, rig, config, low, high, route.pin())?;
@@ -71,6 +72,7 @@ impl Proof {
         ensures refused { OnErr result (self.new ≡ self.old) }
         ensures advances { Advances (rig_state rig.old) (rig_state rig.new) self.old self.new }
         ensures loads { (rig_state rig.new).loads ≤ (rig_state rig.old).loads + 1 }
+        ensures session { OnOk result (HasCycled config.now.config (drive.now ∷ []) (rig_state rig.new)) }
         ensures cause { IsErrOf result RigFail.Failed → Rose (rig_state rig.old).failures (rig_state rig.new).failures }
     {
         let (near, far) = read_pins(&mut self.pins, rig, config, drive, left.pin(), right.pin())?;
@@ -78,6 +80,42 @@ impl Proof {
             return Ok(false);
         }
         self.keep_pairs(left, right);
+        Ok(true)
+    }
+    /// Reads all pins at one time. True exactly where the pin of the left route reads otherwise than that of each right
+    /// one, and then each wire of the left route is a kept pair with each wire of each right one.
+    pub fn all_apart(
+        &mut self,
+        rig: &mut Box<dyn Rig>,
+        config: &Config,
+        drive: &PinBits,
+        left: &Route,
+        rights: &[Route],
+    ) -> Result<bool, RigFail>
+        requires attached { shape_of (rig_state rig.old) ≡ Some self.old.shape }
+        requires shape { config.now.config.shape ≡ self.old.shape }
+        requires drive { length drive.now ≡ pins_of self.old.shape }
+        requires left { IsReady self.old config.now.config left.now }
+        requires rights { All (IsReady self.old config.now.config) rights.now }
+        requires disjoint { (w : ℕ) → among left.now.wires w ≡ true → among (wires_over rights.now) w ≡ false }
+
+        ensures exact { IfOk result (TellsFromAll (rig_state rig.old).machine.faults config.now.config drive.now left.now rights.now) }
+        ensures passes { IfOk result (AllApartPasses (rig_state rig.old).machine.faults config.now.config drive.now left.now rights.now) }
+        ensures gains { IfOk result (λ yes. IsTrue yes → Gains (these_pairs left.now.wires (wires_over rights.now)) self.old self.new) }
+        ensures same { IfOk result (λ yes. yes ≡ false → self.new ≡ self.old) }
+        ensures refused { OnErr result (self.new ≡ self.old) }
+        ensures advances { Advances (rig_state rig.old) (rig_state rig.new) self.old self.new }
+        ensures loads { (rig_state rig.new).loads ≤ (rig_state rig.old).loads + 1 }
+        ensures session { OnOk result (HasCycled config.now.config (drive.now ∷ []) (rig_state rig.new)) }
+        ensures cause { IsErrOf result RigFail.Failed → Rose (rig_state rig.old).failures (rig_state rig.new).failures }
+    {
+        let read = read_all(&mut self.pins, rig, config, drive)?;
+        let apart = all_differ(&read, left.pin(), rights);
+        self.pins.put(read);
+        if !apart {
+            return Ok(false);
+        }
+        self.keep_all_pairs(left, rights);
         Ok(true)
     }
 }

@@ -1,11 +1,11 @@
 //! Tests that read a pin twice, with one thing changed between.
-ghost use Rattle.std.specs.Prelude.{◌≡◌, ◌≤◌, ◌<◌, ◌+◌, Bool, true, false, Some, length, IfOk, IsTrue, IfSome, IsSome, OnErr, IsErrOf};
+ghost use Rattle.std.specs.Prelude.{◌≡◌, ◌≤◌, ◌<◌, ◌+◌, Bool, true, false, Some, [], ◌∷◌, length, IfOk, OnOk, IsTrue, IfSome, IsSome, OnErr, IsErrOf};
 ghost use Rattle.tm_outside.specs.Counts.{Rose};
 ghost use Rattle.hierarchy.specs.Shape.{pins_of, crosses_of, tables_of};
 ghost use Rattle.config_set.specs.Configuration.{is_closed, setting_of, with_open, with_setting, with_cell, with_init};
 ghost use Rattle.rig.specs.Rig.{shape_of};
 ghost use Rattle.evidence.specs.Kept.{Gains, Advances, one_cross, one_cell, one_register};
-ghost use Rattle.evidence.specs.Readings.{Reads, TellsApart, CrossPasses, CellPasses, RegisterPasses};
+ghost use Rattle.evidence.specs.Readings.{HasCycled, Reads, TellsApart, CrossPasses, CellPasses, RegisterPasses};
 
 use crate::Proof;
 use crate::pins::Pins;
@@ -32,8 +32,10 @@ fn read_without(
     ensures pins { pins.new ≡ pins.old }
     ensures machine { (rig_state rig.new).machine ≡ (rig_state rig.old).machine }
     ensures later { (rig_state rig.old).failures ≤ (rig_state rig.new).failures }
+    ensures counted { (rig_state rig.old).loads ≤ (rig_state rig.new).loads }
     ensures loads { (rig_state rig.new).loads ≤ (rig_state rig.old).loads + 1 }
     ensures cause { IsErrOf result RigFail.Failed → Rose (rig_state rig.old).failures (rig_state rig.new).failures }
+    ensures session { OnOk result (HasCycled (with_open config.old.config c.0) (drive.now ∷ []) (rig_state rig.new)) }
     ensures reads { IfOk result (λ bit. Reads (rig_state rig.old).machine.faults (with_open config.old.config c.0) drive.now at bit) }
     ensures config { config.new.config ≡ config.old.config }
 {
@@ -77,8 +79,10 @@ fn read_with(
     ensures pins { pins.new ≡ pins.old }
     ensures machine { (rig_state rig.new).machine ≡ (rig_state rig.old).machine }
     ensures later { (rig_state rig.old).failures ≤ (rig_state rig.new).failures }
+    ensures counted { (rig_state rig.old).loads ≤ (rig_state rig.new).loads }
     ensures loads { (rig_state rig.new).loads ≤ (rig_state rig.old).loads + 1 }
     ensures cause { IsErrOf result RigFail.Failed → Rose (rig_state rig.old).failures (rig_state rig.new).failures }
+    ensures session { OnOk result (HasCycled (with_setting config.old.config t.0 (Some s)) (drive.now ∷ []) (rig_state rig.new)) }
     ensures reads { IfOk result (λ bit. Reads (rig_state rig.old).machine.faults (with_setting config.old.config t.0 (Some s)) drive.now at bit) }
     ensures config { config.new.config ≡ config.old.config }
 {
@@ -116,6 +120,7 @@ impl Proof {
         ensures refused { OnErr result (self.new ≡ self.old) }
         ensures advances { Advances (rig_state rig.old) (rig_state rig.new) self.old self.new }
         ensures loads { (rig_state rig.new).loads ≤ (rig_state rig.old).loads + 2 }
+        ensures session { OnOk result (HasCycled (with_open config.old.config c.0) (drive.now ∷ []) (rig_state rig.new)) }
         ensures cause { IsErrOf result RigFail.Failed → Rose (rig_state rig.old).failures (rig_state rig.new).failures }
         ensures config { config.new.config ≡ config.old.config }
     {
@@ -156,6 +161,7 @@ impl Proof {
         ensures refused { OnErr result (self.new ≡ self.old) }
         ensures advances { Advances (rig_state rig.old) (rig_state rig.new) self.old self.new }
         ensures loads { (rig_state rig.new).loads ≤ (rig_state rig.old).loads + 2 }
+        ensures session { OnOk result (IfSome (setting_of config.old.config t.0) (λ s. HasCycled (with_setting config.old.config t.0 (Some (with_cell s address true))) (drive.now ∷ []) (rig_state rig.new))) }
         ensures cause { IsErrOf result RigFail.Failed → Rose (rig_state rig.old).failures (rig_state rig.new).failures }
         ensures config { config.new.config ≡ config.old.config }
     {
@@ -201,6 +207,7 @@ impl Proof {
         ensures refused { OnErr result (self.new ≡ self.old) }
         ensures advances { Advances (rig_state rig.old) (rig_state rig.new) self.old self.new }
         ensures loads { (rig_state rig.new).loads ≤ (rig_state rig.old).loads + 2 }
+        ensures session { OnOk result (IfSome (setting_of config.old.config t.0) (λ s. HasCycled (with_setting config.old.config t.0 (Some (with_init s true))) (drive.now ∷ []) (rig_state rig.new))) }
         ensures cause { IsErrOf result RigFail.Failed → Rose (rig_state rig.old).failures (rig_state rig.new).failures }
         ensures config { config.new.config ≡ config.old.config }
     {

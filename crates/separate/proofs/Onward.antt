@@ -22,6 +22,7 @@ pub advances_on : {a b c : RigState} {k l n : Kept} → Advances a b k l → Adv
 advances_on p q = record {
   machine = q.machine ∙ p.machine;
   later = let x = p.later in let y = q.later in omega arith;
+  counted = let x = p.counted in let y = q.counted in omega arith;
   more = record {
     shape = q.more.shape ∙ p.more.shape;
     crosses = λ x on. q.more.crosses x (p.more.crosses x on);
@@ -34,7 +35,7 @@ advances_on p q = record {
 }
 
 pub advances_none : (a : RigState) (k : Kept) → Advances a a k k
-advances_none a k = record { machine = refl; later = omega arith; more = record { shape = refl; crosses = λ x on. on; wires = λ x on. on; pairs = λ x y on. on; cells = λ x y on. on; registers = λ x on. on }; holds = λ f e h. h }
+advances_none a k = record { machine = refl; later = omega arith; counted = omega arith; more = record { shape = refl; crosses = λ x on. on; wires = λ x on. on; pairs = λ x y on. on; cells = λ x y on. on; registers = λ x on. on }; holds = λ f e h. h }
 
 pub marks_on : {k l n : Kept} → HasSameMarks k l → HasSameMarks l n → HasSameMarks k n
 marks_on p q = record { shape = q.shape ∙ p.shape; crosses = λ x. q.crosses x ∙ p.crosses x; wires = λ w. q.wires w ∙ p.wires w }

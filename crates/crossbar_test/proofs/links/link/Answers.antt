@@ -3,6 +3,7 @@ use Rattle.hierarchy.specs.declared.Cross.{Cross}
 use Rattle.hierarchy.specs.Shape.{ends_of, crosses_of}
 use Rattle.config_set.specs.Groups.{among}
 use Rattle.config_set.specs.Tests.{IsDrivenAlone}
+use Rattle.config_set.proofs.Passing.{driven_in}
 use Rattle.test_configs.specs.Routes.{cross_numbers}
 use Rattle.test_configs.specs.Configs.{IsLoopConfig}
 use Rattle.evidence.specs.Held.{wire_numbers}
@@ -53,7 +54,8 @@ returns-clause-passes g c = if_ok c.toggle_cross-answer.result c.toggle_cross-an
       let sides = c.requires.sides in
       let loop = config_loops m f config near far via taps lines ties t l x (c.the_laws_hold.ensures m).crosses laid sides.near_side.route sides.far_side.route
       (λ y on. holds.crosses y (sides.near_side.crosses y on)) (λ y on. holds.crosses y (sides.far_side.crosses y on)) tied at_x within link in
-      passes.at f loop.0 loop.1 near.pin told (rw c.pin-2.ensures loop.2) (subst (IsDrivenAlone c.in_ok-drive.drive) c.pin.ensures c.in_ok-drive.ensures.alone);
+      passes.at f loop.0 loop.1 near.pin told (rw c.pin-2.ensures loop.2)
+      (driven_in config.shape c.in_ok-drive.drive near.pin loop.0 loop.2.k_left (subst (IsDrivenAlone c.in_ok-drive.drive) c.pin.ensures c.in_ok-drive.ensures.alone));
 })
 
 pub returns-clause-none : goal.returns-clause-none

@@ -1,0 +1,142 @@
+-- One route against several.
+use Rattle.std.proofs.Common.{◌≡◌, ◌≢◌, ◌⊎◌, ◌<◌, ◌+◌, ℕ, zero, suc, Bool, true, false, ◌&&◌, Some, Option, List, [], ◌∷◌, ◌++◌, length, get_or, take, refl, sym, ap, ◌∙◌, subst, inl, inr, arith}
+use Rattle.std.specs.Prelude.{◌==◌, ◌||◌, All}
+use Rattle.std.proofs.lemmas.Bool.{false≢true}
+use Rattle.std.proofs.lemmas.List.{take_more, flat_map_more, get_or_default}
+use Rattle.std.proofs.lemmas.List.Folds.{list_any-append}
+use Rattle.hierarchy.specs.Shape.{pin_wire, pins_of}
+use Rattle.hierarchy.specs.Circuit.{Pins}
+use Rattle.hierarchy.specs.Faults.{Faults}
+use Rattle.hierarchy.specs.Joined.{Shorted}
+use Rattle.hierarchy.proofs.JoinedLemmas.{Joined-sym}
+use Rattle.config_set.specs.Configuration.{Configuration}
+use Rattle.config_set.specs.Faulty.{circuit_of, IsRun}
+use Rattle.config_set.specs.Groups.{among}
+use Rattle.config_set.proofs.Passing.{apart_passes}
+use Rattle.config_set.proofs.Readings.{apart_separates}
+use Rattle.config_set.proofs.Runs.{Runs-unique}
+use Rattle.test_configs.specs.Routes.{Walk}
+use Rattle.evidence.specs.Kept.{Kept, HoldsFor, is_between, these_pairs}
+use Rattle.evidence.specs.Readings.{ReadsOnce, TellsFromAll, AllApartPasses, IsReady, wires_over}
+use Rattle.evidence.proofs.Advancing.{ready_joined}
+use Rattle.evidence.proofs.KeptLemmas.{GainHoldsFor, pairs_hold}
+
+-- the wires of one route more
+over_more : (rs : List Walk) (k : ℕ) (s : Walk) → k < length rs → s ≡ get_or rs k s → wires_over (take (k + 1) rs) ≡ wires_over (take k rs) ++ s.wires
+over_more rs k s below at =
+    ap wires_over (take_more rs k s below) ∙ sym (flat_map_more (λ (r : Walk). r.wires) [] (take k rs) (get_or rs k s))
+    ∙ ap (λ (r : Walk). wires_over (take k rs) ++ r.wires) (sym at)
+
+among_more : (rs : List Walk) (k y : ℕ) (s : Walk) → k < length rs → s ≡ get_or rs k s → among (wires_over (take (k + 1) rs)) y ≡ (among (wires_over (take k rs)) y || among s.wires y)
+among_more rs k y s below at = ap (λ ws. among ws y) (over_more rs k s below at) ∙ list_any-append (λ z. z == y) (wires_over (take k rs)) s.wires
+
+-- one route more is marked with each wire of another
+pub all_next : (ws : List ℕ) (rs : List Walk) (k a b : ℕ) (s : Walk) (o : Bool) → k < length rs → s ≡ get_or rs k s →
+    (is_between ws s.wires a b || (is_between ws (wires_over (take k rs)) a b || o)) ≡ (is_between ws (wires_over (take (k + 1) rs)) a b || o)
+all_next ws rs k a b s o below at =
+    rw (among_more rs k a s below at, among_more rs k b s below at) (by_parts (among ws a) (among ws b) (among s.wires a) (among s.wires b) (among (wires_over (take k rs)) a) (among (wires_over (take k rs)) b))
+  where
+    by_parts : (wa wb sa sb ta tb : Bool) → (((wa && sb) || (wb && sa)) || (((wa && tb) || (wb && ta)) || o)) ≡ (((wa && (tb || sb)) || (wb && (ta || sa))) || o)
+    by_parts true true sa true ta true = refl
+    by_parts true true sa true ta false = refl
+    by_parts true true true false ta true = refl
+    by_parts true true true false true false = refl
+    by_parts true true true false false false = refl
+    by_parts true true false false ta true = refl
+    by_parts true true false false true false = refl
+    by_parts true true false false false false = refl
+    by_parts true false sa true ta true = refl
+    by_parts true false sa true ta false = refl
+    by_parts true false sa false ta true = refl
+    by_parts true false sa false ta false = refl
+    by_parts false true true sb true tb = refl
+    by_parts false true true sb false tb = refl
+    by_parts false true false sb true tb = refl
+    by_parts false true false sb false tb = refl
+    by_parts false false sa sb ta tb = refl
+
+-- none is marked yet
+pub none_next : (ws : List ℕ) (a b : ℕ) (o : Bool) → o ≡ (is_between ws [] a b || o)
+none_next ws a b o = by_parts (among ws a) (among ws b)
+  where
+    by_parts : (x y : Bool) → o ≡ (((x && false) || (y && false)) || o)
+    by_parts true true = refl
+    by_parts true false = refl
+    by_parts false true = refl
+    by_parts false false = refl
+
+or_cases : (a b : Bool) → (a || b) ≡ true → (a ≡ true) ⊎ (b ≡ true)
+or_cases true b e = inl refl
+or_cases false b e = inr e
+
+or_left : (a b : Bool) → a ≡ true → (a || b) ≡ true
+or_left true b e = refl
+or_left false b e = cc
+
+or_right : (a b : Bool) → b ≡ true → (a || b) ≡ true
+or_right true b e = refl
+or_right false b e = e
+
+-- a wire of one of the routes
+pub over_has : (rs : List Walk) (k w : ℕ) (d : Walk) → k < length rs → among (get_or rs k d).wires w ≡ true → among (wires_over rs) w ≡ true
+over_has [] k w d below is = absurd (omega arith)
+over_has (r ∷ rs) zero w d below is = list_any-append (λ z. z == w) r.wires (wires_over rs) ∙ or_left (among r.wires w) (among (wires_over rs) w) is
+over_has (r ∷ rs) (suc k) w d below is = list_any-append (λ z. z == w) r.wires (wires_over rs) ∙ or_right (among r.wires w) (among (wires_over rs) w) (over_has rs k w d (omega arith) is)
+
+-- one of the routes has it
+pub record IsOver (rs : List Walk) (w : ℕ) : Type 0 where
+  pub place : ℕ
+  pub below : place < length rs
+  pub has : (d : Walk) → among (get_or rs place d).wires w ≡ true
+
+pub over_of : (rs : List Walk) (w : ℕ) → among (wires_over rs) w ≡ true → IsOver rs w
+over_of [] w is = absurd (false≢true is)
+over_of (r ∷ rs) w is = by (or_cases (among r.wires w) (among (wires_over rs) w) (sym (list_any-append (λ z. z == w) r.wires (wires_over rs)) ∙ is)) (over_of rs w)
+  where
+    by : (among r.wires w ≡ true) ⊎ (among (wires_over rs) w ≡ true) → (among (wires_over rs) w ≡ true → IsOver rs w) → IsOver (r ∷ rs) w
+    by (inl h) more = record { place = 0; below = omega arith; has = λ d. h }
+    by (inr h) more = let p = more h in record { place = suc p.place; below = omega (arith, p.below); has = p.has }
+
+-- a wire of none of the routes is of no one
+pub apart_from_one : (ws : List ℕ) (rs : List Walk) (k : ℕ) (s : Walk) → ((w : ℕ) → among ws w ≡ true → among (wires_over rs) w ≡ false) → k < length rs → s ≡ get_or rs k s → (w : ℕ) → among ws w ≡ true → among s.wires w ≡ false
+apart_from_one ws rs k s apart below at w is = by (among s.wires w) refl
+  where
+    by : (b : Bool) → among s.wires w ≡ b → b ≡ false
+    by false e = refl
+    by true e = absurd (false≢true (sym (apart w is) ∙ over_has rs k w s below (subst (λ (r : Walk). among r.wires w ≡ true) at e)))
+
+first_of : {r q : Pins} → ◌≡◌ {A = List Pins} (r ∷ []) (q ∷ []) → r ≡ q
+first_of e = ap (λ xs. get_or xs 0 []) e
+
+-- the pin of a route reads otherwise than those of others
+abbrev pub Differ : Pins → ℕ → List Walk → Type 0
+Differ r k rs = All (λ (s : Walk). get_or r k true ≢ get_or r s.pin true) rs
+
+module _ {told : Option Faults} {g : Configuration} {drive reading : Pins} (left : Walk) (rights : List Walk) (p : ReadsOnce told g drive reading) where
+  same_reading : (f : Faults) (r : Pins) → told ≡ Some f → IsRun f g (drive ∷ []) (r ∷ []) → reading ≡ r
+  same_reading f r t run = first_of (Runs-unique (circuit_of f g) (p.run f t) run)
+
+  pub tells_none : (Differ reading left.pin rights → ⊥) → TellsFromAll told g drive left rights false
+  tells_none no_ = record { exact = λ f r t run. ((λ is. absurd (false≢true is)), (λ all. absurd (no_ (subst (λ q. Differ q left.pin rights) (sym (same_reading f r t run)) all)))) }
+
+  pub tells_all : Differ reading left.pin rights → TellsFromAll told g drive left rights true
+  tells_all yes_ = record { exact = λ f r t run. ((λ is. subst (λ q. Differ q left.pin rights) (same_reading f r t run) yes_), (λ all. refl)) }
+
+  pub all_pass : left.pin < pins_of g.shape → All (λ (s : Walk). s.pin < pins_of g.shape) rights → (Differ reading left.pin rights → ⊥) → AllApartPasses told g drive left rights false
+  all_pass h each no_ = record {
+    at = λ f l r t off groups is on driven. absurd (no_ (λ k d below e.
+        let both = apart_passes f g l r drive reading left.pin (get_or rights k d).pin off groups h (each k d below) is (on k d below) driven (p.run f t) in
+        false≢true (sym both.0 ∙ e ∙ both.1)));
+  }
+
+  pub all_gain : (k : Kept) → g.shape ≡ k.shape → IsReady k g left → All (IsReady k g) rights → Differ reading left.pin rights →
+      (f : Faults) → told ≡ Some f → HoldsFor k f → GainHoldsFor k.shape (these_pairs left.wires (wires_over rights)) f
+  all_gain k same ready others differ f t h =
+      subst (λ m. GainHoldsFor m (these_pairs left.wires (wires_over rights)) f) same (pairs_hold g.shape left.wires (wires_over rights) f apart (λ w u is on j. apart u w on is (Joined-sym j)))
+    where
+      apart : (w u : ℕ) → among left.wires w ≡ true → among (wires_over rights) u ≡ true → ¬ Shorted g.shape f w u
+      apart w u is on =
+          let it = over_of rights u on in
+          let other = others it.place left it.below in
+          apart_separates f g left.pin (get_or rights it.place left).pin w u (p.run f t) (rw same ready.route.pin) (rw same other.route.pin) (differ it.place left it.below)
+          (ready_joined f k g left same h ready w is) (ready_joined f k g (get_or rights it.place left) same h other u (it.has left))
