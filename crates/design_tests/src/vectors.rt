@@ -1,10 +1,10 @@
 //! A limit on the bytes of a vector file.
 ghost use Rattle.std.specs.Prelude.{◌<◌, ◌-◌, ◌^◌};
 
-use netlist_eval::{RowText, VectorKind, VectorText, VectorsFail};
 use std::alloc::{AllocError, Global};
 use std::test::Fail;
 use tm_outside::{File, MemoryStore, Store};
+use vector_text::{RowText, VectorKind, VectorText, VectorsFail};
 
 // A store of one file `v`.
 fn store_of(alloc: Global, bytes: &[u8]) -> Result<MemoryStore, AllocError> {

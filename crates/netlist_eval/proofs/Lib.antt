@@ -1,18 +1,12 @@
-pub mod TextLemmas
-pub mod LineLemmas
-pub mod InsideLemmas
-pub mod StepLemmas
-pub mod FeedLemmas
-pub mod ReadLemmas
-pub mod RowLemmas
-pub mod BitLemmas
-pub mod RunLemmas
-pub mod TableLemmas
-pub mod SmallLemmas
-pub mod TurnLemmas
-pub mod ReaderLemmas
-pub mod MarkLemmas
-pub mod LatchLemmas
-pub mod LaneLemmas
-pub mod BlockLemmas
-pub mod TableWordLemmas
+-- Values of signals, tables and latches, one vector or 64 at a time.
+mod BitLemmas
+mod RunLemmas
+mod TableLemmas
+mod SmallLemmas
+mod TurnLemmas
+mod ReaderLemmas
+mod MarkLemmas
+mod LatchLemmas
+mod LaneLemmas
+mod BlockLemmas
+mod TableWordLemmas

@@ -1,11 +1,6 @@
-pub mod Vectors
-pub mod Readings
-pub mod Lines
-pub mod Inside
-pub mod Rows
+-- Cited above: an evaluation and its steps.
 pub mod Evals
-pub mod Steps
-pub mod Kept
+-- Of this crate's bodies: what is kept of a design, and how it is brought up to date.
 pub mod Bits
 pub mod Tables
 pub mod Turns

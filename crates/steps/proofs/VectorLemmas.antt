@@ -5,11 +5,11 @@ use Rattle.std.proofs.lemmas.List.{length-map, map-append}
 use Rattle.std.proofs.lemmas.Option.{slice_get-get_or}
 use Rattle.tm_outside.specs.Told.{Told, untold, absent, holds, bytes_of, IfTold, IsPresent}
 use Rattle.tm_outside.specs.Store.{StoreState, rest_of}
-use Rattle.netlist_eval.specs.declared.vectors.VectorKind.{VectorKind}
-use Rattle.netlist_eval.specs.Vectors.{SaidVectors, VectorLine, nothing_said, fault_said, with_vector}
-use Rattle.netlist_eval.specs.declared.vectors.VectorsFail.TheVariants.{Text}
+use Rattle.vector_text.specs.declared.vectors.VectorKind.{VectorKind}
+use Rattle.vector_text.specs.Vectors.{SaidVectors, VectorLine, nothing_said, fault_said, with_vector}
+use Rattle.vector_text.specs.declared.vectors.VectorsFail.TheVariants.{Text}
 use Rattle.steps.proofs.TextLemmas.{IfTold-with}
-use Rattle.netlist_eval.specs.Readings.{VectorReading, new_reading, says_next, NextGives, NextFails, HasMoved, StaysWithin}
+use Rattle.vector_text.specs.Readings.{VectorReading, new_reading, says_next, NextGives, NextFails, HasMoved, StaysWithin}
 use Rattle.steps.specs.Files.{most_vector_bytes, most_ahead, says_at, vectors_at, end_at, AreFirst, AreAll, AreBeforeFault, IsNearEnd, IsNearNext, file_of, IsBegun}
 
 abbrev pub bits_of_line : VectorLine → List Bool

@@ -4,7 +4,7 @@ use Rattle.std.proofs.lemmas.Grind.{flat_map-append}
 use Rattle.std.specs.Prelude.{Result, Ok, Err}
 use Rattle.tm_outside.specs.Sink.{Wrote}
 use Rattle.tm_outside.specs.Store.{StoreState}
-use Rattle.netlist_eval.specs.Rows.{row_line}
+use Rattle.vector_text.specs.Rows.{row_line}
 use Rattle.steps.specs.Stops.{Asks, AsksSome}
 use Rattle.steps.specs.declared.refusal.Stop.{Stop}
 

@@ -2,7 +2,7 @@
 use Rattle.std.specs.Prelude.{◌≡◌, ◌⊎◌, ℕ, Bool, List, [], ◌∷◌, ◌++◌, length, flat_map, Option, None}
 use Rattle.tm_outside.specs.Told.{Told}
 use Rattle.tm_outside.specs.Store.{Place}
-use Rattle.netlist_eval.specs.Rows.{row_line}
+use Rattle.vector_text.specs.Rows.{row_line}
 use Rattle.steps.specs.Files.{AreFirst, AreAll, AreBeforeFault, IsNearEnd, IsNearNext}
 use Rattle.steps.specs.declared.refusal.Refusal.{Refusal}
 use Rattle.steps.specs.declared.refusal.Refusal.TheVariants as refused

@@ -3,8 +3,8 @@ use Rattle.std.specs.Prelude.{◌≡◌, ℕ, ◌+◌, ◌<◌, ◌≤◌, Bool,
 use Rattle.std.specs.Prelude.{Option, None, Some, IfSome, option_map, unwrap_or}
 use Rattle.tm_outside.specs.Told.{Told, untold, IfTold, IsPresent}
 use Rattle.tm_outside.specs.Store.{Place, StoreState}
-use Rattle.netlist_eval.specs.Vectors.{SaidVectors, VectorLine, file_says}
-use Rattle.netlist_eval.specs.declared.vectors.VectorKind.{VectorKind}
+use Rattle.vector_text.specs.Vectors.{SaidVectors, VectorLine, file_says}
+use Rattle.vector_text.specs.declared.vectors.VectorKind.{VectorKind}
 
 -- the most bytes of a file of vectors
 abbrev pub most_vector_bytes : ℕ

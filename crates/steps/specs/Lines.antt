@@ -15,9 +15,9 @@ use Rattle.netlist.specs.declared.fault.DesignKind.{DesignKind}
 use Rattle.netlist.specs.declared.fault.DesignKind.TheVariants.{Byte, Word, Unknown, NoModel, SameModel, Row, RowMixed}
 use Rattle.netlist.specs.declared.fault.DesignKind.TheVariants.{LatchType, LatchInit, Control, Limit, LeftOut}
 use Rattle.netlist.specs.declared.fault.DesignKind.TheVariants.{NoSuchModel, Formal, Recursive, Doubled, Undriven, Cyclic}
-use Rattle.netlist_eval.specs.declared.vectors.VectorKind.{VectorKind}
-use Rattle.netlist_eval.specs.declared.vectors.VectorKind.TheVariants.{Char, Width, Limit as VectorLimit}
-use Rattle.netlist_eval.specs.Rows.{row_line}
+use Rattle.vector_text.specs.declared.vectors.VectorKind.{VectorKind}
+use Rattle.vector_text.specs.declared.vectors.VectorKind.TheVariants.{Char, Width, Limit as VectorLimit}
+use Rattle.vector_text.specs.Rows.{row_line}
 use Rattle.place.specs.declared.short.Resource.{Resource}
 use Rattle.steps.specs.declared.design_file.DesignFile.{DesignFile}
 use Rattle.steps.specs.declared.design_file.DesignFile.TheVariants.{Design, First, Second}

@@ -6,8 +6,8 @@ use Rattle.tm_outside.specs.Sink.{SinkState, Wrote, PutFails}
 use Rattle.tm_outside.specs.declared.store.StoreFail.{StoreFail}
 use Rattle.tm_outside.specs.declared.store.StoreFail.TheVariants.{Failed as StoreFailed, Memory as StoreMemory}
 use Rattle.tm_outside.specs.declared.sink.SinkFail.TheVariants.{Failed as SinkFailed, Memory as SinkMemory}
-use Rattle.netlist_eval.specs.declared.vectors.VectorsFail.{VectorsFail}
-use Rattle.netlist_eval.specs.declared.vectors.VectorsFail.TheVariants.{Text, Failed as VectorsFailed}
+use Rattle.vector_text.specs.declared.vectors.VectorsFail.{VectorsFail}
+use Rattle.vector_text.specs.declared.vectors.VectorsFail.TheVariants.{Text, Failed as VectorsFailed}
 use Rattle.rig.specs.declared.rig.RigFail.{RigFail}
 use Rattle.rig.specs.declared.rig.RigFail.TheVariants as work
 use Rattle.rig.specs.declared.rig.AttachFail.{AttachFail}

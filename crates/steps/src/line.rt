@@ -14,10 +14,10 @@ use hierarchy::Shape;
 use itoa::Buffer;
 use machine_file::MachineKind;
 use netlist::DesignKind;
-use netlist_eval::VectorKind;
 use place::{Resource, Short};
 use std::alloc::{AllocError, Global};
 use tm_text::put_number;
+use vector_text::VectorKind;
 
 fn word_of_design(kind: &DesignKind) -> &'static str
     ensures { result.now ≡ design_word kind.now }

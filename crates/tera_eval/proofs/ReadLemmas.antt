@@ -4,7 +4,7 @@ use Rattle.tm_outside.specs.Store.{StoreState}
 use Rattle.netlist.specs.declared.draft.Draft.{Draft}
 use Rattle.netlist.specs.Rows.{RowsFrom, AreRows, first_state, next_state}
 use Rattle.netlist_eval.specs.Evals.{EvalState, IsStep}
-use Rattle.netlist_eval.specs.Readings.{VectorReading, new_reading, NextGives, HasMoved}
+use Rattle.vector_text.specs.Readings.{VectorReading, new_reading, NextGives, HasMoved}
 use Rattle.steps.specs.Files.{most_vector_bytes, IsBegun}
 use Rattle.steps.proofs.VectorLemmas.{IsTaking, IsTaking-start, IsTaking-more}
 

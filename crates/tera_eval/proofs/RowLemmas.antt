@@ -4,10 +4,10 @@ use Rattle.tm_outside.specs.Store.{StoreState}
 use Rattle.tm_outside.specs.Sink.{SinkState, Wrote}
 use Rattle.tm_outside.specs.declared.sink.SinkFail.TheVariants.{Failed as SinkFailed, Memory as SinkMemory}
 use Rattle.netlist.specs.declared.draft.Draft.{Draft}
-use Rattle.netlist_eval.specs.declared.vectors.VectorsFail.{VectorsFail}
-use Rattle.netlist_eval.specs.declared.vectors.VectorsFail.TheVariants.{Text, Failed}
-use Rattle.netlist_eval.specs.Readings.{VectorReading, NextGives}
-use Rattle.netlist_eval.specs.Rows.{row_line}
+use Rattle.vector_text.specs.declared.vectors.VectorsFail.{VectorsFail}
+use Rattle.vector_text.specs.declared.vectors.VectorsFail.TheVariants.{Text, Failed}
+use Rattle.vector_text.specs.Readings.{VectorReading, NextGives}
+use Rattle.vector_text.specs.Rows.{row_line}
 use Rattle.steps.specs.Files.{file_of, IsBegun, IsNearNext}
 use Rattle.steps.specs.Courses.{all_rows, HasReadRows, IsBeforeRow, ends}
 use Rattle.steps.specs.Stops.{StopWrote, WriteStops, stop_of_vectors}

@@ -3,8 +3,8 @@ use Rattle.std.specs.Prelude.{◌≡◌, ◌<◌, ◌≤◌, Bool, true, false, 
 use Rattle.tm_outside.specs.Store.{StoreState}
 use Rattle.netlist.specs.declared.draft.Draft.{Draft}
 use Rattle.netlist_eval.specs.Evals.{first_eval, IsStep}
-use Rattle.netlist_eval.specs.declared.vectors.VectorsFail.{VectorsFail}
-use Rattle.netlist_eval.specs.Readings.{new_reading, NextGives, NextFails, HasMoved, StopsWithin}
+use Rattle.vector_text.specs.declared.vectors.VectorsFail.{VectorsFail}
+use Rattle.vector_text.specs.Readings.{new_reading, NextGives, NextFails, HasMoved, StopsWithin}
 use Rattle.tera_eval.specs.declared.evaluation.Evaluation.{Evaluation}
 use Rattle.steps.specs.Files.{most_vector_bytes, most_ahead}
 

@@ -2,7 +2,7 @@
 ghost use Rattle.std.specs.Prelude.{◌≡◌, ◌≤◌, ◌∷◌, [], OnOk, IfOk, IfErr, IsSome};
 ghost use Rattle.tm_outside.specs.Sink.{Wrote};
 ghost use Rattle.rig.specs.Rig.{RigState};
-ghost use Rattle.netlist_eval.specs.Rows.{row_line};
+ghost use Rattle.vector_text.specs.Rows.{row_line};
 ghost use Rattle.steps.specs.Outside.{outside};
 ghost use Rattle.steps.specs.Files.{IsBegun, file_of};
 ghost use Rattle.steps.specs.Courses.{all_rows};
@@ -13,10 +13,11 @@ ghost use Rattle.tera_eval.specs.Eval.{eval_rows, eval_course, eval_job};
 ghost use Rattle.tera_eval.specs.Evaluations.{IsReady, IsSized, RowGives, RowFails};
 
 use netlist::Netlist;
-use netlist_eval::{Eval, RowText, VectorText, VectorsFail};
+use netlist_eval::Eval;
 use std::alloc::{AllocError, Global};
 use steps::{DesignFile, Stop, read_design, write};
 use tm_outside::{Sink, Store};
+use vector_text::{RowText, VectorText, VectorsFail};
 
 // All that the rows need: no memory is taken after this.
 #[derive(Drop)]

@@ -9,7 +9,7 @@ use Rattle.defect_db.specs.Lists.{DefectList}
 use Rattle.defect_db.specs.Text.{text_of}
 use Rattle.netlist.specs.declared.draft.Draft.{Draft}
 use Rattle.netlist.specs.Rows.{AreRows}
-use Rattle.netlist_eval.specs.Rows.{row_line}
+use Rattle.vector_text.specs.Rows.{row_line}
 use Rattle.config_image.specs.Images.{ImageValue}
 use Rattle.steps.specs.Files.{AreAll}
 use Rattle.steps.specs.Lines.{outputs_line, output_text}

@@ -14,7 +14,7 @@ use Rattle.config_set.specs.Faulty.{IsRun, circuit_of}
 use Rattle.rig.specs.Rig.{RigState, Exchange, IsTold, Begins, config_of, cycles_of, drives_of, readings_of}
 use Rattle.config_image.specs.Images.{ImageValue, drive_of, row_of}
 use Rattle.loader.specs.Run.{RunsRow}
-use Rattle.netlist_eval.specs.Rows.{row_line}
+use Rattle.vector_text.specs.Rows.{row_line}
 use Rattle.steps.specs.Files.{IsNearNext, file_of, IsBegun}
 use Rattle.steps.specs.Outside.{outside}
 use Rattle.steps.specs.Courses.{all_rows, HasRows, HasReadRows, IsBeforeRow, ends}

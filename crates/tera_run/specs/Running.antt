@@ -7,8 +7,8 @@ use Rattle.rig.specs.Rig.{RigState, Begins, spare_of}
 use Rattle.config_image.specs.Images.{ImageValue}
 use Rattle.loader.specs.Pins.{Rows}
 use Rattle.loader.specs.Run.{RunsRow}
-use Rattle.netlist_eval.specs.declared.vectors.VectorsFail.TheVariants.{Text}
-use Rattle.netlist_eval.specs.Readings.{new_reading, NextGives, NextFails, HasMoved, StaysWithin}
+use Rattle.vector_text.specs.declared.vectors.VectorsFail.TheVariants.{Text}
+use Rattle.vector_text.specs.Readings.{new_reading, NextGives, NextFails, HasMoved, StaysWithin}
 use Rattle.steps.specs.Files.{most_vector_bytes, most_ahead}
 use Rattle.steps.specs.declared.refusal.Refusal.TheVariants as refused
 use Rattle.steps.specs.declared.refusal.Stop.{Stop}

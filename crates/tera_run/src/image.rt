@@ -3,7 +3,7 @@ ghost use Rattle.std.specs.Prelude.{◌≡◌, ◌≤◌, ◌∷◌, [], Some, O
 ghost use Rattle.tm_outside.specs.Sink.{Wrote};
 ghost use Rattle.hierarchy.specs.Shape.{pins_of};
 ghost use Rattle.rig.specs.Rig.{shape_of, width_of};
-ghost use Rattle.netlist_eval.specs.Rows.{row_line};
+ghost use Rattle.vector_text.specs.Rows.{row_line};
 ghost use Rattle.steps.specs.Files.{IsBegun, file_of};
 ghost use Rattle.steps.specs.Outside.{StaysNear, outside, around};
 ghost use Rattle.steps.specs.Courses.{all_rows};
@@ -14,11 +14,11 @@ ghost use Rattle.tera_run.specs.Running.{IsFitting, IsLoaded, CycleGives, CycleS
 
 use config_image::Image;
 use loader::{Run, begin};
-use netlist_eval::{RowText, VectorText};
 use rig::Rig;
 use std::alloc::Global;
 use steps::{Stop, write};
 use tm_outside::{Sink, Store};
+use vector_text::{RowText, VectorText};
 
 /// For how many rows the rig is asked for room.
 const ROOM: u32 = 4_096;

@@ -1,0 +1,8 @@
+-- Vector files read in pieces, and rows written.
+mod TextLemmas
+mod LineLemmas
+mod InsideLemmas
+mod StepLemmas
+mod FeedLemmas
+mod ReadLemmas
+mod RowLemmas

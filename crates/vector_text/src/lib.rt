@@ -1,0 +1,12 @@
+//! The texts of vectors, and the lines of rows.
+#![tactic(auto)]
+
+mod feed;
+mod line;
+mod reading;
+mod row_text;
+mod vectors;
+
+pub use reading::VectorText;
+pub use row_text::RowText;
+pub use vectors::{VectorKind, VectorsFail};
