@@ -88,7 +88,8 @@ fn test_one(
     ensures node { IfOk result (λ next. IfSome next (λ tested. tested.node ≡ node.0)) }
     ensures held { IfOk result (λ next. IfSome next (IsHeld proof.new)) }
     ensures full { IfOk result (λ next. IfSome next (FullIf (rig_state rig.old).machine.faults proof.old proof.new)) }
-    ensures served { node.0 ≡ length found.now → node.0 < nodes_of proof.old.shape → IfOk result (λ next. ServedIf (rig_state rig.old).machine.faults proof.old node.0 (is_some next)) }
+    ensures served { node.0 ≡ length found.now → node.0 < nodes_of proof.old.shape →
+        IfOk result (λ next. ServedIf (rig_state rig.old).machine.faults proof.old node.0 (is_some next)) }
     ensures cause { IsErrOf result RigFail.Failed → Rose (rig_state rig.old).failures (rig_state rig.new).failures }
 {
     if node.0 == 0 {
