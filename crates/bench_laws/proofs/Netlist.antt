@@ -34,8 +34,8 @@ within = refl
 
 rules : KeepsRules models
 rules = record {
-  known = λ k less _. absurd (let no : ⊥ = omega (arith, less, no_uses) in no);
-  given = λ k less _. absurd (let no : ⊥ = omega (arith, less, no_uses) in no);
+  known = λ k less. absurd (let no : ⊥ = omega (arith, less, no_uses) in no);
+  given = λ k less. absurd (let no : ⊥ = omega (arith, less, no_uses) in no);
   ends = λ k less _. absurd (let no : ⊥ = omega (arith, less, no_uses) in no);
 }
 

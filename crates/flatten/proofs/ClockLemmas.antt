@@ -1,7 +1,7 @@
 -- Controls of latches.
 use Rattle.std.proofs.Common.{◌≡◌, ℕ, ◌+◌, ◌<◌, ◌&&◌, ◌||◌, Bool, true, false, cond, not, List, [], ◌∷◌, ◌++◌, Option, Some, None, length, map, refl, ap, sym, ◌∙◌, subst, arith, inl, inr, ◌⊎◌, is_some, get_or}
 use Rattle.std.proofs.Math.Dec.{eqb}
-use Rattle.std.proofs.lemmas.Bool.{eqb-true, eq-eqb}
+use Rattle.std.proofs.lemmas.Bool.{eqb-true}
 use Rattle.flatten.proofs.UseLemmas.{swapped}
 use Rattle.std.specs.List.{list_any, position_or_len}
 use Rattle.std.specs.Option.{option_or}
@@ -16,6 +16,7 @@ use Rattle.flatten.specs.Clocks.{same_control, clocked_in, control_in, number_in
 use Rattle.flatten.specs.declared.clocks.Clock.{Clock}
 use Rattle.flatten.specs.declared.placed.Control.TheVariants as kept
 use Rattle.flatten.specs.Placed.{control_of}
+use Rattle.flatten.proofs.KnownLemmas.{same_self}
 use Rattle.std.proofs.lemmas.List.{get_or-map, length-map}
 use Rattle.flatten.proofs.NameLemmas.{name_is, same_name}
 
@@ -89,9 +90,6 @@ signal_is s t h =
     let both = and_true (eqb s.used t.used) (eqb s.own t.own) h in
     λ i. record { used = eqb-true s.used t.used both.0 i; own = eqb-true s.own t.own both.1 i }
 
-signal_same : (s : Signal) → same_signal s s ≡ true
-signal_same s = rw (eq-eqb s.used s.used refl, eq-eqb s.own s.own refl) refl
-
 control_eq : (a b : Control Signal) → same_control a b ≡ true → a ≡ b
 control_eq (GivenControl s) (GivenControl t) h = ap GivenControl (signal_is s t h)
 control_eq (NamedControl v) (NamedControl w) h = ap NamedControl (name_is v w h)
@@ -99,7 +97,7 @@ control_eq (GivenControl s) (NamedControl w) h = absurd cc
 control_eq (NamedControl v) (GivenControl t) h = absurd cc
 
 control_same : (a : Control Signal) → same_control a a ≡ true
-control_same (GivenControl s) = signal_same s
+control_same (GivenControl s) = same_self s
 control_same (NamedControl w) = same_name w
 
 differ : (a b : Control Signal) → same_control a b ≡ false → a ≡ b → ⊥

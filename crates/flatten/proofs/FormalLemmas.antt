@@ -6,7 +6,8 @@ use Rattle.std.proofs.Math.Seq.{drop-cons}
 use Rattle.flatten.specs.declared.model.PairDef.{PairDef}
 use Rattle.flatten.specs.Lines.{pair_of}
 use Rattle.flatten.specs.declared.model.Model.{Model}
-use Rattle.flatten.specs.Uses.{is_among, first_wrong, first_missing, port_names, input_names}
+use Rattle.flatten.specs.Uses.{is_among, port_names, input_names}
+use Rattle.flatten.specs.UseFaults.{first_wrong, first_missing}
 use Rattle.std.proofs.lemmas.List.{take_more, map-append}
 use Rattle.flatten.specs.NameSets.{with_name, with_names}
 use Rattle.flatten.specs.UseLines.{formals_in}

@@ -7,6 +7,7 @@ use Rattle.std.proofs.lemmas.List.Folds.{list_any-append}
 use Rattle.flatten.specs.declared.model.Signal.{Signal}
 use Rattle.flatten.specs.Lines.{Line}
 use Rattle.flatten.specs.Signals.{same_signal, with_signal, with_signals, number_of, words_on, signals_of}
+use Rattle.flatten.proofs.TestLemmas.{or_true}
 
 any_place : {X : Type 0} (p : X → Bool) (xs : List X) → list_any p xs ≡ true → position_or_len p xs < length xs
 any_place p [] h = absurd cc
@@ -16,7 +17,7 @@ any_place p (x ∷ xs) h = by (p x) h (any_place p xs)
     by true h later = omega arith
     by false h later = let lt = later h in omega arith
 
-same_self : (s : Signal) → same_signal s s ≡ true
+pub same_self : (s : Signal) → same_signal s s ≡ true
 same_self s = and_from _ _ (eq-eqb s.used s.used refl) (eq-eqb s.own s.own refl)
 
 abbrev pub IsKnown : List Signal → Signal → Type 0
@@ -28,10 +29,6 @@ AreKnown signals (w ∷ words) = IsKnown signals w × AreKnown signals words
 
 pub number_below : (signals : List Signal) (s : Signal) → IsKnown signals s → number_of signals s < length signals
 number_below signals s h = any_place (same_signal s) signals h
-
-or_true : (b : Bool) → (b || true) ≡ true
-or_true true = refl
-or_true false = refl
 
 still : (signals : List Signal) (s t : Signal) → IsKnown signals t → IsKnown (with_signal signals s) t
 still signals s t h = by (list_any (same_signal s) signals)

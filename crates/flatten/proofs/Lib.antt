@@ -1,17 +1,20 @@
-pub mod OrderLemmas
-pub mod SignalsLemmas
-pub mod SubstitutionLemmas
+-- Lines that use models, their replacement, and what is read from the lines then.
+pub mod TestLemmas
 pub mod NameLemmas
-pub mod UseLemmas
-pub mod FormalLemmas
-pub mod LinkLemmas
-pub mod FrameLemmas
-pub mod WorkLemmas
-pub mod ClockLemmas
-pub mod PrintLemmas
-pub mod ReadLemmas
-pub mod KnownLemmas
-pub mod FitLemmas
-pub mod CountLemmas
-pub mod WordLemmas
-pub mod MadeLemmas
+pub mod SubstitutionLemmas
+mod OrderLemmas
+mod SignalsLemmas
+mod UseLemmas
+mod FormalLemmas
+mod RuleLemmas
+mod LinkLemmas
+mod FrameLemmas
+mod WorkLemmas
+mod ClockLemmas
+mod PrintLemmas
+mod ReadLemmas
+mod KnownLemmas
+mod FitLemmas
+mod CountLemmas
+mod WordLemmas
+mod MadeLemmas

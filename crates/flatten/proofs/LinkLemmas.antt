@@ -1,22 +1,22 @@
 -- Models that use one another, as covers that read one another.
-use Rattle.std.proofs.Common.{◌≡◌, ℕ, zero, suc, ◌+◌, ◌<◌, ◌≤◌, ◌||◌, Bool, true, false, not, cond, List, [], ◌∷◌, ◌++◌, Option, length, get_or, set, map, refl, sym, ap, ◌∙◌, subst, arith, inl, inr, get_or-set_same, get_or-set_other}
+use Rattle.std.proofs.Common.{◌≡◌, ℕ, suc, ◌+◌, ◌<◌, ◌||◌, Bool, true, false, not, cond, List, [], ◌∷◌, ◌++◌, Option, length, get_or, set, map, refl, sym, ap, ◌∙◌, subst, arith, inl, inr, get_or-set_same, get_or-set_other}
 use Rattle.std.specs.List.{Contains}
 use Rattle.std.specs.Str.{bytes_eq}
 use Rattle.std.proofs.lemmas.Bool.{cases_eq}
 use Rattle.std.proofs.lemmas.List.{length-set, get_or_append_left, get_or_push, length_push}
 use Rattle.std.proofs.lemmas.List.Elements.{Contains-get_or, Contains-push, Contains-push_cases, Contains-append_left}
 use Rattle.netlist.specs.declared.draft.Cover.{Cover}
-use Rattle.netlist.specs.Orders.{IsFirst}
 use Rattle.netlist.specs.Covers.{no_cover, cover_at, Reads, Reaches as Leads, here as at_once, onward as through}
 use Rattle.netlist.specs.Groups.{AreGroups}
 use Rattle.netlist.proofs.OrderLemmas.{first_same}
 use Rattle.flatten.specs.declared.model.Model.{Model}
-use Rattle.flatten.specs.Uses.{Use, use_at, uses_of, is_among, Reaches, here, onward, IsRecursive, IsFirstUse}
+use Rattle.flatten.specs.Uses.{Use, use_at, uses_of, is_among, Reaches, here, onward, IsRecursive}
+use Rattle.flatten.specs.UseFaults.{IsFirstUse}
 use Rattle.flatten.specs.declared.uses.UseLine.{UseLine}
 use Rattle.flatten.specs.UseLines.{use_in, listed, IsFirstListed}
 use Rattle.flatten.proofs.UseLemmas.{listed_is}
 use Rattle.flatten.specs.NameSets.{with_name, number_in}
-use Rattle.flatten.specs.Links.{HaveNames, AreBare, with_input, IsLink, AreLinked, group_at}
+use Rattle.flatten.specs.Links.{HaveNames, AreBare, with_input, AreLinked, group_at}
 use Rattle.flatten.proofs.NameLemmas.{name_is, still_among, now_among}
 
 -- ---- numbers of names

@@ -9,25 +9,26 @@ use Rattle.std.proofs.lemmas.List.Folds.{list_any-append}
 use Rattle.std.proofs.lemmas.Slice.Eq.{bytes_eq-Decides}
 use Rattle.flatten.specs.Uses.{is_among}
 use Rattle.flatten.specs.NameSets.{with_name, with_names, number_in}
+use Rattle.flatten.proofs.TestLemmas.{or_true, or_cases}
 
-abbrev now : Bor (List ℕ) → List ℕ
+abbrev pub now : Bor (List ℕ) → List ℕ
 now k = k.now
 
-abbrev same : List ℕ → Bor (List ℕ) → Bool
+abbrev pub same : List ℕ → Bor (List ℕ) → Bool
 same w k = bytes_eq w k.now
 
-any_keys : (w : List ℕ) (ks : List (Bor (List ℕ))) → list_any (same w) ks ≡ is_among (map now ks) w
+pub any_keys : (w : List ℕ) (ks : List (Bor (List ℕ))) → list_any (same w) ks ≡ is_among (map now ks) w
 any_keys w [] = refl
 any_keys w (k ∷ ks) = ap (λ b. bytes_eq w k.now || b) (any_keys w ks)
 
 pub any_view : (w : List ℕ) (ks : List (Bor (List ℕ))) (names : List (List ℕ)) → map now ks ≡ names → list_any (same w) ks ≡ is_among names w
 any_view w ks names view = any_keys w ks ∙ ap (λ ns. is_among ns w) view
 
-place_keys : (w : List ℕ) (ks : List (Bor (List ℕ))) → position_or_len (same w) ks ≡ number_in (map now ks) w
+pub place_keys : (w : List ℕ) (ks : List (Bor (List ℕ))) → position_or_len (same w) ks ≡ number_in (map now ks) w
 place_keys w [] = refl
 place_keys w (k ∷ ks) = ap (λ n. cond (not (bytes_eq w k.now)) (1 + n) 0) (place_keys w ks)
 
-some_is : (b : Bool) (n i : ℕ) → cond b (Some n) None ≡ Some i → n ≡ i
+pub some_is : (b : Bool) (n i : ℕ) → cond b (Some n) None ≡ Some i → n ≡ i
 some_is true n i e = cc
 some_is false n i e = absurd cc
 
@@ -120,10 +121,6 @@ with_names-append (n ∷ more) rest names = with_names-append more rest (with_na
 
 -- ---- with one name more
 
-or_cases : (a b : Bool) → (a || b) ≡ true → (a ≡ true) ⊎ (b ≡ true)
-or_cases true b h = inl refl
-or_cases false b h = inr h
-
 pub among_cases : (names : List (List ℕ)) (n w : List ℕ) → is_among (with_name names n) w ≡ true → (is_among names w ≡ true) ⊎ (w ≡ n)
 among_cases names n w h = elim (or_cases (is_among names w) (bytes_eq w n) (sym (among-with names n w) ∙ h)) [ inl old ↦ inl old | inr new ↦ inr (name_is w n new) ]
 
@@ -132,10 +129,6 @@ only_name n w h = name_is w n (sym (among-with [] n w) ∙ h)
 
 pub still_among : (names : List (List ℕ)) (n w : List ℕ) → is_among names w ≡ true → is_among (with_name names n) w ≡ true
 still_among names n w h = among-with names n w ∙ ap (λ b. b || bytes_eq w n) h
-
-or_true : (b : Bool) → (b || true) ≡ true
-or_true true = refl
-or_true false = refl
 
 pub now_among : (names : List (List ℕ)) (n : List ℕ) → is_among (with_name names n) n ≡ true
 now_among names n = among-with names n n ∙ ap (λ b. is_among names n || b) (same_name n) ∙ or_true (is_among names n)

@@ -1,5 +1,5 @@
 -- Signals by first appearance.
-use Rattle.std.proofs.Common.{◌≡◌, ℕ, ◌+◌, ◌<◌, ◌≤◌, Bool, true, false, cond, ◌||◌, nat_lt, List, [], ◌∷◌, ◌++◌, length, refl, sym, ap, ◌∙◌, arith, append_assoc, zero-add, length-append, inl, inr, ◌⊎◌, not, Some, None, position}
+use Rattle.std.proofs.Common.{◌≡◌, ℕ, ◌+◌, ◌<◌, ◌≤◌, Bool, true, false, cond, nat_lt, List, [], ◌∷◌, ◌++◌, length, refl, sym, ap, ◌∙◌, arith, append_assoc, zero-add, length-append, inl, inr, not, Some, None, position}
 use Rattle.std.specs.List.{list_any, flat_map}
 use Rattle.std.proofs.lemmas.List.{append-nil}
 use Rattle.std.proofs.lemmas.List.Sums.{sum_by-append}
@@ -10,6 +10,7 @@ use Rattle.flatten.specs.declared.refusal.Refusal.TheVariants.{Memory, Limit}
 use Rattle.flatten.specs.Lines.{Line}
 use Rattle.flatten.specs.Refusals.{IsPast, IsOver}
 use Rattle.flatten.specs.Signals.{same_signal, with_signal, with_signals, words_on, signals_of, size_in, size_of, is_over, number_of}
+use Rattle.flatten.proofs.TestLemmas.{or_true, or_cases}
 
 with_signal-longer : (signals : List Signal) (s : Signal) → length signals ≤ length (with_signal signals s)
 with_signal-longer signals s = by (list_any (same_signal s) signals)
@@ -36,14 +37,6 @@ signals_of-append xs ys = ap (with_signals []) (words-append xs ys) ∙ with_sig
 pub size_of-append : (xs ys : List (Line Signal)) → size_of (xs ++ ys) ≡ size_of xs + size_of ys
 size_of-append xs ys = sum_by-append (λ l. size_in l.part) xs ys
 
-over_cases : (a b : Bool) → (a || b) ≡ true → (a ≡ true) ⊎ (b ≡ true)
-over_cases true b e = inl refl
-over_cases false b e = inr e
-
-or_true : (a : Bool) → (a || true) ≡ true
-or_true true = refl
-or_true false = refl
-
 pub over_by_signals : (xs : List (Line Signal)) → 65535 < length (signals_of xs) → is_over xs ≡ true
 over_by_signals xs lt = let t : nat_lt 65535 (length (signals_of xs)) ≡ true = lt-ltb _ _ lt in rw t refl
 
@@ -52,7 +45,7 @@ over_by_size xs lt = let t : nat_lt 16777216 (size_of xs) ≡ true = lt-ltb _ _ 
 
 -- more lines don't bring it back
 pub over_more : (xs ys : List (Line Signal)) → is_over xs ≡ true → is_over (xs ++ ys) ≡ true
-over_more xs ys h = elim (over_cases (nat_lt 65535 (length (signals_of xs))) (nat_lt 16777216 (size_of xs)) h) [
+over_more xs ys h = elim (or_cases (nat_lt 65535 (length (signals_of xs))) (nat_lt 16777216 (size_of xs)) h) [
   | inl a ↦ over_by_signals (xs ++ ys) (omega (arith, ltb-true _ _ a, ap length (signals_of-append xs ys), with_signals-longer (flat_map words_on ys) (signals_of xs)))
   | inr b ↦ over_by_size (xs ++ ys) (omega (arith, ltb-true _ _ b, size_of-append xs ys))
 ]

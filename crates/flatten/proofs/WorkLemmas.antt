@@ -29,6 +29,7 @@ use Rattle.flatten.specs.Frames.{way_to, left_from, left_in, left_of, AreFrames,
 use Rattle.flatten.specs.Origins.{IsOrigin, AreOrigins, IsRefused}
 use Rattle.flatten.proofs.SignalsLemmas.{over_more}
 use Rattle.flatten.proofs.SubstitutionLemmas.{stays_after}
+use Rattle.flatten.proofs.TestLemmas.{neither}
 
 -- ---- what is given
 
@@ -111,14 +112,10 @@ first_of ms (l ∷ front) n m pairs way rest h = by l.part h (first_of ms front 
     by (CoverPart out ins rows off) h later = later h
     by (LatchPart from out init control) h later = later h
 
-or_false : (a b : Bool) → (a || b) ≡ false → (a ≡ false) × (b ≡ false)
-or_false true b h = absurd cc
-or_false false b h = (refl, h)
-
 left_after : (front lines : List (Line Signal)) → is_left front ≡ false → is_left (front ++ lines) ≡ is_left lines
 left_after [] lines h = refl
 left_after (l ∷ front) lines h =
-    let both = or_false (is_use l.part) (is_left front) h in
+    let both = neither (is_use l.part) (is_left front) h in
     ap (λ b. b || is_left (front ++ lines)) both.0 ∙ left_after front lines both.1
 
 none_in : (p : PlacedPart) → is_use (part_of p) ≡ false

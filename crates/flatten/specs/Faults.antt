@@ -12,7 +12,8 @@ use Rattle.flatten.specs.declared.model.Signal.{Signal}
 use Rattle.flatten.specs.Lines.{Line}
 use Rattle.flatten.specs.Substitution.{IsSubstituted}
 use Rattle.flatten.specs.Signals.{signals_of, is_over}
-use Rattle.flatten.specs.Uses.{use_at, IsUnknown, wrong_formal, IsWronglyGiven, IsRecursive, IsFirstUse, KeepsRules}
+use Rattle.flatten.specs.Uses.{use_at, IsRecursive, KeepsRules}
+use Rattle.flatten.specs.UseFaults.{IsUnknown, wrong_formal, IsWronglyGiven, IsFirstUse}
 use Rattle.flatten.specs.Netlists.{Clocked, no_control, control_at, controls_of, AreOneControl, IsWithin, printed}
 use Rattle.flatten.specs.Words.{drives_in, reads_in, covers_in, IsFirstDoubled, IsFirstUndriven, IsFirstCyclic}
 

@@ -1,9 +1,7 @@
--- The lines that use models, and what can be wrong with them.
-use Rattle.std.specs.Prelude.{ℕ, ◌≡◌, ◌<◌, Bool, false, not, ◌||◌, List, [], ◌∷◌, ◌++◌, map, length, Option, Some, None, IsSome, if◌then◌else◌, slice_index_or}
-use Rattle.std.specs.List.{flat_map, list_any}
-use Rattle.std.specs.Option.{option_or}
+-- The lines that use models, and the rules that they keep.
+use Rattle.std.specs.Prelude.{ℕ, ◌≡◌, ◌<◌, Bool, true, List, [], ◌∷◌, ◌++◌, map, length, slice_index_or}
+use Rattle.std.specs.List.{All, AllPairs, flat_map, list_any}
 use Rattle.std.specs.Str.{bytes_eq}
-use Rattle.netlist.specs.Orders.{IsFirst}
 use Rattle.flatten.specs.declared.model.Model.{Model}
 use Rattle.flatten.specs.declared.model.Piece.{Piece}
 use Rattle.flatten.specs.declared.model.Piece.TheVariants as piece
@@ -39,21 +37,7 @@ use_at models k = slice_index_or (uses_of models) k no_use
 abbrev pub is_among : List (List ℕ) → List ℕ → Bool
 is_among names w = list_any (bytes_eq w) names
 
--- no model has the name
-abbrev pub IsUnknown : List Model → ℕ → Type 0
-IsUnknown models k = is_among (map (λ m. m.name) models) (use_at models k).model ≡ false
-
 -- ---- what it gives
-
--- the first formal that is no name of the ports or stands earlier
-abbrev pub first_wrong : List (List ℕ) → List (List ℕ) → List (List ℕ) → Option (List ℕ)
-first_wrong ports earlier [] = None
-first_wrong ports earlier (f ∷ formals) = if not (is_among ports f) || is_among earlier f then Some f else first_wrong ports (f ∷ earlier) formals
-
--- the first input that isn't given
-abbrev pub first_missing : List (List ℕ) → List (List ℕ) → Option (List ℕ)
-first_missing formals [] = None
-first_missing formals (i ∷ inputs) = if is_among formals i then first_missing formals inputs else Some i
 
 abbrev pub name_in : Model → ℕ → List ℕ
 name_in m s = slice_index_or m.names s []
@@ -64,17 +48,14 @@ input_names m = map (λ p. name_in m p.signal) m.inputs
 abbrev pub port_names : Model → List (List ℕ)
 port_names m = input_names m ++ map (λ p. name_in m p.signal) m.outputs ++ m.clocks
 
--- the formal that is wrong, or else the input that isn't given
-abbrev pub formal_fault : Model → List (Pair ℕ) → Option (List ℕ)
-formal_fault m pairs =
-    let formals = map (λ q. q.formal) pairs in
-    option_or (first_wrong (port_names m) [] formals) (first_missing formals (input_names m))
+abbrev pub formals_of : List (Pair ℕ) → List (List ℕ)
+formals_of pairs = map (λ q. q.formal) pairs
 
-abbrev pub wrong_formal : List Model → ℕ → Option (List ℕ)
-wrong_formal models k = formal_fault (model_named models (use_at models k).model) (use_at models k).pairs
-
-abbrev pub IsWronglyGiven : List Model → ℕ → Type 0
-IsWronglyGiven models k = IsSome (wrong_formal models k)
+-- formals are names of the model's ports or clocks, none stands twice, and each input is given
+pub record IsRightlyGiven (m : Model) (pairs : List (Pair ℕ)) : Type 0 where
+  pub ports : All (λ f. is_among (port_names m) f ≡ true) (formals_of pairs)
+  pub once : AllPairs (λ f g. f ≡ g → ⊥) (formals_of pairs)
+  pub inputs : All (λ i. is_among (formals_of pairs) i ≡ true) (input_names m)
 
 -- ---- models that use themselves
 
@@ -89,11 +70,8 @@ IsRecursive models k = Reaches models (use_at models k).model (use_at models k).
 
 -- ---- the rules
 
-abbrev pub IsFirstUse : List Model → (ℕ → Type 0) → Option ℕ → Type 0
-IsFirstUse models P found = IsFirst (λ k. (use_at models k).number) (length (uses_of models)) P found
-
--- each line names a model, gives each input and no formal twice or wrongly, and no model uses itself
+-- each line names a model, what it gives is right, and no model uses itself
 pub record KeepsRules (models : List Model) : Type 0 where
-  pub known : IsFirstUse models (IsUnknown models) None
-  pub given : IsFirstUse models (IsWronglyGiven models) None
-  pub ends : IsFirstUse models (IsRecursive models) None
+  pub known : (k : ℕ) → k < length (uses_of models) → is_among (map (λ m. m.name) models) (use_at models k).model ≡ true
+  pub given : (k : ℕ) → k < length (uses_of models) → IsRightlyGiven (model_named models (use_at models k).model) (use_at models k).pairs
+  pub ends : (k : ℕ) → k < length (uses_of models) → IsRecursive models k → ⊥

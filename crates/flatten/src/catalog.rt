@@ -1,6 +1,6 @@
 //! The models by name, each with the names of its ports.
 
-ghost use Rattle.std.specs.Prelude.{◌≡◌, ℕ, List, [], ◌++◌, map, IfOk, OnOk, slice_index_or};
+ghost use Rattle.std.specs.Prelude.{◌≡◌, [], map, IfOk, OnOk, slice_index_or};
 ghost use Rattle.std.specs.Option.{option_copied};
 ghost use Rattle.flatten.specs.Uses.{port_names};
 ghost use Rattle.flatten.specs.NameSets.{with_names};

@@ -5,7 +5,6 @@ ghost use Rattle.std.specs.List.{flat_map};
 ghost use Rattle.std.specs.Option.{ForSome, option_or};
 ghost use Rattle.std.specs.Str.{bytes_eq};
 ghost use Rattle.netlist.specs.Orders.{IsFirst, is_sooner};
-ghost use Rattle.flatten.specs.Lines.{NamedControl};
 ghost use Rattle.flatten.specs.Netlists.{control_is, control_on};
 ghost use Rattle.flatten.specs.Placed.{control_of, placed_line};
 ghost use Rattle.flatten.specs.Clocks.{same_control, clocked_in, number_in, control_in, place_in, at_name, IsControlAnswer};

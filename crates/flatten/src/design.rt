@@ -1,6 +1,6 @@
 //! Several models, read as one netlist.
 
-ghost use Rattle.std.specs.Prelude.{◌≡◌, ◌≤◌, List, ℕ, length, IfOk, IfErr, MatchResult};
+ghost use Rattle.std.specs.Prelude.{◌≡◌, ◌≤◌, length, IfOk, IfErr, MatchResult};
 ghost use Rattle.netlist.specs.declared.draft.Draft.{Draft};
 ghost use Rattle.netlist.specs.declared.fault.DesignFault.TheVariants.{Memory};
 ghost use Rattle.netlist.specs.Checks.{IsChecked};

@@ -1,12 +1,13 @@
 //! What the lines that use models give.
 
-ghost use Rattle.std.specs.Prelude.{◌≡◌, ℕ, List, [], map, IfOk, OnOk, IfErr, IsTrue, IsSome, IsNone, IfNone, ◌↔◌, None};
+ghost use Rattle.std.specs.Prelude.{◌≡◌, [], map, IfOk, OnOk, IfErr, IsSome, None};
 ghost use Rattle.netlist.specs.declared.fault.DesignFault.TheVariants.{Memory};
 ghost use Rattle.netlist.specs.Orders.{is_sooner};
 ghost use Rattle.flatten.specs.Lines.{pair_of};
 ghost use Rattle.flatten.specs.NameSets.{with_names};
 ghost use Rattle.flatten.specs.Substitution.{model_named};
-ghost use Rattle.flatten.specs.Uses.{uses_of, first_wrong, first_missing, input_names, port_names, formal_fault, IsUnknown, IsWronglyGiven, IsFirstUse};
+ghost use Rattle.flatten.specs.Uses.{uses_of, input_names, port_names};
+ghost use Rattle.flatten.specs.UseFaults.{first_wrong, first_missing, formal_fault, IsUnknown, IsWronglyGiven, IsFirstUse};
 ghost use Rattle.flatten.specs.Faults.{IsRefusalOfModels};
 ghost use Rattle.flatten.specs.UseLines.{use_in, listed, shown, formals_in, IsFirstListed, IsCatalog};
 

@@ -1,9 +1,8 @@
 //! Models that stand for lines.
 
-ghost use Rattle.std.specs.Prelude.{◌≡◌, ℕ, List, [], ◌∷◌, ◌++◌, map, IfOk, OnOk, IfErr, MatchOption, false, slice_index_or};
-ghost use Rattle.flatten.specs.declared.refusal.Refusal.TheVariants.{Memory};
+ghost use Rattle.std.specs.Prelude.{◌≡◌, ℕ, List, [], ◌∷◌, ◌++◌, map, IfOk, OnOk, IfErr, MatchOption, false};
 ghost use Rattle.flatten.specs.Given.{looked_up, place_of};
-ghost use Rattle.flatten.specs.Lines.{Part, UsePart, is_use, pair_of};
+ghost use Rattle.flatten.specs.Lines.{UsePart, is_use, pair_of};
 ghost use Rattle.flatten.specs.Ordered.{line_in, part_in};
 ghost use Rattle.flatten.specs.Refusals.{IsOver};
 ghost use Rattle.flatten.specs.Sinks.{IsSink, lines_in};

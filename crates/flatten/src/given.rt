@@ -1,6 +1,6 @@
 //! What the signals and controls of a model become.
 
-ghost use Rattle.std.specs.Prelude.{◌≡◌, ℕ, List, [], Option, Some, None, OnOk, IfErr, if◌then◌else◌, slice_index_or};
+ghost use Rattle.std.specs.Prelude.{◌≡◌, ℕ, List, [], Option, Some, None, OnOk, if◌then◌else◌, slice_index_or};
 ghost use Rattle.std.specs.Str.{bytes_eq};
 ghost use Rattle.flatten.specs.Given.{looked_up, place_of};
 ghost use Rattle.flatten.specs.Lines.{NamedControl};

@@ -1,6 +1,6 @@
 //! The printed names of signals. They share their beginnings and are spelt out only where a fault names one.
 
-ghost use Rattle.std.specs.Prelude.{◌≡◌, ◌++◌, ◌∷◌, List, [], length, map, IfOk, slice_index_or};
+ghost use Rattle.std.specs.Prelude.{◌≡◌, List, length, map, IfOk};
 ghost use Rattle.netlist.specs.Names.{texts_of};
 ghost use Rattle.flatten.specs.declared.model.Model.{Model as ModelValue};
 ghost use Rattle.flatten.specs.Substitution.{first_model};

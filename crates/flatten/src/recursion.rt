@@ -1,10 +1,10 @@
 //! Models that use themselves.
 
-ghost use Rattle.std.specs.Prelude.{◌≡◌, ◌<◌, ◌≤◌, ℕ, map, length, IfOk, OnOk, IfErr, None, slice_set};
+ghost use Rattle.std.specs.Prelude.{◌≡◌, ◌<◌, ◌≤◌, map, length, IfOk, OnOk, IfErr, None, slice_set};
 ghost use Rattle.netlist.specs.declared.fault.DesignFault.TheVariants.{Memory};
 ghost use Rattle.netlist.specs.Covers.{cover_at};
-ghost use Rattle.netlist.specs.Groups.{AreGroups};
-ghost use Rattle.flatten.specs.Uses.{uses_of, IsUnknown, IsWronglyGiven, IsRecursive, IsFirstUse};
+ghost use Rattle.flatten.specs.Uses.{uses_of, IsRecursive};
+ghost use Rattle.flatten.specs.UseFaults.{IsUnknown, IsWronglyGiven, IsFirstUse};
 ghost use Rattle.flatten.specs.Faults.{IsRefusalOfModels};
 ghost use Rattle.flatten.specs.UseLines.{use_in, listed, IsFirstListed};
 ghost use Rattle.flatten.specs.Links.{HaveNames, AreBare, AreLinked, with_input, group_at};

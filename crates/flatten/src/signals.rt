@@ -1,6 +1,6 @@
 //! Signals, numbered by first appearance.
 
-ghost use Rattle.std.specs.Prelude.{◌≡◌, ◌++◌, ◌∷◌, ◌≤◌, [], length, IfErr, OnOk};
+ghost use Rattle.std.specs.Prelude.{◌≡◌, ◌≤◌, [], length, IfErr, OnOk};
 ghost use Rattle.flatten.specs.Refusals.{IsPast};
 ghost use Rattle.flatten.specs.Signals.{with_signal, with_signals, number_of};
 

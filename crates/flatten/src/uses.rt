@@ -1,10 +1,11 @@
 //! The lines that use models, and the rules that they keep.
 
-ghost use Rattle.std.specs.Prelude.{◌≡◌, ◌<◌, ◌++◌, ◌&&◌, ℕ, List, map, length, Some, None, IfOk, OnOk, IfErr, IsTrue, ◌↔◌, if◌then◌else◌, false};
+ghost use Rattle.std.specs.Prelude.{◌≡◌, ◌<◌, ◌++◌, ◌&&◌, map, length, Some, None, IfOk, OnOk, IfErr, IsTrue, ◌↔◌, if◌then◌else◌, false};
 ghost use Rattle.std.specs.Option.{ForSome};
 ghost use Rattle.netlist.specs.declared.fault.DesignFault.TheVariants.{Memory};
 ghost use Rattle.netlist.specs.Orders.{is_sooner};
-ghost use Rattle.flatten.specs.Uses.{use_on, uses_in, uses_of, is_among, IsUnknown, IsFirstUse, KeepsRules};
+ghost use Rattle.flatten.specs.Uses.{use_on, uses_in, uses_of, is_among, KeepsRules};
+ghost use Rattle.flatten.specs.UseFaults.{IsUnknown, IsFirstUse};
 ghost use Rattle.flatten.specs.Faults.{IsRefusalOfModels};
 ghost use Rattle.flatten.specs.UseLines.{use_in, listed, number_at, names_of, IsFirstListed, IsCatalog};
 

@@ -1,7 +1,8 @@
 use Rattle.std.proofs.Common.{◌≡◌, ◌∙◌, ap, sym, subst, map, false, None}
 use Rattle.std.specs.Option.{option_copied}
 use Rattle.flatten.specs.Lines.{pair_of}
-use Rattle.flatten.specs.Uses.{is_among, formal_fault}
+use Rattle.flatten.specs.Uses.{is_among}
+use Rattle.flatten.specs.UseFaults.{formal_fault}
 use Rattle.flatten.specs.UseLines.{looked_up, names_of, IsKnown}
 use Rattle.flatten.proofs.UseLemmas.{none_named}
 use Rattle.flatten.proofs.formals.fault_of.Goals as goal

@@ -1,5 +1,5 @@
 use Rattle.std.proofs.Common.{◌≡◌, map, drop, get_or, []}
-use Rattle.flatten.specs.Uses.{first_missing}
+use Rattle.flatten.specs.UseFaults.{first_missing}
 use Rattle.flatten.proofs.formals.first_missing.Given as goal
 
 abbrev pub invariant-inputs : goal.invariant-inputs

@@ -1,5 +1,6 @@
 use Rattle.std.proofs.Common.{◌≡◌, ◌∙◌, ◌+◌, ◌++◌, ◌∷◌, ap, sym, [], take, drop, true, false}
-use Rattle.flatten.specs.Uses.{first_wrong, is_among}
+use Rattle.flatten.specs.Uses.{is_among}
+use Rattle.flatten.specs.UseFaults.{first_wrong}
 use Rattle.flatten.specs.NameSets.{with_name, with_names}
 use Rattle.flatten.specs.UseLines.{formals_in}
 use Rattle.flatten.proofs.FormalLemmas.{right_one, formals_left, formals_taken, set_more}

@@ -1,5 +1,5 @@
 use Rattle.std.proofs.Common.{◌≡◌, take, drop, []}
-use Rattle.flatten.specs.Uses.{first_wrong}
+use Rattle.flatten.specs.UseFaults.{first_wrong}
 use Rattle.flatten.specs.NameSets.{with_names}
 use Rattle.flatten.specs.UseLines.{formals_in}
 use Rattle.flatten.proofs.formals.first_wrong.Given as goal

@@ -1,7 +1,8 @@
 use Rattle.std.proofs.Common.{◌≡◌, ◌∙◌, ap, sym, subst, map, IsSome}
 use Rattle.netlist.proofs.OrderLemmas.{first_more}
 use Rattle.flatten.specs.Substitution.{model_named}
-use Rattle.flatten.specs.Uses.{Use, formal_fault}
+use Rattle.flatten.specs.Uses.{Use}
+use Rattle.flatten.specs.UseFaults.{formal_fault}
 use Rattle.flatten.specs.UseLines.{use_in, listed, number_at, shown}
 use Rattle.flatten.proofs.UseLemmas.{listed_is, some_shown, shown_some}
 use Rattle.flatten.proofs.formals.first_wrongly_given.Goals as goal

@@ -1,7 +1,7 @@
 use Rattle.std.proofs.Common.{map, IsSome}
 use Rattle.netlist.specs.Orders.{IsFirst}
 use Rattle.flatten.specs.Substitution.{model_named}
-use Rattle.flatten.specs.Uses.{formal_fault}
+use Rattle.flatten.specs.UseFaults.{formal_fault}
 use Rattle.flatten.specs.UseLines.{use_in, listed, number_at}
 use Rattle.flatten.proofs.formals.first_wrongly_given.Given as goal
 

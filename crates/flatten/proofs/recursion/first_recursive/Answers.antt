@@ -1,4 +1,4 @@
-use Rattle.std.proofs.Common.{◌≡◌, ◌∙◌, length, map, sym, subst, arith, ap}
+use Rattle.std.proofs.Common.{◌≡◌, length, map, sym, subst, arith}
 use Rattle.std.proofs.lemmas.List.{length-map}
 use Rattle.netlist.specs.Groups.{AreGroups}
 use Rattle.flatten.specs.Links.{AreLinked, group_at}
