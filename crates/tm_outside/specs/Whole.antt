@@ -32,6 +32,6 @@ abbrev pub read_of : ℕ → Option (Vec ℕ Global) → ℕ
 read_of most (Some text) = length text.items
 read_of most None = most + 1
 
--- nothing was read, or no further than one byte beyond this, or no file is current
-abbrev pub ReadsWithin : ℕ → StoreState → StoreState → Type 0
-ReadsWithin most old new = (new.current ≡ old.current) ⊎ IfSome new.current (λ p. p.at ≤ most + 1)
+-- nothing was read, or this file no further than one byte beyond this, or no file is current
+abbrev pub ReadsWithin : (most : ℕ) → (name : List ℕ) → StoreState → StoreState → Type 0
+ReadsWithin most name old new = (new.current ≡ old.current) ⊎ IfSome new.current (λ p. (p.name ≡ name) × (p.at ≤ most + 1))

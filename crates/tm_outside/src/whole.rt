@@ -24,7 +24,7 @@ fn read_whole<S: Store>(
     ensures place { IfOk result (λ text. (S.store_state store.new).current ≡ Some (record { name = name.now; at = length text.items })) }
     ensures short { IfOk result (λ text. length text.items ≤ most + 1) }
     ensures text { IfOk result (λ text. IfTold ((S.store_state store.old).contents name.now) (λ bytes. text.items ≡ take (most + 1) bytes)) }
-    ensures within { ReadsWithin most (S.store_state store.old) (S.store_state store.new) }
+    ensures within { ReadsWithin most name.now (S.store_state store.old) (S.store_state store.new) }
     ensures refused { IfErr result (λ e. WholeFails e name.now (S.store_state store.old) (S.store_state store.new)) }
 {
     let mut text = Vec::new(alloc);
@@ -62,7 +62,7 @@ pub fn read_within<S: Store>(
     ensures place { IfOk result (λ found. (S.store_state store.new).current ≡ Some (record { name = name.now; at = read_of most found })) }
     ensures short { IfOk result (λ found. IfSome found (λ text. length text.items ≤ most)) }
     ensures text { IfOk result (IsWithin most ((S.store_state store.old).contents name.now)) }
-    ensures within { ReadsWithin most (S.store_state store.old) (S.store_state store.new) }
+    ensures within { ReadsWithin most name.now (S.store_state store.old) (S.store_state store.new) }
     ensures refused { IfErr result (λ e. WholeFails e name.now (S.store_state store.old) (S.store_state store.new)) }
 {
     let text = read_whole(alloc, store, name, most)?;
