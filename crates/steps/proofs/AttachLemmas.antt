@@ -1,18 +1,23 @@
 -- Machines that weren't attached.
-use Rattle.std.proofs.Common.{inl, inr}
-use Rattle.rig.specs.Rig.{RigState, Asked, AttachFails}
+use Rattle.std.proofs.Common.{◌≡◌, ◌≤◌, [], Some, refl, sym, inl, inr, arith, append-nil}
+use Rattle.std.specs.Prelude.{Ok, Err}
+use Rattle.tm_outside.specs.Store.{StoreState}
+use Rattle.tm_outside.specs.Sink.{SinkState}
+use Rattle.rig.specs.Rig.{RigState, Asked, AttachFails, IsDetached}
 use Rattle.rig.specs.declared.rig.AttachFail.{AttachFail}
 use Rattle.rig.specs.declared.rig.AttachFail.TheVariants as attach
 use Rattle.fault_model.specs.declared.kind.FaultsFault.TheVariants as text
-use Rattle.steps.specs.Stops.{StepStops, stop_of_attach}
+use Rattle.steps.specs.Outside.{outside, IsLater}
+use Rattle.steps.specs.Stops.{StepStops, IsCounted, stop_of_attach}
+use Rattle.steps.specs.Took.{Took}
 use Rattle.steps.specs.Texts.{attaches, MayAsk, RigCounts}
 
 module _ (machine : Asked) (old new : RigState) where
-  pub attach-stops : (fail : AttachFail) → AttachFails fail machine old new → StepStops (attaches machine old new) (stop_of_attach fail)
-  attach-stops attach.Failed fails = tt
-  attach-stops (attach.Faults (text.At line kind)) fails = fails.1
-  attach-stops (attach.Faults text.Memory) fails = tt
-  attach-stops attach.Memory fails = tt
+  pub attach-stops : (fail : AttachFail) → IsDetached new → AttachFails fail machine old new → StepStops (attaches machine old new) (stop_of_attach fail)
+  attach-stops attach.Failed none fails = none
+  attach-stops (attach.Faults (text.At line kind)) none fails = (fails.1, none)
+  attach-stops (attach.Faults text.Memory) none fails = none
+  attach-stops attach.Memory none fails = none
 
   pub attach-counts : (fail : AttachFail) → AttachFails fail machine old new → RigCounts (stop_of_attach fail) old new
   attach-counts attach.Failed fails = fails.0
@@ -24,3 +29,34 @@ module _ (machine : Asked) (old new : RigState) where
   attach-asks attach.Failed fails = inr fails.1
   attach-asks (attach.Faults fault) fails = inr fails.0
   attach-asks attach.Memory fails = inl fails.0
+
+  attach-counted : (fail : AttachFail) (store : StoreState) (sink : SinkState) → AttachFails fail machine old new → IsCounted ⊥ (stop_of_attach fail) (outside store old sink) (outside store new sink)
+  attach-counted attach.Failed store sink fails = fails.0
+  attach-counted (attach.Faults (text.At line kind)) store sink fails = tt
+  attach-counted (attach.Faults text.Memory) store sink fails = tt
+  attach-counted attach.Memory store sink fails = tt
+
+  rig-later : (store : StoreState) (sink : SinkState) → new.machine.texts ≡ old.machine.texts → old.failures ≤ new.failures → IsLater (outside store old sink) (outside store new sink)
+  rig-later store sink texts later = record { contents = refl; texts = texts; kind = refl; store = omega arith; rig = later; sink = omega arith }
+
+  pub attach-took : (store : StoreState) (sink : SinkState) → new.machine.texts ≡ old.machine.texts → old.failures ≤ new.failures → new.machine.attached ≡ Some machine → Took [] (attaches machine old new) (Ok tt) (outside store old sink) (outside store new sink)
+  attach-took store sink texts later attached = record {
+    later = rig-later store sink texts later;
+    silent = refl;
+    asked = record { all = sym (append-nil store.asked); some = tt };
+    place = refl;
+    gives = attached;
+    stops = tt;
+    counted = tt;
+  }
+
+  pub attach-taken : (store : StoreState) (sink : SinkState) (fail : AttachFail) → new.machine.texts ≡ old.machine.texts → old.failures ≤ new.failures → IsDetached new → AttachFails fail machine old new → Took [] (attaches machine old new) (Err (stop_of_attach fail)) (outside store old sink) (outside store new sink)
+  attach-taken store sink fail texts later none fails = record {
+    later = rig-later store sink texts later;
+    silent = refl;
+    asked = record { all = tt; some = refl };
+    place = refl;
+    gives = tt;
+    stops = attach-stops fail none fails;
+    counted = attach-counted fail store sink fails;
+  }

@@ -10,4 +10,6 @@ pub mod ShapeLemmas
 pub mod StartLemmas
 pub mod Excused
 pub mod Counting
+pub mod Taking
+pub mod TookLemmas
 pub mod JobLemmas

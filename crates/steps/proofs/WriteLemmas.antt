@@ -51,7 +51,7 @@ asks-none [] old new same = same
 asks-none (name ∷ names) old new same = inl same
 
 -- some of the first names are some of all
-asks-front : (names more old new : List (List ℕ)) → AsksSome names old new → AsksSome (names ++ more) old new
+pub asks-front : (names more old new : List (List ℕ)) → AsksSome names old new → AsksSome (names ++ more) old new
 asks-front [] more old new some = asks-none more old new some
 asks-front (name ∷ names) more old new (inl same) = inl same
 asks-front (name ∷ names) more old new (inr some) = inr (asks-front names more (old ++ name ∷ []) new some)

@@ -25,6 +25,19 @@ pub record Job : Type 1 where
   -- the text has the line `outputs`
   pub has_begun : (old new : Around) → (text : List ℕ) → Type 0
 
+-- a job that no room is looked for, and that takes no memory for rows
+abbrev pub quiet : (files : List (List ℕ)) → (asks : Around → Around → Type 0) → (course : Around → Around → Course)
+    → (right : Around → Type 0) → Job
+quiet files asks course right = record {
+  files = files;
+  asks = asks;
+  course = course;
+  right = λ old new front. right old;
+  short = λ old new front. ⊥;
+  few = λ old new. Unit {0};
+  has_begun = λ old new text. ⊥;
+}
+
 -- what wrong words ask
 abbrev pub wrong_words : Job
 wrong_words = record {

@@ -1,5 +1,5 @@
 -- What a command has around it: the store, the rig and the sink.
-use Rattle.std.specs.Prelude.{◌≡◌, ◌⊎◌, ◌+◌, ◌≤◌, IfSome}
+use Rattle.std.specs.Prelude.{◌≡◌, ◌⊎◌, ℕ, ◌+◌, ◌≤◌, List, [], ◌∷◌, IfSome}
 use Rattle.tm_outside.specs.Counts.{Rose}
 use Rattle.tm_outside.specs.Store.{StoreState}
 use Rattle.tm_outside.specs.Sink.{SinkState}
@@ -32,3 +32,21 @@ SomethingRose old new =
 -- the store stands no further than one byte beyond the limit of a file that is read whole, or nothing was read
 abbrev pub StaysNear : StoreState → StoreState → Type 0
 StaysNear old new = (new.current ≡ old.current) ⊎ IfSome new.current (λ p. p.at ≤ most_bytes + 1)
+
+-- what no step changes, and counts that never fall
+pub record IsLater (old new : Outside) : Type 0 where
+  pub contents : new.store.contents ≡ old.store.contents
+  pub texts : new.rig.machine.texts ≡ old.rig.machine.texts
+  pub kind : new.sink.can_lack ≡ old.sink.can_lack
+  pub store : old.store.failures ≤ new.store.failures
+  pub rig : old.rig.failures ≤ new.rig.failures
+  pub sink : old.sink.failures ≤ new.sink.failures
+
+-- the store stands in this file, no further than one byte beyond the limit of a file that is read whole, or in none
+abbrev pub IsNearIn : (file : List ℕ) → StoreState → Type 0
+IsNearIn file store = IfSome store.current (λ p. (p.name ≡ file) × (p.at ≤ most_bytes + 1))
+
+-- the store stands so in one of these files, of which the last asked is the first here; or where it stood
+abbrev pub StandsIn : (files : List (List ℕ)) → StoreState → StoreState → Type 0
+StandsIn [] old new = new.current ≡ old.current
+StandsIn (file ∷ files) old new = StandsIn files old new ⊎ IsNearIn file new

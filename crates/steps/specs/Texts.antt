@@ -16,7 +16,7 @@ use Rattle.netlist.specs.declared.draft.Draft.{Draft}
 use Rattle.netlist.specs.declared.fault.DesignKind.{DesignKind}
 use Rattle.blif_read.specs.Designs.{IsDesign, IsDesignFault}
 use Rattle.config_image.specs.Images.{ImageValue, IsImage, image_bytes, IsImageFault, Reads}
-use Rattle.rig.specs.Rig.{RigState, Asked, RefusesText}
+use Rattle.rig.specs.Rig.{RigState, Asked, IsDetached, RefusesText}
 use Rattle.tm_text.specs.Size.{most_bytes}
 use Rattle.steps.specs.Courses.{Step}
 use Rattle.steps.specs.declared.design_file.DesignFile.{DesignFile}
@@ -106,12 +106,12 @@ reads_image told m = record { stops = NoImage told m; gives = λ i. (i.config.sh
 
 -- ---- the machine is attached
 
--- the rig refuses its text of faults
+-- nothing is attached: the rig refuses its text of faults, or fails, or memory is wanting
 abbrev pub NotAttached : Asked → RigState → RigState → Refusal → Type 0
 NotAttached machine old new (refused.Faults line kind) =
-    RefusesText (At line kind) machine.shape (old.machine.texts machine.name) old.machine.refused new.machine.refused
-NotAttached machine old new refused.Rig = Unit {0}
-NotAttached machine old new refused.Memory = Unit {0}
+    RefusesText (At line kind) machine.shape (old.machine.texts machine.name) old.machine.refused new.machine.refused × IsDetached new
+NotAttached machine old new refused.Rig = IsDetached new
+NotAttached machine old new refused.Memory = IsDetached new
 NotAttached machine old new refusal = ⊥
 
 -- it is attached, and so it stays
@@ -121,6 +121,14 @@ attaches machine old new = record { stops = NotAttached machine old new; gives =
 -- the machine was asked for, or memory was wanting before that
 abbrev pub MayAsk : Asked → List Asked → List Asked → Type 0
 MayAsk machine old new = (new ≡ old) ⊎ (new ≡ old ++ machine ∷ [])
+
+-- ---- the machine that is attached does something
+
+-- it doesn't: the rig fails, or memory is wanting
+abbrev pub FailsOnRig : Refusal → Type 0
+FailsOnRig refused.Rig = Unit {0}
+FailsOnRig refused.Memory = Unit {0}
+FailsOnRig refusal = ⊥
 
 -- ---- memory is taken, and the file of vectors is opened
 

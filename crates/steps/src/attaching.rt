@@ -1,8 +1,12 @@
 //! Machines that are attached.
-ghost use Rattle.std.specs.Prelude.{◌≡◌, ◌≤◌, OnOk, IfErr};
-ghost use Rattle.rig.specs.Rig.{Asked, Attaches, AttachFails};
+ghost use Rattle.std.specs.Prelude.{◌≡◌, ◌≤◌, [], OnOk, OnErr, IfErr};
+ghost use Rattle.tm_outside.specs.Store.{StoreState};
+ghost use Rattle.tm_outside.specs.Sink.{SinkState};
+ghost use Rattle.rig.specs.Rig.{Asked, Attaches, AttachFails, IsDetached};
+ghost use Rattle.steps.specs.Outside.{outside};
 ghost use Rattle.steps.specs.Stops.{StepStops};
 ghost use Rattle.steps.specs.Texts.{attaches, MayAsk, RigCounts};
+ghost use Rattle.steps.specs.Took.{Took};
 
 use crate::refusal::Stop;
 use hierarchy::Shape;
@@ -14,13 +18,14 @@ fn attach_boxed(rig: &mut Box<dyn Rig>, shape: &Shape, name: &str) -> Result<(),
     ensures later { (rig_state rig.old).failures ≤ (rig_state rig.new).failures }
     ensures loads { (rig_state rig.new).loads ≡ (rig_state rig.old).loads }
     ensures attached { OnOk result (Attaches (record { shape = shape.now; name = name.now }) (rig_state rig.old) (rig_state rig.new)) }
+    ensures detached { OnErr result (IsDetached (rig_state rig.new)) }
     ensures refused { let machine : Asked = record { shape = shape.now; name = name.now } in
         IfErr result (λ e. AttachFails e machine (rig_state rig.old) (rig_state rig.new)) }
 {
     rig.attach(shape, name)
 }
 
-/// Attaches a machine under a name.
+/// Attaches a machine under a name. After a refusal nothing is attached.
 // The condition always holds. A function of another crate that takes a rig and has none counts as one that may put a
 // rig of its own in its place.
 pub fn attach(rig: &mut Box<dyn Rig>, shape: &Shape, name: &str) -> Result<(), Stop>
@@ -35,6 +40,10 @@ pub fn attach(rig: &mut Box<dyn Rig>, shape: &Shape, name: &str) -> Result<(), S
     ensures refused { let machine : Asked = record { shape = shape.now; name = name.now } in
         IfErr result (StepStops (attaches machine (rig_state rig.old) (rig_state rig.new))) }
     ensures counted { IfErr result (λ stop. RigCounts stop (rig_state rig.old) (rig_state rig.new)) }
+    // Whatever the store and the sink are.
+    ensures took { let machine : Asked = record { shape = shape.now; name = name.now } in
+        (store : StoreState) (sink : SinkState) → Took [] (attaches machine (rig_state rig.old) (rig_state rig.new)) result
+        (outside store (rig_state rig.old) sink) (outside store (rig_state rig.new) sink) }
 {
     attach_boxed(rig, shape, name)?;
     Ok(())

@@ -1,10 +1,13 @@
 //! Images that are read.
 ghost use Rattle.std.specs.Prelude.{◌≡◌, ◌≤◌, ◌∷◌, [], IfOk, IfErr};
+ghost use Rattle.tm_outside.specs.Sink.{SinkState};
 ghost use Rattle.tm_outside.specs.Told.{holds};
 ghost use Rattle.config_image.specs.Images.{Reads};
-ghost use Rattle.steps.specs.Outside.{StaysNear};
+ghost use Rattle.rig.specs.Rig.{RigState};
+ghost use Rattle.steps.specs.Outside.{outside, StaysNear, StandsIn};
 ghost use Rattle.steps.specs.Stops.{Asks, StepStops};
 ghost use Rattle.steps.specs.Texts.{reads_image, IsOfText, StoreCounts};
+ghost use Rattle.steps.specs.Took.{Took};
 
 use crate::refusal::{Refusal, Stop};
 use config_image::{Image, ImageFault, ImageKind, read_image};
@@ -26,6 +29,30 @@ fn image_of_text(alloc: Global, shape: &Shape, text: &[u8]) -> Result<Image, Sto
     }
 }
 
+// The image of a file.
+fn image_of_file<S: Store>(
+    alloc: Global,
+    shape: &Shape,
+    name: &str,
+    store: &mut S,
+) -> Result<Image, Stop>
+    ensures contents { (S.store_state store.new).contents ≡ (S.store_state store.old).contents }
+    ensures later { (S.store_state store.old).failures ≤ (S.store_state store.new).failures }
+    ensures asked { Asks (name.now ∷ []) result (S.store_state store.old) (S.store_state store.new) }
+    ensures place { StandsIn (name.now ∷ []) (S.store_state store.old) (S.store_state store.new) }
+    ensures found { IfOk result (reads_image ((S.store_state store.old).contents name.now) shape.now).gives }
+    ensures refused { IfErr result (StepStops (reads_image ((S.store_state store.old).contents name.now) shape.now)) }
+    ensures counted { IfErr result (λ stop. StoreCounts stop (S.store_state store.old) (S.store_state store.new)) }
+{
+    match read_within(alloc, store, name, MOST_BYTES)? {
+        Some(text) => image_of_text(alloc, shape, &text),
+        None => Err(Stop::Refused(Refusal::Image {
+            line: 0,
+            kind: ImageKind::Limit,
+        })),
+    }
+}
+
 /// Reads an image of a machine: its file up to one byte more than it may have.
 pub fn read_image_file<S: Store>(
     alloc: Global,
@@ -40,12 +67,10 @@ pub fn read_image_file<S: Store>(
     ensures found { IfOk result (reads_image ((S.store_state store.old).contents name.now) shape.now).gives }
     ensures refused { IfErr result (StepStops (reads_image ((S.store_state store.old).contents name.now) shape.now)) }
     ensures counted { IfErr result (λ stop. StoreCounts stop (S.store_state store.old) (S.store_state store.new)) }
+    // Whatever the rig and the sink are.
+    ensures took { (rig : RigState) (sink : SinkState) →
+        Took (name.now ∷ []) (reads_image ((S.store_state store.old).contents name.now) shape.now) result
+        (outside (S.store_state store.old) rig sink) (outside (S.store_state store.new) rig sink) }
 {
-    match read_within(alloc, store, name, MOST_BYTES)? {
-        Some(text) => image_of_text(alloc, shape, &text),
-        None => Err(Stop::Refused(Refusal::Image {
-            line: 0,
-            kind: ImageKind::Limit,
-        })),
-    }
+    image_of_file(alloc, shape, name, store)
 }

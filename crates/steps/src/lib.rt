@@ -9,6 +9,7 @@ mod ending;
 mod image;
 mod line;
 mod machine;
+mod opening;
 mod output;
 mod refusal;
 
@@ -19,5 +20,6 @@ pub use design_file::DesignFile;
 pub use ending::finish;
 pub use image::read_image_file;
 pub use machine::read_shape;
+pub use opening::open_vectors;
 pub use output::write;
 pub use refusal::{Refusal, RefusedDesign, RefusedRoom, Stop};

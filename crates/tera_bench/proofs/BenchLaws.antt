@@ -30,8 +30,8 @@ use Rattle.steps.specs.declared.refusal.Refusal.{Refusal}
 use Rattle.steps.specs.declared.refusal.Refusal.TheVariants as refused
 use Rattle.steps.proofs.Leading.{after-leads, write-leads, done-leads}
 use Rattle.steps.proofs.Excused.{attach-excused}
-use Rattle.tera_diagnose.specs.Listing.{diagnoses, IsListOf}
-use Rattle.tera_diagnose.proofs.DiagnoseLaws.{diagnose-excused}
+use Rattle.listing.specs.Listing.{diagnoses, IsListOf}
+use Rattle.listing.proofs.ListLemmas.{diagnose-excused}
 use Rattle.tera_compile.specs.Compile.{lays, NotLaid, IsNoRoom}
 use Rattle.tera_bench.specs.Bench.{OnlyMemory, NotRun, BenchRight, makes_shape, makes_design, runs, bench_course, bench_job, generated_name, laid_course}
 use Rattle.tera_bench.specs.Summary.{summary_text}

@@ -19,7 +19,7 @@ use Rattle.steps.specs.declared.refusal.Refusal.TheVariants as refused
 use Rattle.steps.specs.declared.refusal.Stop.{Stop}
 use Rattle.steps.specs.declared.refusal.Stop.TheVariants.{Refused, Sink}
 use Rattle.steps.proofs.Following.{after-stops, after-gives, write-stops, write-then, done-now}
-use Rattle.tera_diagnose.specs.Listing.{IsListOf, diagnoses}
+use Rattle.listing.specs.Listing.{IsListOf, diagnoses}
 use Rattle.tera_compile.specs.Compile.{lays, IsImageFor}
 use Rattle.tera_bench.specs.Summary.{summary_text}
 use Rattle.tera_bench.specs.Bench.{IsBenchRun, makes_shape, makes_design, runs, bench_course, generated_name, laid_course}

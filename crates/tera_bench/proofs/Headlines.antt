@@ -24,7 +24,7 @@ use Rattle.steps.specs.Outside.{Outside, around}
 use Rattle.steps.specs.Courses.{ends}
 use Rattle.steps.specs.Stops.{IsWritten}
 use Rattle.steps.specs.declared.refusal.Stop.{Stop}
-use Rattle.tera_diagnose.specs.Listing.{IsListOf}
+use Rattle.listing.specs.Listing.{IsListOf}
 use Rattle.tera_compile.specs.Compile.{IsImageFor}
 use Rattle.tera_bench.specs.Summary.{summary_text}
 use Rattle.tera_bench.specs.Bench.{IsBenchRun, bench_course, bench_vector, bench_vectors, generated_name}

@@ -21,7 +21,7 @@ use Rattle.steps.specs.Texts.{attaches, AsksMachine}
 use Rattle.steps.specs.Jobs.{Job}
 use Rattle.steps.specs.declared.refusal.Refusal.{Refusal}
 use Rattle.steps.specs.declared.refusal.Refusal.TheVariants as refused
-use Rattle.tera_diagnose.specs.Listing.{diagnoses}
+use Rattle.listing.specs.Listing.{diagnoses}
 use Rattle.tera_compile.specs.Compile.{lays}
 use Rattle.tera_bench.specs.Summary.{summary_text}
 

@@ -1,3 +1,2 @@
-pub mod ListLemmas
-pub mod Following
 pub mod DiagnoseLaws
+mod Following

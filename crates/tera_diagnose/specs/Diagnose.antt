@@ -5,19 +5,34 @@ use Rattle.hierarchy.specs.declared.Shape.{Shape}
 use Rattle.machine_file.specs.Machine.{IsMachine}
 use Rattle.defect_db.specs.Text.{text_of}
 use Rattle.tm_text.specs.Size.{most_bytes}
-use Rattle.steps.specs.Outside.{Around, StaysNear}
+use Rattle.steps.specs.Outside.{Around, StandsIn}
 use Rattle.steps.specs.Courses.{Course, after, write, done}
 use Rattle.steps.specs.Texts.{reads_machine, attaches, AsksMachine}
-use Rattle.steps.specs.Jobs.{Job}
-use Rattle.tera_diagnose.specs.Listing.{diagnoses}
+use Rattle.steps.specs.Jobs.{Job, quiet}
+use Rattle.listing.specs.Lists.{Listed, lists}
 
--- The machine is read and attached, its defects are listed, and the list is written
+-- The list is written, and no load follows on those of its diagnosis
+abbrev pub list_written : (machine : List ℕ) → Around → Around → Listed → Course
+list_written machine old new l =
+    write (text_of l.list) (StandsIn (machine ∷ []) old.store new.store × (new.rig.loads ≡ l.loads))
+    (done (StandsIn (machine ∷ []) old.store new.store × (new.rig.loads ≡ l.loads)))
+
+-- The defects of the machine are listed, and the list is written
+abbrev pub machine_listed : (machine : List ℕ) → Around → Around → Shape → Course
+machine_listed machine old new m =
+    after (lists m old.rig.loads new.rig) (StandsIn (machine ∷ []) old.store new.store) (list_written machine old new)
+
+-- The machine is attached and listed
+abbrev pub machine_attached : (machine name : List ℕ) → Around → Around → Shape → Course
+machine_attached machine name old new m =
+    after (attaches (record { shape = m; name = name }) old.rig new.rig) (StandsIn (machine ∷ []) old.store new.store)
+    (λ _. machine_listed machine old new m)
+
+-- The machine is read, attached and listed
 abbrev pub diagnose_course : (machine name : List ℕ) → Around → Around → Course
 diagnose_course machine name old new =
-    after (reads_machine (old.store.contents machine)) (StaysNear old.store new.store) (λ m.
-    after (attaches (record { shape = m; name = name }) old.rig new.rig) (StaysNear old.store new.store) (λ _.
-    after (diagnoses m 0 old.rig new.rig) (StaysNear old.store new.store) (λ d.
-    write (text_of d) (StaysNear old.store new.store) (done (StaysNear old.store new.store)))))
+    after (reads_machine (old.store.contents machine)) (StandsIn (machine ∷ []) old.store new.store)
+    (machine_attached machine name old new)
 
 -- the text of the machine is told and right
 pub record DiagnoseRight (machine : Told) : Type 0 where
@@ -28,12 +43,8 @@ pub record DiagnoseRight (machine : Told) : Type 0 where
   pub within : length file ≤ most_bytes
 
 abbrev pub diagnose_job : (machine name : List ℕ) → Job
-diagnose_job machine name = record {
-  files = machine ∷ [];
-  asks = λ old new. AsksMachine (reads_machine (old.store.contents machine)).gives name old.rig.machine.asked new.rig.machine.asked;
-  course = diagnose_course machine name;
-  right = λ old new front. DiagnoseRight (old.store.contents machine);
-  short = λ old new front. ⊥;
-  few = λ old new. Unit {0};
-  has_begun = λ old new text. ⊥;
-}
+diagnose_job machine name =
+    quiet (machine ∷ [])
+    (λ old new. AsksMachine (reads_machine (old.store.contents machine)).gives name old.rig.machine.asked new.rig.machine.asked)
+    (diagnose_course machine name)
+    (λ old. DiagnoseRight (old.store.contents machine))

@@ -1,3 +1,5 @@
 -- The command that lists the defects of a machine of the rig.
-pub mod Listing
+
+-- ---- cited above
+
 pub mod Diagnose

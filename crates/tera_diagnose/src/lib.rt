@@ -2,7 +2,5 @@
 #![tactic(auto)]
 
 mod command;
-mod listing;
 
 pub use command::diagnose;
-pub use listing::{list_defects, list_of};

@@ -22,8 +22,8 @@ use Rattle.steps.specs.declared.refusal.Stop.{Stop}
 use Rattle.steps.specs.declared.refusal.Stop.TheVariants.{Refused, Sink}
 use Rattle.steps.proofs.Counting.{near-near}
 use Rattle.steps.proofs.Following.{after-stops, after-gives, course-map}
-use Rattle.tera_diagnose.specs.Listing.{IsListOf, NotListed, diagnoses}
-use Rattle.tera_diagnose.proofs.ListLemmas.{list-on, list-stops, list-then}
+use Rattle.listing.specs.Listing.{IsListOf, NotListed, diagnoses}
+use Rattle.listing.proofs.ListLemmas.{list-on, list-stops, list-then}
 use Rattle.tera_compile.specs.Compile.{lays, IsImageFor}
 use Rattle.tera_run.specs.Rows.{image_course}
 use Rattle.tera_go.specs.GoRows.{design_course}

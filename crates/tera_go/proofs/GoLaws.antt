@@ -33,8 +33,8 @@ use Rattle.steps.specs.declared.refusal.Refusal.TheVariants as refused
 use Rattle.steps.proofs.Leading.{after-leads, write-leads, first-front}
 use Rattle.steps.proofs.Excused.{machine-excused, attach-excused, design-excused, open-excused, rows-well}
 use Rattle.steps.proofs.ShapeLemmas.{same-shape}
-use Rattle.tera_diagnose.specs.Listing.{diagnoses, IsListOf}
-use Rattle.tera_diagnose.proofs.DiagnoseLaws.{diagnose-excused}
+use Rattle.listing.specs.Listing.{diagnoses, IsListOf}
+use Rattle.listing.proofs.ListLemmas.{diagnose-excused}
 use Rattle.tera_compile.specs.Compile.{lays, NotLaid, IsNoRoom, IsImageFor}
 use Rattle.tera_run.specs.Rows.{loads, NotLoaded, IsAtOutputs}
 use Rattle.tera_go.specs.GoRows.{design_rows}

@@ -19,7 +19,7 @@ use Rattle.steps.specs.Stops.{Asks, IsWritten}
 use Rattle.steps.specs.Texts.{reads_machine, reads_design}
 use Rattle.steps.specs.declared.refusal.Stop.{Stop}
 use Rattle.steps.specs.declared.design_file.DesignFile.TheVariants.{Design}
-use Rattle.tera_diagnose.specs.Listing.{IsListOf}
+use Rattle.listing.specs.Listing.{IsListOf}
 use Rattle.tera_compile.specs.Compile.{IsImageFor}
 use Rattle.tera_go.specs.GoRows.{design_rows}
 use Rattle.tera_go.specs.Go.{go_course}

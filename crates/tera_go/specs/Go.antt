@@ -22,7 +22,7 @@ use Rattle.steps.specs.Courses.{Course, after, write}
 use Rattle.steps.specs.Texts.{reads_machine, reads_design, attaches, AsksMachine}
 use Rattle.steps.specs.Jobs.{Job}
 use Rattle.steps.specs.declared.design_file.DesignFile.TheVariants.{Design}
-use Rattle.tera_diagnose.specs.Listing.{diagnoses}
+use Rattle.listing.specs.Listing.{diagnoses}
 use Rattle.tera_compile.specs.Compile.{lays}
 use Rattle.tera_run.specs.Rows.{most_rows}
 use Rattle.tera_go.specs.GoRows.{design_course}

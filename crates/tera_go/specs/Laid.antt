@@ -9,7 +9,7 @@ use Rattle.config_image.specs.Images.{ImageValue}
 use Rattle.rig.specs.Rig.{RigState}
 use Rattle.steps.specs.Stops.{StepStops}
 use Rattle.steps.specs.declared.refusal.Stop.{Stop}
-use Rattle.tera_diagnose.specs.Listing.{IsListOf, NotListed}
+use Rattle.listing.specs.Listing.{IsListOf, NotListed}
 use Rattle.tera_compile.specs.Compile.{lays, IsImageFor}
 
 -- a list of the machine's defects stands written, made with the loads since the old state and no other

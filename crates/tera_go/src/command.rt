@@ -12,6 +12,7 @@ ghost use Rattle.tera_go.specs.Headline.{IsGone};
 
 use config_image::Image;
 use hierarchy::Shape;
+use listing::list_defects;
 use netlist::Netlist;
 use place::in_order_plans_are_decided;
 use rig::Rig;
@@ -20,7 +21,6 @@ use std::alloc::Global;
 use steps::{DesignFile, Stop, attach, read_design, read_shape};
 use table_map::laws::plain_networks_have_the_rows;
 use tera_compile::lay;
-use tera_diagnose::list_defects;
 use tera_run::run_image;
 use tm_outside::{Sink, Store};
 

@@ -3,8 +3,8 @@ use Rattle.std.proofs.lemmas.Result.{err_from_is_err_and}
 use Rattle.rig.specs.Rig.{Machine}
 use Rattle.steps.specs.Outside.{outside, around}
 use Rattle.steps.proofs.Counting.{rig-counted, counted-after}
-use Rattle.tera_diagnose.proofs.ListLemmas.{attached-shape}
-use Rattle.tera_diagnose.proofs.Following.{asks-machine}
+use Rattle.listing.proofs.ListLemmas.{attached-shape}
+use Rattle.listing.proofs.ListLemmas.{asks-machine}
 use Rattle.tera_go.proofs.Following.{list-once}
 use Rattle.tera_bench.proofs.Following.{name-stops, attach-stopped, design-stopped, list-stopped, listed, design-counted}
 use Rattle.tera_bench.proofs.command.work.Goals as goal

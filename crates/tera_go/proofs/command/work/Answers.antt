@@ -4,8 +4,8 @@ use Rattle.rig.specs.Rig.{Machine}
 use Rattle.steps.specs.Outside.{outside, around}
 use Rattle.steps.proofs.Counting.{store-counted, rig-counted, counted-after, near-near}
 use Rattle.steps.proofs.WriteLemmas.{asks-then, asks-first, asks-after, names-both}
-use Rattle.tera_diagnose.proofs.ListLemmas.{attached-shape, counted-on}
-use Rattle.tera_diagnose.proofs.Following.{asks-machine}
+use Rattle.listing.proofs.ListLemmas.{attached-shape, counted-on}
+use Rattle.listing.proofs.ListLemmas.{asks-machine}
 use Rattle.tera_go.proofs.Following.{machine-stops, attach-stopped, design-stops, none-laid, image-runs, list-once, image-shape}
 use Rattle.tera_go.proofs.command.work.Goals as goal
 

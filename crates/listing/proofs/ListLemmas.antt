@@ -1,5 +1,5 @@
 -- How a list of defects is made and written, whatever follows.
-use Rattle.std.proofs.Common.{◌≡◌, ℕ, ◌+◌, ◌≤◌, List, ◌++◌, Some, option_map, refl, sym, ap, ◌∙◌, arith}
+use Rattle.std.proofs.Common.{◌≡◌, ℕ, ◌+◌, ◌≤◌, List, ◌++◌, Some, option_map, refl, sym, ap, ◌∙◌, inl, inr, arith}
 use Rattle.std.specs.Prelude.{Result, Err}
 use Rattle.tm_outside.specs.Store.{StoreState}
 use Rattle.tm_outside.specs.Sink.{SinkState, Wrote}
@@ -10,7 +10,10 @@ use Rattle.rig.specs.Rig.{RigState, Machine, Asked, shape_of}
 use Rattle.rig.specs.declared.rig.RigFail.{RigFail}
 use Rattle.rig.specs.declared.rig.RigFail.TheVariants.{Failed, Memory}
 use Rattle.diagnose.specs.Diagnosis.{IsDiagnosis, TakesFewLoads}
-use Rattle.steps.specs.Outside.{Outside}
+use Rattle.steps.specs.Outside.{Outside, Around}
+use Rattle.steps.specs.Jobs.{IsExcused}
+use Rattle.steps.specs.Texts.{MayAsk, AsksMachine}
+use Rattle.steps.specs.declared.refusal.Refusal.{Refusal}
 use Rattle.steps.specs.Courses.{Course, after, write}
 use Rattle.steps.specs.Stops.{IsWritten, StopWrote, StepStops, WriteStops, IsCounted, Asks, stop_of_rig}
 use Rattle.steps.specs.declared.refusal.Refusal.TheVariants as refused
@@ -19,7 +22,7 @@ use Rattle.steps.specs.declared.refusal.Stop.TheVariants.{Refused, Sink}
 use Rattle.steps.proofs.Counting.{counted-after, IsLater}
 use Rattle.steps.proofs.WriteLemmas.{asks-all}
 use Rattle.steps.proofs.Following.{after-stops, after-gives, write-stops, write-then}
-use Rattle.tera_diagnose.specs.Listing.{IsListOf, NotListed, diagnoses}
+use Rattle.listing.specs.Listing.{IsListOf, NotListed, NotDiagnosed, diagnoses}
 
 -- ---- the rig's answer
 
@@ -85,3 +88,16 @@ module _ (m : Shape) (others : ℕ) (old new : RigState) (here : Type 0) (rest :
   pub list-then : {U : Type 0} (d : DefectList) (result : Result U Stop) (a b c : SinkState) → IsListOf m others old new d → Wrote a.written b.written (text_of d) → IsWritten (rest d) result b c → IsWritten (after (diagnoses m others old new) here listing) result a c
   list-then d result a b c is first w =
       after-gives (diagnoses m others old new) here listing d result a c is (write-then (text_of d) here (rest d) result a b c first w)
+
+-- ---- whatever is right, these refusals may come
+
+pub diagnose-excused : (old new : Around) (refusal : Refusal) → NotDiagnosed refusal → IsExcused refusal old new
+diagnose-excused old new refused.Rig stops = tt
+diagnose-excused old new refused.Memory stops = tt
+diagnose-excused old new refusal stops = absurd stops
+
+-- ---- what was asked of the rig
+
+pub asks-machine : (is_shape : Shape → Type 0) (name : List ℕ) (m : Shape) (old mid new : RigState) → is_shape m → MayAsk (record { shape = m; name = name }) old.machine.asked mid.machine.asked → new.machine.asked ≡ mid.machine.asked → AsksMachine is_shape name old.machine.asked new.machine.asked
+asks-machine is_shape name m old mid new is (inl none) same = inl (same ∙ none)
+asks-machine is_shape name m old mid new is (inr one) same = inr (m, is, same ∙ one)

@@ -1,13 +1,15 @@
 //! Lists of defects that are made and written.
-ghost use Rattle.std.specs.Prelude.{◌≡◌, ◌≤◌, Some, IfOk, IfErr};
+ghost use Rattle.std.specs.Prelude.{◌≡◌, ◌≤◌, [], Some, IfOk, IfErr};
 ghost use Rattle.tm_outside.specs.Store.{StoreState};
-ghost use Rattle.tm_outside.specs.Sink.{Wrote};
+ghost use Rattle.tm_outside.specs.Sink.{SinkState, Wrote};
 ghost use Rattle.defect_db.specs.Text.{text_of};
 ghost use Rattle.rig.specs.Rig.{shape_of};
 ghost use Rattle.steps.specs.Outside.{outside};
 ghost use Rattle.steps.specs.Stops.{IsCounted, StepStops};
 ghost use Rattle.steps.specs.Texts.{RigCounts};
-ghost use Rattle.tera_diagnose.specs.Listing.{IsListOf, NotListed, diagnoses};
+ghost use Rattle.steps.specs.Took.{Took};
+ghost use Rattle.listing.specs.Lists.{lists_now};
+ghost use Rattle.listing.specs.Listing.{IsListOf, NotListed, diagnoses};
 
 use defect_db::{Defects, defects_text};
 use diagnose::diagnose;
@@ -30,6 +32,9 @@ pub fn list_of(alloc: Global, shape: &Shape, rig: &mut Box<dyn Rig>) -> Result<D
     ensures found { IfOk result (IsListOf shape.now 0 (rig_state rig.old) (rig_state rig.new)) }
     ensures refused { IfErr result (StepStops (diagnoses shape.now 0 (rig_state rig.old) (rig_state rig.new))) }
     ensures counted { IfErr result (λ stop. RigCounts stop (rig_state rig.old) (rig_state rig.new)) }
+    // Whatever the store and the sink are.
+    ensures took { (store : StoreState) (sink : SinkState) → Took [] (lists_now shape.now (rig_state rig.old) (rig_state rig.new)) result
+        (outside store (rig_state rig.old) sink) (outside store (rig_state rig.new) sink) }
 {
     match diagnose(alloc, rig, shape) {
         Ok(list) => {

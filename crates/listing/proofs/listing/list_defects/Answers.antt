@@ -1,6 +1,6 @@
 use Rattle.std.proofs.lemmas.Result.{err_from_is_err_and}
-use Rattle.tera_diagnose.proofs.ListLemmas.{text-stop}
-use Rattle.tera_diagnose.proofs.listing.list_defects.Goals as goal
+use Rattle.listing.proofs.ListLemmas.{text-stop}
+use Rattle.listing.proofs.listing.list_defects.Goals as goal
 
 pub returns-in_err-write-clause-refused : goal.returns-in_err-write-clause-refused
 returns-in_err-write-clause-refused g c =

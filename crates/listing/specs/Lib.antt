@@ -1,0 +1,3 @@
+-- Lists of the defects of a machine of the rig.
+pub mod Listing
+pub mod Lists

@@ -1,0 +1,29 @@
+-- The defects of the machine that is attached are listed, as a step.
+use Rattle.std.specs.Prelude.{◌≡◌, ℕ}
+use Rattle.hierarchy.specs.declared.Shape.{Shape}
+use Rattle.defect_db.specs.Lists.{DefectList, IsDefectList}
+use Rattle.rig.specs.Rig.{RigState}
+use Rattle.diagnose.specs.Diagnosis.{IsDiagnosis, TakesFewLoads}
+use Rattle.steps.specs.Courses.{Step}
+use Rattle.steps.specs.Texts.{FailsOnRig}
+
+-- a list of a machine's defects, and how many loads the rig counted when it was made
+pub record Listed : Type 0 where
+  pub list : DefectList
+  pub loads : ℕ
+
+-- The list is one of the machine. Where the machine's faults are told, it is a diagnosis of them, and it took few loads from so
+-- many that the rig counted before
+pub record IsListed (m : Shape) (before : ℕ) (rig : RigState) (l : Listed) : Type 0 where
+  pub shape : l.list.shape ≡ m
+  pub kept : IsDefectList l.list
+  pub right : IsDiagnosis rig.machine.faults m l.list.list
+  pub few : TakesFewLoads rig.machine.faults m before l.loads
+
+-- a machine with these faults is listed, of which the rig counted so many loads before
+abbrev pub lists : Shape → (before : ℕ) → RigState → Step Listed
+lists m before rig = record { stops = FailsOnRig; gives = IsListed m before rig }
+
+-- the same of the list alone, from the rig as it was before to the rig as it is then
+abbrev pub lists_now : Shape → (old new : RigState) → Step DefectList
+lists_now m old new = record { stops = FailsOnRig; gives = λ d. IsListed m old.loads new (record { list = d; loads = new.loads }) }

@@ -1,0 +1,6 @@
+//! Lists of the defects of a machine of the rig.
+#![tactic(auto)]
+
+mod listing;
+
+pub use listing::{list_defects, list_of};

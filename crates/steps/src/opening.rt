@@ -1,0 +1,22 @@
+//! Files of vectors that are started.
+ghost use Rattle.std.specs.Prelude.{◌≡◌, ◌∷◌, [], Some, OnOk};
+ghost use Rattle.tm_outside.specs.Sink.{SinkState};
+ghost use Rattle.rig.specs.Rig.{RigState};
+ghost use Rattle.steps.specs.Outside.{outside};
+ghost use Rattle.steps.specs.Texts.{opens};
+ghost use Rattle.steps.specs.Took.{Took};
+
+use crate::refusal::Stop;
+use tm_outside::Store;
+
+/// Starts a file of vectors, and reads none.
+pub fn open_vectors<S: Store>(store: &mut S, name: &str) -> Result<(), Stop>
+    // Whatever the rig and the sink are.
+    ensures took { (rig : RigState) (sink : SinkState) →
+        Took (name.now ∷ []) (opens ((S.store_state store.old).contents name.now)) result
+        (outside (S.store_state store.old) rig sink) (outside (S.store_state store.new) rig sink) }
+    ensures begun { OnOk result ((S.store_state store.new).current ≡ Some (record { name = name.now; at = 0 })) }
+{
+    store.start(name)?;
+    Ok(())
+}
