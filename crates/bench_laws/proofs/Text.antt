@@ -8,9 +8,10 @@ use Rattle.netlist.specs.declared.draft.LatchDef.{LatchDef}
 use Rattle.flatten.specs.declared.model.Model.{Model}
 use Rattle.flatten.specs.declared.model.Piece.{Piece}
 use Rattle.flatten.specs.declared.model.Piece.TheVariants.{Names, Latch}
-use Rattle.blif_read.specs.Grammar.{AreModels, first_fault, is_some_model, models_of, spelled_model}
+use Rattle.blif_read.specs.Grammar.{AreModels, is_some_model, models_of, spelled_model}
 use Rattle.blif_read.specs.Heads.{head_of}
-use Rattle.blif_read.specs.Faults.{latch_parts_fault}
+use Rattle.blif_read.specs.Faults.{latch_parts_fault, first_fault}
+use Rattle.blif_read.proofs.RightLemmas.{right_lines}
 use Rattle.bench_gen.specs.Work.{bench_design}
 use Rattle.bench_laws.specs.Design.{bench_names, bench_cover, bench_latches, bench_draft}
 
@@ -39,9 +40,9 @@ models_are : bench_model ∷ [] ≡ map spelled_model (models_of (lines_of true 
 unfolding digits physical_lines texts_of head_of
 models_are = refl
 
-right : first_fault [] (lines_of true bench_design) ≡ None
+no_fault : first_fault [] (lines_of true bench_design) ≡ None
 unfolding digits physical_lines texts_of head_of first_fault latch_parts_fault
-right = refl
+no_fault = refl
 
 pub text_is : AreModels bench_design (bench_model ∷ [])
-text_is = record { right = right; some = some; models_are = models_are }
+text_is = record { right = right_lines (lines_of true bench_design) [] no_fault; some = some; models_are = models_are }

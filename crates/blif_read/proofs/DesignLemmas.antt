@@ -1,5 +1,5 @@
 -- What models are refused as is the first fault of their text, and a text has one design.
-use Rattle.std.proofs.Common.{ℕ, ◌≡◌, ◌∙◌, ◌≤◌, List, Result, Ok, Err, length, sym, subst}
+use Rattle.std.proofs.Common.{ℕ, ◌≡◌, ◌∙◌, ◌≤◌, List, Result, Ok, Err, length, refl, sym, subst}
 use Rattle.std.specs.Prelude.{IfErr}
 use Rattle.netlist.specs.declared.draft.Draft.{Draft}
 use Rattle.netlist.specs.declared.fault.DesignFault.{DesignFault}
@@ -8,6 +8,7 @@ use Rattle.flatten.specs.declared.model.Model.{Model}
 use Rattle.flatten.specs.Netlists.{IsNetlistOf}
 use Rattle.flatten.specs.Faults.{IsRefusalOfModels}
 use Rattle.flatten.proofs.SubstitutionLemmas.{one_netlist}
+use Rattle.blif_read.specs.Runs.{IsFaultAs}
 use Rattle.blif_read.specs.Grammar.{AreModels}
 use Rattle.blif_read.specs.Designs.{IsDesign, InModels, IsRefusalOfBytes}
 
@@ -25,3 +26,8 @@ pub one_design : (bytes : List ℕ) (a b : Draft) → IsDesign bytes a → IsDes
 one_design bytes a b one other =
     let same : other.models ≡ one.models = other.text.models_are ∙ sym one.text.models_are in
     one_netlist one.models a b one.netlist (subst (λ x. IsNetlistOf x b) same other.netlist)
+
+-- the text of models is refused for want of memory alone
+pub only_memory : (e : DesignFault) (ms : List Model) → IsFaultAs e (Ok ms) → e ≡ fault.Memory
+only_memory fault.Memory ms h = refl
+only_memory (fault.At n k) ms h = absurd cc

@@ -1,8 +1,10 @@
-pub mod NamesLemmas
-pub mod GrammarLemmas
-pub mod StateLemmas
-pub mod ModelsLemmas
-pub mod RunLemmas
+-- Lines read one after another, and what they spell.
+mod NamesLemmas
+mod GrammarLemmas
+mod StateLemmas
+mod ModelsLemmas
+pub mod RightLemmas
+mod RunLemmas
 pub mod DesignLemmas
-pub mod RowLemmas
-pub mod SizeLemmas
+mod RowLemmas
+mod SizeLemmas

@@ -10,7 +10,8 @@ use Rattle.blif_read.specs.declared.head.Head.{Head}
 use Rattle.blif_read.specs.declared.head.Head.TheVariants as head
 use Rattle.blif_read.specs.Parts.{word}
 use Rattle.flatten.specs.declared.model.Piece.TheVariants.{Names}
-use Rattle.blif_read.specs.Faults.{Seen, fault_of, head_fault, placed_fault}
+use Rattle.blif_read.specs.Seen.{Seen}
+use Rattle.blif_read.specs.Faults.{fault_of, head_fault, placed_fault}
 use Rattle.blif_read.specs.Steps.{State, after_head}
 use Rattle.blif_read.specs.Runs.{TextState, start, text_start, last_model, text_after_head, text_after, model_from, above_of}
 use Rattle.blif_read.specs.Grammar.{statements_of, kind_of, names_of, inputs_of, outputs_of, parts_of, spelled, ModelText, Parted, onto, parted, models_of, lines_in, name_of, spelled_model, is_some_model, last_lines, above_by}
@@ -228,7 +229,7 @@ other_step ms t l h is k p =
           })
     ]
 
-not_bad : (b : Bool) (o : Option DesignKind) → cond b (Some kind.Byte) o ≡ None → o ≡ None
+pub not_bad : (b : Bool) (o : Option DesignKind) → cond b (Some kind.Byte) o ≡ None → o ≡ None
 not_bad true o h = absurd cc
 not_bad false o h = h
 

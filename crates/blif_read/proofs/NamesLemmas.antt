@@ -6,33 +6,15 @@ use Rattle.std.specs.Str.{bytes_eq}
 use Rattle.std.proofs.Math.Seq.{drop-cons}
 use Rattle.std.proofs.lemmas.Bool.{lt-ltb, ltb-true, le-ltb, eqb-true}
 use Rattle.std.proofs.lemmas.List.Folds.{position_or_len_push}
-use Rattle.std.proofs.lemmas.Slice.Eq.{bytes_eq-Decides}
-use Rattle.std.proofs.lemmas.List.{map_push, length-map, append-nil, take-append-drop, take_more, map-append}
+use Rattle.std.proofs.lemmas.List.{length-map, append-nil, take-append-drop, take_more, map-append}
 use Rattle.netlist.specs.declared.fault.DesignKind.{DesignKind}
 use Rattle.netlist.specs.declared.fault.DesignKind.TheVariants.{Limit}
 use Rattle.blif_read.specs.declared.kind.Refusal.{Refusal}
 use Rattle.blif_read.specs.declared.kind.Refusal.TheVariants.{Memory, Kind}
 use Rattle.blif_read.specs.Refusals.{IsRefusedAs}
 use Rattle.blif_read.specs.Names.{with_name, names_after, number_of, numbers, is_long, limit_at}
-
-abbrev now : Bor (List ℕ) → List ℕ
-now k = k.now
-
--- a test of what a reference points to
-abbrev same : List ℕ → Bor (List ℕ) → Bool
-same w k = bytes_eq w k.now
-
-pub any_keys : (w : List ℕ) (ks : List (Bor (List ℕ))) → list_any (same w) ks ≡ list_any (bytes_eq w) (map now ks)
-any_keys w [] = refl
-any_keys w (k ∷ ks) = ap (λ b. bytes_eq w k.now || b) (any_keys w ks)
-
-pub place_keys : (w : List ℕ) (ks : List (Bor (List ℕ))) → position_or_len (same w) ks ≡ position_or_len (bytes_eq w) (map now ks)
-place_keys w [] = refl
-place_keys w (k ∷ ks) = ap (λ n. cond (not (bytes_eq w k.now)) (1 + n) 0) (place_keys w ks)
-
-some_is : (b : Bool) (n i : ℕ) → cond b (Some n) None ≡ Some i → n ≡ i
-some_is true n i e = cc
-some_is false n i e = absurd cc
+use Rattle.flatten.proofs.TestLemmas.{or_true}
+use Rattle.flatten.proofs.NameLemmas.{now, same, any_keys, place_keys, some_is, same_name, inserted_key}
 
 module _ (w : List ℕ) (ks : List (Bor (List ℕ))) (names : List (List ℕ)) (view : map now ks ≡ names) where
   pub known_number : (i : ℕ) → Some i ≡ position (same w) ks → i ≡ number_of names w
@@ -53,14 +35,6 @@ module _ (w : List ℕ) (ks : List (Bor (List ℕ))) (names : List (List ℕ)) (
       let new : list_any (bytes_eq w) names ≡ false = ap (list_any (bytes_eq w)) (sym view) ∙ sym (any_keys w ks) ∙ sym e in
       let long : nat_lt 65535 (length (names ++ w ∷ [])) ≡ true = lt-ltb _ _ (omega (arith, length-append names (w ∷ []), ap length view, length-map ks now)) in
       rw (new, long) (by_long (is_long w))
-
-pub inserted_key : (key : Bor (List ℕ)) (ks new : List (Bor (List ℕ))) (names : List (List ℕ)) → map now ks ≡ names → new ≡ cond (list_any (same key.now) ks) ks (ks ++ key ∷ []) → map now new ≡ with_name names key.now
-inserted_key key ks new names view e =
-    ap (map now) e ∙ by_test (list_any (same key.now) ks) (any_keys key.now ks ∙ ap (list_any (bytes_eq key.now)) view)
-  where
-    by_test : (b : Bool) → b ≡ list_any (bytes_eq key.now) names → map now (cond b ks (ks ++ key ∷ [])) ≡ with_name names key.now
-    by_test true h = rw (← h) view
-    by_test false h = rw (← h) (map_push now ks key ∙ ap (λ ns. ns ++ key.now ∷ []) view)
 
 -- one word more
 pub words_left : (ks : List (Bor (List ℕ))) (i : ℕ) (d : Bor (List ℕ)) → i < length ks → map now (drop i ks) ≡ (get_or ks i d).now ∷ map now (drop (i + 1) ks)
@@ -91,10 +65,6 @@ limit_cases false false k e = absurd cc
 any_later : (w : List ℕ) (front words : List (List ℕ)) → is_long w ≡ true → list_any is_long (front ++ w ∷ words) ≡ true
 any_later w [] words h = rw h refl
 any_later w (v ∷ front) words h = rw (any_later w front words h) (or_true (is_long v))
-  where
-    or_true : (b : Bool) → (b || true) ≡ true
-    or_true true = refl
-    or_true false = refl
 
 -- a limit that is passed at a word is passed at the end
 pub full_after : (e : Refusal) (start names : List (List ℕ)) (w : List ℕ) (front words : List (List ℕ)) → names_after names (w ∷ words) ≡ names_after start (front ++ w ∷ words) → IsRefusedAs (limit_at names (w ∷ [])) e → IsRefusedAs (limit_at start (front ++ w ∷ words)) e
@@ -136,20 +106,13 @@ numbers_more ns names w words total h = append_assoc ns (number_of names w ∷ [
 any-push : (w x : List ℕ) (names : List (List ℕ)) → bytes_eq w x ≡ true → list_any (bytes_eq w) (names ++ x ∷ []) ≡ true
 any-push w x [] h = rw h refl
 any-push w x (n ∷ names) h = rw (any-push w x names h) (or_true (bytes_eq w n))
-  where
-    or_true : (b : Bool) → (b || true) ≡ true
-    or_true true = refl
-    or_true false = refl
-
-same_word : (w : List ℕ) → bytes_eq w w ≡ true
-same_word w = (bytes_eq-Decides w w).1 refl
 
 known-with : (names : List (List ℕ)) (w : List ℕ) → list_any (bytes_eq w) (with_name names w) ≡ true
 known-with names w = by (list_any (bytes_eq w) names) refl
   where
     by : (b : Bool) → list_any (bytes_eq w) names ≡ b → list_any (bytes_eq w) (cond b names (names ++ w ∷ [])) ≡ true
     by true e = e
-    by false e = any-push w w names (same_word w)
+    by false e = any-push w w names (same_name w)
 
 number_of-append : (names more : List (List ℕ)) (w : List ℕ) → list_any (bytes_eq w) names ≡ true → number_of (names ++ more) w ≡ number_of names w
 number_of-append [] more w h = absurd cc
@@ -160,7 +123,7 @@ number_of-append (n ∷ names) more w h = by (bytes_eq w n) h (number_of-append 
     by false h rest = ap (λ n. 1 + n) (rest h)
 
 number_of-push : (names : List (List ℕ)) (w : List ℕ) → number_of (names ++ w ∷ []) w ≡ number_of names w
-number_of-push names w = position_or_len_push (bytes_eq w) names w ∙ rw (same_word w) (by (eqb (number_of names w) (length names)) refl)
+number_of-push names w = position_or_len_push (bytes_eq w) names w ∙ rw (same_name w) (by (eqb (number_of names w) (length names)) refl)
   where
     by : (b : Bool) → eqb (number_of names w) (length names) ≡ b → cond b (length names + 0) (number_of names w) ≡ number_of names w
     by true e = rw add-zero (sym (eqb-true _ _ e))
@@ -204,9 +167,6 @@ some_wrong p (v ∷ front) w rest h = rw (some_wrong p front w rest h) (and_fals
     and_false false = refl
 
 -- ---- names of models
-
-pub any_view : (w : List ℕ) (ks : List (Bor (List ℕ))) (names : List (List ℕ)) → map now ks ≡ names → list_any (same w) ks ≡ list_any (bytes_eq w) names
-any_view w ks names view = any_keys w ks ∙ ap (list_any (bytes_eq w)) view
 
 pub pushed_key : (key : Bor (List ℕ)) (ks new : List (Bor (List ℕ))) (names : List (List ℕ)) → map now ks ≡ names → new ≡ cond (list_any (same key.now) ks) ks (ks ++ key ∷ []) → list_any (bytes_eq key.now) names ≡ false → map now new ≡ names ++ key.now ∷ []
 pushed_key key ks new names view e none = inserted_key key ks new names view e ∙ rw none refl

@@ -22,6 +22,7 @@ use Rattle.blif_read.specs.Parts.{word, lit_of, pattern, row_words, is_right_row
 use Rattle.blif_read.specs.Faults.{row_fault, placed_fault, fault_of, head_fault}
 use Rattle.blif_read.specs.Steps.{State, after_head, closed_pieces}
 use Rattle.blif_read.specs.Runs.{Gives, TextState, text_start, text_after_head, text_after, above_of, last_model, model_from, run, ended, whole}
+use Rattle.blif_read.proofs.ModelsLemmas.{not_bad}
 use Rattle.blif_read.proofs.StateLemmas.{placed_row}
 
 abbrev CurrentFits : Option Cover → Type 0
@@ -95,10 +96,6 @@ all_fit t is = models_fit-append t.done (last_model t) is.done (by t.this.seen.b
     by : (b : Bool) → HaveRightRows (cond b (model_from t.name t.this ∷ []) [])
     by true = (closed_fits t.this is.this, tt)
     by false = tt
-
-not_bad : (b : Bool) (o : Option DesignKind) → cond b (Some kind.Byte) o ≡ None → o ≡ None
-not_bad true o h = absurd cc
-not_bad false o h = h
 
 text_fits_after : (t : TextState) (l : LogicalLine) → TextFits t → fault_of (above_of t) l ≡ None → TextFits (text_after t l)
 text_fits_after t l is none = by (head_of (word 0 l.words)) (not_bad (is_bad_line l) (head_fault (above_of t) (head_of (word 0 l.words)) l.words) none)

@@ -8,9 +8,10 @@ use Rattle.netlist.specs.declared.fault.DesignKind.{DesignKind}
 use Rattle.netlist.specs.declared.fault.DesignKind.TheVariants.{NoModel}
 use Rattle.netlist.specs.declared.fault.DesignFault.{DesignFault}
 use Rattle.flatten.specs.declared.model.Model.{Model}
-use Rattle.blif_read.specs.Faults.{fault_of}
+use Rattle.blif_read.specs.Faults.{fault_of, first_fault, answer, reading}
 use Rattle.blif_read.specs.Runs.{Gives, TextState, text_start, text_after, above_of, run, ended, whole}
-use Rattle.blif_read.specs.Grammar.{models_of, spelled_model, is_some_model, above_by, first_fault, answer, reading, AreModels}
+use Rattle.blif_read.specs.Grammar.{models_of, spelled_model, is_some_model, above_by, AreModels}
+use Rattle.blif_read.proofs.RightLemmas.{right_lines, no_fault}
 use Rattle.blif_read.proofs.ModelsLemmas.{IsText, text_start_is, above_is, models_are, text_step}
 
 run_is : (lines above : List LogicalLine) (t : TextState) → IsText (models_of above) t → ended (run t lines) ≡ answer (above ++ lines) (first_fault above lines)
@@ -49,10 +50,10 @@ module _ (bytes : List ℕ) where
   are_models d h =
       let lines = lines_of true bytes in
       let p = reading_ok (first_fault [] lines) (is_some_model (models_of lines)) d (map spelled_model (models_of lines)) (first_is lines (first_fault [] lines) ∙ h) in
-      record { right = p.0; some = p.1; models_are = p.2 }
+      record { right = right_lines lines [] p.0; some = p.1; models_are = p.2 }
 
   pub are_read : (d : List Model) → AreModels bytes d → reading (lines_of true bytes) ≡ Ok d
-  are_read d is = rw (is.right, is.some, is.models_are) refl
+  are_read d is = rw (no_fault (lines_of true bytes) [] is.right, is.some, is.models_are) refl
 
 pub found_are : (bytes : List ℕ) (r : Result (Vec Model) DesignFault) → Gives (λ v. v.items) r (whole (lines_of true bytes)) → IfOk r (λ v. AreModels bytes (v.items))
 found_are bytes (Ok v) h = are_models bytes (v.items) (sym (whole_is (lines_of true bytes)) ∙ h)

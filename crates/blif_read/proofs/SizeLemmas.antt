@@ -1,8 +1,8 @@
 -- The outputs of the models that are read are no more than the bytes of their text.
-use Rattle.std.proofs.Common.{◌≡◌, ℕ, suc, ◌+◌, ◌-◌, ◌<◌, ◌≤◌, ◌&&◌, ◌==◌, Bool, true, false, cond, nat_lt, List, [], ◌∷◌, ◌++◌, Option, Some, None, Result, Ok, Err, length, map, filter, take, drop, slice_index, refl, sym, ap, ◌∙◌, subst, arith, inl, inr, ◌⊎◌}
+use Rattle.std.proofs.Common.{◌≡◌, ℕ, ◌+◌, ◌-◌, ◌≤◌, ◌&&◌, ◌==◌, Bool, true, false, cond, nat_lt, List, [], ◌∷◌, ◌++◌, Option, Some, None, Result, Ok, Err, length, map, filter, take, drop, slice_index, refl, ap, arith, inl, inr, ◌⊎◌}
 use Rattle.std.specs.Prelude.{IfOk}
 use Rattle.std.specs.Global.{Vec}
-use Rattle.std.specs.List.{slice_split, onto_first, before_first, position_or_len, suffix_len}
+use Rattle.std.specs.List.{slice_split, onto_first, position_or_len, suffix_len}
 use Rattle.std.proofs.lemmas.Bool.{ltb-true}
 use Rattle.std.proofs.lemmas.List.{length-take, length-drop, length-map, length-append}
 use Rattle.tm_text.specs.Bytes.{is_blank, physical_lines, uncommented, joining_part, words_of}
@@ -20,7 +20,7 @@ use Rattle.blif_read.specs.Names.{with_name, numbers}
 use Rattle.blif_read.specs.Parts.{word, port_defs}
 use Rattle.blif_read.specs.Faults.{fault_of}
 use Rattle.blif_read.specs.Steps.{State, after_head}
-use Rattle.blif_read.specs.Runs.{Gives, TextState, start, text_start, text_after_head, text_after, above_of, last_model, model_from, run, ended, whole}
+use Rattle.blif_read.specs.Runs.{Gives, TextState, text_start, text_after_head, text_after, above_of, last_model, model_from, run, ended, whole}
 
 -- ---- words of a text
 

@@ -16,10 +16,11 @@ use Rattle.netlist.specs.declared.draft.LatchDef.{LatchDef}
 use Rattle.blif_read.specs.declared.head.Head.{Head}
 use Rattle.blif_read.specs.declared.head.Head.TheVariants as head
 use Rattle.blif_read.specs.Names.{names_after, number_of, with_name}
-use Rattle.blif_read.specs.Parts.{formal_of, actual_of, pairs_of, word, port_defs, new_sum, with_row, pattern, lit_of, is_off, row_words, is_right_row}
+use Rattle.blif_read.specs.Parts.{formal_of, actual_of, pairs_of, word, port_defs, new_sum, with_row, pattern, lit_of, is_off, row_words, is_right_row, init_of, control_of}
 use Rattle.flatten.specs.declared.model.Piece.TheVariants.{Names, Latch, Inst}
 use Rattle.netlist.specs.declared.draft.Lit.{Lit}
-use Rattle.blif_read.specs.Faults.{Seen, init_of, control_of, IsNew, placed_fault, line_fault, row_fault, same_bool}
+use Rattle.blif_read.specs.Seen.{Seen}
+use Rattle.blif_read.specs.Faults.{IsNew, placed_fault, line_fault, row_fault, same_bool}
 use Rattle.blif_read.specs.Steps.{State, after_head, new_latch, new_inst, closed_pieces}
 use Rattle.blif_read.specs.Grammar.{Statement, kind_of, signals, signals_of, names_of, port_of, inputs_on, outputs_on, clocks_on, pair_from, cover_of, lists_off, inputs_of, outputs_of, clocks_of, parts_of, is_end, ended_by, last_cover, control_on, control_by, is_some_statement, seen_by, statements_of}
 use Rattle.blif_read.proofs.NamesLemmas.{numbers_are, names_after-extends}
@@ -171,7 +172,7 @@ new_state ss s h l is k =
 
 -- ---- a row
 
-same_bool-is : (a b : Bool) → same_bool a b ≡ true → a ≡ b
+pub same_bool-is : (a b : Bool) → same_bool a b ≡ true → a ≡ b
 same_bool-is true true h = refl
 same_bool-is true false h = absurd cc
 same_bool-is false true h = absurd cc

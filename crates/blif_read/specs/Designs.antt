@@ -1,4 +1,4 @@
--- What the text of a design is, and which fault of one that is none comes first.
+-- What the text of a design is; and beside it, which fault of a text that is none comes first.
 use Rattle.std.specs.Prelude.{ℕ, ◌≡◌, ◌<◌, ◌≤◌, true, List, Err, length}
 use Rattle.tm_text.specs.Lines.{lines_of}
 use Rattle.netlist.specs.declared.draft.Draft.{Draft}
@@ -10,7 +10,8 @@ use Rattle.netlist.specs.Checks.{IsChecked}
 use Rattle.flatten.specs.declared.model.Model.{Model}
 use Rattle.flatten.specs.Netlists.{IsNetlistOf}
 use Rattle.flatten.specs.Faults.{IsModelsFault}
-use Rattle.blif_read.specs.Grammar.{AreModels, reading}
+use Rattle.blif_read.specs.Grammar.{AreModels}
+use Rattle.blif_read.specs.Faults.{reading}
 
 -- the bytes are the text of models, and the draft is the netlist of their substituted design, which is sound
 pub record IsDesign (bytes : List ℕ) (draft : Draft) : Type 0 where

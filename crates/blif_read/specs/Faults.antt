@@ -1,6 +1,6 @@
--- The fault of a line, by what stands above it.
+-- The fault of a line, by what stands above it, and the first fault of a text.
 use Rattle.netlist.specs.declared.draft.Cover.{Cover}
-use Rattle.std.specs.Prelude.{ℕ, ◌-◌, ◌==◌, Bool, true, false, not, ◌&&◌, ◌||◌, nat_lt, nat_le, codes, if◌then◌else◌, List, [], ◌∷◌, Option, Some, None, length, map, drop, slice_index}
+use Rattle.std.specs.Prelude.{ℕ, ◌==◌, Bool, true, false, not, ◌&&◌, ◌||◌, nat_lt, nat_le, codes, if◌then◌else◌, List, [], ◌∷◌, ◌++◌, Option, Some, None, Result, Ok, Err, length, map, drop}
 use Rattle.std.specs.List.{list_any, list_all}
 use Rattle.std.specs.Option.{option_or}
 use Rattle.std.specs.Str.{bytes_eq}
@@ -11,15 +11,10 @@ use Rattle.blif_read.specs.declared.head.Head.{Head}
 use Rattle.blif_read.specs.declared.head.Head.TheVariants as head
 use Rattle.blif_read.specs.Heads.{head_of}
 use Rattle.blif_read.specs.Names.{limit_at}
-use Rattle.blif_read.specs.Parts.{word, is_pair, actual_of, row_words, is_right_row, is_off}
-
--- what the lines above say of the next: whether a line stands there, whether the last is `.end`, the names, the cover whose rows go on, and the control of the latches
-pub record Seen : Type 0 where
-  pub begun : Bool
-  pub ended : Bool
-  pub names : List (List ℕ)
-  pub current : Option Cover
-  pub control : Option (List ℕ)
+use Rattle.blif_read.specs.Seen.{Seen, Above}
+use Rattle.blif_read.specs.Parts.{word, is_pair, actual_of, row_words, is_right_row, is_off, is_init, has_type, has_init, init_word, control_of}
+use Rattle.blif_read.specs.Grammar.{above_by, models_of, is_some_model, spelled_model}
+use Rattle.flatten.specs.declared.model.Model.{Model}
 
 -- of the words of a row for this many inputs
 abbrev pub row_shape_fault : ℕ → List (List ℕ) → Option DesignKind
@@ -47,27 +42,6 @@ names_fault names words =
     if nat_lt (length words) 2 then Some kind.Word
     else if nat_lt 258 (length words) then Some kind.Limit
     else limit_at names (drop 1 words)
-
--- init is one of 0 to 3
-abbrev pub is_init : List ℕ → Bool
-is_init w = (length w == 1) && (not (nat_lt (slice_index w 0) 48)) && nat_lt (slice_index w 0) 52
-
--- behind input and output: the type and the control with two words or three, and init where it is the last of one or three
-abbrev pub has_type : List (List ℕ) → Bool
-has_type words = (length words == 5) || (length words == 6)
-
-abbrev pub has_init : List (List ℕ) → Bool
-has_init words = (length words == 4) || (length words == 6)
-
-abbrev pub init_word : List (List ℕ) → List ℕ
-init_word words = word (length words - 1) words
-
-abbrev pub init_of : List (List ℕ) → Bool
-init_of words = has_init words && (slice_index (init_word words) 0 == 49)
-
--- the control, if it is a name
-abbrev pub control_of : List (List ℕ) → Option (List ℕ)
-control_of words = if has_type words && not (bytes_eq (word 4 words) (codes "NIL")) then Some (word 4 words) else None
 
 abbrev pub is_other : Option (List ℕ) → Option (List ℕ) → Bool
 is_other None earlier = false
@@ -119,11 +93,6 @@ placed_fault seen h words =
     else if not seen.begun then Some kind.NoModel
     else line_fault seen h words
 
--- what the lines above say of the next: the names of the models, and the lines of the last
-pub record Above : Type 0 where
-  pub models : List (List ℕ)
-  pub this : Seen
-
 abbrev pub model_fault : Above → List (List ℕ) → Option DesignKind
 model_fault above words =
     if nat_lt 2 (length words) || (above.this.begun && nat_lt (length words) 2) then Some kind.Word
@@ -146,3 +115,20 @@ IsNew head.Unknown = ⊥
 IsNew head.LeftOut = ⊥
 IsNew head.Row = ⊥
 IsNew _ = Unit {0}
+
+-- the first line with a fault, after those above, and the fault that comes first on it
+unfoldable pub first_fault : List LogicalLine → List LogicalLine → Option (ℕ × DesignKind)
+first_fault above [] = None
+first_fault above (l ∷ lines) = here (fault_of (above_by (models_of above)) l) (first_fault (above ++ l ∷ []) lines)
+  where
+    here : Option DesignKind → Option (ℕ × DesignKind) → Option (ℕ × DesignKind)
+    here None later = later
+    here (Some k) later = Some (l.number, k)
+
+-- the models that a text spells; or its first fault, or else that it has no line
+abbrev pub answer : List LogicalLine → Option (ℕ × DesignKind) → Result (List Model) (ℕ × DesignKind)
+answer lines (Some f) = Err f
+answer lines None = if is_some_model (models_of lines) then Ok (map spelled_model (models_of lines)) else Err (0, kind.NoModel)
+
+abbrev pub reading : List LogicalLine → Result (List Model) (ℕ × DesignKind)
+reading lines = answer lines (first_fault [] lines)

@@ -3,21 +3,20 @@ use Rattle.flatten.specs.declared.model.Model.{Model}
 use Rattle.flatten.specs.declared.model.PairDef.{PairDef}
 use Rattle.flatten.specs.declared.model.Piece.{Piece}
 use Rattle.netlist.specs.declared.draft.Cover.{Cover}
-use Rattle.std.specs.Prelude.{option_map, ℕ, ◌-◌, ◌≡◌, Bool, true, false, if◌then◌else◌, List, [], ◌∷◌, ◌++◌, Option, Some, None, Result, Ok, Err, length, map, take, drop, slice_index}
+use Rattle.std.specs.Prelude.{option_map, ℕ, ◌-◌, ◌≡◌, Bool, true, false, List, [], ◌∷◌, ◌++◌, Option, Some, None, length, map, take, drop, slice_index}
 use Rattle.std.specs.List.{flat_map}
 use Rattle.std.specs.Option.{option_or, option_to_list}
 use Rattle.tm_text.specs.Lines.{LogicalLine, lines_of}
 use Rattle.netlist.specs.declared.draft.PortDef.{PortDef}
 use Rattle.netlist.specs.declared.draft.LatchDef.{LatchDef}
-use Rattle.netlist.specs.declared.fault.DesignKind.{DesignKind}
-use Rattle.netlist.specs.declared.fault.DesignKind.TheVariants.{NoModel}
 use Rattle.blif_read.specs.declared.head.Head.{Head}
 use Rattle.blif_read.specs.declared.head.Head.TheVariants as head
 use Rattle.blif_read.specs.Heads.{head_of}
 use Rattle.blif_read.specs.Names.{names_after, number_of}
-use Rattle.blif_read.specs.Parts.{formal_of, actual_of, word, lit_of, pattern, is_off}
+use Rattle.blif_read.specs.Parts.{formal_of, actual_of, word, lit_of, pattern, is_off, init_of, control_of}
 use Rattle.flatten.specs.declared.model.Piece.TheVariants.{Names, Latch, Inst}
-use Rattle.blif_read.specs.Faults.{Seen, Above, fault_of, init_of, control_of}
+use Rattle.blif_read.specs.Seen.{Seen, Above}
+use Rattle.blif_read.specs.Right.{IsRightLine}
 
 -- ---- statements
 
@@ -139,7 +138,7 @@ spelled name lines =
       pieces = parts_of names statements;
     }
 
--- ---- faults
+-- ---- what stands above a line
 
 abbrev pub is_end : Head → Bool
 is_end head.End = true
@@ -226,25 +225,13 @@ last_lines (m ∷ n ∷ models) = last_lines (n ∷ models)
 abbrev pub above_by : List ModelText → Above
 above_by models = record { models = map name_of models; this = seen_by (statements_of (last_lines models)) }
 
--- the first line with a fault, after those above, and the fault that comes first on it
-unfoldable pub first_fault : List LogicalLine → List LogicalLine → Option (ℕ × DesignKind)
-first_fault above [] = None
-first_fault above (l ∷ lines) = here (fault_of (above_by (models_of above)) l) (first_fault (above ++ l ∷ []) lines)
-  where
-    here : Option DesignKind → Option (ℕ × DesignKind) → Option (ℕ × DesignKind)
-    here None later = later
-    here (Some k) later = Some (l.number, k)
+-- each line is right, by those above it
+unfoldable pub AreRight : List LogicalLine → List LogicalLine → Type 0
+AreRight above [] = Unit {0}
+AreRight above (l ∷ lines) = IsRightLine (above_by (models_of above)) l × AreRight (above ++ l ∷ []) lines
 
--- the models that a text spells; or its first fault, or else that it has no line
-abbrev pub answer : List LogicalLine → Option (ℕ × DesignKind) → Result (List Model) (ℕ × DesignKind)
-answer lines (Some f) = Err f
-answer lines None = if is_some_model (models_of lines) then Ok (map spelled_model (models_of lines)) else Err (0, NoModel)
-
-abbrev pub reading : List LogicalLine → Result (List Model) (ℕ × DesignKind)
-reading lines = answer lines (first_fault [] lines)
-
--- the bytes are the text of these models: no line has a fault, there is one, and this is what they spell
+-- the bytes are the text of these models: each line is right, one begins a model, and this is what they spell
 pub record AreModels (bytes : List ℕ) (models : List Model) : Type 0 where
-  pub right : first_fault [] (lines_of true bytes) ≡ None
+  pub right : AreRight [] (lines_of true bytes)
   pub some : is_some_model (models_of (lines_of true bytes)) ≡ true
   pub models_are : models ≡ map spelled_model (models_of (lines_of true bytes))

@@ -1,6 +1,7 @@
 -- The words of lines, and what they make.
-use Rattle.std.specs.Prelude.{ℕ, ◌-◌, ◌==◌, Bool, false, ◌&&◌, ◌||◌, nat_lt, if◌then◌else◌, List, [], ◌∷◌, ◌++◌, length, map, take, slice_index, slice_index_or}
+use Rattle.std.specs.Prelude.{ℕ, ◌-◌, ◌==◌, Bool, false, not, ◌&&◌, ◌||◌, nat_lt, codes, if◌then◌else◌, List, [], ◌∷◌, ◌++◌, Option, Some, None, length, map, take, slice_index, slice_index_or}
 use Rattle.std.specs.List.{list_all, before_first, after_first}
+use Rattle.std.specs.Str.{bytes_eq}
 use Rattle.netlist.specs.declared.draft.Lit.{Lit}
 use Rattle.netlist.specs.declared.draft.Lit.TheVariants.{Zero, One, Any}
 use Rattle.netlist.specs.declared.draft.Cover.{Cover}
@@ -40,6 +41,29 @@ is_off n words = slice_index (output n words) 0 == 48
 
 abbrev pub is_right_row : ℕ → List (List ℕ) → Bool
 is_right_row n words = (length (pattern n words) == n) && list_all is_lit (pattern n words) && is_output (output n words)
+
+-- ---- latches
+
+-- init is one of 0 to 3
+abbrev pub is_init : List ℕ → Bool
+is_init w = (length w == 1) && (not (nat_lt (slice_index w 0) 48)) && nat_lt (slice_index w 0) 52
+
+-- behind input and output: the type and the control with two words or three, and init where it is the last of one or three
+abbrev pub has_type : List (List ℕ) → Bool
+has_type words = (length words == 5) || (length words == 6)
+
+abbrev pub has_init : List (List ℕ) → Bool
+has_init words = (length words == 4) || (length words == 6)
+
+abbrev pub init_word : List (List ℕ) → List ℕ
+init_word words = word (length words - 1) words
+
+abbrev pub init_of : List (List ℕ) → Bool
+init_of words = has_init words && (slice_index (init_word words) 0 == 49)
+
+-- the control, if it is a name
+abbrev pub control_of : List (List ℕ) → Option (List ℕ)
+control_of words = if has_type words && not (bytes_eq (word 4 words) (codes "NIL")) then Some (word 4 words) else None
 
 -- ---- the use of a model
 

@@ -10,7 +10,8 @@ use Rattle.blif_read.specs.declared.head.Head.{Head}
 use Rattle.blif_read.specs.declared.head.Head.TheVariants as head
 use Rattle.blif_read.specs.Heads.{head_of}
 use Rattle.blif_read.specs.Parts.{word}
-use Rattle.blif_read.specs.Faults.{Above, fault_of}
+use Rattle.blif_read.specs.Seen.{Above}
+use Rattle.blif_read.specs.Faults.{fault_of}
 use Rattle.blif_read.specs.Steps.{State, after_head, closed_pieces}
 
 -- what a call answered is what reading gives, unless memory ran out

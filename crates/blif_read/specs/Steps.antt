@@ -12,9 +12,9 @@ use Rattle.netlist.specs.declared.draft.LatchDef.{LatchDef}
 use Rattle.blif_read.specs.Heads.{head_of}
 use Rattle.blif_read.specs.Names.{names_after, numbers}
 use Rattle.blif_read.specs.Refusals.{IsRefusedAs}
-use Rattle.blif_read.specs.Parts.{word, formal_of, actual_of, pairs_of, port_defs, new_sum, with_row}
+use Rattle.blif_read.specs.Parts.{word, formal_of, actual_of, pairs_of, port_defs, new_sum, with_row, control_of, init_of}
 use Rattle.flatten.specs.declared.model.Piece.TheVariants.{Names, Latch, Inst}
-use Rattle.blif_read.specs.Faults.{Seen, control_of, init_of}
+use Rattle.blif_read.specs.Seen.{Seen}
 
 pub record State : Type 0 where
   pub seen : Seen

@@ -1,12 +1,12 @@
 //! What each kind of line says.
 
-ghost use Rattle.std.specs.Prelude.{option_copied, option_map, IfOk, MatchOption, vec_len, ◌≡◌, ◌++◌, ◌∷◌, [], ◌+◌, ◌-◌, ◌<◌, ◌≤◌, Bool, true, false, not, ◌&&◌, ◌||◌, ◌==◌, if◌then◌else◌, ℕ, List, length, map, drop, None, Some, OnErr, IfErr};
+ghost use Rattle.std.specs.Prelude.{option_copied, IfOk, MatchOption, vec_len, ◌≡◌, ◌++◌, ◌∷◌, [], ◌+◌, ◌-◌, ◌<◌, true, false, ◌&&◌, ◌||◌, ◌==◌, List, length, map, drop, None, Some};
 ghost use Rattle.std.specs.List.{list_all};
 ghost use Rattle.std.specs.Option.{option_or};
 ghost use Rattle.blif_read.specs.Names.{names_after, numbers, limit_at};
-ghost use Rattle.blif_read.specs.Parts.{pairs_of, is_pair, formal_of, actual_of, port_defs, new_sum, with_row, is_lit, lit_of, is_output, row_words, pattern, output, is_off, is_right_row, word};
+ghost use Rattle.blif_read.specs.Parts.{pairs_of, is_pair, formal_of, actual_of, port_defs, new_sum, with_row, is_lit, lit_of, is_output, pattern, output, is_off, word, control_of, init_of, is_init};
 ghost use Rattle.flatten.specs.declared.model.Piece.TheVariants.{Latch};
-ghost use Rattle.blif_read.specs.Faults.{names_fault, pairs_fault, subckt_fault, latch_parts_fault, latch_fault, control_of, init_of, is_other, row_fault, is_init, row_shape_fault};
+ghost use Rattle.blif_read.specs.Faults.{pairs_fault, subckt_fault, latch_parts_fault, latch_fault, is_other, row_fault, row_shape_fault};
 ghost use Rattle.blif_read.specs.Steps.{Steps, new_latch, new_inst};
 
 use crate::kind::Refusal;

@@ -2,7 +2,7 @@
 
 ghost use Rattle.std.specs.List.{list_any};
 ghost use Rattle.std.specs.Str.{bytes_eq};
-ghost use Rattle.std.specs.Prelude.{◌++◌, ◌≡◌, ◌<◌, ◌≤◌, ◌∷◌, false, [], length, map, IfOk, OnOk, OnErr, None, IfErr, MatchResult, vec_len};
+ghost use Rattle.std.specs.Prelude.{◌++◌, ◌≡◌, ◌<◌, ◌≤◌, ◌∷◌, false, [], length, map, IfOk, OnOk, None, IfErr, MatchResult, vec_len};
 ghost use Rattle.blif_read.specs.Names.{with_name, names_after, number_of, numbers, limit_at, is_long};
 ghost use Rattle.blif_read.specs.Refusals.{IsRefusedAs};
 

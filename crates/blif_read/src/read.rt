@@ -3,11 +3,12 @@
 ghost use Rattle.flatten.specs.declared.model.Model.{Model};
 ghost use Rattle.flatten.specs.Lines.{HaveRightRows};
 ghost use Rattle.flatten.specs.Substitution.{first_model};
-ghost use Rattle.std.specs.Prelude.{◌≡◌, ◌∷◌, [], Bool, true, false, ℕ, List, map, None, Some, Ok, Err, IfOk, IfErr, MatchResult, length, ◌≤◌};
+ghost use Rattle.std.specs.Prelude.{◌≡◌, true, List, None, Some, Ok, Err, IfOk, IfErr, MatchResult, length, ◌≤◌};
 ghost use Rattle.tm_text.specs.Lines.{lines_of};
 ghost use Rattle.blif_read.specs.Texts.{text_of};
 ghost use Rattle.blif_read.specs.Runs.{run, text_start, whole, Gives};
-ghost use Rattle.blif_read.specs.Grammar.{AreModels, reading};
+ghost use Rattle.blif_read.specs.Faults.{reading};
+ghost use Rattle.blif_read.specs.Grammar.{AreModels};
 ghost use Rattle.blif_read.specs.Designs.{IsDesign, IsRefusalOfBytes};
 ghost use Rattle.netlist.specs.declared.draft.Draft.{Draft};
 ghost use Rattle.netlist.specs.declared.fault.DesignFault.TheVariants.{Memory};

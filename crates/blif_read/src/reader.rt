@@ -2,7 +2,7 @@
 
 ghost use Rattle.std.specs.Option.{option_to_list};
 ghost use Rattle.flatten.specs.declared.model.Piece.TheVariants.{Names as NamesPiece};
-ghost use Rattle.std.specs.Prelude.{option_map, ◌≡◌, ◌++◌, ◌∷◌, [], ◌<◌, Bool, true, false, ℕ, List, length, map, None, Some, OnOk};
+ghost use Rattle.std.specs.Prelude.{option_map, ◌≡◌, ◌++◌, ◌<◌, true, length, map, None, Some, OnOk};
 ghost use Rattle.blif_read.specs.Faults.{placed_fault, line_fault, IsNew};
 ghost use Rattle.blif_read.specs.Steps.{Steps, after_head};
 ghost use Rattle.blif_read.specs.States.{state_of};

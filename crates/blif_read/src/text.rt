@@ -1,9 +1,9 @@
 //! Reads the models of a text.
 
-ghost use Rattle.std.specs.Prelude.{◌≡◌, ◌<◌, Bool, true, false, ℕ, List, length, map, None, Some, IfOk, OnOk, ◌++◌, ◌∷◌, [], if◌then◌else◌};
+ghost use Rattle.std.specs.Prelude.{◌≡◌, ◌<◌, false, length, map, None, IfOk, OnOk, ◌++◌, ◌∷◌, [], if◌then◌else◌};
 ghost use Rattle.tm_text.specs.Lines.{is_bad_line};
 ghost use Rattle.blif_read.specs.Faults.{fault_of, model_fault};
-ghost use Rattle.blif_read.specs.Steps.{Steps, after_head};
+ghost use Rattle.blif_read.specs.Steps.{Steps};
 ghost use Rattle.blif_read.specs.States.{state_of};
 ghost use Rattle.blif_read.specs.Parts.{word};
 ghost use Rattle.blif_read.specs.Runs.{start, model_from, above_of, text_after, text_after_head};

@@ -1,5 +1,5 @@
 use Rattle.std.proofs.Common.{◌∙◌}
-use Rattle.blif_read.proofs.NamesLemmas.{any_view}
+use Rattle.flatten.proofs.NameLemmas.{any_view}
 use Rattle.blif_read.proofs.names.ModelNames.contains.Goals as goal
 
 pub returns-in-Some : goal.returns-in-Some
