@@ -1,14 +1,14 @@
-pub mod PinValues
-pub mod Turns
-pub mod OnTree
-pub mod Terminals
-pub mod Routed
-pub mod Marking
-pub mod Lining
-pub mod Joining
-pub mod Ported
-pub mod Seats
-pub mod Whole
-pub mod Deep
-pub mod Reading
-pub mod Making
+mod PinValues
+mod Turns
+mod OnTree
+mod Terminals
+mod Routed
+mod Marking
+mod Lining
+mod Joining
+mod Ported
+mod Seats
+mod Whole
+mod Deep
+mod Reading
+mod Making

@@ -1,20 +1,16 @@
 -- Nets that are laid on the tree stay apart, and each hangs together.
-use Rattle.std.proofs.Common.{◌≡◌, ◌≢◌, ℕ, suc, ◌≤◌, Bool, true, Some, refl, sym, ap, ◌∙◌, subst, arith}
+use Rattle.std.proofs.Common.{◌≡◌, ◌≢◌, ℕ, Bool, true, Some, refl, sym, ap, ◌∙◌, subst}
 use native.Mathlib.Decide.{ℕ_discrete}
 use Rattle.hierarchy.specs.declared.Shape.{Shape}
-use Rattle.hierarchy.specs.Shape.{in_order, ends_of, node_of, parent_of, IsAbove, itself, below}
+use Rattle.hierarchy.specs.Shape.{in_order, ends_of, node_of, parent_of}
 use Rattle.hierarchy.specs.Laws.{IsTree}
 use Rattle.hierarchy.specs.Joined.{Joined, here, then, crossed, plain_net}
 use Rattle.hierarchy.proofs.JoinedLemmas.{Joined-trans, Joined-sym}
 use Rattle.place.specs.declared.tree.Strand.{Strand}
 use Rattle.place.specs.declared.tree.Strand.TheVariants.{Own, Child, Outside}
 use Rattle.place.specs.Strands.{IsInside, IsAt, at_own, at_child, at_outside, Crosses, IsStrand}
+use Rattle.place.proofs.Upward.{IsUp, stay, up, up_of, higher, above_of, not_in_child, one_child}
 use Rattle.crossbar_route.specs.Trees.{IsNetTap, by_terminal, by_child, by_port, IsLaidOnTree, IsOfNet, as_terminal, as_line, as_port, AreTerminals}
-
--- the same as to be above, from the lower node upwards
-data IsUp (m : Shape) (h : ℕ) : ℕ → Type 0 where
-  stay : IsUp m h h
-  up : {c n : ℕ} → IsUp m h c → parent_of m c ≡ Some n → IsUp m h n
 
 -- t is the tap by which a net with these ports comes to node n for a strand
 data Comes (port : ℕ → ℕ → Type 0) (n t : ℕ) : Strand → Type 0 where
@@ -23,45 +19,7 @@ data Comes (port : ℕ → ℕ → Type 0) (n t : ℕ) : Strand → Type 0 where
   from_outside : port n t → Comes port n t Outside
 
 module _ (m : Shape) where
-  lower : {h p n : ℕ} → parent_of m h ≡ Some p → IsUp m p n → IsUp m h n
-  lower e stay = up stay e
-  lower e (up a q) = up (lower e a) q
-
-  up_of : {n h : ℕ} → IsAbove m n h → IsUp m h n
-  up_of itself = stay
-  up_of (below a e) = lower e (up_of a)
-
-  higher : {n c h : ℕ} → parent_of m c ≡ Some n → IsAbove m c h → IsAbove m n h
-  higher e itself = below itself e
-  higher e (below a q) = below (higher e a) q
-
-  above_of : {h n : ℕ} → IsUp m h n → IsAbove m n h
-  above_of stay = itself
-  above_of (up a e) = higher e (above_of a)
-
   module _ (tree : IsTree m) where
-    deep_below : {h n : ℕ} → IsUp m h n → tree.depth n ≤ tree.depth h
-    deep_below stay = omega arith
-    deep_below (up {c} {n} a e) = let q = tree.deeper c n e in let r = deep_below a in omega arith
-
-    one_parent : (a b c : ℕ) → parent_of m c ≡ Some a → parent_of m c ≡ Some b → a ≡ b
-    one_parent a b c p q = cc
-
-    -- of the nodes above a node, one has each depth
-    one_at_depth : {h a b : ℕ} → IsUp m h a → IsUp m h b → tree.depth a ≡ tree.depth b → a ≡ b
-    one_at_depth stay stay e = refl
-    one_at_depth stay (up {c = c} {n = b} q f) e = absurd (let x = tree.deeper c b f in let y = deep_below q in omega arith)
-    one_at_depth (up {c = c} {n = a} p f) stay e = absurd (let x = tree.deeper c a f in let y = deep_below p in omega arith)
-    one_at_depth (up {c = c} {n = a} p f) (up {c = k} {n = b} q g) e =
-        let same : c ≡ k = one_at_depth p q (tree.deeper c a f ∙ ap suc e ∙ sym (tree.deeper k b g)) in
-        one_parent a b c f (subst (λ x. parent_of m x ≡ Some b) (sym same) g)
-
-    not_in_child : (n c w : ℕ) → parent_of m c ≡ Some n → node_of m w ≡ n → ¬ IsInside m c w
-    not_in_child n c w e at i = absurd (let x = deep_below (up_of i) in let y = tree.deeper c n e in let z = ap tree.depth at in omega arith)
-
-    one_child : (n b c w : ℕ) → parent_of m b ≡ Some n → parent_of m c ≡ Some n → IsInside m b w → IsInside m c w → b ≡ c
-    one_child n b c w e f p q = one_at_depth (up_of p) (up_of q) (let x = tree.deeper c n f in let y = tree.deeper b n e in omega arith)
-
     module _ (terminal : ℕ → ℕ → Type 0) (closed : ℕ → Bool) (line port : ℕ → ℕ → ℕ → Type 0) (laid : IsLaidOnTree m terminal closed line port) where
       -- a net's tap is joined to its line
       tap_joined : (n k w t : ℕ) → line n k w → IsNetTap m terminal port n k t → Joined (plain_net m closed) t w
@@ -94,18 +52,18 @@ module _ (m : Shape) where
       to_port : (k w : ℕ) → terminal k w → {n : ℕ} → IsUp m (node_of m w) n → Crosses m (terminal k) n → (t : ℕ) → port n k t → Joined (plain_net m closed) w t
       to_port k w is stay crosses t has = meet (node_of m w) k (Own w) Outside (λ e. cc) (own_strand _ k w is refl) (outside_strand _ k crosses) w t itself_ (from_outside has)
       to_port k w is (up {c} {n} a e) crosses t has =
-          let below : Crosses m (terminal k) c = record { inner = w; outer = crosses.outer; inner_is = is; outer_is = crosses.outer_is; inside = above_of a; not_inside = λ i. crosses.not_inside (higher e i) } in
+          let below : Crosses m (terminal k) c = record { inner = w; outer = crosses.outer; inner_is = is; outer_is = crosses.outer_is; inside = above_of m a; not_inside = λ i. crosses.not_inside (higher m e i) } in
           let passed = laid.passed c k below in
           Joined-trans
           (to_port k w is a below passed.0 passed.1)
-          (meet n k (Child c) Outside (λ e. cc) (child_strand n k c w e is (above_of a)) (outside_strand n k crosses) passed.0 t (from_child c passed.1) (from_outside has))
+          (meet n k (Child c) Outside (λ e. cc) (child_strand n k c w e is (above_of m a)) (outside_strand n k crosses) passed.0 t (from_child c passed.1) (from_outside has))
 
       -- one of the two at the node itself
       own_joined : (k w u c n : ℕ) → terminal k w → terminal k u → node_of m w ≡ n → IsUp m (node_of m u) c → parent_of m c ≡ Some n → Joined (plain_net m closed) w u
       own_joined k w u c n is iu at a e =
-          let crosses : Crosses m (terminal k) c = record { inner = u; outer = w; inner_is = iu; outer_is = is; inside = above_of a; not_inside = not_in_child n c w e at } in
+          let crosses : Crosses m (terminal k) c = record { inner = u; outer = w; inner_is = iu; outer_is = is; inside = above_of m a; not_inside = not_in_child m tree n c w e at } in
           let passed = laid.passed c k crosses in
-          Joined-trans (meet n k (Own w) (Child c) (λ e. cc) (own_strand n k w is at) (child_strand n k c u e iu (above_of a)) w passed.0 itself_ (from_child c passed.1)) (Joined-sym (to_port k u iu a crosses passed.0 passed.1))
+          Joined-trans (meet n k (Own w) (Child c) (λ e. cc) (own_strand n k w is at) (child_strand n k c u e iu (above_of m a)) w passed.0 itself_ (from_child c passed.1)) (Joined-sym (to_port k u iu a crosses passed.0 passed.1))
 
       -- terminals inside one node are joined
       inside_joined : (k w u : ℕ) → terminal k w → terminal k u → {a b n : ℕ} → node_of m w ≡ a → node_of m u ≡ b → IsUp m a n → IsUp m b n → Joined (plain_net m closed) w u
@@ -123,12 +81,12 @@ module _ (m : Shape) where
           by (no ne) same =
               let pw : IsUp m (node_of m w) c = subst (λ x. IsUp m x c) (sym ea) p in
               let qu : IsUp m (node_of m u) l = subst (λ x. IsUp m x l) (sym eb) q in
-              let w_crosses : Crosses m (terminal k) c = record { inner = w; outer = u; inner_is = is; outer_is = iu; inside = above_of pw; not_inside = λ i. ne (one_child n c l u e f i (above_of qu)) } in
-              let u_crosses : Crosses m (terminal k) l = record { inner = u; outer = w; inner_is = iu; outer_is = is; inside = above_of qu; not_inside = λ i. ne (one_child n c l w e f (above_of pw) i) } in
+              let w_crosses : Crosses m (terminal k) c = record { inner = w; outer = u; inner_is = is; outer_is = iu; inside = above_of m pw; not_inside = λ i. ne (one_child m tree n c l u e f i (above_of m qu)) } in
+              let u_crosses : Crosses m (terminal k) l = record { inner = u; outer = w; inner_is = iu; outer_is = is; inside = above_of m qu; not_inside = λ i. ne (one_child m tree n c l w e f (above_of m pw) i) } in
               let x = laid.passed c k w_crosses in
               let y = laid.passed l k u_crosses in
               Joined-trans (to_port k w is pw w_crosses x.0 x.1) (Joined-trans
-              (meet n k (Child c) (Child l) (λ e. ne cc) (child_strand n k c w e is (above_of pw)) (child_strand n k l u f iu (above_of qu)) x.0 y.0 (from_child c x.1) (from_child l y.1))
+              (meet n k (Child c) (Child l) (λ e. ne cc) (child_strand n k c w e is (above_of m pw)) (child_strand n k l u f iu (above_of m qu)) x.0 y.0 (from_child c x.1) (from_child l y.1))
               (Joined-sym (to_port k u iu qu u_crosses y.0 y.1)))
 
       of_net : (n k t : ℕ) → IsNetTap m terminal port n k t → IsOfNet terminal line port k t
@@ -145,7 +103,7 @@ module _ (m : Shape) where
       module _ (are : AreTerminals m terminal) where
         -- a net's terminals are joined
         pub net_joined : (k w u : ℕ) → terminal k w → terminal k u → Joined (plain_net m closed) w u
-        net_joined k w u is iu = inside_joined k w u is iu refl refl (up_of (are.below k w is)) (up_of (are.below k u iu))
+        net_joined k w u is iu = inside_joined k w u is iu refl refl (up_of m (are.below k w is)) (up_of m (are.below k u iu))
 
         -- no wire is of two nets
         pub nets_apart : (k l w : ℕ) → IsOfNet terminal line port k w → IsOfNet terminal line port l w → k ≡ l

@@ -14,20 +14,8 @@ use Rattle.place.specs.declared.tree.Strand.TheVariants.{Own, Child, Outside}
 use Rattle.place.specs.Lists.{IsNth}
 use Rattle.place.specs.Strands.{IsAt, at_own, at_child, at_outside, Crosses, Visits}
 use Rattle.place.specs.Room.{CrossesAt, IsFreePort, HasPort}
-use Rattle.place.proofs.Those.{those_unique}
+use Rattle.place.proofs.Those.{those_unique, same_place}
 use Rattle.crossbar_route.specs.Owners.{HasLine}
-
--- one place of an ascending list has the number
-one_place : (xs : List ℕ) (i j w : ℕ) → AllPairs (λ a b. a < b) xs → IsNth xs i w → IsNth xs j w → i ≡ j
-one_place xs i j w up p q = by (cases_order i j)
-  where
-    differ : (a b : ℕ) → a < b → a ≡ w → b ≡ w → ⊥
-    differ a b l e f = omega arith
-
-    by : (i ≡ j) ⊎ ((i < j) ⊎ (j < i)) → i ≡ j
-    by (inl e) = e
-    by (inr (inl l)) = absurd (differ (get_or xs i 0) (get_or xs j 0) (up i j 0 l q.0) p.1 q.1)
-    by (inr (inr l)) = absurd (differ (get_or xs j 0) (get_or xs i 0) (up j i 0 l p.0) q.1 p.1)
 
 module _ (m : Shape) (d : Defects) (count : ℕ) (terminal : ℕ → ℕ → Type 0) where
   -- a port of a node is of one net
@@ -36,7 +24,7 @@ module _ (m : Shape) (d : Defects) (count : ℕ) (terminal : ℕ → ℕ → Typ
       let ports : p.ports ≡ q.ports = those_unique (IsFreePort m d n) p.ports q.ports p.are_ports q.are_ports in
       let crossing : p.crossing ≡ q.crossing = those_unique (CrossesAt m count terminal n) p.crossing q.crossing p.are_crossing q.are_crossing in
       let at : IsNth q.ports p.place w = subst (λ xs. IsNth xs p.place w) ports p.port_is in
-      let same : p.place ≡ q.place = one_place q.ports p.place q.place w q.are_ports.ascending at q.port_is in
+      let same : p.place ≡ q.place = same_place q.ports p.place q.place w q.are_ports.ascending at q.port_is in
       sym p.net_is.1 ∙ (λ i. get_or (crossing i) (same i) 0) ∙ q.net_is.1
 
   pub port_is_port : (n k w : ℕ) → HasPort m d count terminal n k w → IsPort m n w

@@ -1,7 +1,12 @@
+-- Routes: from a network and a plan to an image.
+
+-- Cited above: what a right image is
 pub mod RightImages
+-- Said by the contracts and laws of this crate: a route, and nets on the tree
 pub mod Layouts
 pub mod Trees
-pub mod Owners
-pub mod Closing
 pub mod Routed
 pub mod Ticks
+-- For the bodies of this crate
+pub mod Owners
+pub mod Closing

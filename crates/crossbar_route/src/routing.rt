@@ -1,5 +1,5 @@
 //! Routes a plan.
-ghost use Rattle.std.specs.Prelude.{◌≡◌, ◌≢◌, ◌≤◌, ◌<◌, ◌++◌, ℕ, All, AllPairs, IfOk, length};
+ghost use Rattle.std.specs.Prelude.{◌≡◌, ◌≢◌, ◌≤◌, ◌<◌, ◌++◌, All, AllPairs, IfOk, length};
 ghost use Rattle.std.specs.FinSet as set;
 ghost use Rattle.hierarchy.specs.Shape.{pins_of, tables_of, wires_of};
 ghost use Rattle.hierarchy.specs.Defects.{Covers};
@@ -8,6 +8,7 @@ ghost use Rattle.netlist.specs.declared.draft.Draft.{Draft};
 ghost use Rattle.config_image.specs.Parts.{IsFreeImage};
 ghost use Rattle.table_map.specs.Networks.{IsNetwork};
 ghost use Rattle.table_map.specs.Rows.{HasRowsOf};
+ghost use Rattle.place.specs.Laying.{IsLayout};
 ghost use Rattle.place.specs.Plans.{Fits, IsPlan};
 ghost use Rattle.crossbar_route.specs.RightImages.{IsRightForNetwork, IsRightImage};
 ghost use Rattle.crossbar_route.specs.Routed.{AreWiresOf, IsJoined, IsLaidBy, IsRouteOf, IsRouted};
@@ -21,7 +22,7 @@ use config_image::Image;
 use config_set::Config;
 use defect_db::Defects;
 use hierarchy::Shape;
-use place::{Need, Plan, Port, Room, Visit, look_for_room, nets_of_plan};
+use place::{Layout, Plan, Port, Visit, lay_out};
 use std::alloc::{AllocError, Global};
 use table_map::Network;
 use tm_items::Items;
@@ -124,12 +125,44 @@ fn draw(
     Ok(image)
 }
 
-/// The image of a network on a plan that fits. Nothing is used that the list names, and under all faults that the list
+/// The image of a network on a plan with this layout. Nothing is used that the list names, and under all faults that the list
 /// covers it reads the network's rows, and so the rows of each netlist whose rows are the network's.
 ///
 /// The j-th net that crosses a node has the j-th free port of it. Each net that visits a node has a line of its own there,
 /// and the closed crosspoints are those of the nets' lines and taps. A cycle takes as many ticks as the network is deep,
 /// and at least one. The pins are the plan's, in order.
+///
+/// # Errors
+///
+/// Want of memory.
+pub fn route_laid(
+    alloc: Global,
+    network: &Network,
+    plan: &Plan,
+    layout: &Layout,
+    defects: &Defects,
+) -> Result<Image, AllocError>
+    requires network { IsNetwork network.now }
+    requires plan { IsPlan defects.now.shape defects.now.list network.now plan.now }
+    requires layout { IsLayout defects.now.shape defects.now.list network.now plan.now layout.now }
+    ensures route { IfOk result (IsRouteOf defects.now.shape defects.now.list network.now plan.now) }
+    ensures free { IfOk result (IsFreeImage defects.now.list) }
+    ensures rows { IfOk result (λ i. (f : Faults) → Covers defects.now.shape defects.now.list f → IsRightForNetwork f i network.now) }
+    ensures right { IfOk result (λ i. (netlist : Draft) (f : Faults) → HasRowsOf network.now netlist → Covers defects.now.shape defects.now.list f → IsRightImage f i netlist) }
+{
+    hierarchy::the_numbering_is_sound();
+    draw(
+        alloc,
+        network,
+        plan,
+        defects,
+        &layout.nets,
+        &layout.ports,
+        &layout.visits,
+    )
+}
+
+/// The image of a network on a plan that fits, as [`route_laid`] makes it.
 ///
 /// # Errors
 ///
@@ -148,16 +181,6 @@ pub fn route(
     ensures rows { IfOk result (λ i. (f : Faults) → Covers defects.now.shape defects.now.list f → IsRightForNetwork f i network.now) }
     ensures right { IfOk result (λ i. (netlist : Draft) (f : Faults) → HasRowsOf network.now netlist → Covers defects.now.shape defects.now.list f → IsRightImage f i netlist) }
 {
-    hierarchy::the_numbering_is_sound();
-    place::room_is_decided();
-    let shape = defects.shape();
-    counts_are_few(&shape);
-    let nets = nets_of_plan(alloc, defects, network, plan)?;
-    let nothing = Need { need: 0, have: 0 };
-    match look_for_room(alloc, defects, &nets, nothing, nothing)? {
-        Room::Enough { ports, visits } => {
-            draw(alloc, network, plan, defects, &nets, &ports, &visits)
-        }
-        Room::Lacks(_) => unreachable!(),
-    }
+    let layout = lay_out(alloc, network, plan, defects)?.unwrap();
+    route_laid(alloc, network, plan, &layout, defects)
 }

@@ -1,2 +1,3 @@
-pub mod Seating
-pub mod Counted
+mod Seating
+mod Counted
+mod BetterLemmas

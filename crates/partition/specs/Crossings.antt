@@ -1,12 +1,13 @@
 -- How often nets cross nodes.
-use Rattle.std.specs.Prelude.{◌≡◌, ℕ, ◌≤◌, List, length}
+use Rattle.std.specs.Prelude.{◌≡◌, ℕ, ◌<◌, ◌≤◌, List, length}
 use Rattle.std.specs.List.{sum_by}
 use Rattle.hierarchy.specs.declared.Shape.{Shape}
 use Rattle.hierarchy.specs.Shape.{nodes_of}
+use Rattle.hierarchy.specs.Defects.{Defects}
 use Rattle.table_map.specs.declared.network.Network.{Network}
 use Rattle.place.specs.declared.plan.Plan.{Plan}
 use Rattle.place.specs.Lists.{AreLists}
-use Rattle.place.specs.Plans.{IsTerminal, nets_in}
+use Rattle.place.specs.Plans.{Fits, IsPlan, IsTerminal, nets_in}
 use Rattle.place.specs.Room.{CrossesAt}
 
 -- The nets of a plan that cross each node, ascending. By the definition of such lists there is one for each node, with just
@@ -27,3 +28,23 @@ pub record HasNoMore (m : Shape) (n : Network) (old new : Plan) : Type 0 where
   pub are_before : HasCrossings m n old before
   pub are_after : HasCrossings m n new after
   pub fewer : after ≤ before
+
+-- the second plan has fewer crossings in sum than the first
+pub record HasFewer (m : Shape) (n : Network) (old new : Plan) : Type 0 where
+  pub before : ℕ
+  pub after : ℕ
+  pub are_before : HasCrossings m n old before
+  pub are_after : HasCrossings m n new after
+  pub fewer : after < before
+
+-- the pins stay
+pub record KeepsPins (old new : Plan) : Type 0 where
+  pub inputs : new.inputs ≡ old.inputs
+  pub outputs : new.outputs ≡ old.outputs
+
+-- the second plan fits, has the pins of the first, and has fewer crossings in sum
+pub record IsBetter (m : Shape) (d : Defects) (n : Network) (old new : Plan) : Type 0 where
+  pub plan : IsPlan m d n new
+  pub fits : Fits m d n new
+  pub pins : KeepsPins old new
+  pub crossings : HasFewer m n old new

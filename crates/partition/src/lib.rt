@@ -16,5 +16,5 @@ mod search;
 mod seats;
 mod trial;
 
-pub use better::improve;
+pub use better::{improve, improve_laid};
 pub use count::crossings_of;

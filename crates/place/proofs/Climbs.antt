@@ -6,6 +6,7 @@ use Rattle.hierarchy.specs.Laws.{HasParents}
 use Rattle.place.specs.declared.tree.Strand.TheVariants.{Child, Outside}
 use Rattle.place.specs.Strands.{IsAt, at_child, at_outside}
 use Rattle.place.specs.Trees.{IsClimb}
+use Rattle.place.proofs.Upward.{higher}
 
 module _ (m : Shape) where
   -- what is above a node, and not the node, is above the node above it
@@ -17,18 +18,13 @@ module _ (m : Shape) where
   above_root z itself ne e = ne refl
   above_root {n} {r} z (below {p = q} up f) ne e = let g : parent_of m 0 ≡ Some q = subst (λ x. parent_of m x ≡ Some q) z f in cc
 
-  -- a parent is above what its child is above
-  pub higher : {n c h : ℕ} → parent_of m c ≡ Some n → IsAbove m c h → IsAbove m n h
-  higher e itself = below itself e
-  higher e (below a q) = below (higher e a) q
-
   pub climb_begins : (has : HasParents m) (n w : ℕ) → w < wires_of m → n ≢ node_of m w → IsClimb m n (node_of m w) (node_of m w)
   climb_begins has n w lt ne = record { within = has.node_within w lt; above = itself; rest = λ a. a; other = ne }
 
   pub climb_on : (has : HasParents m) (n h a p : ℕ) → IsClimb m n h a → parent_of m a ≡ Some p → n ≢ p → IsClimb m n h p
   climb_on has n h a p is e ne = record {
     within = let l : p < a = has.before a p e in let k : a < nodes_of m = is.within in omega arith;
-    above = higher e is.above;
+    above = higher m e is.above;
     rest = λ up. above_next (is.rest up) is.other e;
     other = ne;
   }

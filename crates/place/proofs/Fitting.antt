@@ -54,6 +54,12 @@ module _ (m : Shape) (d : Defects) (n : Network) (p : Plan) (nets : List (List �
   pub plan_first : (tables pins : Need) (s : Short) → IsFirstShort m d (length nets) (HasTerminal nets) tables pins s → IsFirstShort m d (nets_in n) (IsTerminal m n p) tables pins s
   plan_first tables pins s is = first_on m d (nets_in n) (HasTerminal nets) (IsTerminal m n p) to from tables pins s s.resource (subst (λ z. IsShortOf s.resource m d z (HasTerminal nets) tables pins s) are.sized is)
 
+  pub plan_held : (ports : List Port) → AreHeld m d (length nets) (HasTerminal nets) (nodes_of m) ports → AreHeld m d (nets_in n) (IsTerminal m n p) (nodes_of m) ports
+  plan_held ports held = held_are_on m d (nets_in n) (HasTerminal nets) (IsTerminal m n p) to from (nodes_of m) ports (subst (λ z. AreHeld m d z (HasTerminal nets) (nodes_of m) ports) are.sized held)
+
+  pub plan_visited : (vs : List Visit) → AreVisits m d (length nets) (HasTerminal nets) (nodes_of m) vs → AreVisits m d (nets_in n) (IsTerminal m n p) (nodes_of m) vs
+  plan_visited vs visits = visits_are_on m d (nets_in n) (HasTerminal nets) (IsTerminal m n p) to from (nodes_of m) vs (subst (λ z. AreVisits m d z (HasTerminal nets) (nodes_of m) vs) are.sized visits)
+
   module _ (network : IsNetwork n) (plan : IsPlan m d n p) (numbered : IsNumbered m) (tree : IsTree m) (parents : HasParents m) (taps : HasTaps m) (crosses : HasCrosses m) (sites : HasSites m) where
     pin_tap : (xs : List ℕ) (i x : ℕ) → All (λ k. k < pins_of m) xs → i < length xs → node_of m (pin_wire m (nth_of xs i)) ≡ x → IsTap m x (pin_wire m (nth_of xs i))
     pin_tap xs i x all l e = let lt : nth_of xs i < pins_of m = all i 0 l in tap_pin (nth_of xs i) (sym e ∙ parents.pin_node (nth_of xs i) lt) lt refl
@@ -74,9 +80,7 @@ module _ (m : Shape) (d : Defects) (n : Network) (p : Plan) (nets : List (List �
     own_tap k w x (shows o s l q) e = pin_tap p.outputs o x (right_of (λ k. k < pins_of m) p.inputs p.outputs plan.pins_within) (let f = plan.outputs in omega arith) e
 
     pub plan_choice : (ports : List Port) (vs : List Visit) → AreHeld m d (length nets) (HasTerminal nets) (nodes_of m) ports → AreVisits m d (length nets) (HasTerminal nets) (nodes_of m) vs → IsChoice m d (nets_in n) (IsTerminal m n p) ports vs
-    plan_choice ports vs held visits = choice_is m d (nets_in n) (IsTerminal m n p) tree parents taps crosses sites (terminal_within m d n p network plan numbered) own_tap ports vs
-        (held_are_on m d (nets_in n) (HasTerminal nets) (IsTerminal m n p) to from (nodes_of m) ports (subst (λ z. AreHeld m d z (HasTerminal nets) (nodes_of m) ports) are.sized held))
-        (visits_are_on m d (nets_in n) (HasTerminal nets) (IsTerminal m n p) to from (nodes_of m) vs (subst (λ z. AreVisits m d z (HasTerminal nets) (nodes_of m) vs) are.sized visits))
+    plan_choice ports vs held visits = choice_is m d (nets_in n) (IsTerminal m n p) tree parents taps crosses sites (terminal_within m d n p network plan numbered) own_tap ports vs (plan_held ports held) (plan_visited vs visits)
 
 module _ (m : Shape) (d : Defects) (n : Network) where
   pub needs_are : (free_tables free_pins : List ℕ) (tables pins : Need) → AreThose (IsFreeTableOf m d) free_tables → AreThose (IsFreePinOf m d) free_pins → tables.need ≡ length n.tables → tables.have ≡ length free_tables → pins.need ≡ n.inputs + length n.outputs → pins.have ≡ length free_pins → AreNeeds m d n tables pins

@@ -1,30 +1,31 @@
-pub mod Climbs
-pub mod Places
+pub mod Upward
+mod Climbs
+mod Places
 pub mod Those
-pub mod Spreads
-pub mod Sieves
-pub mod Crossings
+mod Spreads
+mod Sieves
+mod Crossings
 pub mod Counting
-pub mod Moves
-pub mod Trails
-pub mod Stuck
-pub mod Picked
-pub mod Given
-pub mod Shut
-pub mod Asking
-pub mod Tapping
-pub mod Asks
-pub mod Serving
-pub mod Boards
-pub mod VisitsMore
-pub mod Lacks
+mod Moves
+mod Trails
+mod Stuck
+mod Picked
+mod Given
+mod Shut
+mod Asking
+mod Tapping
+mod Asks
+mod Serving
+mod Boards
+mod VisitsMore
+mod Lacks
 pub mod Transfer
-pub mod Decided
-pub mod Pushes
-pub mod Grouping
-pub mod AllTerminals
+mod Decided
+mod Pushes
+mod Grouping
+mod AllTerminals
 pub mod PlanNets
-pub mod Choosing
+mod Choosing
 pub mod Fitting
-pub mod Ranges
-pub mod Determined
+mod Ranges
+mod Determined

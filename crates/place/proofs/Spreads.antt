@@ -13,7 +13,8 @@ use Rattle.place.specs.Lists.{AreThose}
 use Rattle.place.specs.Strands.{IsInside}
 use Rattle.place.specs.Room.{HasTerminal}
 use Rattle.place.specs.Touches.{list_at, Touches, is_last, with_last, IsSpread, IsSpreadUp, AreTouched}
-use Rattle.place.proofs.Climbs.{above_next, above_root, higher}
+use Rattle.place.proofs.Upward.{higher}
+use Rattle.place.proofs.Climbs.{above_next, above_root}
 use Rattle.place.proofs.Those.{not_in_nil, those_same, those_none, those_push, those_have}
 
 pub at_set : (ts : List (List ℕ)) (a : ℕ) (v : List ℕ) → a < length ts → list_at (set ts a v) a ≡ v

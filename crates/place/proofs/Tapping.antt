@@ -3,7 +3,6 @@ use Rattle.std.proofs.Common.{◌≡◌, ℕ, ◌+◌, ◌<◌, ◌≤◌, Bool,
 use Rattle.std.specs.List.{AllPairs, Contains}
 use Rattle.std.proofs.lemmas.List.{map-append}
 use Rattle.std.proofs.lemmas.List.Elements.{All-push, All-push, Contains-push, Contains-push_cases, Contains-append_left}
-use Rattle.std.proofs.lemmas.Bool.{cases_order}
 use Rattle.hierarchy.specs.declared.Shape.{Shape}
 use Rattle.hierarchy.specs.Laws.{IsTree}
 use Rattle.place.specs.declared.search.Ask.{Ask}
@@ -15,23 +14,11 @@ use Rattle.place.specs.Taps.{IsHeld, IsTapBy, IsTapFor, IsFound, AreTaps, with_o
 use Rattle.place.proofs.Places.{IsAt-unique}
 use Rattle.place.proofs.Spreads.{last_is}
 use Rattle.place.proofs.Sieves.{elements_step}
-use Rattle.place.proofs.Those.{not_in_nil}
+use Rattle.place.proofs.Those.{not_in_nil, same_place}
 
 pub found_same : (P Q : ℕ → Type 0) (o : Option ℕ) → ((t : ℕ) → P t → Q t) → ((t : ℕ) → Q t → P t) → IsFound P o → IsFound Q o
 found_same P Q None to from is = λ t q. is t (from t q)
 found_same P Q (Some t) to from is = (to t is.0, λ u q. is.1 u (from u q))
-
--- at one place of an ascending list
-same_place : (xs : List ℕ) (i j k : ℕ) → AllPairs (λ a b. a < b) xs → IsNth xs i k → IsNth xs j k → i ≡ j
-same_place xs i j k up a b = by (cases_order i j)
-  where
-    differ : (p q : ℕ) → p < q → p ≡ k → q ≡ k → ⊥
-    differ p q l e f = omega arith
-
-    by : (i ≡ j) ⊎ ((i < j) ⊎ (j < i)) → i ≡ j
-    by (inl e) = e
-    by (inr (inl l)) = absurd (differ (get_or xs i 0) (get_or xs j 0) (up i j 0 l b.0) a.1 b.1)
-    by (inr (inr l)) = absurd (differ (get_or xs j 0) (get_or xs i 0) (up j i 0 l a.0) b.1 a.1)
 
 pub held_found : (crossing ports : List (List ℕ)) (c k : ℕ) (o : Option ℕ) → AllPairs (λ a b. a < b) (list_at crossing c) → IfSome o (λ t. (j : ℕ) × IsNth (list_at crossing c) j k × IsNth (list_at ports c) j t) → IfNone o ((j : ℕ) → IsNth (list_at crossing c) j k → length (list_at ports c) ≤ j) → IsFound (IsHeld crossing ports c k) o
 held_found crossing ports c k None up some none = λ t h. past h.0 (none h.0 h.1) h.2.0

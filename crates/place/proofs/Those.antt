@@ -1,9 +1,10 @@
 -- Ascending lists of just those numbers that have a property.
 use Rattle.std.proofs.Common.{◌≡◌, ℕ, zero, suc, ◌<◌, List, [], ◌∷◌, ◌++◌, get_or, ◌⊎◌, inl, inr, refl, sym, ◌∙◌, subst, arith}
 use Rattle.std.specs.List.{AllPairs, Contains}
+use Rattle.std.proofs.lemmas.Bool.{cases_order}
 use Rattle.std.proofs.lemmas.List.Elements.{All-push, All-weaker, All-contains, All-nil, Contains-push, Contains-append_left}
 use Rattle.std.proofs.lemmas.List.Quantifiers.{all_pairs_push}
-use Rattle.place.specs.Lists.{AreThose}
+use Rattle.place.specs.Lists.{AreThose, IsNth}
 
 pub not_in_nil : (x : ℕ) → Contains [] x → ⊥
 not_in_nil x has = none has.0 has.1
@@ -78,3 +79,15 @@ same_lists (x ∷ xs) (y ∷ ys) ux uy to from = joined heads (same_lists xs ys 
 
 pub those_unique : (P : ℕ → Type 0) (xs ys : List ℕ) → AreThose P xs → AreThose P ys → xs ≡ ys
 those_unique P xs ys are is = same_lists xs ys are.ascending is.ascending (λ k h. is.each k (those_have P xs k are h)) (λ k h. are.each k (those_have P ys k is h))
+
+-- at one place of an ascending list
+pub same_place : (xs : List ℕ) (i j k : ℕ) → AllPairs (λ a b. a < b) xs → IsNth xs i k → IsNth xs j k → i ≡ j
+same_place xs i j k up a b = by (cases_order i j)
+  where
+    differ : (p q : ℕ) → p < q → p ≡ k → q ≡ k → ⊥
+    differ p q l e f = omega arith
+
+    by : (i ≡ j) ⊎ ((i < j) ⊎ (j < i)) → i ≡ j
+    by (inl e) = e
+    by (inr (inl l)) = absurd (differ (get_or xs i 0) (get_or xs j 0) (up i j 0 l b.0) a.1 b.1)
+    by (inr (inr l)) = absurd (differ (get_or xs j 0) (get_or xs i 0) (up j i 0 l a.0) b.1 a.1)

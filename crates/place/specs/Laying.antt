@@ -1,5 +1,6 @@
 -- A plan laid out: which net has which terminals, ports and lines.
 use Rattle.hierarchy.specs.declared.Shape.{Shape}
+use Rattle.hierarchy.specs.Shape.{nodes_of}
 use Rattle.hierarchy.specs.Defects.{Defects}
 use Rattle.table_map.specs.declared.network.Network.{Network}
 use Rattle.place.specs.declared.layout.Laid.{Laid}
@@ -8,13 +9,17 @@ use Rattle.place.specs.declared.layout.Layout.{Layout}
 use Rattle.place.specs.declared.plan.Plan.{Plan}
 use Rattle.place.specs.declared.short.Need.{Need}
 use Rattle.place.specs.Choosing.{IsChoice}
+use Rattle.place.specs.Layouts.{AreHeld, AreVisits}
 use Rattle.place.specs.Plans.{Fits, IsTerminal, nets_in}
 use Rattle.place.specs.Room.{IsFirstShort, Suffices}
 use Rattle.place.specs.Terminals.{ArePlanNets}
 
--- the layout has the terminals of the plan's nets, and a choice of ports and lines for them
+-- The layout has the terminals of the plan's nets, the port of each net that crosses a node, and the line of each that visits
+-- one; so laid, the nets are a choice on the tree of crossbars
 pub record IsLayout (m : Shape) (d : Defects) (n : Network) (p : Plan) (l : Layout) : Type 0 where
   pub nets : ArePlanNets m n p l.nets.items
+  pub held : AreHeld m d (nets_in n) (IsTerminal m n p) (nodes_of m) l.ports.items
+  pub visited : AreVisits m d (nets_in n) (IsTerminal m n p) (nodes_of m) l.visits.items
   pub choice : IsChoice m d (nets_in n) (IsTerminal m n p) l.ports.items l.visits.items
 
 -- the plan fits, with this layout

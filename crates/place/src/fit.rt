@@ -1,10 +1,10 @@
 //! Whether a plan fits, and the in-order plan where it does.
 ghost use Rattle.std.specs.Prelude.{◌↔◌, IfOk, IfErr, IfSome, IfNone, IsTrue};
 ghost use Rattle.place.specs.Plans.{Fits, FitsInOrder, IsPlaceFail, IsPlan};
-ghost use Rattle.place.specs.Laying.{FitsWith, IsLaid};
+ghost use Rattle.place.specs.Laying.{FitsWith, IsLaid, IsLayout};
 ghost use Rattle.table_map.specs.Networks.{IsNetwork};
 
-use crate::layout::{Laid, Layout};
+use crate::layout::{Laid, Layout, Placed};
 use crate::order::{free_pins, free_tables, pins_wanted, sit, tables_wanted};
 use crate::plan::Plan;
 use crate::room::look_for_room;
@@ -89,16 +89,21 @@ pub fn fits(
     }
 }
 
-/// The in-order plan: the k-th table of the network on the k-th free table, the inputs and then the outputs on the free
-/// pins in order.
+/// The in-order plan with its layout: the k-th table of the network on the k-th free table, the inputs and then the outputs
+/// on the free pins in order.
 ///
 /// # Errors
 ///
 /// `Short` exactly where that plan doesn't fit, with the first short resource: tables, pins, and then node by node ports,
 /// lines. `Memory` for want of memory.
-pub fn in_order(alloc: Global, network: &Network, defects: &Defects) -> Result<Plan, PlaceFail>
+pub fn in_order_laid(
+    alloc: Global,
+    network: &Network,
+    defects: &Defects,
+) -> Result<Placed, PlaceFail>
     requires { IsNetwork network.now }
-    ensures plan { IfOk result (FitsInOrder defects.now.shape defects.now.list network.now) }
+    ensures plan { IfOk result (λ placed. FitsInOrder defects.now.shape defects.now.list network.now placed.plan) }
+    ensures layout { IfOk result (λ placed. IsLayout defects.now.shape defects.now.list network.now placed.plan placed.layout) }
     ensures fail { IfErr result (IsPlaceFail defects.now.shape defects.now.list network.now) }
 {
     let free_tables = free_tables(alloc, defects)?;
@@ -113,7 +118,23 @@ pub fn in_order(alloc: Global, network: &Network, defects: &Defects) -> Result<P
     }
     let plan = sit(alloc, network, free_tables.as_slice(), free_pins.as_slice())?;
     match laid(alloc, network, &plan, defects, tables, pins)? {
-        Laid::Out(_) => Ok(plan),
+        Laid::Out(layout) => Ok(Placed { plan, layout }),
         Laid::Lacks(short) => Err(PlaceFail::Short(short)),
+    }
+}
+
+/// The in-order plan, as [`in_order_laid`] finds it.
+///
+/// # Errors
+///
+/// As there.
+pub fn in_order(alloc: Global, network: &Network, defects: &Defects) -> Result<Plan, PlaceFail>
+    requires { IsNetwork network.now }
+    ensures plan { IfOk result (FitsInOrder defects.now.shape defects.now.list network.now) }
+    ensures fail { IfErr result (IsPlaceFail defects.now.shape defects.now.list network.now) }
+{
+    match in_order_laid(alloc, network, defects) {
+        Ok(placed) => Ok(placed.plan),
+        Err(fail) => Err(fail),
     }
 }

@@ -1,5 +1,6 @@
 //! Which net has which port and which line.
 
+use crate::plan::Plan;
 use crate::short::{Port, Short, Visit};
 use tm_items::Items;
 
@@ -10,6 +11,13 @@ pub struct Layout {
     pub nets: Vec<Items<u32>>,
     pub ports: Vec<Port>,
     pub visits: Vec<Visit>,
+}
+
+/// A plan that fits, with its layout.
+#[derive(Debug, Drop)]
+pub struct Placed {
+    pub plan: Plan,
+    pub layout: Layout,
 }
 
 /// A layout, or the first short resource.

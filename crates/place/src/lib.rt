@@ -22,9 +22,9 @@ mod terminals;
 mod touch;
 mod tree;
 
-pub use fit::{fits, in_order, lay_out};
+pub use fit::{fits, in_order, in_order_laid, lay_out};
 pub use laws::{in_order_plans_are_decided, room_is_decided};
-pub use layout::Layout;
+pub use layout::{Layout, Placed};
 pub use plan::Plan;
 pub use ports::crossings as crossing_nets;
 pub use room::look_for_room;

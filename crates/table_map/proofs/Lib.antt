@@ -1,21 +1,22 @@
-pub mod PathLemmas
-pub mod SearchLemmas
-pub mod CellLemmas
-pub mod TreeLemmas
-pub mod NameLemmas
-pub mod PlainLemmas
-pub mod CoverLemmas
-pub mod DriveLemmas
-pub mod BlockLemmas
-pub mod ValueLemmas
-pub mod OriginLemmas
-pub mod NetworkLemmas
-pub mod ValuationLemmas
-pub mod RowLemmas
-pub mod SourceLemmas
-pub mod JoinLemmas
-pub mod PutLemmas
-pub mod CompactLemmas
-pub mod ReaderLemmas
-pub mod AddressLemmas
-pub mod ReducedLemmas
+mod PathLemmas
+mod SearchLemmas
+mod CellLemmas
+mod TreeLemmas
+mod NameLemmas
+mod PlainLemmas
+mod CoverLemmas
+mod DriveLemmas
+mod BlockLemmas
+mod ValueLemmas
+mod OriginLemmas
+mod NetworkLemmas
+mod ValuationLemmas
+mod RowLemmas
+mod SourceLemmas
+mod JoinLemmas
+mod PutLemmas
+mod MergeLemmas
+mod CompactLemmas
+mod ReaderLemmas
+mod AddressLemmas
+mod ReducedLemmas

@@ -1,5 +1,5 @@
 -- The network with a table put into its reader.
-use Rattle.std.proofs.Common.{◌≡◌, ◌⊎◌, ◌↔◌, Bool, ℕ, suc, ◌<◌, ◌≤◌, List, length, get_or, refl, sym, ap, subst, ◌∙◌, inl, inr, arith}
+use Rattle.std.proofs.Common.{◌≡◌, ◌⊎◌, ◌↔◌, Bool, ℕ, suc, ◌<◌, ◌≤◌, List, [], true, length, get_or, refl, sym, ap, subst, ◌∙◌, inl, inr, arith}
 use Rattle.std.specs.List.{Contains, All}
 use Rattle.std.proofs.lemmas.Bool.{cases_eq}
 use Rattle.std.proofs.lemmas.List.{length-set, get_or-set_same, get_or-set_other}
@@ -20,10 +20,10 @@ abbrev pub net : ℕ → List NetTable → List Source → Network
 net inputs tables outputs = record { inputs = inputs; tables = tables; outputs = outputs }
 
 module _ (inputs : ℕ) (old : List NetTable) (outputs : List Source) (j r : ℕ) (new : List NetTable) (p : IsPut old j r new) where
-  at_reader : in_tables new r ≡ p.table
+  pub at_reader : in_tables new r ≡ p.table
   at_reader = ap (λ ts. get_or ts r no_table) p.set ∙ get_or-set_same old r p.table no_table p.may.reader
 
-  at_other : (i : ℕ) → (i ≡ r → ⊥) → in_tables new i ≡ in_tables old i
+  pub at_other : (i : ℕ) → (i ≡ r → ⊥) → in_tables new i ≡ in_tables old i
   at_other i d = ap (λ ts. get_or ts i no_table) p.set ∙ get_or-set_other old r i p.table no_table d
 
   pub same_length : length new ≡ length old
@@ -99,7 +99,7 @@ module _ (inputs : ℕ) (old : List NetTable) (outputs : List Source) (j r : ℕ
       by o (inr b) = (suc (suc o.0), omega (arith, o.1), onward (onward o.2 inner_is b.1) (to_old i c) (subst (λ x. Contains (in_tables old x).ins (Table j)) (sym b.0) p.may.reads))
 
   module _ (is : IsNetwork (net inputs old outputs)) where
-    apart : Contains (in_tables old j).ins (Table j) → ⊥
+    pub apart : Contains (in_tables old j).ins (Table j) → ⊥
     apart c = no_loop (net inputs old outputs) is.acyclic.0 is.acyclic.1 (λ i. i ≡ j) (λ i e. subst (IsCombinational (net inputs old outputs)) (sym e) inner_is) (λ i e. (j, refl, subst (λ x. Contains (in_tables old x).ins (Table j)) (sym e) c)) j refl
 
     same_truth : (vector : List Bool) (given : ℕ → Bool) → given j ≡ truth vector given (in_tables old j) → (i : ℕ) → truth vector given (in_tables new i) ≡ truth vector given (in_tables old i)
@@ -190,10 +190,19 @@ module _ (inputs : ℕ) (outputs : List Source) where
     unread = λ x u. still_unread inputs mid outputs j r new p x (a.unread x u);
   }
 
-  pub after_puts : {old new : List NetTable} → Puts old new → IsNetwork (net inputs old outputs) → IsAfter inputs outputs old new
+  pub after_puts : {old new : List NetTable} {f g : List Bool} → Puts old f new g → IsNetwork (net inputs old outputs) → IsAfter inputs outputs old new
   after_puts (none {tables = ts}) is = after_none ts is
-  after_puts (more {a = a} {b = b} {c = c} {j = j} {r = r} ps p) is = after_put a b c j r (after_puts ps is) p
+  after_puts (more {a = a} {b = b} {c = c} {j = j} {r = r} ps p) is = after_put a b c j r (after_puts ps is) p.put
 
-pub puts_on : {a b c : List NetTable} → Puts a b → Puts b c → Puts a c
+pub puts_on : {a b c : List NetTable} {f g h : List Bool} → Puts a f b g → Puts b g c h → Puts a f c h
 puts_on p none = p
 puts_on p (more q s) = more (puts_on p q) s
+
+-- so many tables, and so many marks of those that are gone
+pub same_marks : {a b : List NetTable} {f g : List Bool} → Puts a f b g → length g ≡ length f
+same_marks none = refl
+same_marks (more {g = g} {j = j} ps p) = ap length p.marked ∙ length-set g j true ∙ same_marks ps
+
+pub same_tables : {a b : List NetTable} {f g : List Bool} → Puts a f b g → length b ≡ length a
+same_tables none = refl
+same_tables (more {b = b} {c = c} {j = j} {r = r} ps p) = same_length 0 b [] j r c p.put ∙ same_tables ps

@@ -1,15 +1,14 @@
 -- A table that is put into its reader, and who reads a table.
 use Rattle.std.specs.Prelude.{◌≡◌, ◌+◌, ◌*◌, ◌<◌, ◌≤◌, ◌==◌, ◌&&◌, ◌↔◌, replicate, ℕ, List, [], ◌∷◌, Bool, true, false, map, nat_lt, length, slice_set, slice_index_or, if◌then◌else◌}
 use Rattle.std.specs.List.{range_with_len, Contains}
-use Rattle.netlist.specs.declared.draft.Draft.{Draft}
 use Rattle.table_map.specs.declared.source.Source.{Source}
 use Rattle.table_map.specs.declared.source.Source.TheVariants.{Input, Table}
 use Rattle.table_map.specs.declared.network.NetTable.{NetTable}
 use Rattle.table_map.specs.declared.network.Network.{Network}
 use Rattle.table_map.specs.declared.readers.Readers.{Readers}
 use Rattle.table_map.specs.Networks.{no_table, IsNetwork}
-use Rattle.table_map.specs.Plain.{distinct, pin_named, cells_where, plain_network}
-use Rattle.table_map.specs.Rows.{number_of, cell_at, AreRows, HasRowsOf}
+use Rattle.table_map.specs.Plain.{distinct, pin_named, cells_where}
+use Rattle.table_map.specs.Rows.{number_of, cell_at, AreRows}
 use Rattle.table_map.specs.Merging.{number, numbers_without, Reads}
 
 -- the bit of a source, by the pins of the inputs with these numbers. The table j has a given bit
@@ -52,10 +51,17 @@ pub record IsPut (old : List NetTable) (j r : ℕ) (new : List NetTable) : Type 
   pub joined : IsJoined j (in_tables old j) (in_tables old r) table
   pub set : new ≡ slice_set old r table
 
+-- so it is where neither is gone yet. The table is gone then
+pub record IsPutOn (old : List NetTable) (gone : List Bool) (j r : ℕ) (new : List NetTable) (now : List Bool) : Type 0 where
+  pub put : IsPut old j r new
+  pub stands : slice_index_or gone j false ≡ false
+  pub reader : slice_index_or gone r false ≡ false
+  pub marked : now ≡ slice_set gone j true
+
 -- tables are put into readers, one after the other
-pub data Puts : List NetTable → List NetTable → Type 0 where
-  none : {tables : List NetTable} → Puts tables tables
-  more : {a b c : List NetTable} {j r : ℕ} → Puts a b → IsPut b j r c → Puts a c
+pub data Puts : List NetTable → List Bool → List NetTable → List Bool → Type 0 where
+  none : {tables : List NetTable} {gone : List Bool} → Puts tables gone tables gone
+  more : {a b c : List NetTable} {f g h : List Bool} {j r : ℕ} → Puts a f b g → IsPutOn b g j r c h → Puts a f c h
 
 -- readers
 
@@ -103,11 +109,3 @@ pub record IsReduced (n m : Network) : Type 0 where
   pub inputs : m.inputs ≡ n.inputs
   pub outputs : length m.outputs ≡ length n.outputs
   pub less : length m.tables < length n.tables
-
--- what each network of the passes is
-pub record IsMergedOf (d : Draft) (n : Network) : Type 0 where
-  pub network : IsNetwork n
-  pub rows : HasRowsOf n d
-  pub fewer : length n.tables ≤ length (plain_network d).tables
-  pub inputs : n.inputs ≡ length d.inputs
-  pub outputs : length n.outputs ≡ length d.outputs

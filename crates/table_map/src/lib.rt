@@ -4,6 +4,7 @@
 mod build;
 mod cells;
 mod compact;
+mod copying;
 mod covers;
 mod drives;
 mod joining;
@@ -20,6 +21,6 @@ mod work;
 
 pub use build::plain;
 pub use longest::depth;
-pub use merge::merged;
+pub use merge::{merged, merged_of};
 pub use network::{NetTable, Network};
 pub use source::{Source, Sources};

@@ -1,7 +1,8 @@
 //! The search for tables that can be put into their readers.
 
-ghost use Rattle.std.specs.Prelude.{◌<◌, length, OnOk};
-ghost use Rattle.table_map.specs.Joining.{in_tables, IsJoined, IsPut, MayPut, Puts};
+ghost use Rattle.std.specs.Prelude.{◌≡◌, ◌<◌, false, true, length, slice_set, OnOk};
+ghost use Rattle.table_map.specs.Compacting.{is_dropped};
+ghost use Rattle.table_map.specs.Joining.{in_tables, IsJoined, IsPutOn, MayPut, Puts};
 
 use crate::joining::{is_in, joined_at};
 use crate::network::NetTable;
@@ -62,7 +63,18 @@ fn push_tables(queue: &mut Vec<u32>, sources: &[Source]) -> Result<(), AllocErro
     Ok(())
 }
 
-fn mark(merged: &mut Vec<bool>, table: u32) {
+fn is_marked(merged: &[bool], table: u32) -> bool
+    ensures { result ≡ is_dropped merged.now table }
+{
+    if table as usize >= merged.len() {
+        return false;
+    }
+    merged[table as usize]
+}
+
+fn mark(merged: &mut Vec<bool>, table: u32)
+    ensures { merged.new.items ≡ slice_set merged.old.items table true }
+{
     if (table as usize) < merged.len() {
         merged[table as usize] = true;
     }
@@ -72,7 +84,9 @@ fn mark(merged: &mut Vec<bool>, table: u32) {
 fn settle(work: &mut Work, table: u32, reader: u32, joined: NetTable) -> Result<(), AllocError>
     requires may { MayPut work.old.tables.items table reader }
     requires joined { IsJoined table (in_tables work.old.tables.items table) (in_tables work.old.tables.items reader) joined }
-    ensures { OnOk result (IsPut work.old.tables.items table reader work.new.tables.items) }
+    requires table { is_dropped work.old.merged.items table ≡ false }
+    requires reader { is_dropped work.old.merged.items reader ≡ false }
+    ensures { OnOk result (IsPutOn work.old.tables.items work.old.merged.items table reader work.new.tables.items work.new.merged.items) }
 {
     take_over_all(
         &mut work.readers,
@@ -88,11 +102,19 @@ fn settle(work: &mut Work, table: u32, reader: u32, joined: NetTable) -> Result<
     Ok(())
 }
 
-/// Puts the table into the reader, if this may be.
+/// Puts the table into the reader, if this may be and neither was put into another.
 pub fn join(alloc: Global, work: &mut Work, table: u32, reader: u32) -> Result<(), AllocError>
-    ensures puts { OnOk result (Puts work.old.tables.items work.new.tables.items) }
-    ensures put { OnOk result (MayPut work.old.tables.items table reader → IsPut work.old.tables.items table reader work.new.tables.items) }
+    ensures puts { OnOk result (Puts work.old.tables.items work.old.merged.items work.new.tables.items work.new.merged.items) }
+    ensures put { OnOk result (MayPut work.old.tables.items table reader →
+        is_dropped work.old.merged.items table ≡ false → is_dropped work.old.merged.items reader ≡ false →
+        IsPutOn work.old.tables.items work.old.merged.items table reader work.new.tables.items work.new.merged.items) }
 {
+    if is_marked(&work.merged, table) {
+        return Ok(());
+    }
+    if is_marked(&work.merged, reader) {
+        return Ok(());
+    }
     match joined_at(alloc, &work.tables, table, reader) {
         Some(joined) => settle(work, table, reader, joined),
         None => Ok(()),
@@ -101,7 +123,7 @@ pub fn join(alloc: Global, work: &mut Work, table: u32, reader: u32) -> Result<(
 
 /// Puts a table of the queue into its reader, if only one reads it.
 fn try_one(alloc: Global, work: &mut Work, table: u32) -> Result<(), AllocError>
-    ensures { OnOk result (Puts work.old.tables.items work.new.tables.items) }
+    ensures { OnOk result (Puts work.old.tables.items work.old.merged.items work.new.tables.items work.new.merged.items) }
 {
     if table as usize >= work.readers.len() {
         return Ok(());
@@ -116,7 +138,7 @@ fn try_one(alloc: Global, work: &mut Work, table: u32) -> Result<(), AllocError>
 /// Works through the queue. Each table that is put into its reader brings at most seven new entries.
 pub fn run(alloc: Global, work: &mut Work) -> Result<(), AllocError>
     requires { length work.old.tables.items < 4294967296 }
-    ensures { OnOk result (Puts work.old.tables.items work.new.tables.items) }
+    ensures { OnOk result (Puts work.old.tables.items work.old.merged.items work.new.tables.items work.new.merged.items) }
 {
     let turns = 8 * work.tables.len() + 8;
     'turns: for _ in 0..turns {

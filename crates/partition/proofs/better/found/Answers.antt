@@ -12,8 +12,8 @@ slice_bounds-first-end c =
     let here : length c.deref.result.now ≡ length moved = ap length c.deref.ensures.value in
     omega (arith, length-take (length c.as_slice-tables.result.now) c.deref.result.now, same, here, c.in_ok-seats.ensures.enough)
 
-pub returns : goal.returns
-returns c =
+pub returns-clause-plan : goal.returns-clause-plan
+returns-clause-plan c =
     let D = c.args.defects.now in
     let p = c.args.plan.now in
     let seats : List Seat = c.in_ok-seats.seats.items in
@@ -25,3 +25,9 @@ returns c =
     c.requires c.in_ok-seats.ensures.free c.in_ok-moved.ensures
     (ap length c.as_slice-tables.ensures) enough (ap (take k) c.deref.ensures.value) c.in_ok-tables.ensures
     (c.in_ok-inputs.ensures ∙ c.as_slice.ensures) (c.in_ok-outputs.ensures ∙ c.as_slice-2.ensures)
+
+pub returns-clause-pins : goal.returns-clause-pins
+returns-clause-pins c = record {
+  inputs = c.in_ok-inputs.ensures ∙ c.as_slice.ensures;
+  outputs = c.in_ok-outputs.ensures ∙ c.as_slice-2.ensures;
+}

@@ -3,7 +3,7 @@ use Rattle.place.specs.declared.short.Room.TheVariants.{Enough, Lacks}
 use Rattle.place.specs.Layouts.{IsRoom}
 use Rattle.place.specs.Room.{HasTerminal}
 use Rattle.place.specs.Terminals.{ArePlanNets}
-use Rattle.place.proofs.Fitting.{plan_suffices, plan_first, plan_choice}
+use Rattle.place.proofs.Fitting.{plan_suffices, plan_first, plan_held, plan_visited, plan_choice}
 use Rattle.place.proofs.fit.laid.Goals as goal
 
 pub look_for_room-requires-clause-few : goal.look_for_room-requires-clause-few
@@ -24,6 +24,8 @@ returns-in-Enough c =
       plan_suffices m D.list n p nets are c.args.tables c.args.pins on.0,
       record {
         nets = are;
+        held = plan_held m D.list n p nets are c.in-Enough.ports.items on.1;
+        visited = plan_visited m D.list n p nets are c.in-Enough.visits.items on.2;
         choice = plan_choice m D.list n p nets are c.requires.network c.requires.plan (c.the_numbering_is_sound.ensures.numbered m) (c.the_numbering_is_sound.ensures.tree m) (c.the_numbering_is_sound.ensures.parents m) (c.the_crosspoints_are_sound.ensures.taps m) (c.the_crosspoints_are_sound.ensures.crosses m) (c.ports_and_lines_ascend.ensures m) c.in-Enough.ports.items c.in-Enough.visits.items on.1 on.2;
       },
     )

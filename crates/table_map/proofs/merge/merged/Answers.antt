@@ -1,8 +1,8 @@
-use Rattle.table_map.proofs.ReducedLemmas.{plain_merged}
+use Rattle.table_map.proofs.ReducedLemmas.{inputs_of, outputs_of}
 use Rattle.table_map.proofs.merge.merged.Goals as goal
 
-pub passes-init : goal.passes-init
-passes-init c = record {
-  merged = plain_merged c.args.netlist.now c.in_ok-network.network c.in_ok-network.ensures.plain c.in_ok-network.ensures.network c.in_ok-network.ensures.rows;
-  found = c.in_ok-found.ensures {u = tt};
-}
+pub returns-clause-inputs : goal.returns-clause-inputs
+returns-clause-inputs c = inputs_of c.args.netlist.now c.in_ok-whole.whole c.in_ok-network.network c.in_ok-whole.ensures.plain c.in_ok-network.ensures.merged
+
+pub returns-clause-outputs : goal.returns-clause-outputs
+returns-clause-outputs c = outputs_of c.args.netlist.now c.in_ok-whole.whole c.in_ok-network.network c.in_ok-whole.ensures.plain c.in_ok-network.ensures.merged

@@ -1,12 +1,12 @@
 use Rattle.std.proofs.Common.{length}
 use Rattle.std.specs.Prelude.{MatchOption}
 use Rattle.table_map.specs.Merging.{CanJoin, IsWhole}
-use Rattle.table_map.specs.Joining.{IsMergedOf}
-use Rattle.table_map.proofs.merge.merged.Given as goal
+use Rattle.table_map.specs.Passes.{IsMergedOf}
+use Rattle.table_map.proofs.merge.merged_whole.Given as goal
 
 abbrev pub invariant-passes : goal.invariant-passes
 invariant-passes l = record {
-  merged : IsMergedOf l.netlist l.network;
+  merged : IsMergedOf l.fn.whole l.network;
   found : MatchOption l.found (IsWhole l.network) (λ pair. CanJoin l.network pair.0 pair.1);
 }
 

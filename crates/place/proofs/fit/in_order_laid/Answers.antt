@@ -9,7 +9,7 @@ use Rattle.place.specs.Laying.{IsLaid}
 use Rattle.place.specs.Lists.{AreThose}
 use Rattle.place.specs.Plans.{AreNeeds, IsFreeTableOf, IsFreePinOf, IsInOrder, IsInOrderOf, IsPlan}
 use Rattle.place.proofs.Fitting.{needs_are, in_order_is, plan_is}
-use Rattle.place.proofs.fit.in_order.Goals as goal
+use Rattle.place.proofs.fit.in_order_laid.Goals as goal
 
 -- what is known once tables and pins suffice
 record Known (m : Shape) (d : Defects) (n : Network) (p : Plan) (tables pins : Need) : Type 0 where
@@ -56,6 +56,18 @@ returns-in-Out-clause-plan c =
     let q = c.pins_wanted-pins.result in
     let k : Known m D.list n p t q = known m D.list n p c.in_ok-free_tables.free_tables c.in_ok-free_pins.free_pins c.as_slice.result.now c.as_slice-2.result.now c.as_slice-3.result.now c.as_slice-4.result.now t q c.in_ok-free_tables.ensures c.in_ok-free_pins.ensures c.as_slice.ensures c.as_slice-2.ensures c.as_slice-3.ensures c.as_slice-4.ensures
     c.tables_wanted-tables.ensures.need c.tables_wanted-tables.ensures.have c.pins_wanted-pins.ensures.need c.pins_wanted-pins.ensures.have c.if-tables.false c.if-pins.false c.in_ok-plan.ensures in
-    let is : IsLaid m D.list n p t q c.in_ok-laid.field-0 = c.in_ok-laid.ensures in
-    let out : IsLaid m D.list n p t q (laid.Out c.in-Out.field-0) = subst (IsLaid m D.list n p t q) c.in-Out.is is in
+    let is : IsLaid m D.list n p t q c.in_ok-layout.field-0 = c.in_ok-layout.ensures in
+    let out : IsLaid m D.list n p t q (laid.Out c.in-Out.layout) = subst (IsLaid m D.list n p t q) c.in-Out.is is in
     record { plan = k.plan; in_order = k.in_order; fits = record { tables = t; pins = q; needs = k.needs; suffices = out.0 } }
+
+pub returns-in-Out-clause-layout : goal.returns-in-Out-clause-layout
+returns-in-Out-clause-layout c =
+    let D = c.args.defects.now in
+    let m = D.shape in
+    let n = c.args.network.now in
+    let p = c.in_ok-plan.plan in
+    let t = c.tables_wanted-tables.result in
+    let q = c.pins_wanted-pins.result in
+    let is : IsLaid m D.list n p t q c.in_ok-layout.field-0 = c.in_ok-layout.ensures in
+    let out : IsLaid m D.list n p t q (laid.Out c.in-Out.layout) = subst (IsLaid m D.list n p t q) c.in-Out.is is in
+    out.1

@@ -1,0 +1,32 @@
+-- What the passes of merging keep.
+use Rattle.std.specs.Prelude.{◌≡◌, ◌≤◌, ◌↔◌, ℕ, List, Bool, true, length}
+use Rattle.table_map.specs.declared.network.NetTable.{NetTable}
+use Rattle.table_map.specs.declared.network.Network.{Network}
+use Rattle.table_map.specs.declared.merge.Found.{Found}
+use Rattle.table_map.specs.Networks.{IsNetwork}
+use Rattle.table_map.specs.Rows.{AreRows}
+use Rattle.table_map.specs.Joining.{IsReduced, Puts}
+use Rattle.table_map.specs.Compacting.{is_dropped, IsClosed}
+use Rattle.table_map.specs.Merges.{none_gone, IsMergedFrom}
+
+-- tables were put into readers, the given one among them, and nothing that stands reads one of these
+pub record IsFound (n : Network) (j : ℕ) (found : Found) : Type 0 where
+  pub tables : List NetTable
+  pub is : found.network ≡ record { inputs = n.inputs; tables = tables; outputs = n.outputs }
+  pub puts : Puts n.tables (none_gone n) tables found.gone.items
+  pub closed : IsClosed found.gone.items tables n.outputs
+  pub gone : is_dropped found.gone.items j ≡ true
+
+-- fewer tables do the same, by steps
+pub record IsSmaller (n m : Network) : Type 0 where
+  pub reduced : IsReduced n m
+  pub merged : (start : Network) → IsMergedFrom start n → IsMergedFrom start m
+
+-- what each network of the passes is
+pub record IsMergedOf (n m : Network) : Type 0 where
+  pub network : IsNetwork m
+  pub rows : (vectors rows : List (List Bool)) → AreRows n vectors rows ↔ AreRows m vectors rows
+  pub fewer : length m.tables ≤ length n.tables
+  pub inputs : m.inputs ≡ n.inputs
+  pub outputs : length m.outputs ≡ length n.outputs
+  pub merged : IsMergedFrom n m
