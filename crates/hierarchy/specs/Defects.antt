@@ -35,7 +35,7 @@ pub record IsOpenLine (m : Shape) (d : Defects) (line : ℕ) : Type 0 where
 abbrev pub IsClear : Shape → Faults → ℕ → Type 0
 IsClear m f w = (u : ℕ) → Shorted m f w u → stuck_wire f u ≡ None
 
--- what is free has no fault
+-- no free crosspoint and no free table has a fault, and no free wire is shorted to a stuck one or to another free one
 pub record Covers (m : Shape) (d : Defects) (f : Faults) : Type 0 where
   pub crosses : (x : ℕ) → x < crosses_of m → IsFreeCross m d x → stuck_cross f x ≡ None
   pub cells : (t a : ℕ) → t < tables_of m → a < 64 → IsFreeTable m d t → wrong_cell f t a ≡ None
