@@ -125,7 +125,7 @@ fn diagnose_with(
 }
 
 /// Finds what is wrong with the machine that is attached, and lists it. Where the rig tells the machine's faults, the list covers
-/// them, and of the parts that can be reached it holds no sound ones.
+/// them and is fair to them: of served nodes it holds no sound part, but lines with fewer than two sound crosspoints.
 pub fn diagnose(alloc: Global, rig: &mut Box<dyn Rig>, shape: &Shape) -> Result<Defects, RigFail>
     requires attached { shape_of (rig_state rig.old) ≡ Some shape.now }
 
