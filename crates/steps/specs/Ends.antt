@@ -81,10 +81,8 @@ pub record Ended (words : Type 0) (job : Job) (old new : Outside) (status : ℕ)
   pub asked : AsksSome job.files old.store.asked new.store.asked
   pub asked_all : status ≡ 0 → new.store.asked ≡ old.store.asked ++ job.files
   pub machines : job.asks (around old) (around new)
-
   -- what was written is the course of the command, with the cause of each end
   pub written : EndWrote words (job.course (around old) (around new)) old new status
-
   -- each status has its cause
   pub text : status ≡ 1 → (refusal : Refusal) × (status_of refusal ≡ 1) × IsRefused (job.course (around old) (around new)) old new refusal
   pub wrong : status ≡ 2 → words
@@ -94,12 +92,10 @@ pub record Ended (words : Type 0) (job : Job) (old new : Outside) (status : ℕ)
   pub rig : status ≡ 4 → Rose old.rig.failures new.rig.failures
   pub streams : status ≡ 5 → Rose old.store.failures new.store.failures ⊎ Rose old.sink.failures new.sink.failures
   pub statuses : status ≤ 6
-
   -- where all is right, and there is room on the list that was read or written: unless a count rose
   pub complete : IsOfFronts (job.right (around old) (around new)) old.sink new.sink → Unless ((status ≡ 0) ⊎ (status ≡ 6)) old new
   -- and where there is no room
   pub no_room_only : IsOfFronts (job.short (around old) (around new)) old.sink new.sink → Unless ((status ≡ 3) ⊎ (status ≡ 6)) old new
-
   -- memory is taken before the line `outputs`
   pub memory : status ≡ 6 → old.sink.can_lack ≡ false → IsRefused (job.course (around old) (around new)) old new Memory
   pub memory_before : IsOfFronts (job.right (around old) (around new)) old.sink new.sink → job.few (around old) (around new) → old.sink.can_lack ≡ false

@@ -43,7 +43,7 @@ pub fn attach(rig: &mut Box<dyn Rig>, shape: &Shape, name: &str) -> Result<(), S
     // Whatever the store and the sink are.
     ensures took { let machine : Asked = record { shape = shape.now; name = name.now } in
         (store : StoreState) (sink : SinkState) → Took [] (attaches machine (rig_state rig.old) (rig_state rig.new)) result
-            (outside store (rig_state rig.old) sink) (outside store (rig_state rig.new) sink) }
+        (outside store (rig_state rig.old) sink) (outside store (rig_state rig.new) sink) }
 {
     attach_boxed(rig, shape, name)?;
     Ok(())
