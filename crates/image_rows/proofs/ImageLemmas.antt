@@ -1,5 +1,5 @@
 -- How the steps of an image's rows follow one another.
-use Rattle.std.proofs.Common.{◌≡◌, ℕ, List, refl, inl, inr}
+use Rattle.std.proofs.Common.{◌≡◌, ℕ, List, inl, inr}
 use Rattle.std.specs.Prelude.{Result, Err}
 use Rattle.tm_outside.specs.Told.{Told, IsPresent}
 use Rattle.tm_outside.specs.Store.{StoreState}

@@ -17,6 +17,7 @@ ghost use Rattle.tera_bench.specs.Headline.{IsBenched};
 use crate::summary::summary;
 use crate::work::{bench_netlist, bench_shape, run_work};
 use defect_db::Defects;
+use listing::list_of;
 use netlist::Netlist;
 use rig::Rig;
 use sound_room::sound_parts_are_room;
@@ -24,7 +25,6 @@ use std::alloc::{AllocError, Global};
 use steps::{Stop, attach, write};
 use table_map::plain;
 use tera_compile::lay;
-use listing::list_of;
 use tm_outside::Sink;
 
 // The name of the faults that a number makes.

@@ -52,7 +52,7 @@ module _ (draft : Draft) (i : ImageValue) (told : Told) (place : Option Place) (
   rows-design : (text : List ℕ) (next : Next) → all_rows (image_rows i told place rig) text next → all_rows (design_rows draft i told place rig) text next
   rows-design text ends h = (read-design text h.0, h.1)
   rows-design text (writes line) h = before-design text line h
-  rows-design text (refuses (refused.Vectors line kind)) h = (read-design text h.0, h.1, h.2)
+  rows-design text (refuses (refused.Vectors line kind)) h = (read-design text h.0, h.1)
   rows-design text (refuses refused.Store) h = (read-design text h.0, h.1)
   rows-design text (refuses refused.Rig) h = (has-design text h.0, h.1)
   rows-design text (refuses refused.Memory) h = (read-design text h.0, h.1, h.2)

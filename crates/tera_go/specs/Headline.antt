@@ -55,7 +55,6 @@ pub record IsGone (machine name design vectors : List ℕ) (old new : Outside) :
   pub rows : List (List Bool)
   pub design_is : IfTold (old.store.contents design) (λ bytes. IsDesignText bytes draft)
   pub list_shape : list.shape ≡ shape
-
   pub asked_in_order : IsAskedInOrder machine name design vectors shape old new
   pub written_whole : IsWrittenWhole vectors list (length draft.inputs) all_vectors rows old new
   pub covers_every_fault : (f : Faults) → new.rig.machine.faults ≡ Some f → Covers shape list.list f
@@ -64,7 +63,6 @@ pub record IsGone (machine name design vectors : List ℕ) (old new : Outside) :
   pub image_right : (f : Faults) → new.rig.machine.faults ≡ Some f → IsRightImage f image draft
   pub as_the_machine_read : IsAsRead image all_vectors rows new.rig
   pub exactly_the_outputs : (f : Faults) → new.rig.machine.faults ≡ Some f → AreRows draft all_vectors rows
-
   -- the list is fair besides, and there is room on it for the design; few loads were made where nothing is wrong
   pub fair : (f : Faults) → new.rig.machine.faults ≡ Some f → IsFair shape list.list f
   pub room : HasRoom list draft

@@ -12,6 +12,8 @@ ghost use Rattle.tera_go.specs.Headline.{IsGone};
 
 use config_image::Image;
 use hierarchy::Shape;
+use image_rows::run_image;
+use listing::list_defects;
 use netlist::Netlist;
 use place::in_order_plans_are_decided;
 use rig::Rig;
@@ -20,8 +22,6 @@ use std::alloc::Global;
 use steps::{DesignFile, Stop, attach, read_design, read_shape};
 use table_map::laws::plain_networks_have_the_rows;
 use tera_compile::lay;
-use listing::list_defects;
-use image_rows::run_image;
 use tm_outside::{Sink, Store};
 
 // Lists the defects of the machine that is attached, writes the list, and lays a design on what it leaves free.

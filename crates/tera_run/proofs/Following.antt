@@ -1,5 +1,5 @@
 -- How the steps of `run` follow one another.
-use Rattle.std.proofs.Common.{◌≡◌, ℕ, List, Some, option_map, sym, ap, subst, inl, inr, ◌∙◌}
+use Rattle.std.proofs.Common.{◌≡◌, ℕ, List, Some, option_map, refl, sym, ap, subst, inl, inr, ◌∙◌}
 use Rattle.std.specs.Prelude.{Result, Err}
 use Rattle.tm_outside.specs.Store.{StoreState}
 use Rattle.tm_outside.specs.Sink.{SinkState}

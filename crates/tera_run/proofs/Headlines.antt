@@ -1,7 +1,7 @@
 -- What a `run` that is done has done, from its course.
 use Rattle.std.proofs.Common.{◌≡◌, ◌∙◌, ℕ, List, [], ◌∷◌, ◌++◌, ap, subst, inl, inr}
 use Rattle.tm_outside.specs.Sink.{Wrote}
-use Rattle.steps.specs.Lines.{outputs_line, output_text}
+use Rattle.steps.specs.Lines.{outputs_line}
 use Rattle.steps.specs.Outside.{Outside, around}
 use Rattle.steps.specs.Courses.{ends, HasReadRows}
 use Rattle.image_rows.specs.Rows.{image_rows}
