@@ -7,5 +7,4 @@ ghost use Rattle.tera_top.specs.Chain.{RunsTheDesign};
 pub fn compiled_images_run_the_design()
     ensures { (machine defects design name image vectors : List ℕ) (old compiled handed ran : Outside) →
         RunsTheDesign machine defects design name image vectors old compiled handed ran }
-{
-}
+{}
