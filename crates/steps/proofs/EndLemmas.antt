@@ -3,12 +3,12 @@ use Rattle.std.proofs.Common.{◌≡◌, ◌⊎◌, ℕ, ◌≤◌, List, [], �
 use Rattle.tm_outside.specs.Counts.{Rose}
 use Rattle.tm_outside.specs.Sink.{SinkState, Wrote}
 use Rattle.tm_outside.specs.declared.sink.SinkFail.TheVariants.{Failed, Memory}
-use Rattle.steps.specs.Outside.{Outside, SomethingRose, around}
+use Rattle.steps.specs.Outside.{Outside, IsLater, SomethingRose, around}
 use Rattle.steps.specs.Courses.{Course, ends, refuses}
-use Rattle.steps.specs.Stops.{IsCounted, StopWrote, status_of, refusal_text}
+use Rattle.steps.specs.Stops.{AsksSome, IsCounted, StopWrote, status_of, refusal_text}
 use Rattle.steps.specs.Jobs.{Job, IsLawful, IsExcused, Fronts}
 use Rattle.steps.specs.Faults.{ShortPlace}
-use Rattle.steps.specs.Ends.{IsRefused, IsOfFronts, LacksBefore, EndWrote, Stands, Finishes, Refuses, whole, refused, cut_line, no_line, cut}
+use Rattle.steps.specs.Ends.{Ended, IsRefused, IsOfFronts, LacksBefore, EndWrote, Stands, Finishes, Refuses, whole, refused, cut_line, no_line, cut}
 use Rattle.steps.specs.declared.refusal.Stop.{Stop}
 use Rattle.steps.specs.declared.refusal.Stop.TheVariants.{Refused, Sink}
 use Rattle.steps.specs.declared.refusal.Refusal.{Refusal}
@@ -232,3 +232,25 @@ module _ (words : Type 0) (job : Job) (lawful : IsLawful job) (old new : Outside
   end-few _ (cut_line refusal text n s r w) right few none = inr (inl (inr r))
   end-few _ (no_line refusal text s l w) right few none = absurd (no-lack old.sink.can_lack none l)
   end-few _ (cut text line n p r w) right few none = inr (inl (inr r))
+
+  -- ---- all of it
+
+  pub ended : (status : ℕ) → IsLater old new → AsksSome job.files old.store.asked new.store.asked → (status ≡ 0 → new.store.asked ≡ old.store.asked ++ job.files) → job.asks (around old) (around new) → EndWrote words (job.course (around old) (around new)) old new status → (words → (status ≡ 2) ⊎ (((status ≡ 5) × Rose old.sink.failures new.sink.failures) ⊎ ((status ≡ 6) × IsTrue old.sink.can_lack))) → Ended words job old new status
+  ended status later asked all machines written wrong = record {
+    later = later;
+    asked = asked;
+    asked_all = all;
+    machines = machines;
+    written = written;
+    text = end-text words (job.course (around old) (around new)) old new status written;
+    wrong = end-words words (job.course (around old) (around new)) old new status written;
+    wrong_only = wrong;
+    no_room = end-room words (job.course (around old) (around new)) old new status written;
+    rig = end-rig words (job.course (around old) (around new)) old new status written;
+    streams = end-outside words (job.course (around old) (around new)) old new status written;
+    statuses = end-status words (job.course (around old) (around new)) old new status written;
+    complete = end-complete status written;
+    no_room_only = end-no-room status written;
+    memory = end-memory words (job.course (around old) (around new)) old new status written;
+    memory_before = end-few status written;
+  }

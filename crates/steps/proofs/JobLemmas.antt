@@ -38,11 +38,7 @@ counted-word words (Err stop) old new why = counted-words words stop old new why
 -- a command never refuses the words
 pub does-words : {T : Type 0} (words : Type 0) (job : Job) (result : Result T Stop) (old new : Outside) → Does ⊥ job result old new → Does words job result old new
 does-words words job result old new d = record {
-  contents = d.contents;
-  store_later = d.store_later;
-  rig_later = d.rig_later;
-  sink_later = d.sink_later;
-  kind = d.kind;
+  later = d.later;
   asked = d.asked;
   machines = d.machines;
   written = d.written;
@@ -52,11 +48,7 @@ does-words words job result old new d = record {
 -- wrong words are refused at once
 pub does-wrong : {T : Type 0} (words : Type 0) (result : Result T Stop) (old : Outside) → result ≡ Err (Refused refused.Words) → words → Does words wrong_words result old old
 does-wrong {T} words result old is why = rw is (record {
-  contents = refl;
-  store_later = omega arith;
-  rig_later = omega arith;
-  sink_later = omega arith;
-  kind = refl;
+  later = record { contents = refl; texts = refl; kind = refl; store = omega arith; rig = omega arith; sink = omega arith };
   asked = record { all = tt; some = refl };
   machines = refl;
   written = ([], (refl, refl), Wrote-none old.sink.written);
@@ -89,7 +81,7 @@ pub ends-stopped : {T : Type 0} (words : Type 0) (job : Job) (stop : Stop) (resu
 ends-stopped words job stop result old mid new status is store rig d fin =
     let written = rw is at d.written in
     let counted = rw is at d.counted in
-    end-stop words (job.course (around old) (around mid)) stop old mid new status d.sink_later d.kind store rig counted written fin
+    end-stop words (job.course (around old) (around mid)) stop old mid new status d.later.sink d.later.kind store rig counted written fin
 
 -- wrong words
 wrong-status : (refusal : Refusal) → refuses refusal ≡ refuses refused.Words → status_of refusal ≡ 2

@@ -5,11 +5,10 @@ use Rattle.tm_outside.specs.Store.{StoreState}
 use Rattle.tm_outside.specs.Sink.{SinkState, Wrote}
 use Rattle.hierarchy.specs.declared.Shape.{Shape}
 use Rattle.rig.specs.Rig.{RigState, Machine, Asked}
-use Rattle.steps.specs.Outside.{Outside, outside, around, IsLater, StandsIn}
+use Rattle.steps.specs.Outside.{Outside, outside, IsLater, StandsIn}
 use Rattle.steps.specs.Courses.{Course, Step, after, write, done}
 use Rattle.steps.specs.Stops.{Asks, AsksSome, StepStops, IsWritten, IsCounted}
 use Rattle.steps.specs.Took.{Took, Puts, Follows}
-use Rattle.steps.specs.Jobs.{Job, Does}
 use Rattle.steps.specs.Texts.{attaches, MayAsk, AsksMachine}
 use Rattle.steps.specs.declared.refusal.Refusal.TheVariants.{Memory}
 use Rattle.steps.specs.declared.refusal.Stop.{Stop}
@@ -152,19 +151,4 @@ took-lacks step made names y old new took stops = record {
   gives = tt;
   stops = stops;
   counted = tt;
-}
-
--- ---- jobs
-
-pub follows-does : {T : Type 0} (job : Job) (result : Result T Stop) (old new : Outside) → Follows ⊥ job.files (job.asks (around old) (around new)) (job.course (around old) (around new)) result old new → Does ⊥ job result old new
-follows-does job result old new f = record {
-  contents = f.later.contents;
-  store_later = f.later.store;
-  rig_later = f.later.rig;
-  sink_later = f.later.sink;
-  kind = f.later.kind;
-  asked = f.asked;
-  machines = f.machines;
-  written = f.written;
-  counted = f.counted;
 }

@@ -9,8 +9,8 @@ use Rattle.vector_text.specs.declared.vectors.VectorKind.{VectorKind}
 use Rattle.vector_text.specs.Vectors.{SaidVectors, VectorLine, nothing_said, fault_said, with_vector}
 use Rattle.vector_text.specs.declared.vectors.VectorsFail.TheVariants.{Text}
 use Rattle.steps.proofs.TextLemmas.{IfTold-with}
-use Rattle.vector_text.specs.Readings.{VectorReading, new_reading, says_next, NextGives, NextFails, HasMoved, StaysWithin}
-use Rattle.steps.specs.Files.{most_vector_bytes, most_ahead, says_at, vectors_at, end_at, AreFirst, AreAll, AreBeforeFault, IsNearEnd, IsNearNext, file_of, IsBegun}
+use Rattle.vector_text.specs.Readings.{VectorReading, new_reading, says_next, NextGives, NextFails, HasMoved}
+use Rattle.steps.specs.Files.{most_vector_bytes, most_ahead, says_at, vectors_at, end_at, AreFirst, AreAll, AreBeforeFault, IsNearNext, file_of, IsBegun}
 
 abbrev pub bits_of_line : VectorLine → List Bool
 bits_of_line v = v.bits
@@ -174,19 +174,15 @@ taken-all width before store store' r r' vector taken so_far gives =
     let rest = rest-is store so_far.name before.contents (given_of r) so_far.contents so_far.place in
     rw (file-is before so_far.name so_far.begun) (all-told width (before.contents so_far.name) r taken so_far.told (rw rest at gives))
 
--- at a fault all vectors before it were taken, and the store isn't beyond the end of the file
-fault-told : (width : ℕ) (told : Told) (reading : VectorReading) (taken : List (List Bool)) (line : ℕ) (kind : VectorKind) (count : ℕ) → IfTold told (λ bytes. IsTakenTo width bytes reading taken) → IfSome (option_map (says_next reading) (option_map (λ rest. reading.unread ++ rest) (option_map (drop (given_of reading)) (bytes_of told)))) (λ said. said ≡ fault_said line kind) → IfSome (option_map (drop (given_of reading)) (bytes_of told)) (λ rest. count ≤ length rest) → AreBeforeFault width told line kind taken × IfTold told (λ bytes. given_of reading + count ≤ length bytes)
-fault-told width untold reading taken line kind count h said within = (tt, tt)
-fault-told width absent reading taken line kind count h said within = (h, h)
-fault-told width (holds bytes) reading taken line kind count h said within =
+-- at a fault all vectors before it were taken
+fault-told : (width : ℕ) (told : Told) (reading : VectorReading) (taken : List (List Bool)) (line : ℕ) (kind : VectorKind) → IfTold told (λ bytes. IsTakenTo width bytes reading taken) → IfSome (option_map (says_next reading) (option_map (λ rest. reading.unread ++ rest) (option_map (drop (given_of reading)) (bytes_of told)))) (λ said. said ≡ fault_said line kind) → AreBeforeFault width told line kind taken
+fault-told width untold reading taken line kind h said = tt
+fault-told width absent reading taken line kind h said = h
+fault-told width (holds bytes) reading taken line kind h said =
     let rest : map bits_of_line (says_ahead reading bytes).vectors ≡ [] = ap (λ (s : SaidVectors). map bits_of_line s.vectors) said in
-    let fits : count ≤ length bytes - given_of reading = rw length-drop at within in
-    ((vectors-are width bytes reading taken h ∙ (ap (λ vs. taken ++ vs) rest ∙ append-nil taken), h.fault ∙ ap (λ (s : SaidVectors). s.fault) said), omega (arith, h.within, fits))
+    (vectors-are width bytes reading taken h ∙ (ap (λ vs. taken ++ vs) rest ∙ append-nil taken), h.fault ∙ ap (λ (s : SaidVectors). s.fault) said)
 
-pub taken-fault : (width : ℕ) (before store store' : StoreState) (r : VectorReading) (taken : List (List Bool)) (line : ℕ) (kind : VectorKind) → IsTaking width before store r taken → NextFails (Text line kind) r store store' → StaysWithin store store' → AreBeforeFault width (file_of before) line kind taken × IsNearEnd (file_of before) store'.current
-taken-fault width before store store' r taken line kind so_far fails stays =
-    let name = so_far.name in
-    let rest = rest-is store name before.contents (given_of r) so_far.contents so_far.place in
-    let place : store'.current ≡ Some (record { name = name; at = given_of r + stays.count }) = rw (stays.place, so_far.place) refl in
-    let all = fault-told width (before.contents name) r taken line kind stays.count so_far.told (rw rest at fails) (rw rest at stays.within) in
-    rw (file-is before name so_far.begun, place) (all.0, IfTold-with (before.contents name) _ _ all.1 (λ bytes h. omega (arith, h)))
+pub taken-fault : (width : ℕ) (before store store' : StoreState) (r : VectorReading) (taken : List (List Bool)) (line : ℕ) (kind : VectorKind) → IsTaking width before store r taken → NextFails (Text line kind) r store store' → AreBeforeFault width (file_of before) line kind taken
+taken-fault width before store store' r taken line kind so_far fails =
+    let rest = rest-is store so_far.name before.contents (given_of r) so_far.contents so_far.place in
+    rw (file-is before so_far.name so_far.begun) (fault-told width (before.contents so_far.name) r taken line kind so_far.told (rw rest at fails))

@@ -1,14 +1,15 @@
 -- How the program ends.
-use Rattle.std.specs.Prelude.{◌≡◌, ◌⊎◌, ℕ, List, ◌++◌, take, IsTrue}
+use Rattle.std.specs.Prelude.{◌≡◌, ◌⊎◌, ℕ, ◌≤◌, List, ◌++◌, take, IsTrue, false}
 use Rattle.tm_outside.specs.Counts.{Rose}
 use Rattle.tm_outside.specs.Sink.{SinkState, Wrote}
 use Rattle.tm_outside.specs.declared.sink.SinkFail.TheVariants.{Failed as SinkFailed, Memory as SinkMemory}
-use Rattle.steps.specs.Outside.{Outside, SomethingRose, around}
+use Rattle.steps.specs.Outside.{Outside, IsLater, SomethingRose, around}
 use Rattle.steps.specs.Jobs.{Job}
+use Rattle.steps.specs.Faults.{ShortPlace}
 use Rattle.steps.specs.Courses.{Course, Next, ends, refuses, writes}
-use Rattle.steps.specs.Stops.{IsCounted, refusal_text, status_of}
+use Rattle.steps.specs.Stops.{AsksSome, IsCounted, refusal_text, status_of}
 use Rattle.steps.specs.declared.refusal.Refusal.{Refusal}
-use Rattle.steps.specs.declared.refusal.Refusal.TheVariants.{Memory}
+use Rattle.steps.specs.declared.refusal.Refusal.TheVariants.{Memory, Room}
 use Rattle.steps.specs.declared.refusal.Stop.{Stop}
 use Rattle.steps.specs.declared.refusal.Stop.TheVariants.{Refused, Sink}
 
@@ -69,3 +70,33 @@ LacksBefore job old new =
 -- that, or a count rose
 abbrev pub Unless : Type 0 → Outside → Outside → Type 0
 Unless end old new = end ⊎ SomethingRose old new
+
+-- ---- the end of the program
+
+-- A job was done, to this status. `words` is what wrong words need
+pub record Ended (words : Type 0) (job : Job) (old new : Outside) (status : ℕ) : Type 0 where
+  -- what stays as it was, and counts that never fall
+  pub later : IsLater old new
+  -- the files and machines that were asked for
+  pub asked : AsksSome job.files old.store.asked new.store.asked
+  pub asked_all : status ≡ 0 → new.store.asked ≡ old.store.asked ++ job.files
+  pub machines : job.asks (around old) (around new)
+  -- what was written is the course of the command, with the cause of each end
+  pub written : EndWrote words (job.course (around old) (around new)) old new status
+  -- each status has its cause
+  pub text : status ≡ 1 → (refusal : Refusal) × (status_of refusal ≡ 1) × IsRefused (job.course (around old) (around new)) old new refusal
+  pub wrong : status ≡ 2 → words
+  pub wrong_only : words → (status ≡ 2)
+      ⊎ (((status ≡ 5) × Rose old.sink.failures new.sink.failures) ⊎ ((status ≡ 6) × IsTrue old.sink.can_lack))
+  pub no_room : status ≡ 3 → (place : ShortPlace) × IsRefused (job.course (around old) (around new)) old new (Room place)
+  pub rig : status ≡ 4 → Rose old.rig.failures new.rig.failures
+  pub streams : status ≡ 5 → Rose old.store.failures new.store.failures ⊎ Rose old.sink.failures new.sink.failures
+  pub statuses : status ≤ 6
+  -- where all is right, and there is room on the list that was read or written: unless a count rose
+  pub complete : IsOfFronts (job.right (around old) (around new)) old.sink new.sink → Unless ((status ≡ 0) ⊎ (status ≡ 6)) old new
+  -- and where there is no room
+  pub no_room_only : IsOfFronts (job.short (around old) (around new)) old.sink new.sink → Unless ((status ≡ 3) ⊎ (status ≡ 6)) old new
+  -- memory is taken before the line `outputs`
+  pub memory : status ≡ 6 → old.sink.can_lack ≡ false → IsRefused (job.course (around old) (around new)) old new Memory
+  pub memory_before : IsOfFronts (job.right (around old) (around new)) old.sink new.sink → job.few (around old) (around new) → old.sink.can_lack ≡ false
+      → Unless ((status ≡ 0) ⊎ ((status ≡ 6) × LacksBefore job old new)) old new

@@ -45,10 +45,6 @@ abbrev pub AreBeforeFault : ℕ → Told → ℕ → VectorKind → List (List B
 AreBeforeFault width told line kind vectors =
     IfTold told (λ bytes. (vectors_at width bytes ≡ vectors) × ((says_at width bytes).fault ≡ Some (record { line = line; kind = kind })))
 
--- the place is not far beyond its end
-abbrev pub IsNearEnd : Told → Option Place → Type 0
-IsNearEnd told place = IfTold told (λ bytes. IsNear place (length bytes))
-
 -- a vector follows after so many, and the place is not far beyond its line
 abbrev pub IsNearNext : ℕ → Told → Option Place → ℕ → Type 0
 IsNearNext width told place count =

@@ -1,9 +1,10 @@
 -- What a command is: one record for each.
-use Rattle.std.specs.Prelude.{◌≡◌, ◌⊎◌, ℕ, ◌≤◌, List, [], ◌++◌, Result, IfErr}
+use Rattle.std.specs.Prelude.{◌≡◌, ◌⊎◌, ℕ, List, [], ◌++◌, Result}
 use Rattle.tm_outside.specs.Counts.{Rose}
 use Rattle.steps.specs.Outside.{Around, Outside, around}
 use Rattle.steps.specs.Courses.{Course, Next, ends, refuses, writes}
-use Rattle.steps.specs.Stops.{IsWritten, IsCounted, Asks, status_of}
+use Rattle.steps.specs.Stops.{status_of}
+use Rattle.steps.specs.Took.{Follows}
 use Rattle.steps.specs.declared.refusal.Refusal.{Refusal}
 use Rattle.steps.specs.declared.refusal.Refusal.TheVariants.{Words, Faults, Rig, Store, Memory}
 use Rattle.steps.specs.declared.refusal.Stop.{Stop}
@@ -26,8 +27,7 @@ pub record Job : Type 1 where
   pub has_begun : (old new : Around) → (text : List ℕ) → Type 0
 
 -- a job that no room is looked for, and that takes no memory for rows
-abbrev pub quiet : (files : List (List ℕ)) → (asks : Around → Around → Type 0) → (course : Around → Around → Course)
-    → (right : Around → Type 0) → Job
+abbrev pub quiet : (files : List (List ℕ)) → (asks : Around → Around → Type 0) → (course : Around → Around → Course) → (right : Around → Type 0) → Job
 quiet files asks course right = record {
   files = files;
   asks = asks;
@@ -87,13 +87,6 @@ pub record IsLawful (job : Job) : Type 0 where
       → job.course old new text (refuses Memory) → ⊥
 
 -- a body did this job, to this end. `words` is what wrong words need
-pub record Does {T : Type 0} (words : Type 0) (job : Job) (result : Result T Stop) (old new : Outside) : Type 0 where
-  pub contents : new.store.contents ≡ old.store.contents
-  pub store_later : old.store.failures ≤ new.store.failures
-  pub rig_later : old.rig.failures ≤ new.rig.failures
-  pub sink_later : old.sink.failures ≤ new.sink.failures
-  pub kind : new.sink.can_lack ≡ old.sink.can_lack
-  pub asked : Asks job.files result old.store new.store
-  pub machines : job.asks (around old) (around new)
-  pub written : IsWritten (job.course (around old) (around new)) result old.sink new.sink
-  pub counted : IfErr result (λ stop. IsCounted words stop old new)
+abbrev pub Does : {T : Type 0} → (words : Type 0) → Job → Result T Stop → Outside → Outside → Type 0
+Does words job result old new =
+    Follows words job.files (job.asks (around old) (around new)) (job.course (around old) (around new)) result old new

@@ -68,6 +68,7 @@ fn put_line<K: Sink>(sink: &mut K, refusal: &Refusal) -> Result<(), SinkFail>
 
 // Ends with the line of a refusal, and answers the status.
 fn refuse<K: Sink>(sink: &mut K, refusal: &Refusal) -> u8
+    ensures kind { (K.sink_state sink.new).can_lack ≡ (K.sink_state sink.old).can_lack }
     ensures later { (K.sink_state sink.old).failures ≤ (K.sink_state sink.new).failures }
     ensures refuses { Refuses refusal.now (K.sink_state sink.old) (K.sink_state sink.new) result }
 {
@@ -80,6 +81,7 @@ fn refuse<K: Sink>(sink: &mut K, refusal: &Refusal) -> u8
 
 /// Ends after a stop, and answers the status. After a failure of the sink nothing more is written.
 pub fn finish<K: Sink>(sink: &mut K, stop: &Stop) -> u8
+    ensures kind { (K.sink_state sink.new).can_lack ≡ (K.sink_state sink.old).can_lack }
     ensures later { (K.sink_state sink.old).failures ≤ (K.sink_state sink.new).failures }
     ensures finishes { Finishes stop.now (K.sink_state sink.old) (K.sink_state sink.new) result }
 {

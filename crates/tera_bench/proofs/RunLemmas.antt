@@ -1,12 +1,12 @@
 -- How the rows of generated work go on.
-use Rattle.std.proofs.Common.{◌≡◌, ℕ, ◌+◌, ◌*◌, ◌≤◌, Bool, List, [], ◌∷◌, ◌++◌, map, Option, None, Some, IfSome, option_map, arith, refl, sym, ap, subst, ◌∙◌}
+use Rattle.std.proofs.Common.{◌≡◌, ℕ, ◌+◌, ◌*◌, ◌<◌, ◌≤◌, Bool, List, [], ◌∷◌, ◌++◌, map, Option, None, Some, IfSome, option_map, arith, refl, sym, ap, subst, ◌∙◌}
 use Rattle.std.proofs.lemmas.List.{map-append}
 use Rattle.std.proofs.lemmas.List.Sums.{sum_by-append}
 use Rattle.std.proofs.lemmas.List.FromFn.{map-range_with_len_more}
 use Rattle.config_set.specs.Configuration.{Configuration}
 use Rattle.config_set.specs.Run.{at_load, none}
 use Rattle.config_set.specs.Faulty.{IsRun, circuit_of}
-use Rattle.rig.specs.Rig.{RigState, Exchange, IsTold, Begins, LoadFails, CycleFails, width_of, config_of, cycles_of, drives_of, readings_of}
+use Rattle.rig.specs.Rig.{RigState, Exchange, IsTold, Begins, LoadFails, CycleFails, width_of, config_of, cycles_of, drives_of, readings_of, spare_of}
 use Rattle.rig.specs.declared.rig.RigFail.{RigFail}
 use Rattle.rig.specs.declared.rig.RigFail.TheVariants.{Failed, Memory}
 use Rattle.config_image.specs.Images.{ImageValue, drive_of, row_of}
@@ -16,7 +16,7 @@ use Rattle.loader.specs.Run.{RunsRow}
 use Rattle.hierarchy.specs.Faults.{Faults}
 use Rattle.steps.specs.Stops.{StepStops, stop_of_rig}
 use Rattle.steps.specs.Texts.{RigCounts, LoadsOnce}
-use Rattle.tera_bench.specs.Bench.{IsBenchRun, RunsOnes, bench_rows, bench_vector, first_vectors, ones_in, ones_of, runs}
+use Rattle.tera_bench.specs.Bench.{IsBenchRun, LacksAtLoad, RunsOnes, bench_rows, bench_vector, first_vectors, ones_in, ones_of, runs}
 
 abbrev pub pins_in : ImageValue → Rows
 pins_in i = record { pins = pins_of i.config.shape; inputs = i.inputs; outputs = i.outputs }
@@ -31,6 +31,7 @@ pub record IsRunning (n : ℕ) (i : ImageValue) (rig0 rig : RigState) (k ones : 
   pub machine : rig.machine ≡ rig0.machine
   pub later : rig0.failures ≤ rig.failures
   pub loads : LoadsOnce rig0.loads rig.loads
+  pub room : 64 ≤ spare_of rig + k
 
 told-none : (faults : Option Faults) (config : Option Configuration) (cycles : List Exchange) → cycles ≡ [] → IfSome faults (λ f. IfSome config (λ g. IsRun f g (drives_of cycles) (readings_of cycles)))
 told-none None config cycles is = tt
@@ -47,6 +48,7 @@ running-start n i rig0 rig begins machine later loads = record {
   machine = machine;
   later = later;
   loads = loads;
+  room = (let spare = begins.spare in omega (arith, spare));
 }
 
 -- as wide as the session
@@ -68,6 +70,7 @@ running-more n i r rig0 rig rig' k ones more same so_far one machine later loads
   machine = machine ∙ so_far.machine;
   later = (let before = so_far.later in omega (arith, before, later));
   loads = subst (λ l. LoadsOnce rig0.loads l) (sym loads) so_far.loads;
+  room = (let before = so_far.room in let spare = run.1.spare in omega (arith, before, spare));
 }
   where
     row : List Bool
@@ -107,3 +110,16 @@ load-counts Memory old new fails = tt
 pub cycle-counts : (fail : RigFail) (old mid new : RigState) → old.failures ≤ mid.failures → CycleFails fail mid new → RigCounts (stop_of_rig fail) old new
 cycle-counts Failed old mid new later fails = omega (arith, later, fails.0)
 cycle-counts Memory old mid new later fails = tt
+
+-- ---- want of memory
+
+pub load-lacks : (fail : RigFail) (old new : RigState) → new.loads ≡ old.loads → LacksAtLoad (stop_of_rig fail) old new
+load-lacks Failed old new same = tt
+load-lacks Memory old new same = same
+
+pub row-lacks : (fail : RigFail) (n : ℕ) (i : ImageValue) (rig0 rig rig' : RigState) (k ones : ℕ) → k < 64 → IsRunning n i rig0 rig k ones → CycleFails fail rig rig' → LacksAtLoad (stop_of_rig fail) rig0 rig'
+row-lacks Failed n i rig0 rig rig' k ones within so_far fails = tt
+row-lacks Memory n i rig0 rig rig' k ones within so_far fails =
+    let room = so_far.room in
+    let none = fails.0 in
+    absurd (let no : ⊥ = omega (arith, within, room, none) in no)

@@ -21,6 +21,8 @@ use Rattle.steps.specs.Texts.{attaches, AsksMachine}
 use Rattle.steps.specs.Jobs.{Job}
 use Rattle.steps.specs.declared.refusal.Refusal.{Refusal}
 use Rattle.steps.specs.declared.refusal.Refusal.TheVariants as refused
+use Rattle.steps.specs.declared.refusal.Stop.{Stop}
+use Rattle.steps.specs.declared.refusal.Stop.TheVariants.{Refused}
 use Rattle.listing.specs.Listing.{diagnoses}
 use Rattle.tera_compile.specs.Compile.{lays}
 use Rattle.tera_bench.specs.Summary.{summary_text}
@@ -87,6 +89,11 @@ abbrev pub NotRun : Refusal → Type 0
 NotRun refused.Rig = Unit {0}
 NotRun refused.Memory = Unit {0}
 NotRun refusal = ⊥
+
+-- want of memory comes before the load alone: the rig is asked for room for all the vectors
+abbrev pub LacksAtLoad : Stop → (old new : RigState) → Type 0
+LacksAtLoad (Refused refused.Memory) old new = new.loads ≡ old.loads
+LacksAtLoad stop old new = Unit {0}
 
 abbrev pub runs : (n : ℕ) → ImageValue → RigState → Step ℕ
 runs n i rig = record { stops = NotRun; gives = IsBenchRun n i rig }

@@ -72,6 +72,7 @@ fn run_on<K: Sink>(
     requires netlist { netlist.now ≡ bench_draft }
 
     ensures machine { (rig_state rig.new).machine ≡ (rig_state rig.old).machine }
+    ensures texts { (rig_state rig.new).machine.texts ≡ (rig_state rig.old).machine.texts }
     ensures rig_later { (rig_state rig.old).failures ≤ (rig_state rig.new).failures }
     ensures loads { LoadsOnce (rig_state rig.old).loads (rig_state rig.new).loads }
     ensures kind { (K.sink_state sink.new).can_lack ≡ (K.sink_state sink.old).can_lack }
@@ -94,6 +95,7 @@ fn run_on<K: Sink>(
 
 // Attaches the machine, lists its defects, and runs the design on what the list leaves free.
 fn work<K: Sink>(alloc: Global, n: u32, rig: &mut Box<dyn Rig>, sink: &mut K) -> Result<(), Stop>
+    ensures texts { (rig_state rig.new).machine.texts ≡ (rig_state rig.old).machine.texts }
     ensures rig_later { (rig_state rig.old).failures ≤ (rig_state rig.new).failures }
     ensures kind { (K.sink_state sink.new).can_lack ≡ (K.sink_state sink.old).can_lack }
     ensures sink_later { (K.sink_state sink.old).failures ≤ (K.sink_state sink.new).failures }

@@ -6,7 +6,7 @@ ghost use Rattle.bench_gen.specs.Work as work;
 ghost use Rattle.bench_laws.specs.Design.{bench_draft};
 ghost use Rattle.steps.specs.Stops.{StepStops};
 ghost use Rattle.steps.specs.Texts.{LoadsOnce, RigCounts};
-ghost use Rattle.tera_bench.specs.Bench.{IsBenchRun, RunsOnes, bench_vector, makes_design, ones_in, runs};
+ghost use Rattle.tera_bench.specs.Bench.{IsBenchRun, LacksAtLoad, RunsOnes, bench_vector, makes_design, ones_in, runs};
 
 use bench_gen::{bench_counts, bench_design, bench_vector};
 use blif_read::read_blif;
@@ -75,7 +75,8 @@ fn next_ones(run: &mut Run, rig: &mut Box<dyn Rig>, n: u32, k: u32) -> Result<u3
     }
 }
 
-/// Loads an image, drives the vectors of the number, and counts the ones in its rows.
+/// Loads an image with room for as many rows as there are vectors, drives the vectors of the number, and counts the ones in
+/// its rows. Want of memory comes before the load alone.
 pub fn run_work(alloc: Global, image: &Image, n: u32, rig: &mut Box<dyn Rig>) -> Result<u32, Stop>
     requires shape { shape_of (rig_state rig.old) ≡ Some image.now.config.shape }
     requires one { length image.now.inputs ≡ 1 }
@@ -87,6 +88,7 @@ pub fn run_work(alloc: Global, image: &Image, n: u32, rig: &mut Box<dyn Rig>) ->
     ensures found { IfOk result (λ ones. IsBenchRun n image.now (rig_state rig.new) ones) }
     ensures refused { IfErr result (StepStops (runs n image.now (rig_state rig.new))) }
     ensures counted { IfErr result (λ stop. RigCounts stop (rig_state rig.old) (rig_state rig.new)) }
+    ensures lacks { IfErr result (λ stop. LacksAtLoad stop (rig_state rig.old) (rig_state rig.new)) }
 {
     let mut run = begin(alloc, rig, image, ROWS)?;
     let mut ones = 0u32;

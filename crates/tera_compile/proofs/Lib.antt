@@ -1,3 +1,4 @@
 mod LayLemmas
 mod Following
 mod CompileLaws
+pub mod Headlines

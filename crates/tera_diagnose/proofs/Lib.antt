@@ -1,2 +1,3 @@
 pub mod DiagnoseLaws
 mod Following
+pub mod Headlines

@@ -3,3 +3,4 @@
 -- ---- cited above
 
 pub mod Diagnose
+pub mod Headline

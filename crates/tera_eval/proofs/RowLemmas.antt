@@ -79,8 +79,8 @@ module _ (draft : Draft) (before : StoreState) (old : SinkState) (rows : Evaluat
   -- no further vector is read
   pub read-stops : (fail : VectorsFail) → RowFails fail rows store store' → StopWrote (all_rows (eval_rows draft (file_of before) store'.current)) (stop_of_vectors fail) old sink
   read-stops (Text line kind) fails =
-      let is = taken-fault (length draft.inputs) before store store' rows.vectors so_far.reading.taken line kind so_far.reading.taking fails.fails fails.stops in
-      (flat_map row_line so_far.made, (has-rows, is.0, is.1), so_far.wrote)
+      let is = taken-fault (length draft.inputs) before store store' rows.vectors so_far.reading.taken line kind so_far.reading.taking fails.fails in
+      (flat_map row_line so_far.made, (has-rows, is), so_far.wrote)
   read-stops Failed fails = (flat_map row_line so_far.made, (has-rows, fails.fails.closed), so_far.wrote)
 
   pub read-counts : (fail : VectorsFail) → RowFails fail rows store store' → FlowCounts (stop_of_vectors fail) before store' old sink

@@ -12,7 +12,7 @@ use Rattle.rig.specs.Rig.{RigState}
 use Rattle.steps.specs.Outside.{Around}
 use Rattle.steps.specs.Courses.{Next, all_rows, HasRows, HasReadRows, IsBeforeRow, ends, refuses, writes}
 use Rattle.steps.specs.declared.refusal.Refusal.TheVariants as refused
-use Rattle.tera_run.specs.Rows.{image_rows, image_course, AreRunRows, AreRowsOf}
+use Rattle.image_rows.specs.Rows.{image_rows, image_course, AreRunRows, AreRowsOf}
 use Rattle.tera_go.specs.GoRows.{AreDesignRows, design_rows, design_course}
 
 netlist-rows : (faults : Option Faults) (i : ImageValue) (draft : Draft) (vectors rows : List (List Bool)) → ((f : Faults) → faults ≡ Some f → IsRightImage f i draft) → All (λ vector. length vector ≡ length i.inputs) vectors → IfSome faults (λ f. AreRunRows f i vectors rows) → IfSome faults (λ f. AreRows draft vectors rows)
@@ -52,7 +52,7 @@ module _ (draft : Draft) (i : ImageValue) (told : Told) (place : Option Place) (
   rows-design : (text : List ℕ) (next : Next) → all_rows (image_rows i told place rig) text next → all_rows (design_rows draft i told place rig) text next
   rows-design text ends h = (read-design text h.0, h.1)
   rows-design text (writes line) h = before-design text line h
-  rows-design text (refuses (refused.Vectors line kind)) h = (read-design text h.0, h.1, h.2)
+  rows-design text (refuses (refused.Vectors line kind)) h = (read-design text h.0, h.1)
   rows-design text (refuses refused.Store) h = (read-design text h.0, h.1)
   rows-design text (refuses refused.Rig) h = (has-design text h.0, h.1)
   rows-design text (refuses refused.Memory) h = (read-design text h.0, h.1, h.2)

@@ -25,7 +25,7 @@ use Rattle.steps.proofs.Following.{after-stops, after-gives, course-map}
 use Rattle.listing.specs.Listing.{IsListOf, NotListed, diagnoses}
 use Rattle.listing.proofs.ListLemmas.{list-on, list-stops, list-then}
 use Rattle.tera_compile.specs.Compile.{lays, IsImageFor}
-use Rattle.tera_run.specs.Rows.{image_course}
+use Rattle.image_rows.specs.Rows.{image_course}
 use Rattle.tera_go.specs.GoRows.{design_course}
 use Rattle.tera_go.specs.Laid.{IsLaid, HasNoImage}
 use Rattle.tera_go.specs.Go.{go_course}

@@ -36,7 +36,7 @@ use Rattle.steps.proofs.ShapeLemmas.{same-shape}
 use Rattle.listing.specs.Listing.{diagnoses, IsListOf}
 use Rattle.listing.proofs.ListLemmas.{diagnose-excused}
 use Rattle.tera_compile.specs.Compile.{lays, NotLaid, IsNoRoom, IsImageFor}
-use Rattle.tera_run.specs.Rows.{loads, NotLoaded, IsAtOutputs}
+use Rattle.image_rows.specs.Rows.{loads, NotLoaded, IsAtOutputs}
 use Rattle.tera_go.specs.GoRows.{design_rows}
 use Rattle.tera_go.specs.Go.{go_course, go_files, go_job, GoFiles, AreGoTexts, HasRoom, HasPartsFor, IfList, GoRight, GoShort, GoFew, HasOutputs}
 use Rattle.tera_go.proofs.Texts.{small-counts, never-empty, never-alone}
@@ -158,7 +158,7 @@ module _ (decided : AreDecided) (sure : AreSure) (networks : AreNetworks) (named
       sure m d.list parts.faults n place.short network (list.right.fair parts.faults parts.faults_told) sound lacks
 
   has-room : (m : Shape) (draft : Draft) (d : DefectList) (texts : AreGoTexts t) → texts.shape ≡ m → texts.draft ≡ draft → IsListOf m 1 old.rig new.rig d → (IfList texts.shape (text_of d) (λ e. HasRoom e texts.draft) ⊎ HasPartsFor told texts.shape texts.draft) → (place : _) → IsNoRoom d draft place → ⊥
-  has-room m draft d texts shape drawn list (inl room) place short = fits-list draft d texts.draft drawn (room d (list.shape ∙ sym shape) refl) place short
+  has-room m draft d texts shape drawn list (inl room) place short = fits-list draft d texts.draft drawn (room d (list.shape ∙ sym shape) list.kept refl) place short
   has-room m draft d texts shape drawn list (inr parts) place short = parts-fit m draft d texts shape drawn list parts place short
 
   lay-excused : (m : Shape) (draft : Draft) (d : DefectList) → (reads_machine t.machine).gives m → (reads_design Design t.design).gives draft → IsListOf m 1 old.rig new.rig d → GoRight t told (text_of d) → (refusal : Refusal) → NotLaid d draft refusal → IsExcused refusal old new
@@ -204,7 +204,7 @@ module _ (decided : AreDecided) (sure : AreSure) (networks : AreNetworks) (named
 
   not-laid : (m : Shape) (draft : Draft) (d : DefectList) (i : ImageValue) → (reads_machine t.machine).gives m → (reads_design Design t.design).gives draft → IsListOf m 1 old.rig new.rig d → IsImageFor d draft i → GoShort t (text_of d) → ⊥
   not-laid m draft d i read drawn list laid short =
-      let lacks = short.room d (list.shape ∙ sym (the-shape short.texts m read)) refl in
+      let lacks = short.room d (list.shape ∙ sym (the-shape short.texts m read)) list.kept refl in
       never-both decided d draft short.texts.draft laid.network lacks.network laid.plan lacks.short (sym (the-draft short.texts draft drawn)) laid.plain lacks.plain laid.fits lacks.is_short
 
   abbrev Lacking : List ℕ → Type 0

@@ -38,31 +38,28 @@ module _ (machine name design vectors : List ℕ) (old new : Outside) where
   is-gone m draft d i text rest more asked wrote read attached drawn list first laid second h =
       let rows : HasReadRows (design_rows draft i (old.store.contents vectors) new.store.current new.rig) more = h.0 in
       record {
-        asked = asked;
         shape = m;
-        machine_is = read;
-        attached = attached;
-        list = d;
         draft = draft;
-        design_is = drawn;
+        list = d;
+        image = i;
         all_vectors = rows.has.vectors;
         rows = rows.has.rows;
-        are_all = subst (λ (w : ℕ). AreAll w (old.store.contents vectors) rows.has.vectors) laid.inputs h.1;
-        count = rows.has.are.read.count;
-        written = subst (λ t. Wrote old.sink.written new.sink.written t) (whole-text d text rest more rows.has.rows first second rows.has.text_is) wrote;
+        design_is = drawn;
         list_shape = list.shape;
-        covers = list.right.covers;
+        asked_in_order = record { asked = asked; machine_is = read; attached = attached };
+        written_whole = record {
+          is_list = list.kept;
+          are_all = subst (λ (w : ℕ). AreAll w (old.store.contents vectors) rows.has.vectors) laid.inputs h.1;
+          count = rows.has.are.read.count;
+          written = subst (λ t. Wrote old.sink.written new.sink.written t) (whole-text d text rest more rows.has.rows first second rows.has.text_is) wrote;
+        };
+        covers_every_fault = list.right.covers;
+        uses_nothing_listed = record { is_image = laid.image; shape = laid.shape; config = rows.session.config; free = laid.free };
+        image_right = λ f told. laid.right f (subst (λ (s : Shape). Covers s d.list f) (sym list.shape) (list.right.covers f told));
+        as_the_machine_read = record { drives = rows.session.drives; rows_are = rows.session.rows_are };
+        exactly_the_outputs = told-rows new.rig.machine.faults draft rows.has.vectors rows.has.rows rows.has.are.netlist;
         fair = list.right.fair;
         room = record { network = laid.network; plan = laid.plan; plain = laid.plain; fits = laid.fits };
-        image = i;
-        is_image = laid.image;
-        image_shape = laid.shape ∙ list.shape;
-        config = rows.session.config;
-        free = laid.free;
-        right = λ f told. laid.right f (subst (λ (s : Shape). Covers s d.list f) (sym list.shape) (list.right.covers f told));
-        drives = rows.session.drives;
-        rows_are = rows.session.rows_are;
-        outputs = told-rows new.rig.machine.faults draft rows.has.vectors rows.has.rows rows.has.are.netlist;
         few = list.few;
       }
 

@@ -24,7 +24,7 @@ use Rattle.steps.specs.Jobs.{Job}
 use Rattle.steps.specs.declared.design_file.DesignFile.TheVariants.{Design}
 use Rattle.listing.specs.Listing.{diagnoses}
 use Rattle.tera_compile.specs.Compile.{lays}
-use Rattle.tera_run.specs.Rows.{most_rows}
+use Rattle.image_rows.specs.Rows.{most_rows}
 use Rattle.tera_go.specs.GoRows.{design_course}
 
 -- The machine is read and attached, and the design is read. The machine's defects are listed and the list is written. The
@@ -90,7 +90,7 @@ pub record HasPartsFor (told : Option Faults) (m : Shape) (draft : Draft) : Type
 
 -- if that is the text of a list of the machine's defects, the list has P
 abbrev pub IfList : Shape → (front : List ℕ) → (DefectList → Type 0) → Type 0
-IfList m front P = (d : DefectList) → d.shape ≡ m → front ≡ text_of d → P d
+IfList m front P = (d : DefectList) → d.shape ≡ m → IsDefectList d → front ≡ text_of d → P d
 
 -- There is room on the list that stands there, or for certain on the machine
 pub record GoRight (t : GoFiles) (told : Option Faults) (front : List ℕ) : Type 0 where

@@ -10,7 +10,7 @@ use Rattle.steps.specs.Lines.{outputs_line}
 use Rattle.steps.specs.Outside.{Around}
 use Rattle.steps.specs.Courses.{Course, RowWork, after, write, all_rows}
 use Rattle.steps.specs.Texts.{opens}
-use Rattle.tera_run.specs.Rows.{most_rows, AreRowsOf, IsSession, IsAtOutputs, loads}
+use Rattle.image_rows.specs.Rows.{most_rows, AreRowsOf, IsSession, IsAtOutputs, loads}
 
 -- the rows are those of the image; where the faults of the machine are told, they are the netlist's
 pub record AreDesignRows (rig : RigState) (draft : Draft) (i : ImageValue) (vectors rows : List (List Bool)) : Type 0 where

@@ -12,6 +12,7 @@ ghost use Rattle.tera_go.specs.Headline.{IsGone};
 
 use config_image::Image;
 use hierarchy::Shape;
+use image_rows::run_image;
 use listing::list_defects;
 use netlist::Netlist;
 use place::in_order_plans_are_decided;
@@ -21,7 +22,6 @@ use std::alloc::Global;
 use steps::{DesignFile, Stop, attach, read_design, read_shape};
 use table_map::laws::plain_networks_have_the_rows;
 use tera_compile::lay;
-use tera_run::run_image;
 use tm_outside::{Sink, Store};
 
 // Lists the defects of the machine that is attached, writes the list, and lays a design on what it leaves free.
@@ -35,6 +35,7 @@ fn list_and_lay<K: Sink>(
     requires { shape_of (rig_state rig.old) ≡ Some shape.now }
 
     ensures machine { (rig_state rig.new).machine ≡ (rig_state rig.old).machine }
+    ensures texts { (rig_state rig.new).machine.texts ≡ (rig_state rig.old).machine.texts }
     ensures rig_later { (rig_state rig.old).failures ≤ (rig_state rig.new).failures }
     ensures kind { (K.sink_state sink.new).can_lack ≡ (K.sink_state sink.old).can_lack }
     ensures sink_later { (K.sink_state sink.old).failures ≤ (K.sink_state sink.new).failures }
@@ -64,6 +65,7 @@ fn work<S: Store, K: Sink>(
 ) -> Result<(), Stop>
     ensures contents { (S.store_state store.new).contents ≡ (S.store_state store.old).contents }
     ensures store_later { (S.store_state store.old).failures ≤ (S.store_state store.new).failures }
+    ensures texts { (rig_state rig.new).machine.texts ≡ (rig_state rig.old).machine.texts }
     ensures rig_later { (rig_state rig.old).failures ≤ (rig_state rig.new).failures }
     ensures kind { (K.sink_state sink.new).can_lack ≡ (K.sink_state sink.old).can_lack }
     ensures sink_later { (K.sink_state sink.old).failures ≤ (K.sink_state sink.new).failures }

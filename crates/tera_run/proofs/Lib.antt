@@ -1,3 +1,3 @@
-mod RowLemmas
 mod Following
 mod RunLaws
+pub mod Headlines

@@ -15,7 +15,7 @@ use Rattle.steps.specs.declared.refusal.Refusal.{Refusal}
 use Rattle.steps.specs.declared.refusal.Refusal.TheVariants.{Memory, Rig}
 use Rattle.steps.proofs.Leading.{after-leads, write-leads}
 use Rattle.steps.proofs.Excused.{machine-excused, image-excused, attach-excused, open-excused, rows-well}
-use Rattle.tera_run.specs.Rows.{image_rows, IsSession, NotLoaded, loads}
+use Rattle.image_rows.specs.Rows.{image_rows, IsSession, NotLoaded, loads}
 use Rattle.tera_run.specs.Run.{run_course, run_files, run_job, RunFiles, RunRight, RunFew}
 use Rattle.steps.proofs.ShapeLemmas.{same-shape}
 

@@ -1,4 +1,6 @@
 -- The command that runs an image on a machine of the rig.
-pub mod Rows
-pub mod Running
+
+-- ---- cited above
+
 pub mod Run
+pub mod Headline

@@ -11,7 +11,7 @@ use Rattle.steps.specs.Outside.{Around, StaysNear}
 use Rattle.steps.specs.Courses.{Course, after}
 use Rattle.steps.specs.Texts.{reads_machine, reads_image, attaches, AsksRig, LoadsOnce}
 use Rattle.steps.specs.Jobs.{Job}
-use Rattle.tera_run.specs.Rows.{most_rows, image_course}
+use Rattle.image_rows.specs.Rows.{most_rows, image_course}
 
 -- The machine is read and attached, the image is read, and it is loaded and its rows are written
 abbrev pub run_course : (machine name image vectors : List ℕ) → Around → Around → Course

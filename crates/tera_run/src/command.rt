@@ -6,7 +6,7 @@ ghost use Rattle.steps.specs.Texts.{reads_machine, AsksRig, LoadsOnce};
 ghost use Rattle.steps.specs.Jobs.{Does, IsLawful};
 ghost use Rattle.tera_run.specs.Run.{run_course, run_job};
 
-use crate::image::run_image;
+use image_rows::run_image;
 use rig::Rig;
 use std::alloc::Global;
 use steps::{Stop, attach, read_image_file, read_shape};
@@ -25,6 +25,7 @@ fn work<S: Store, K: Sink>(
 ) -> Result<(), Stop>
     ensures contents { (S.store_state store.new).contents ≡ (S.store_state store.old).contents }
     ensures store_later { (S.store_state store.old).failures ≤ (S.store_state store.new).failures }
+    ensures texts { (rig_state rig.new).machine.texts ≡ (rig_state rig.old).machine.texts }
     ensures rig_later { (rig_state rig.old).failures ≤ (rig_state rig.new).failures }
     ensures kind { (K.sink_state sink.new).can_lack ≡ (K.sink_state sink.old).can_lack }
     ensures sink_later { (K.sink_state sink.old).failures ≤ (K.sink_state sink.new).failures }

@@ -2,7 +2,5 @@
 #![tactic(auto)]
 
 mod command;
-mod image;
 
 pub use command::run;
-pub use image::run_image;

@@ -1,15 +1,15 @@
 //! The top call.
-ghost use Rattle.std.specs.Prelude.{◌≡◌, ◌≤◌, ◌⊎◌, ◌++◌, ℕ, List, Some, IsTrue, false, None, map, string_bytes};
-ghost use Rattle.tm_outside.specs.Counts.{Rose};
-ghost use Rattle.steps.specs.Outside.{outside, around};
-ghost use Rattle.steps.specs.Stops.{AsksSome, status_of};
+ghost use Rattle.std.specs.Prelude.{◌≡◌, ◌∷◌, [], ◌++◌, ℕ, List, Some, None, map, string_bytes, codes};
+ghost use Rattle.steps.specs.Outside.{outside, around, IsLater};
+ghost use Rattle.steps.specs.Stops.{AsksSome};
 ghost use Rattle.steps.specs.Jobs.{Does, IsLawful};
-ghost use Rattle.steps.specs.Ends.{EndWrote, IsRefused, IsOfFronts, LacksBefore, Unless};
-ghost use Rattle.steps.specs.Faults.{ShortPlace};
-ghost use Rattle.steps.specs.declared.refusal.Refusal.{Refusal};
-ghost use Rattle.steps.specs.declared.refusal.Refusal.TheVariants.{Memory, Room};
+ghost use Rattle.steps.specs.Ends.{EndWrote, Ended};
 ghost use Rattle.tera_top.specs.Words.{request_of, request_view, job_of, job_for};
-ghost use Rattle.tera_top.specs.Words.{go as asks_go, bench as asks_bench};
+ghost use Rattle.tera_top.specs.Words.{bench as asks_bench};
+ghost use Rattle.tera_eval.specs.Headline.{IsEvaled};
+ghost use Rattle.tera_compile.specs.Headline.{IsCompiled};
+ghost use Rattle.tera_run.specs.Headline.{IsRan};
+ghost use Rattle.tera_diagnose.specs.Headline.{IsDiagnosed};
 ghost use Rattle.tera_go.specs.Headline.{IsGone};
 ghost use Rattle.tera_bench.specs.Headline.{IsBenched};
 
@@ -91,6 +91,9 @@ fn end<S: Store, K: Sink>(
     sink: &mut K,
 ) -> u8
     ensures lawful { IsLawful (job_for (request_of (map string_bytes words.now))) }
+    ensures later { let old = outside (S.store_state store.old) (rig_state rig.old) (K.sink_state sink.old) in
+        let new = outside (S.store_state store.new) (rig_state rig.new) (K.sink_state sink.new) in
+        IsLater old new }
     ensures asked { let job = job_for (request_of (map string_bytes words.now)) in
         AsksSome job.files (S.store_state store.old).asked (S.store_state store.new).asked }
     ensures asked_all { result ≡ 0 →
@@ -128,71 +131,42 @@ pub fn teramac<S: Store, K: Sink>(
     rig: &mut Box<dyn Rig>,
     sink: &mut K,
 ) -> u8
-    // The files and machines that were asked for.
-    ensures asked { let job = job_for (request_of (map string_bytes words.now)) in
-        AsksSome job.files (S.store_state store.old).asked (S.store_state store.new).asked }
-    ensures asked_all { result ≡ 0 →
-        (S.store_state store.new).asked ≡ (S.store_state store.old).asked ++ (job_for (request_of (map string_bytes words.now))).files }
-    ensures machines { let old = outside (S.store_state store.old) (rig_state rig.old) (K.sink_state sink.old) in
-        let new = outside (S.store_state store.new) (rig_state rig.new) (K.sink_state sink.new) in
-        (job_for (request_of (map string_bytes words.now))).asks (around old) (around new) }
-
-    // What was written is the course of the command, with the cause of each end.
-    ensures written { let request = request_of (map string_bytes words.now) in
+    // What was asked, what was written, what stays, and the cause of the status.
+    ensures ends { let request = request_of (map string_bytes words.now) in
         let old = outside (S.store_state store.old) (rig_state rig.old) (K.sink_state sink.old) in
         let new = outside (S.store_state store.new) (rig_state rig.new) (K.sink_state sink.new) in
-        EndWrote (request ≡ None) ((job_for request).course (around old) (around new)) old new result }
+        Ended (request ≡ None) (job_for request) old new result }
 
     // A `go` at status 0 listed every fault, loaded an image that uses nothing listed, and wrote the rows of the design.
     ensures gone { let old = outside (S.store_state store.old) (rig_state rig.old) (K.sink_state sink.old) in
         let new = outside (S.store_state store.new) (rig_state rig.new) (K.sink_state sink.new) in
-        (machine name design vectors : List ℕ) → request_of (map string_bytes words.now) ≡ Some (asks_go machine name design vectors) →
-        result ≡ 0 → IsGone machine name design vectors old new }
+        (machine name design vectors : List ℕ) → map string_bytes words.now ≡ codes "go" ∷ machine ∷ name ∷ design ∷ vectors ∷ [] → result ≡ 0 →
+        IsGone machine name design vectors old new }
+    // An `eval` at status 0 wrote the rows of the design.
+    ensures evaled { let old = outside (S.store_state store.old) (rig_state rig.old) (K.sink_state sink.old) in
+        let new = outside (S.store_state store.new) (rig_state rig.new) (K.sink_state sink.new) in
+        (design vectors : List ℕ) → map string_bytes words.now ≡ codes "eval" ∷ design ∷ vectors ∷ [] → result ≡ 0 →
+        IsEvaled design vectors old new }
+    // A `compile` at status 0 wrote an image of the design that uses nothing listed, and is right under all that the list covers.
+    ensures compiled { let old = outside (S.store_state store.old) (rig_state rig.old) (K.sink_state sink.old) in
+        let new = outside (S.store_state store.new) (rig_state rig.new) (K.sink_state sink.new) in
+        (machine defects design : List ℕ) → map string_bytes words.now ≡ codes "compile" ∷ machine ∷ defects ∷ design ∷ [] → result ≡ 0 →
+        IsCompiled machine defects design old new }
+    // A `run` at status 0 loaded the image, drove the vectors, and wrote what was read.
+    ensures ran { let old = outside (S.store_state store.old) (rig_state rig.old) (K.sink_state sink.old) in
+        let new = outside (S.store_state store.new) (rig_state rig.new) (K.sink_state sink.new) in
+        (machine name image vectors : List ℕ) → map string_bytes words.now ≡ codes "run" ∷ machine ∷ name ∷ image ∷ vectors ∷ [] → result ≡ 0 →
+        IsRan machine name image vectors old new }
+    // A `diagnose` at status 0 wrote a list of the machine's defects.
+    ensures diagnosed { let old = outside (S.store_state store.old) (rig_state rig.old) (K.sink_state sink.old) in
+        let new = outside (S.store_state store.new) (rig_state rig.new) (K.sink_state sink.new) in
+        (machine name : List ℕ) → map string_bytes words.now ≡ codes "diagnose" ∷ machine ∷ name ∷ [] → result ≡ 0 →
+        IsDiagnosed machine name old new }
     // A `bench` at status 0 drove the vectors of its number, through an image that is right for the generated design, and wrote
     // its summary.
     ensures benched { let old = outside (S.store_state store.old) (rig_state rig.old) (K.sink_state sink.old) in
         let new = outside (S.store_state store.new) (rig_state rig.new) (K.sink_state sink.new) in
         (n : ℕ) → request_of (map string_bytes words.now) ≡ Some (asks_bench n) → result ≡ 0 → IsBenched n old new }
-
-    // Each status has its cause.
-    ensures text { let job = job_for (request_of (map string_bytes words.now)) in
-        let old = outside (S.store_state store.old) (rig_state rig.old) (K.sink_state sink.old) in
-        let new = outside (S.store_state store.new) (rig_state rig.new) (K.sink_state sink.new) in
-        result ≡ 1 → (refusal : Refusal) × (status_of refusal ≡ 1) × IsRefused (job.course (around old) (around new)) old new refusal }
-    ensures words { result ≡ 2 → request_of (map string_bytes words.now) ≡ None }
-    ensures words_only { request_of (map string_bytes words.now) ≡ None → (result ≡ 2)
-        ⊎ (((result ≡ 5) × Rose (K.sink_state sink.old).failures (K.sink_state sink.new).failures)
-        ⊎ ((result ≡ 6) × IsTrue (K.sink_state sink.old).can_lack)) }
-    ensures no_room { let job = job_for (request_of (map string_bytes words.now)) in
-        let old = outside (S.store_state store.old) (rig_state rig.old) (K.sink_state sink.old) in
-        let new = outside (S.store_state store.new) (rig_state rig.new) (K.sink_state sink.new) in
-        result ≡ 3 → (place : ShortPlace) × IsRefused (job.course (around old) (around new)) old new (Room place) }
-    ensures rig { result ≡ 4 → Rose (rig_state rig.old).failures (rig_state rig.new).failures }
-    ensures outside { result ≡ 5 → Rose (S.store_state store.old).failures (S.store_state store.new).failures
-        ⊎ Rose (K.sink_state sink.old).failures (K.sink_state sink.new).failures }
-    ensures statuses { result ≤ 6 }
-
-    // Where all is right, and there is room on the list that was read or written: unless a count rose.
-    ensures complete { let job = job_for (request_of (map string_bytes words.now)) in
-        let old = outside (S.store_state store.old) (rig_state rig.old) (K.sink_state sink.old) in
-        let new = outside (S.store_state store.new) (rig_state rig.new) (K.sink_state sink.new) in
-        IsOfFronts (job.right (around old) (around new)) old.sink new.sink → Unless ((result ≡ 0) ⊎ (result ≡ 6)) old new }
-    // And where there is no room.
-    ensures no_room_only { let job = job_for (request_of (map string_bytes words.now)) in
-        let old = outside (S.store_state store.old) (rig_state rig.old) (K.sink_state sink.old) in
-        let new = outside (S.store_state store.new) (rig_state rig.new) (K.sink_state sink.new) in
-        IsOfFronts (job.short (around old) (around new)) old.sink new.sink → Unless ((result ≡ 3) ⊎ (result ≡ 6)) old new }
-
-    // Memory is taken before the line `outputs`.
-    ensures memory { let job = job_for (request_of (map string_bytes words.now)) in
-        let old = outside (S.store_state store.old) (rig_state rig.old) (K.sink_state sink.old) in
-        let new = outside (S.store_state store.new) (rig_state rig.new) (K.sink_state sink.new) in
-        result ≡ 6 → old.sink.can_lack ≡ false → IsRefused (job.course (around old) (around new)) old new Memory }
-    ensures memory_before { let job = job_for (request_of (map string_bytes words.now)) in
-        let old = outside (S.store_state store.old) (rig_state rig.old) (K.sink_state sink.old) in
-        let new = outside (S.store_state store.new) (rig_state rig.new) (K.sink_state sink.new) in
-        IsOfFronts (job.right (around old) (around new)) old.sink new.sink → job.few (around old) (around new) → old.sink.can_lack ≡ false →
-        Unless ((result ≡ 0) ⊎ ((result ≡ 6) × LacksBefore job old new)) old new }
 {
     bench_laws::the_bench_design_is_a_design();
     bench_laws::generated_faults_leave_room();

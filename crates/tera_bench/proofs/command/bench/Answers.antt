@@ -22,11 +22,7 @@ pub returns-clause-does : goal.returns-clause-does
 returns-clause-does g c =
     let e = c.work.ensures in
     λ store. record {
-      contents = refl;
-      store_later = omega arith;
-      rig_later = e.rig_later;
-      sink_later = e.sink_later;
-      kind = e.kind;
+      later = record { contents = refl; texts = e.texts; kind = e.kind; store = omega arith; rig = e.rig_later; sink = e.sink_later };
       asked = none-asked c.work.result store;
       machines = e.machines;
       written = e.written store;

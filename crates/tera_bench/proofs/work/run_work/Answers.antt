@@ -1,7 +1,7 @@
 use Rattle.std.proofs.Common.{◌∙◌, ap, inr, length}
 use Rattle.std.proofs.lemmas.Result.{err_from_is_err_and}
 use Rattle.loader.specs.Pins.{Rows}
-use Rattle.tera_bench.proofs.RunLemmas.{running-start, running-more, running-width, run-stops, load-counts}
+use Rattle.tera_bench.proofs.RunLemmas.{running-start, running-more, running-width, run-stops, load-counts, load-lacks}
 use Rattle.tera_bench.proofs.work.run_work.Goals as goal
 
 pub rows-init : goal.rows-init
@@ -49,3 +49,8 @@ pub returns-in_err-run-clause-counted : goal.returns-in_err-run-clause-counted
 returns-in_err-run-clause-counted g c =
     let p = err_from_is_err_and c.from_residual.result c.from_residual.ensures.1 in
     rw (p.1, p.2) (load-counts _ _ _ c.in_err-run.ensures.refused)
+
+pub returns-in_err-run-clause-lacks : goal.returns-in_err-run-clause-lacks
+returns-in_err-run-clause-lacks g c =
+    let p = err_from_is_err_and c.from_residual.result c.from_residual.ensures.1 in
+    rw (p.1, p.2) (load-lacks _ _ _ c.in_err-run.ensures.not_counted)

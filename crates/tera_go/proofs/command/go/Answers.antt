@@ -15,11 +15,7 @@ pub returns-clause-does : goal.returns-clause-does
 returns-clause-does g c =
     let e = c.work.ensures in
     record {
-      contents = e.contents;
-      store_later = e.store_later;
-      rig_later = e.rig_later;
-      sink_later = e.sink_later;
-      kind = e.kind;
+      later = record { contents = e.contents; texts = e.texts; kind = e.kind; store = e.store_later; rig = e.rig_later; sink = e.sink_later };
       asked = e.asked;
       machines = e.machines;
       written = e.written;

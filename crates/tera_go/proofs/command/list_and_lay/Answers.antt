@@ -1,6 +1,5 @@
 use Rattle.std.proofs.Common.{inl}
 use Rattle.std.proofs.lemmas.Result.{err_from_is_err_and, IfOk-weaker, IfErr-weaker}
-use Rattle.tera_compile.specs.Compile.{lays}
 use Rattle.tera_go.proofs.Following.{laid-on, leaves-none}
 use Rattle.tera_go.proofs.command.list_and_lay.Goals as goal
 

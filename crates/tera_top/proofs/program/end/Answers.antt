@@ -1,4 +1,4 @@
-use Rattle.std.proofs.Common.{◌≡◌, map, string_bytes, None, refl}
+use Rattle.std.proofs.Common.{◌≡◌, ◌∙◌, map, string_bytes, None, refl, arith}
 use Rattle.steps.specs.Outside.{outside}
 use Rattle.tera_top.specs.Words.{request_of, job_for}
 use Rattle.steps.proofs.WriteLemmas.{asks-all}
@@ -40,3 +40,19 @@ returns-in-Ok-clause-asked g c =
     let old = outside (g.S.Store.store_state c.args.store.now) rig0 (g.K.Sink.sink_state c.args.sink.now) in
     let new = outside (g.S.Store.store_state c.work.new.store) rig (g.K.Sink.sink_state c.work.new.sink) in
     asks-all job.files old.store.asked new.store.asked c.in-Ok.ensures.does.asked.all
+
+pub returns-in-Ok-clause-later : goal.returns-in-Ok-clause-later
+returns-in-Ok-clause-later g c = c.in-Ok.ensures.does.later
+
+pub returns-in-Err-clause-later : goal.returns-in-Err-clause-later
+returns-in-Err-clause-later g c =
+    let first = c.in-Err.ensures.does.later in
+    let last = c.finish.ensures in
+    record {
+      contents = first.contents;
+      texts = first.texts;
+      kind = last.kind ∙ first.kind;
+      store = first.store;
+      rig = first.rig;
+      sink = omega (arith, first.sink, last.later);
+    }

@@ -1,6 +1,6 @@
 use Rattle.std.proofs.lemmas.Result.{err_from_is_err_and}
-use Rattle.tera_run.proofs.Following.{load-stops, load-counts}
-use Rattle.tera_run.proofs.image.prepare.Goals as goal
+use Rattle.image_rows.proofs.ImageLemmas.{load-stops, load-counts}
+use Rattle.image_rows.proofs.image.prepare.Goals as goal
 
 pub returns-in_err-run-clause-refused : goal.returns-in_err-run-clause-refused
 returns-in_err-run-clause-refused g c =

@@ -24,9 +24,9 @@ use Rattle.steps.specs.declared.refusal.Stop.{Stop}
 use Rattle.steps.specs.declared.refusal.Stop.TheVariants.{Refused, Sink}
 use Rattle.steps.proofs.VectorLemmas.{IsTaking, IsTaking-start, IsTaking-more, taken-first, taken-next, taken-all, taken-fault}
 use Rattle.steps.proofs.WriteLemmas.{Wrote-then, Wrote-none, row_lines-more}
-use Rattle.tera_run.specs.Rows.{most_rows, image_rows, AreRunRows, AreRowsOf, IsSession}
-use Rattle.tera_run.specs.Running.{IsFitting, IsLoaded, IsRead, IsDriven, CycleGives, CycleStops, pins_in}
-use Rattle.tera_run.specs.declared.image.Running.{Running}
+use Rattle.image_rows.specs.Rows.{most_rows, image_rows, AreRunRows, AreRowsOf, IsSession}
+use Rattle.image_rows.specs.Running.{IsFitting, IsLoaded, IsRead, IsDriven, CycleGives, CycleStops, pins_in}
+use Rattle.image_rows.specs.declared.image.Running.{Running}
 
 -- the vector has a bit for each input pin
 abbrev pub HasWidth : ImageValue → List Bool → Type 0
@@ -223,8 +223,8 @@ module _ (image : ImageValue) (before : StoreState) (rig0 : RigState) (old : Sin
   -- no further row is made
   pub cycle-stops : (stop : Stop) → IsDriving image before rig0 old rows store rig sink → CycleStops stop rows rows' store store' rig rig' → store'.contents ≡ store.contents → rig'.machine ≡ rig.machine → StopWrote (all_rows (image_rows image (file_of before) store'.current rig')) stop old sink
   cycle-stops (Refused (refused.Vectors line kind)) so_far stops contents machine =
-      let fault = taken-fault (length image.inputs) before store store' rows.vectors so_far.vectors line kind so_far.taking stops.0 stops.1 in
-      (flat_map row_line so_far.done, (has-read so_far machine (ap (λ (r : RigState). r.session) stops.2), fault.0, fault.1), so_far.wrote)
+      let fault = taken-fault (length image.inputs) before store store' rows.vectors so_far.vectors line kind so_far.taking stops.0 in
+      (flat_map row_line so_far.done, (has-read so_far machine (ap (λ (r : RigState). r.session) stops.2), fault), so_far.wrote)
   cycle-stops (Refused refused.Store) so_far stops contents machine =
       (flat_map row_line so_far.done, (has-read so_far machine (ap (λ (r : RigState). r.session) stops.1), stops.0.closed), so_far.wrote)
   cycle-stops (Refused refused.Rig) so_far stops contents machine =

@@ -3,9 +3,9 @@ use Rattle.std.proofs.lemmas.Result.{err_from_is_err_and}
 use Rattle.steps.specs.Outside.{outside, around}
 use Rattle.steps.proofs.Counting.{rig-counted, write-counted, counted-after}
 use Rattle.steps.proofs.StartLemmas.{start-counted, start-near, begun-file}
-use Rattle.tera_run.proofs.Following.{image-load-stops, image-start-stops, image-outputs-stops, image-rows}
-use Rattle.tera_run.proofs.RowLemmas.{session-start}
-use Rattle.tera_run.proofs.image.run_image.Goals as goal
+use Rattle.image_rows.proofs.ImageLemmas.{image-load-stops, image-start-stops, image-outputs-stops, image-rows}
+use Rattle.image_rows.proofs.RowLemmas.{session-start}
+use Rattle.image_rows.proofs.image.run_image.Goals as goal
 
 pub returns-in_err-rows-clause-written : goal.returns-in_err-rows-clause-written
 returns-in_err-rows-clause-written g c =

@@ -2,7 +2,7 @@ use Rattle.std.proofs.Common.{◌∙◌, ap, arith, length}
 use Rattle.hierarchy.specs.Shape.{pins_of}
 use Rattle.config_set.specs.Configuration.{Configuration}
 use Rattle.steps.proofs.InputLemmas.{pins-few}
-use Rattle.tera_run.proofs.image.widths.Goals as goal
+use Rattle.image_rows.proofs.image.widths.Goals as goal
 
 pub prove-unreachable-requires : goal.prove-unreachable-requires
 prove-unreachable-requires c =

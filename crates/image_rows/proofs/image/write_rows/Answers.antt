@@ -1,6 +1,6 @@
 use Rattle.std.proofs.lemmas.Result.{err_from_is_err_and}
-use Rattle.tera_run.proofs.RowLemmas.{IsDriving-start, IsDriving-more, row-stops, row-counts, cycle-stops, cycle-counts, drive-ends}
-use Rattle.tera_run.proofs.image.write_rows.Goals as goal
+use Rattle.image_rows.proofs.RowLemmas.{IsDriving-start, IsDriving-more, row-stops, row-counts, cycle-stops, cycle-counts, drive-ends}
+use Rattle.image_rows.proofs.image.write_rows.Goals as goal
 
 pub file-init : goal.file-init
 file-init g c = IsDriving-start c.args.rows.now _ _ _ c.requires.loaded c.requires.begun

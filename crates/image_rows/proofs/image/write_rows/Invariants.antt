@@ -1,7 +1,7 @@
 use Rattle.std.proofs.Common.{◌-◌}
 use Rattle.steps.specs.Files.{most_vector_bytes}
-use Rattle.tera_run.proofs.RowLemmas.{IsDriving}
-use Rattle.tera_run.proofs.image.write_rows.Given as goal
+use Rattle.image_rows.proofs.RowLemmas.{IsDriving}
+use Rattle.image_rows.proofs.image.write_rows.Given as goal
 
 abbrev pub invariant-file : goal.invariant-file
 invariant-file g l =

@@ -9,8 +9,8 @@ ghost use Rattle.steps.specs.Outside.{StaysNear, outside, around};
 ghost use Rattle.steps.specs.Courses.{all_rows};
 ghost use Rattle.steps.specs.Stops.{Asks, IsWritten, IsCounted, StepStops, WriteStops};
 ghost use Rattle.steps.specs.Texts.{LoadsOnce, RigCounts};
-ghost use Rattle.tera_run.specs.Rows.{image_rows, image_course, loads};
-ghost use Rattle.tera_run.specs.Running.{IsFitting, IsLoaded, CycleGives, CycleStops};
+ghost use Rattle.image_rows.specs.Rows.{image_rows, image_course, loads};
+ghost use Rattle.image_rows.specs.Running.{IsFitting, IsLoaded, CycleGives, CycleStops};
 
 use config_image::Image;
 use loader::{Run, begin};

@@ -13,8 +13,8 @@ use Rattle.steps.specs.Files.{most_vector_bytes, most_ahead}
 use Rattle.steps.specs.declared.refusal.Refusal.TheVariants as refused
 use Rattle.steps.specs.declared.refusal.Stop.{Stop}
 use Rattle.steps.specs.declared.refusal.Stop.TheVariants.{Refused}
-use Rattle.tera_run.specs.Rows.{most_rows}
-use Rattle.tera_run.specs.declared.image.Running.{Running}
+use Rattle.image_rows.specs.Rows.{most_rows}
+use Rattle.image_rows.specs.declared.image.Running.{Running}
 
 -- the pins of an image, as a run keeps them
 abbrev pub pins_in : ImageValue → Rows

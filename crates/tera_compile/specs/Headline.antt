@@ -1,0 +1,23 @@
+-- What a `compile` that is done has done.
+use Rattle.std.specs.Prelude.{◌≡◌, ℕ, List, [], ◌∷◌, ◌++◌}
+use Rattle.tm_outside.specs.Told.{IfTold}
+use Rattle.tm_outside.specs.Sink.{Wrote}
+use Rattle.defect_db.specs.Lists.{DefectList}
+use Rattle.netlist.specs.declared.draft.Draft.{Draft}
+use Rattle.config_image.specs.Images.{ImageValue, image_bytes}
+use Rattle.steps.specs.Outside.{Outside}
+use Rattle.steps.specs.Texts.{IsMachineText, IsDefectsText, IsDesignText}
+use Rattle.tera_compile.specs.Compile.{IsImageFor}
+
+-- The bytes of an image are written that touches only what the list leaves free, and is right for the design under all faults
+-- that the list covers
+pub record IsCompiled (machine defects design : List ℕ) (old new : Outside) : Type 0 where
+  pub list : DefectList
+  pub draft : Draft
+  pub image : ImageValue
+  pub asked : new.store.asked ≡ old.store.asked ++ machine ∷ defects ∷ design ∷ []
+  pub machine_is : IfTold (old.store.contents machine) (λ bytes. IsMachineText bytes list.shape)
+  pub list_is : IfTold (old.store.contents defects) (λ bytes. IsDefectsText list.shape bytes list)
+  pub design_is : IfTold (old.store.contents design) (λ bytes. IsDesignText bytes draft)
+  pub image_for : IsImageFor list draft image
+  pub written : Wrote old.sink.written new.sink.written (image_bytes image)

@@ -1,0 +1,25 @@
+-- What a `diagnose` that is done has done, from its course.
+use Rattle.std.proofs.Common.{◌≡◌, ◌∙◌, ℕ, List, [], ◌∷◌, ◌++◌, ap, subst, inl, inr, append-nil}
+use Rattle.tm_outside.specs.Sink.{Wrote}
+use Rattle.defect_db.specs.Text.{text_of}
+use Rattle.steps.specs.Outside.{Outside, around}
+use Rattle.steps.specs.Courses.{ends}
+use Rattle.tera_diagnose.specs.Diagnose.{diagnose_course}
+use Rattle.tera_diagnose.specs.Headline.{IsDiagnosed}
+
+module _ (machine name : List ℕ) (old new : Outside) where
+  pub diagnosed : (text : List ℕ) → new.store.asked ≡ old.store.asked ++ machine ∷ [] → Wrote old.sink.written new.sink.written text → diagnose_course machine name (around old) (around new) text ends → IsDiagnosed machine name old new
+  diagnosed text asked wrote (inl h) = absurd h.1
+  diagnosed text asked wrote (inr (m, read, inl h)) = absurd h.1
+  diagnosed text asked wrote (inr (m, read, inr (u, attached, inl h))) = absurd h.1
+  diagnosed text asked wrote (inr (m, read, inr (u, attached, inr (l, listed, inl h)))) = let line = h.1 in absurd (cc)
+  diagnosed text asked wrote (inr (m, read, inr (u, attached, inr (l, listed, inr (more, first, h))))) = record {
+    shape = m;
+    made = l;
+    asked = asked;
+    machine_is = read;
+    attached = attached;
+    is_listed = listed;
+    written = subst (λ t. Wrote old.sink.written new.sink.written t) (first ∙ (ap (λ t. text_of l.list ++ t) h.0 ∙ append-nil (text_of l.list))) wrote;
+    loads = h.2.1;
+  }
