@@ -3,7 +3,6 @@
 -- ---- cited above
 
 pub mod Rows
-
 -- ---- of the bodies of this crate
 
 pub mod Running

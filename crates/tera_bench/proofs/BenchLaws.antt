@@ -48,9 +48,9 @@ LeaveRoom = (m : Shape) (n : ℕ) (f : Faults) → m.counts ≡ work.bench_count
 abbrev pub AreNetworks : Type 0
 AreNetworks = (d : Draft) → IsChecked d → IsNetwork (plain_network d)
 
-design-excused : (old new : Around) (refusal : Refusal) → OnlyMemory refusal → IsExcused refusal old new
-design-excused old new refused.Memory stops = tt
-design-excused old new refusal stops = absurd stops
+memory-excused : (old new : Around) (refusal : Refusal) → OnlyMemory refusal → IsExcused refusal old new
+memory-excused old new refused.Memory stops = tt
+memory-excused old new refusal stops = absurd stops
 
 run-excused : (old new : Around) (refusal : Refusal) → NotRun refusal → IsExcused refusal old new
 run-excused old new refused.Rig stops = tt
@@ -60,6 +60,9 @@ run-excused old new refusal stops = absurd stops
 module _ (sure : AreSure) (networks : AreNetworks) (only : IsOnly) (room : LeaveRoom) (n : ℕ) (old new : Around) where
   abbrev here : Type 0
   here = new.store ≡ old.store
+
+  abbrev untouched : Type 0
+  untouched = (new.store ≡ old.store) × (new.rig ≡ old.rig)
 
   abbrev asked_for : Shape → Asked
   asked_for m = record { shape = m; name = generated_name n }
@@ -103,12 +106,12 @@ module _ (sure : AreSure) (networks : AreNetworks) (only : IsOnly) (room : Leave
   bench-right : Leads (Fronts (λ front. BenchRight n new.rig.machine.faults)) (bench_course n old new) (EndsWell old new)
   bench-right t next is at =
       let right = is [] t refl in
-      after-leads makes_shape here on_shape any (EndsWell old new)
-      (λ _ refusal stops. absurd stops)
+      after-leads makes_shape untouched on_shape any (EndsWell old new)
+      (λ _ refusal stops. memory-excused old new refusal stops)
       (λ m counts. after-leads (attaches (asked_for m) old.rig new.rig) here (λ _. on_attached m) any (EndsWell old new)
       (λ _ refusal stops. attach-excused old new (asked_for m) refusal stops)
       (λ _ _. after-leads makes_design here (on_draft m) any (EndsWell old new)
-      (λ _ refusal stops. design-excused old new refusal stops)
+      (λ _ refusal stops. memory-excused old new refusal stops)
       (λ draft design. after-leads (diagnoses m 1 old.rig new.rig) here (on_list draft) any (EndsWell old new)
       (λ _ refusal stops. diagnose-excused old new refusal stops)
       (λ d list. after-leads (lays d draft) here (on_image draft) any (EndsWell old new)

@@ -70,6 +70,9 @@ module _ (n : ℕ) (old new : Around) (near : new.store ≡ old.store) where
   abbrev here : Type 0
   here = new.store ≡ old.store
 
+  abbrev untouched : Type 0
+  untouched = (new.store ≡ old.store) × (new.rig ≡ old.rig)
+
   abbrev asked_for : Shape → Asked
   asked_for m = record { shape = m; name = generated_name n }
 
@@ -86,21 +89,18 @@ module _ (n : ℕ) (old new : Around) (near : new.store ≡ old.store) where
   on_shape m = after (attaches (asked_for m) old.rig new.rig) here (λ _. on_attached m)
 
   -- memory was wanting for the name
-  pub name-stops : (m : Shape) (a : SinkState) → m.counts ≡ work.bench_counts → StopWrote (bench_course n old new) (Refused refused.Memory) a a
-  name-stops m a is =
-      let e : Result (Unit {0}) Stop = Err (Refused refused.Memory) in
-      after-gives makes_shape here on_shape m e a a is
-      (after-stops (attaches (asked_for m) old.rig new.rig) here (λ _. on_attached m) (Refused refused.Memory) a tt near)
+  pub name-stops : (a : SinkState) → new.rig ≡ old.rig → StopWrote (bench_course n old new) (Refused refused.Memory) a a
+  name-stops a same = after-stops makes_shape untouched on_shape (Refused refused.Memory) a tt (near, same)
 
   pub attach-stopped : (m : Shape) (stop : Stop) (a : SinkState) → m.counts ≡ work.bench_counts → StepStops (attaches (asked_for m) old.rig new.rig) stop → StopWrote (bench_course n old new) stop a a
   attach-stopped m stop a is stops =
       let e : Result (Unit {0}) Stop = Err stop in
-      after-gives makes_shape here on_shape m e a a is
+      after-gives makes_shape untouched on_shape m e a a is
       (after-stops (attaches (asked_for m) old.rig new.rig) here (λ _. on_attached m) stop a stops near)
 
   attached : {U : Type 0} (m : Shape) (result : Result U Stop) (a b : SinkState) → m.counts ≡ work.bench_counts → new.rig.machine.attached ≡ Some (asked_for m) → IsWritten (on_attached m) result a b → IsWritten (bench_course n old new) result a b
   attached m result a b is named w =
-      after-gives makes_shape here on_shape m result a b is
+      after-gives makes_shape untouched on_shape m result a b is
       (after-gives (attaches (asked_for m) old.rig new.rig) here (λ _. on_attached m) tt result a b named w)
 
   pub design-stopped : (m : Shape) (stop : Stop) (a : SinkState) → m.counts ≡ work.bench_counts → new.rig.machine.attached ≡ Some (asked_for m) → StepStops makes_design stop → StopWrote (bench_course n old new) stop a a

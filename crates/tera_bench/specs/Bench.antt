@@ -58,12 +58,13 @@ ones_of rows = sum_by ones_in rows
 
 -- ---- the machine and the design
 
-abbrev pub makes_shape : Step Shape
-makes_shape = record { stops = λ refusal. ⊥; gives = λ m. m.counts ≡ work.bench_counts }
-
 abbrev pub OnlyMemory : Refusal → Type 0
 OnlyMemory refused.Memory = Unit {0}
 OnlyMemory refusal = ⊥
+
+-- memory may be wanting for its name
+abbrev pub makes_shape : Step Shape
+makes_shape = record { stops = OnlyMemory; gives = λ m. m.counts ≡ work.bench_counts }
 
 abbrev pub makes_design : Step Draft
 makes_design = record { stops = OnlyMemory; gives = IsDesign work.bench_design }
@@ -113,7 +114,7 @@ laid_course n draft d before here rig =
 -- run on what the list leaves free
 abbrev pub bench_course : (n : ℕ) → Around → Around → Course
 bench_course n old new =
-    after makes_shape (new.store ≡ old.store) (λ m.
+    after makes_shape ((new.store ≡ old.store) × (new.rig ≡ old.rig)) (λ m.
     after (attaches (record { shape = m; name = generated_name n }) old.rig new.rig) (new.store ≡ old.store) (λ _.
     after makes_design (new.store ≡ old.store) (λ draft.
     after (diagnoses m 1 old.rig new.rig) (new.store ≡ old.store) (λ d.

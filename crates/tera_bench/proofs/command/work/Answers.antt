@@ -15,7 +15,7 @@ returns-in_err-name-clause-written g c = λ store.
     let box0 = c.args.rig.now in
     let rig0 = (goal.Rig-dyn g (box0.vtable, box0.value)).rig_state box0.value in
     let a = g.K.Sink.sink_state c.args.sink.now in
-    rw (p.1, p.2) (name-stops c.args.n (around (outside store rig0 a)) (around (outside store rig0 a)) refl c.bench_shape-shape.result a c.bench_shape-shape.ensures)
+    rw (p.1, p.2) (name-stops c.args.n (around (outside store rig0 a)) (around (outside store rig0 a)) refl a refl)
 
 pub returns-in_err-name-clause-counted : goal.returns-in_err-name-clause-counted
 returns-in_err-name-clause-counted g c = λ store.
