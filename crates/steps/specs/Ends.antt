@@ -98,5 +98,6 @@ pub record Ended (words : Type 0) (job : Job) (old new : Outside) (status : ℕ)
   pub no_room_only : IsOfFronts (job.short (around old) (around new)) old.sink new.sink → Unless ((status ≡ 3) ⊎ (status ≡ 6)) old new
   -- memory is taken before the line `outputs`
   pub memory : status ≡ 6 → old.sink.can_lack ≡ false → IsRefused (job.course (around old) (around new)) old new Memory
-  pub memory_before : IsOfFronts (job.right (around old) (around new)) old.sink new.sink → job.few (around old) (around new) → old.sink.can_lack ≡ false
+  pub memory_before : IsOfFronts (job.right (around old) (around new)) old.sink new.sink →
+      job.few (around old) (around new) → old.sink.can_lack ≡ false
       → Unless ((status ≡ 0) ⊎ ((status ≡ 6) × LacksBefore job old new)) old new

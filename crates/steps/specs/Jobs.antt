@@ -27,7 +27,8 @@ pub record Job : Type 1 where
   pub has_begun : (old new : Around) → (text : List ℕ) → Type 0
 
 -- a job that no room is looked for, and that takes no memory for rows
-abbrev pub quiet : (files : List (List ℕ)) → (asks : Around → Around → Type 0) → (course : Around → Around → Course) → (right : Around → Type 0) → Job
+abbrev pub quiet : (files : List (List ℕ)) → (asks : Around → Around → Type 0) → (course : Around → Around → Course) →
+    (right : Around → Type 0) → Job
 quiet files asks course right = record {
   files = files;
   asks = asks;

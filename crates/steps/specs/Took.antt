@@ -26,7 +26,8 @@ pub record Puts {T : Type 0} (line : List ℕ) (result : Result T Stop) (old new
 
 -- The steps of a course were made, to the end or to a stop: these names were asked of the store, and this of the rig. `words` is
 -- what wrong words need
-pub record Follows {T : Type 0} (words : Type 0) (names : List (List ℕ)) (asks : Type 0) (course : Course) (result : Result T Stop) (old new : Outside) : Type 0 where
+pub record Follows {T : Type 0} (words : Type 0) (names : List (List ℕ)) (asks : Type 0) (course : Course) (result : Result T Stop)
+    (old new : Outside) : Type 0 where
   pub later : IsLater old new
   pub asked : Asks names result old.store new.store
   pub machines : asks

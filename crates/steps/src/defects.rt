@@ -70,7 +70,8 @@ pub fn read_list<S: Store>(
     ensures refused { IfErr result (StepStops (reads_defects ((S.store_state store.old).contents name.now) shape.now)) }
     ensures counted { IfErr result (λ stop. StoreCounts stop (S.store_state store.old) (S.store_state store.new)) }
     // Whatever the rig and the sink are.
-    ensures took { (rig : RigState) (sink : SinkState) → Took (name.now ∷ []) (reads_defects ((S.store_state store.old).contents name.now) shape.now) result
+    ensures took { (rig : RigState) (sink : SinkState) →
+        Took (name.now ∷ []) (reads_defects ((S.store_state store.old).contents name.now) shape.now) result
         (outside (S.store_state store.old) rig sink) (outside (S.store_state store.new) rig sink) }
 {
     list_of_file(alloc, shape, name, store)

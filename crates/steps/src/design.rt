@@ -75,7 +75,8 @@ pub fn read_design<S: Store>(
     ensures refused { IfErr result (StepStops (reads_design file ((S.store_state store.old).contents name.now))) }
     ensures counted { IfErr result (λ stop. StoreCounts stop (S.store_state store.old) (S.store_state store.new)) }
     // Whatever the rig and the sink are.
-    ensures took { (rig : RigState) (sink : SinkState) → Took (name.now ∷ []) (reads_design file ((S.store_state store.old).contents name.now)) result
+    ensures took { (rig : RigState) (sink : SinkState) →
+        Took (name.now ∷ []) (reads_design file ((S.store_state store.old).contents name.now)) result
         (outside (S.store_state store.old) rig sink) (outside (S.store_state store.new) rig sink) }
 {
     netlist_of_file(alloc, file, store, name)

@@ -68,7 +68,8 @@ pub fn read_image_file<S: Store>(
     ensures refused { IfErr result (StepStops (reads_image ((S.store_state store.old).contents name.now) shape.now)) }
     ensures counted { IfErr result (λ stop. StoreCounts stop (S.store_state store.old) (S.store_state store.new)) }
     // Whatever the rig and the sink are.
-    ensures took { (rig : RigState) (sink : SinkState) → Took (name.now ∷ []) (reads_image ((S.store_state store.old).contents name.now) shape.now) result
+    ensures took { (rig : RigState) (sink : SinkState) →
+        Took (name.now ∷ []) (reads_image ((S.store_state store.old).contents name.now) shape.now) result
         (outside (S.store_state store.old) rig sink) (outside (S.store_state store.new) rig sink) }
 {
     image_of_file(alloc, shape, name, store)

@@ -12,7 +12,8 @@ use tm_outside::Store;
 /// Starts a file of vectors, and reads none.
 pub fn open_vectors<S: Store>(store: &mut S, name: &str) -> Result<(), Stop>
     // Whatever the rig and the sink are.
-    ensures took { (rig : RigState) (sink : SinkState) → Took (name.now ∷ []) (opens ((S.store_state store.old).contents name.now)) result
+    ensures took { (rig : RigState) (sink : SinkState) →
+        Took (name.now ∷ []) (opens ((S.store_state store.old).contents name.now)) result
         (outside (S.store_state store.old) rig sink) (outside (S.store_state store.new) rig sink) }
     ensures begun { OnOk result ((S.store_state store.new).current ≡ Some (record { name = name.now; at = 0 })) }
 {

@@ -140,28 +140,28 @@ pub fn teramac<S: Store, K: Sink>(
     // A `go` at status 0 listed every fault, loaded an image that uses nothing listed, and wrote the rows of the design.
     ensures gone { let old = outside (S.store_state store.old) (rig_state rig.old) (K.sink_state sink.old) in
         let new = outside (S.store_state store.new) (rig_state rig.new) (K.sink_state sink.new) in
-        (machine name design vectors : List ℕ) → map string_bytes words.now ≡ codes "go" ∷ machine ∷ name ∷ design ∷ vectors ∷ [] → result ≡ 0 →
-        IsGone machine name design vectors old new }
+        (machine name design vectors : List ℕ) → map string_bytes words.now ≡ codes "go" ∷ machine ∷ name ∷ design ∷ vectors ∷ [] →
+        result ≡ 0 → IsGone machine name design vectors old new }
     // An `eval` at status 0 wrote the rows of the design.
     ensures evaled { let old = outside (S.store_state store.old) (rig_state rig.old) (K.sink_state sink.old) in
         let new = outside (S.store_state store.new) (rig_state rig.new) (K.sink_state sink.new) in
-        (design vectors : List ℕ) → map string_bytes words.now ≡ codes "eval" ∷ design ∷ vectors ∷ [] → result ≡ 0 →
-        IsEvaled design vectors old new }
+        (design vectors : List ℕ) → map string_bytes words.now ≡ codes "eval" ∷ design ∷ vectors ∷ [] →
+        result ≡ 0 → IsEvaled design vectors old new }
     // A `compile` at status 0 wrote an image of the design that uses nothing listed, and is right under all that the list covers.
     ensures compiled { let old = outside (S.store_state store.old) (rig_state rig.old) (K.sink_state sink.old) in
         let new = outside (S.store_state store.new) (rig_state rig.new) (K.sink_state sink.new) in
-        (machine defects design : List ℕ) → map string_bytes words.now ≡ codes "compile" ∷ machine ∷ defects ∷ design ∷ [] → result ≡ 0 →
-        IsCompiled machine defects design old new }
+        (machine defects design : List ℕ) → map string_bytes words.now ≡ codes "compile" ∷ machine ∷ defects ∷ design ∷ [] →
+        result ≡ 0 → IsCompiled machine defects design old new }
     // A `run` at status 0 loaded the image, drove the vectors, and wrote what was read.
     ensures ran { let old = outside (S.store_state store.old) (rig_state rig.old) (K.sink_state sink.old) in
         let new = outside (S.store_state store.new) (rig_state rig.new) (K.sink_state sink.new) in
-        (machine name image vectors : List ℕ) → map string_bytes words.now ≡ codes "run" ∷ machine ∷ name ∷ image ∷ vectors ∷ [] → result ≡ 0 →
-        IsRan machine name image vectors old new }
+        (machine name image vectors : List ℕ) → map string_bytes words.now ≡ codes "run" ∷ machine ∷ name ∷ image ∷ vectors ∷ [] →
+        result ≡ 0 → IsRan machine name image vectors old new }
     // A `diagnose` at status 0 wrote a list of the machine's defects.
     ensures diagnosed { let old = outside (S.store_state store.old) (rig_state rig.old) (K.sink_state sink.old) in
         let new = outside (S.store_state store.new) (rig_state rig.new) (K.sink_state sink.new) in
-        (machine name : List ℕ) → map string_bytes words.now ≡ codes "diagnose" ∷ machine ∷ name ∷ [] → result ≡ 0 →
-        IsDiagnosed machine name old new }
+        (machine name : List ℕ) → map string_bytes words.now ≡ codes "diagnose" ∷ machine ∷ name ∷ [] →
+        result ≡ 0 → IsDiagnosed machine name old new }
     // A `bench` at status 0 drove the vectors of its number, through an image that is right for the generated design, and wrote
     // its summary.
     ensures benched { let old = outside (S.store_state store.old) (rig_state rig.old) (K.sink_state sink.old) in
