@@ -1,0 +1,663 @@
+"""The texts of teramac: machines, faults, lists of defects and images, and what they say of each other.
+
+Every reader takes bytes and raises `Refused` with the file, the line and the kind that the program
+gives; every writer gives the one spelling that the program writes. Designs are in `designs.py`.
+"""
+
+import sys
+from bisect import bisect_right
+from dataclasses import dataclass, field
+from functools import cached_property
+from itertools import accumulate
+
+FILE_LIMIT = 16_777_216
+WIRE_LIMIT, CROSS_LIMIT, TABLE_LIMIT = 16_384, 4_194_304, 4_096
+FAULT_LIMIT, CLOSED_LIMIT = 65_536, 1_048_576
+LEVELS = ("root", "module", "chip", "hextant")
+BLANKS = b" \t\r"
+
+
+class Refused(Exception):
+    """A text that isn't in its grammar: which file, which line (of an image: which byte), what kind."""
+
+    def __init__(self, file, line, kind, name=""):
+        self.file, self.line, self.kind = file, line, kind
+        super().__init__(f"refused {file} {line} {kind}" + (f" {name}" if name else ""))
+
+
+def numeral(word, most):
+    """The number that a word spells without a leading zero, at most `most`; or None."""
+    if not word.isdigit() or not word.isascii() or (len(word) > 1 and word[0] in "0"):
+        return None
+    return int(word) if len(word) < 12 and int(word) <= most else None
+
+
+def physical_lines(data):
+    """The lines of a text with their numbers; a last line may lack its LF."""
+    lines = data.split(b"\n")
+    return enumerate(lines[:-1] if lines[-1] == b"" else lines, 1)
+
+
+def logical_lines(data, file, joined=False):
+    """The number, the words and whether a bad byte stands there, of each line that isn't passed over."""
+    if len(data) > FILE_LIMIT:
+        raise Refused(file, 0, "limit")
+    first, kept = 0, b""
+    for number, line in physical_lines(data):
+        line = line.split(b"#", 1)[0]
+        first = first or number
+        stripped = line.rstrip(BLANKS)
+        if joined and stripped.endswith(b"\\"):
+            kept += stripped[:-1] + b" "
+            continue
+        yield from words_of(first, kept + line)
+        first, kept = 0, b""
+    if first:
+        yield from words_of(first, kept)
+
+
+def words_of(number, line):
+    """The one line, unless it has no words."""
+    bad = any((byte < 32 and byte not in BLANKS) or byte == 127 for byte in line)
+    words = [word.decode("utf-8", "surrogateescape") for word in line.replace(b"\t", b" ").replace(b"\r", b" ").split(b" ") if word]
+    if words:
+        yield number, words, bad
+
+
+@dataclass(frozen=True)
+class Node:
+    """A node of the tree with its crossbar; wires and crosspoints by their numbers."""
+
+    number: int
+    level: int
+    name: str
+    parent: int
+    ports: range
+    lines: range
+    taps: list
+    first: int
+    tables: range
+
+    @property
+    def crosses(self):
+        return range(self.first, self.first + len(self.taps) * len(self.lines))
+
+
+@dataclass(frozen=True)
+class Machine:
+    """Twelve counts, in the order of the line `shape`; all numbers and names follow from them."""
+
+    counts: tuple
+
+    @property
+    def text(self):
+        m, c, h, t, p1, p2, p3, l0, l1, l2, l3, n = self.counts
+        return (
+            f"teramac 1\nmodules {m}\nchips {c}\nhextants {h}\ntables {t}\nports {p1} {p2} {p3}\n"
+            f"lines {l0} {l1} {l2} {l3}\npins {n}\nend\n"
+        )
+
+    @property
+    def table_count(self):
+        m, c, h, t = self.counts[:4]
+        return m * c * h * t
+
+    @property
+    def wire_count(self):
+        m, c, h, t, p1, p2, p3, l0, l1, l2, l3, n = self.counts
+        return n + l0 + m * (p1 + l1 + c * (p2 + l2 + h * (p3 + l3 + 7 * t)))
+
+    @property
+    def cross_count(self):
+        m, c, h, t, p1, p2, p3, l0, l1, l2, l3, n = self.counts
+        return (n + m * p1) * l0 + m * ((p1 + c * p2) * l1 + c * ((p2 + h * p3) * l2 + h * (p3 + 7 * t) * l3))
+
+    @property
+    def fits_limits(self):
+        return self.table_count <= TABLE_LIMIT and self.wire_count <= WIRE_LIMIT and self.cross_count <= CROSS_LIMIT
+
+    @cached_property
+    def nodes(self):
+        """All nodes in their order, a node before its children."""
+        return self._walk[0]
+
+    @cached_property
+    def names(self):
+        """The name of each wire."""
+        return self._walk[1]
+
+    @cached_property
+    def table_names(self):
+        return [f"{node.name}.t{k}" for node in self.nodes for k in range(len(node.tables))]
+
+    @cached_property
+    def numbers(self):
+        return {name: number for number, name in enumerate(self.names)}
+
+    @cached_property
+    def table_numbers(self):
+        return {name: number for number, name in enumerate(self.table_names)}
+
+    @cached_property
+    def places(self):
+        """The position of each tap by its crossbar's node, since a port is a tap of two; the node and position of each line."""
+        taps, lines = {}, {}
+        for node in self.nodes:
+            taps.update({(node.number, wire): k for k, wire in enumerate(node.taps)})
+            lines.update({wire: (node, k) for k, wire in enumerate(node.lines)})
+        return taps, lines
+
+    @cached_property
+    def table_pins(self):
+        """The seven pins of each table: six inputs, then the output."""
+        return [range(w, w + 7) for n in self.nodes if n.level == 3 for w in range(n.lines.stop, n.lines.stop + 7 * len(n.tables), 7)]
+
+    @cached_property
+    def pins(self):
+        return range(self.counts[11])
+
+    @cached_property
+    def _walk(self):
+        m, c, h, t, p1, p2, p3, l0, l1, l2, l3, n = self.counts
+        ports, lines, children = (0, p1, p2, p3), (l0, l1, l2, l3), (m, c, h, 0)
+        names = [f"r.p{k}" for k in range(n)]
+        heads, seen_tables = [], 0
+
+        def visit(level, name, parent):
+            nonlocal seen_tables
+            number, wire = len(heads), len(names)
+            names.extend(f"{name}.o{k}" for k in range(ports[level]))
+            names.extend(f"{name}.l{k}" for k in range(lines[level]))
+            own, mine = range(wire, wire + ports[level]), range(wire + ports[level], len(names))
+            heads.append([number, level, name, parent, own, mine, list(own) if level else list(range(n))])
+            tables = range(seen_tables, seen_tables + (t if level == 3 else 0))
+            if level == 3:
+                for k in range(t):
+                    names.extend(f"{name}.t{k}.{pin}" for pin in ("i0", "i1", "i2", "i3", "i4", "i5", "q"))
+                heads[number][6].extend(range(mine.stop, len(names)))
+                seen_tables += t
+            heads[number].append(tables)
+            letter = ("m", ".c", ".h", "")[level]
+            for k in range(children[level]):
+                below = visit(level + 1, f"{name if level else ''}{letter}{k}", number)
+                heads[number][6].extend(heads[below][4])
+            return number
+
+        visit(0, "r", -1)
+        starts = accumulate((len(head[6]) * len(head[5]) for head in heads), initial=0)
+        nodes = [Node(*head[:7], first, head[7]) for head, first in zip(heads, starts)]
+        return nodes, names
+
+    @cached_property
+    def _firsts(self):
+        return [node.first for node in self.nodes]
+
+    def cross(self, tap, line):
+        """The number of the crosspoint of two wires, or None."""
+        taps, lines = self.places
+        node, b = lines.get(line, (self.nodes[0], 0))
+        a = taps.get((node.number, tap)) if line in lines else None
+        return None if a is None else node.first + a * len(node.lines) + b
+
+    def ends(self, cross):
+        """The tap and the line of a crosspoint."""
+        node = self.node_of_cross(cross)
+        a, b = divmod(cross - node.first, len(node.lines))
+        return node.taps[a], node.lines[b]
+
+    def node_of_cross(self, cross):
+        return self.nodes[bisect_right(self._firsts, cross) - 1]
+
+    def cross_name(self, cross):
+        tap, line = self.ends(cross)
+        return f"{self.names[tap]} {self.names[line]}"
+
+
+MACHINE_WORDS = {"teramac": 2, "modules": 2, "chips": 2, "hextants": 2, "tables": 2, "ports": 4, "lines": 5, "pins": 2, "end": 1}
+
+
+def read_machine(data):
+    """The machine of a text."""
+    due, found = list(MACHINE_WORDS), {}
+    for number, words, bad in logical_lines(data, "machine"):
+        wrong = machine_fault(words, bad, due, found)
+        if wrong:
+            raise Refused("machine", number, wrong)
+    if due:
+        raise Refused("machine", 0, "missing")
+    return counted(found)
+
+
+def counted(found):
+    single = [found[word][0] for word in ("modules", "chips", "hextants", "tables")]
+    return Machine(tuple(single + found["ports"] + found["lines"] + found["pins"]))
+
+
+def machine_fault(words, bad, due, found):
+    """Takes the line as the next one that is due, or says what is wrong with it."""
+    if bad:
+        return "byte"
+    if not due:
+        return "after"
+    if words[0] not in MACHINE_WORDS:
+        return "word"
+    if words[0] != due[0]:
+        return "order"
+    if len(words) != MACHINE_WORDS[words[0]] or (words[0] == "teramac" and words[1] != "1"):
+        return "word"
+    counts = [numeral(word, 65_535) for word in words[1:]]
+    if not all(counts):
+        return "number"
+    found[due.pop(0)] = counts
+    if not due and not counted(found).fits_limits:
+        return "limit"
+    return None
+
+
+@dataclass
+class Faults:
+    """The faults of a machine by numbers: wires, crosspoints, (table, address) and tables with values, pairs of wires."""
+
+    stuck0: set = field(default_factory=set)
+    stuck1: set = field(default_factory=set)
+    opened: set = field(default_factory=set)
+    closed: set = field(default_factory=set)
+    cells: dict = field(default_factory=dict)
+    registers: dict = field(default_factory=dict)
+    bridges: set = field(default_factory=set)
+
+    @property
+    def stuck(self):
+        return self.stuck0 | self.stuck1
+
+    @property
+    def bad_tables(self):
+        return {table for table, _ in self.cells} | set(self.registers)
+
+    def __len__(self):
+        return sum(map(len, vars(self).values()))
+
+    def add(self, kind, at, value=None):
+        """Puts a fault in; the kind of the refusal where it stands there or against another, else None."""
+        if kind in ("cell", "register"):
+            here = self.cells if kind == "cell" else self.registers
+            if at in here:
+                return "doubled" if here[at] == value else "against"
+            here[at] = value
+            return None
+        pairs = {"stuck0": (self.stuck0, self.stuck1), "stuck1": (self.stuck1, self.stuck0)}
+        pairs.update({"open": (self.opened, self.closed), "closed": (self.closed, self.opened), "bridge": (self.bridges, ())})
+        here, against = pairs[kind]
+        if at in here or at in against:
+            return "doubled" if at in here else "against"
+        here.add(at)
+        return None
+
+
+FAULT_WORDS = {"stuck0": 2, "stuck1": 2, "open": 3, "closed": 3, "cell": 4, "register": 3, "bridge": 3}
+
+
+def read_faults(machine, data):
+    """The faults of a text on a machine."""
+    faults = Faults()
+    for number, words, bad in logical_lines(data, "faults"):
+        wrong = "byte" if bad else fault_entry(machine, words, faults)
+        if wrong:
+            raise Refused("faults", number, wrong)
+    return faults
+
+
+def fault_entry(machine, words, faults):
+    """Puts the entry of a line in, or says what is wrong with it."""
+    kind = words[0]
+    if FAULT_WORDS.get(kind) != len(words):
+        return "word"
+    if kind in ("cell", "register"):
+        table, value = machine.table_numbers.get(words[1]), {"0": 0, "1": 1}.get(words[-1])
+        address = numeral(words[2], 63) if kind == "cell" else 0
+        if None in (table, value, address):
+            return kind
+        at = (table, address) if kind == "cell" else table
+    else:
+        value, wires = None, [machine.numbers.get(word) for word in words[1:]]
+        if None in wires:
+            return "wire"
+        at = wires[0] if kind.startswith("stuck") else tuple(sorted(wires))
+        if kind in ("open", "closed"):
+            at = machine.cross(*wires)
+        if at is None:
+            return "cross"
+        if kind == "bridge" and wires[0] == wires[1]:
+            return "same"
+    full = len(faults) >= FAULT_LIMIT
+    return ("limit" if full and may_add(faults, kind, at, value) else None) or faults.add(kind, at, value)
+
+
+def may_add(faults, kind, at, value):
+    """Whether the entry is neither there nor against another, for the order of the refusals."""
+    trial = Faults(*(type(part)(part) for part in vars(faults).values()))
+    return trial.add(kind, at, value) is None
+
+
+def faults_text(machine, faults):
+    """The spelling that the program itself would write: by kind, then by number."""
+    wires, tables = machine.names, machine.table_names
+    lines = [f"stuck0 {wires[w]}" for w in sorted(faults.stuck0)] + [f"stuck1 {wires[w]}" for w in sorted(faults.stuck1)]
+    lines += [f"open {machine.cross_name(c)}" for c in sorted(faults.opened)]
+    lines += [f"closed {machine.cross_name(c)}" for c in sorted(faults.closed)]
+    lines += [f"cell {tables[t]} {a} {value}" for (t, a), value in sorted(faults.cells.items())]
+    lines += [f"register {tables[t]} {value}" for t, value in sorted(faults.registers.items())]
+    lines += [f"bridge {wires[a]} {wires[b]}" for a, b in sorted(faults.bridges)]
+    return "".join(line + "\n" for line in lines)
+
+
+def short_groups(machine, faults):
+    """The sets of at least two wires that crosspoints stuck closed and bridges hold together."""
+    return groups(list(faults.bridges) + [machine.ends(cross) for cross in faults.closed])
+
+
+def groups(pairs):
+    """The sets that pairs hold together, ascending by their least member."""
+    above = {}
+
+    def top(wire):
+        while above.setdefault(wire, wire) != wire:
+            above[wire] = wire = above[above[wire]]
+        return wire
+
+    for a, b in pairs:
+        a, b = sorted((top(a), top(b)))
+        above[b] = a
+    found = {}
+    for wire in sorted(above):
+        found.setdefault(top(wire), []).append(wire)
+    return list(found.values())
+
+
+@dataclass
+class Defects:
+    """A list of defects by numbers: wires, crosspoints, tables."""
+
+    wires: set = field(default_factory=set)
+    crosses: set = field(default_factory=set)
+    tables: set = field(default_factory=set)
+
+    def is_free_cross(self, machine, cross):
+        return cross not in self.crosses and self.wires.isdisjoint(machine.ends(cross))
+
+    def is_free_table(self, machine, table):
+        return table not in self.tables and self.wires.isdisjoint(machine.table_pins[table])
+
+
+def exact_list(machine, faults):
+    """The shortest kind of list that covers the faults: of wires shorted to each other and to nothing stuck one stays."""
+    lines = machine.places[1]
+    wires = set(faults.stuck)
+    for group in short_groups(machine, faults):
+        kept = max(group, key=lambda wire: (wire not in lines, -wire)) if faults.stuck.isdisjoint(group) else None
+        wires.update(wire for wire in group if wire != kept)
+    crosses = {c for c in faults.opened | faults.closed if wires.isdisjoint(machine.ends(c))}
+    tables = {t for t in faults.bad_tables if wires.isdisjoint(machine.table_pins[t])}
+    return Defects(wires, crosses, tables)
+
+
+def sound_wires(machine, faults):
+    """Which wires are neither stuck nor shorted to another."""
+    return set(range(machine.wire_count)) - faults.stuck - {wire for group in short_groups(machine, faults) for wire in group}
+
+
+def sound_listed(machine, faults, defects):
+    """How many sound wires, crosspoints and tables a list holds."""
+    sound = sound_wires(machine, faults)
+    stuck = faults.opened | faults.closed
+    crosses = sum(c not in stuck and sound.issuperset(machine.ends(c)) for c in defects.crosses)
+    tables = sum(t not in faults.bad_tables and sound.issuperset(machine.table_pins[t]) for t in defects.tables)
+    return len(sound & defects.wires), crosses, tables
+
+
+def read_defects(machine, data):
+    """The list of a text on a machine."""
+    if len(data) > FILE_LIMIT:
+        raise Refused("defects", 0, "limit")
+    lines = data.split(b"\n")
+    defects, last, ended = Defects(), (0, -1), False
+    for number, line in enumerate(lines[:-1], 1):
+        if ended:
+            raise Refused("defects", number, "after")
+        words = [word.decode("utf-8", "surrogateescape") for word in line.split(b" ")]
+        if not has_right_form(words, number):
+            raise Refused("defects", number, "word")
+        ended = words[0] == "end"
+        if words[0] == "shape" and tuple(map(int, words[1:])) != machine.counts:
+            raise Refused("defects", number, "machine")
+        if words[0] in ENTRY_KINDS:
+            last = defects_entry(machine, words, number, last, defects)
+    if not ended or lines[-1]:
+        raise Refused("defects", len(lines), "after" if ended else "word")
+    return defects
+
+
+ENTRY_KINDS = ("wire", "cross", "table")
+FORMS = {"defects": 2, "shape": 13, "wire": 2, "cross": 3, "table": 2, "end": 1}
+
+
+def has_right_form(words, number):
+    if FORMS.get(words[0]) != len(words) or "" in words:
+        return False
+    if words[0] == "shape" and None in [numeral(word, 65_535) for word in words[1:]]:
+        return False
+    if words[0] == "defects" and words[1] != "1":
+        return False
+    return number == {"defects": 1, "shape": 2}.get(words[0], max(number, 3))
+
+
+def defects_entry(machine, words, number, last, defects):
+    """Puts an entry in; gives its place in the order."""
+    kind = ENTRY_KINDS.index(words[0])
+    if kind == 2:
+        at = machine.table_numbers.get(words[1])
+        wires = () if at is None else machine.table_pins[at]
+    else:
+        wires = [machine.numbers.get(word) for word in words[1:]]
+        at = None if None in wires else machine.cross(*wires) if kind else wires[0]
+    if at is None:
+        raise Refused("defects", number, "name")
+    if (kind, at) < last:
+        raise Refused("defects", number, "order")
+    if (kind, at) == last or not defects.wires.isdisjoint(wires):
+        raise Refused("defects", number, "doubled")
+    (defects.wires, defects.crosses, defects.tables)[kind].add(at)
+    return kind, at
+
+
+def defects_text(machine, defects):
+    shape = " ".join(map(str, machine.counts))
+    lines = ["defects 1", f"shape {shape}"] + [f"wire {machine.names[w]}" for w in sorted(defects.wires)]
+    lines += [f"cross {machine.cross_name(c)}" for c in sorted(defects.crosses)]
+    lines += [f"table {machine.table_names[t]}" for t in sorted(defects.tables)]
+    return "".join(line + "\n" for line in lines + ["end"])
+
+
+@dataclass
+class Image:
+    """A configuration with its pins; a table is its number, two flags and 64 cells."""
+
+    ticks: int
+    inputs: list
+    outputs: list
+    tables: list
+    crosses: list
+
+    def nets(self, machine):
+        """The groups of wires that the closed crosspoints join, by their least wire."""
+        return groups(map(machine.ends, self.crosses))
+
+
+class Bytes:
+    """Reads numbers off an image, one field after the other."""
+
+    def __init__(self, data):
+        self.data, self.at = data, 0
+
+    def number(self, size, right=lambda number: True, kind="range"):
+        start = self.at
+        if start + size > len(self.data):
+            raise Refused("image", len(self.data), "short")
+        found = int.from_bytes(self.data[start : start + size], "big")
+        if not right(found):
+            raise Refused("image", start, kind)
+        self.at += size
+        return found
+
+    def ascending(self, size, below, last):
+        """A number below a bound, above the last one."""
+        found = self.number(size, lambda number: number < below)
+        if found <= last:
+            raise Refused("image", self.at - size, "order")
+        return found
+
+
+def read_image(machine, data):
+    """The image of the bytes on a machine."""
+    if len(data) > FILE_LIMIT:
+        raise Refused("image", 0, "limit")
+    source = Bytes(data)
+    source.number(8, lambda number: number.to_bytes(8, "big") == b"TERAIMG1", "magic")
+    for count in machine.counts:
+        source.number(2, lambda number, count=count: number == count, "shape")
+    ticks = source.number(2, lambda number: 1 <= number <= 4_096)
+    sizes, pins = [source.number(2), source.number(2)], []
+    for _ in range(sum(sizes)):
+        pin = source.number(2, lambda number: number < machine.counts[11])
+        if pin in pins:
+            raise Refused("image", source.at - 2, "order")
+        pins.append(pin)
+    tables = []
+    for _ in range(source.number(2, lambda number: number <= machine.table_count)):
+        table = source.ascending(2, machine.table_count, tables[-1][0] if tables else -1)
+        flags = source.number(1, lambda number: number <= 3)
+        tables.append((table, bool(flags & 1), flags >> 1, source.number(8)))
+    crosses = []
+    for _ in range(source.number(4, lambda number: number <= min(CLOSED_LIMIT, machine.cross_count))):
+        crosses.append(source.ascending(4, machine.cross_count, crosses[-1] if crosses else -1))
+    if source.at != len(data):
+        raise Refused("image", source.at, "after")
+    return Image(ticks, pins[: sizes[0]], pins[sizes[0] :], tables, crosses)
+
+
+def image_bytes(machine, image):
+    words = [*machine.counts, image.ticks, len(image.inputs), len(image.outputs), *image.inputs, *image.outputs, len(image.tables)]
+    parts = [b"TERAIMG1"] + [word.to_bytes(2, "big") for word in words]
+    for table, latched, initial, cells in image.tables:
+        parts.append(table.to_bytes(2, "big") + bytes([latched + 2 * initial]) + cells.to_bytes(8, "big"))
+    return b"".join(parts + [number.to_bytes(4, "big") for number in [len(image.crosses), *image.crosses]])
+
+
+@dataclass
+class Design:
+    """A flattened design; a signal is (place of its instance, name), and prints as the two strung together."""
+
+    inputs: list
+    outputs: list
+    covers: list = field(default_factory=list)
+    latches: list = field(default_factory=list)
+
+    @property
+    def signals(self):
+        """Every signal once: inputs, then latches, then covers."""
+        driven = self.inputs + [latch[1] for latch in self.latches] + [cover[1] for cover in self.covers]
+        return list(dict.fromkeys(driven))
+
+
+def read_design(data):
+    """The design of a BLIF text that the program takes. What it refuses is refused here only where it can't be read."""
+    models, order = {}, []
+    for number, words, bad in logical_lines(data, "design", joined=True):
+        if bad:
+            raise Refused("design", number, "byte")
+        if words[0] == ".model":
+            order.append(" ".join(words[1:]))
+            models[order[-1]] = {".inputs": [], ".outputs": [], "body": []}
+        elif not order:
+            raise Refused("design", number, "nomodel")
+        else:
+            design_line(models[order[-1]], number, words)
+    if not order:
+        raise Refused("design", 0, "nomodel")
+    top = models[order[0]]
+    design = Design([("", name) for name in top[".inputs"]], [("", name) for name in top[".outputs"]])
+    substitute(models, top, "", {}, design, 0)
+    return design
+
+
+def design_line(model, number, words):
+    kind, rest = words[0], words[1:]
+    if kind in (".inputs", ".outputs"):
+        model[kind].extend(rest)
+    elif kind in (".names", ".latch", ".subckt"):
+        if len(rest) < {".names": 1, ".latch": 2, ".subckt": 1}[kind]:
+            raise Refused("design", number, "word")
+        model["body"].append((kind, rest, [], number))
+    elif not kind.startswith("."):
+        if not model["body"] or model["body"][-1][0] != ".names":
+            raise Refused("design", number, "word")
+        model["body"][-1][2].append(words)
+    elif kind not in (".clock", ".end", ".param", ".attr", ".cname"):
+        raise Refused("design", number, "leftout")
+
+
+def substitute(models, model, place, actuals, design, depth):
+    """Adds the lines of a model, where `actuals` says what its formals are; every other signal is a new one."""
+    instances = 0
+    for kind, words, rows, number in model["body"]:
+        if kind == ".subckt":
+            below = models.get(words[0])
+            if below is None or depth > len(models):
+                raise Refused("design", number, "nosuchmodel" if below is None else "recursive", words[0])
+            given = dict(word.split("=", 1) for word in words[1:])
+            given = {formal: actuals.get(name, (place, name)) for formal, name in given.items()}
+            substitute(models, below, f"{place}{instances}/", given, design, depth + 1)
+            instances += 1
+            continue
+        signals = [actuals.get(word, (place, word)) for word in words[: 2 if kind == ".latch" else None]]
+        if kind == ".latch":
+            design.latches.append((signals[0], signals[1], int(len(words) in (3, 5) and words[-1] == "1")))
+            continue
+        patterns = ["".join(row[:-1]) for row in rows]
+        if any(len(pattern) != len(signals) - 1 for pattern in patterns):
+            raise Refused("design", number, "row")
+        design.covers.append((signals[:-1], signals[-1], patterns, bool(rows) and rows[0][-1] == "0"))
+
+
+def read_file(path):
+    """The bytes of a file, or an end of the script with a line that says what is wrong."""
+    try:
+        with open(path, "rb") as file:
+            return file.read()
+    except OSError as error:
+        sys.exit(f"{path}: {error.strerror}")
+
+
+def read_text(reader, path, *before):
+    """What a reader makes of a file, or an end of the script with the refusal."""
+    try:
+        return reader(*before, read_file(path))
+    except Refused as refusal:
+        sys.exit(f"{path}: {refusal}")
+
+
+def write_new(path, data):
+    """Writes a file that isn't there yet; `-` is the standard output."""
+    data = data if isinstance(data, bytes) else data.encode("utf-8", "surrogateescape")
+    if path == "-":
+        sys.stdout.buffer.write(data)
+        return
+    try:
+        with open(path, "xb") as file:
+            file.write(data)
+    except FileExistsError:
+        sys.exit(f"{path}: stands there already; nothing was written")
+    except OSError as error:
+        sys.exit(f"{path}: {error.strerror}")
+
+
