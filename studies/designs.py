@@ -3,6 +3,7 @@
 from collections import Counter
 from dataclasses import dataclass
 from functools import reduce
+from graphlib import TopologicalSorter
 
 
 @dataclass
@@ -95,19 +96,7 @@ def design_values(design, vectors):
 def cover_order(design):
     """The covers, each behind those that it reads."""
     of = {cover[1]: cover for cover in design.covers}
-    done, order = set(design.inputs) | {latch[1] for latch in design.latches}, []
-    for start in of:
-        stack = [start]
-        while stack:
-            waits = [name for name in of[stack[-1]][0] if name not in done] if stack[-1] not in done else []
-            if waits:
-                stack.extend(waits[:1])
-                continue
-            signal = stack.pop()
-            if signal not in done:
-                done.add(signal)
-                order.append(of[signal])
-    return order
+    return [of[signal] for signal in TopologicalSorter({cover[1]: of.keys() & cover[0] for cover in design.covers}).static_order()]
 
 
 def image_values(machine, image, vectors):

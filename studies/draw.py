@@ -148,7 +148,7 @@ def draw_node(svg, picture, node, x, y):
         middle = left + CELL * k + CELL / 2
         draw_wire(svg, picture, wire, (middle, top - 3, middle, top + height))
     for cross in sorted(picture.crosses.keys() | picture.closed):
-        if cross in node.crosses:
+        if 0 <= cross - node.first < len(node.taps) * len(node.lines):
             draw_cross(svg, picture, node, cross, left, top)
     for k, table in enumerate(node.tables):
         first = top + CELL * (len(node.taps) - 7 * (len(node.tables) - k))

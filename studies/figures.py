@@ -62,7 +62,7 @@ def seconds(rows, where):
     for k, kind in enumerate(("exact", "diagnosed")):
         part = rows[(rows["list"] == kind) & (rows["seconds"] > 0)]
         named = "compile and run on the exact list" if kind == "exact" else "diagnosis, compile and run"
-        axes.scatter(part["crosspoints"] * (1 + 0.05 * (k - 0.5)), part["seconds"], s=9, alpha=0.5, color=f"C{k}", label=named)
+        axes.scatter(part["crosspoints"], part["seconds"], s=9, alpha=0.5, color=f"C{k}", label=named)
     axes.set(xscale="log", yscale="log")
     axes.legend(fontsize=8)
     return shown

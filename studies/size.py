@@ -25,19 +25,19 @@ def spared(count, spare):
     return max(1, math.ceil(count * (1 + spare) - 1e-9))
 
 
-def machine_for(network, tree, spare):
-    """The machine on this tree with what the plan wants and so much to spare."""
+def counts_for(network, tree, spare):
+    """The counts of a machine on this tree with what the plan wants and so much to spare."""
     modules, chips, hextants = tree
     tables = -(-spared(len(network.tables), spare) // (modules * chips * hextants))
     ports, lines = designs.needs(network, modules, chips, hextants, tables)
     wanted = [spared(count, spare) for count in ports + lines + [network.inputs + len(network.outputs)]]
-    return texts.Machine((modules, chips, hextants, tables, *wanted))
+    return (modules, chips, hextants, tables, *wanted)
 
 
 def best_machine(network, trees, spare):
     """Of the trees the one with the fewest crosspoints, within the limits of a machine."""
-    found = [machine_for(network, tree, spare) for tree in trees]
-    found = [machine for machine in found if machine.fits_limits]
+    found = [counts_for(network, tree, spare) for tree in trees]
+    found = [texts.Machine(counts) for counts in found if texts.are_within_limits(counts)]
     if not found:
         sys.exit("no machine within the limits (16,384 wires, 4,194,304 crosspoints, 4,096 tables) holds this design")
     return min(found, key=lambda machine: machine.cross_count)

@@ -7,7 +7,6 @@ gives; every writer gives the one spelling that the program writes. Designs are 
 import sys
 from bisect import bisect_right
 from dataclasses import dataclass, field
-from functools import cached_property
 from itertools import accumulate
 
 FILE_LIMIT = 16_777_216
@@ -64,30 +63,55 @@ def words_of(number, line):
         yield number, words, bad
 
 
-@dataclass(frozen=True)
+@dataclass
 class Node:
-    """A node of the tree with its crossbar; wires and crosspoints by their numbers."""
+    """A node of the tree with its crossbar; ports, lines, taps and tables by their numbers, `first` its first crosspoint."""
 
     number: int
     level: int
     name: str
-    parent: int
     ports: range
     lines: range
     taps: list
-    first: int
     tables: range
-
-    @property
-    def crosses(self):
-        return range(self.first, self.first + len(self.taps) * len(self.lines))
+    first: int = 0
 
 
-@dataclass(frozen=True)
 class Machine:
-    """Twelve counts, in the order of the line `shape`; all numbers and names follow from them."""
+    """Twelve counts, in the order of the line `shape`, and the numbers and names that follow from them."""
 
-    counts: tuple
+    def __init__(self, counts):
+        self.counts = tuple(counts)
+        m, c, h, self._tables, p1, p2, p3, l0, l1, l2, l3, n = self.counts
+        self._levels = [(0, l0, m, "m"), (p1, l1, c, ".c"), (p2, l2, h, ".h"), (p3, l3, 0, "")]
+        self.pins, self.names, self.nodes, self.table_pins = range(n), [f"r.p{k}" for k in range(n)], [], []
+        self._add(0, "r")
+        starts = list(accumulate((len(node.taps) * len(node.lines) for node in self.nodes), initial=0))
+        for node, first in zip(self.nodes, starts):
+            node.first = first
+        self._firsts, self.cross_count = starts[:-1], starts[-1]
+        self.table_names = [f"{node.name}.t{k}" for node in self.nodes for k in range(len(node.tables))]
+        self.wire_count, self.table_count = len(self.names), len(self.table_names)
+        self.numbers = {name: number for number, name in enumerate(self.names)}
+        self.table_numbers = {name: number for number, name in enumerate(self.table_names)}
+        self.lines = {wire: (node, k) for node in self.nodes for k, wire in enumerate(node.lines)}
+        self._taps = {(node.number, wire): k for node in self.nodes for k, wire in enumerate(node.taps)}
+
+    def _add(self, level, name):
+        """Adds a node and all below it in the order of their numbers."""
+        ports, lines, children, letter = self._levels[level]
+        wires, tables = self.names, self._tables if level == 3 else 0
+        at = len(wires)
+        own, first = range(at, at + ports), len(self.table_pins)
+        node = Node(len(self.nodes), level, name, own, range(own.stop, own.stop + lines), list(own or self.pins), range(first, first + tables))
+        self.nodes.append(node)
+        wires += [f"{name}.o{k}" for k in range(ports)] + [f"{name}.l{k}" for k in range(lines)]
+        self.table_pins += [range(w, w + 7) for w in range(len(wires), len(wires) + 7 * tables, 7)]
+        node.taps += range(len(wires), len(wires) + 7 * tables)
+        wires += [f"{name}.t{k}.{pin}" for k in range(tables) for pin in ("i0", "i1", "i2", "i3", "i4", "i5", "q")]
+        for k in range(children):
+            node.taps += self._add(level + 1, f"{name if level else ''}{letter}{k}").ports
+        return node
 
     @property
     def text(self):
@@ -97,107 +121,14 @@ class Machine:
             f"lines {l0} {l1} {l2} {l3}\npins {n}\nend\n"
         )
 
-    @property
-    def table_count(self):
-        m, c, h, t = self.counts[:4]
-        return m * c * h * t
-
-    @property
-    def wire_count(self):
-        m, c, h, t, p1, p2, p3, l0, l1, l2, l3, n = self.counts
-        return n + l0 + m * (p1 + l1 + c * (p2 + l2 + h * (p3 + l3 + 7 * t)))
-
-    @property
-    def cross_count(self):
-        m, c, h, t, p1, p2, p3, l0, l1, l2, l3, n = self.counts
-        return (n + m * p1) * l0 + m * ((p1 + c * p2) * l1 + c * ((p2 + h * p3) * l2 + h * (p3 + 7 * t) * l3))
-
-    @property
-    def fits_limits(self):
-        return self.table_count <= TABLE_LIMIT and self.wire_count <= WIRE_LIMIT and self.cross_count <= CROSS_LIMIT
-
-    @cached_property
-    def nodes(self):
-        """All nodes in their order, a node before its children."""
-        return self._walk[0]
-
-    @cached_property
-    def names(self):
-        """The name of each wire."""
-        return self._walk[1]
-
-    @cached_property
-    def table_names(self):
-        return [f"{node.name}.t{k}" for node in self.nodes for k in range(len(node.tables))]
-
-    @cached_property
-    def numbers(self):
-        return {name: number for number, name in enumerate(self.names)}
-
-    @cached_property
-    def table_numbers(self):
-        return {name: number for number, name in enumerate(self.table_names)}
-
-    @cached_property
-    def places(self):
-        """The position of each tap by its crossbar's node, since a port is a tap of two; the node and position of each line."""
-        taps, lines = {}, {}
-        for node in self.nodes:
-            taps.update({(node.number, wire): k for k, wire in enumerate(node.taps)})
-            lines.update({wire: (node, k) for k, wire in enumerate(node.lines)})
-        return taps, lines
-
-    @cached_property
-    def table_pins(self):
-        """The seven pins of each table: six inputs, then the output."""
-        return [range(w, w + 7) for n in self.nodes if n.level == 3 for w in range(n.lines.stop, n.lines.stop + 7 * len(n.tables), 7)]
-
-    @cached_property
-    def pins(self):
-        return range(self.counts[11])
-
-    @cached_property
-    def _walk(self):
-        m, c, h, t, p1, p2, p3, l0, l1, l2, l3, n = self.counts
-        ports, lines, children = (0, p1, p2, p3), (l0, l1, l2, l3), (m, c, h, 0)
-        names = [f"r.p{k}" for k in range(n)]
-        heads, seen_tables = [], 0
-
-        def visit(level, name, parent):
-            nonlocal seen_tables
-            number, wire = len(heads), len(names)
-            names.extend(f"{name}.o{k}" for k in range(ports[level]))
-            names.extend(f"{name}.l{k}" for k in range(lines[level]))
-            own, mine = range(wire, wire + ports[level]), range(wire + ports[level], len(names))
-            heads.append([number, level, name, parent, own, mine, list(own) if level else list(range(n))])
-            tables = range(seen_tables, seen_tables + (t if level == 3 else 0))
-            if level == 3:
-                for k in range(t):
-                    names.extend(f"{name}.t{k}.{pin}" for pin in ("i0", "i1", "i2", "i3", "i4", "i5", "q"))
-                heads[number][6].extend(range(mine.stop, len(names)))
-                seen_tables += t
-            heads[number].append(tables)
-            letter = ("m", ".c", ".h", "")[level]
-            for k in range(children[level]):
-                below = visit(level + 1, f"{name if level else ''}{letter}{k}", number)
-                heads[number][6].extend(heads[below][4])
-            return number
-
-        visit(0, "r", -1)
-        starts = accumulate((len(head[6]) * len(head[5]) for head in heads), initial=0)
-        nodes = [Node(*head[:7], first, head[7]) for head, first in zip(heads, starts)]
-        return nodes, names
-
-    @cached_property
-    def _firsts(self):
-        return [node.first for node in self.nodes]
-
     def cross(self, tap, line):
         """The number of the crosspoint of two wires, or None."""
-        taps, lines = self.places
-        node, b = lines.get(line, (self.nodes[0], 0))
-        a = taps.get((node.number, tap)) if line in lines else None
+        node, b = self.lines.get(line, (self.nodes[0], 0))
+        a = self._taps.get((node.number, tap)) if line in self.lines else None
         return None if a is None else node.first + a * len(node.lines) + b
+
+    def node_of_cross(self, cross):
+        return self.nodes[bisect_right(self._firsts, cross) - 1]
 
     def ends(self, cross):
         """The tap and the line of a crosspoint."""
@@ -205,12 +136,16 @@ class Machine:
         a, b = divmod(cross - node.first, len(node.lines))
         return node.taps[a], node.lines[b]
 
-    def node_of_cross(self, cross):
-        return self.nodes[bisect_right(self._firsts, cross) - 1]
-
     def cross_name(self, cross):
-        tap, line = self.ends(cross)
-        return f"{self.names[tap]} {self.names[line]}"
+        return " ".join(self.names[wire] for wire in self.ends(cross))
+
+
+def are_within_limits(counts):
+    """Whether a machine may have these counts."""
+    m, c, h, t, p1, p2, p3, l0, l1, l2, l3, n = counts
+    wires = n + l0 + m * (p1 + l1 + c * (p2 + l2 + h * (p3 + l3 + 7 * t)))
+    crosses = (n + m * p1) * l0 + m * ((p1 + c * p2) * l1 + c * ((p2 + h * p3) * l2 + h * (p3 + 7 * t) * l3))
+    return m * c * h * t <= TABLE_LIMIT and wires <= WIRE_LIMIT and crosses <= CROSS_LIMIT
 
 
 MACHINE_WORDS = {"teramac": 2, "modules": 2, "chips": 2, "hextants": 2, "tables": 2, "ports": 4, "lines": 5, "pins": 2, "end": 1}
@@ -225,12 +160,7 @@ def read_machine(data):
             raise Refused("machine", number, wrong)
     if due:
         raise Refused("machine", 0, "missing")
-    return counted(found)
-
-
-def counted(found):
-    single = [found[word][0] for word in ("modules", "chips", "hextants", "tables")]
-    return Machine(tuple(single + found["ports"] + found["lines"] + found["pins"]))
+    return Machine(sum(list(found.values())[1:], []))
 
 
 def machine_fault(words, bad, due, found):
@@ -249,9 +179,7 @@ def machine_fault(words, bad, due, found):
     if not all(counts):
         return "number"
     found[due.pop(0)] = counts
-    if not due and not counted(found).fits_limits:
-        return "limit"
-    return None
+    return None if due or are_within_limits(sum(list(found.values())[1:], [])) else "limit"
 
 
 @dataclass
@@ -329,14 +257,7 @@ def fault_entry(machine, words, faults):
             return "cross"
         if kind == "bridge" and wires[0] == wires[1]:
             return "same"
-    full = len(faults) >= FAULT_LIMIT
-    return ("limit" if full and may_add(faults, kind, at, value) else None) or faults.add(kind, at, value)
-
-
-def may_add(faults, kind, at, value):
-    """Whether the entry is neither there nor against another, for the order of the refusals."""
-    trial = Faults(*(type(part)(part) for part in vars(faults).values()))
-    return trial.add(kind, at, value) is None
+    return faults.add(kind, at, value) or ("limit" if len(faults) > FAULT_LIMIT else None)
 
 
 def faults_text(machine, faults):
@@ -391,7 +312,7 @@ class Defects:
 
 def exact_list(machine, faults):
     """The shortest kind of list that covers the faults: of wires shorted to each other and to nothing stuck one stays."""
-    lines = machine.places[1]
+    lines = machine.lines
     wires = set(faults.stuck)
     for group in short_groups(machine, faults):
         kept = max(group, key=lambda wire: (wire not in lines, -wire)) if faults.stuck.isdisjoint(group) else None

@@ -95,7 +95,7 @@ class Against(unittest.TestCase):
             wrong, found = self.verdict(texts.read_machine, data.encode())
             self.expect(wrong, call(DEFAULT, "diagnose", self.put("machine", data), "no-such-file"), "machine")
             if data == machine.text:
-                self.assertEqual(found, machine)
+                self.assertEqual(found.counts, machine.counts)
 
     def test_faults(self):
         for _ in range(TURNS):
