@@ -15,10 +15,6 @@ class Network:
     latched: list
     outputs: list
 
-    @property
-    def nets(self):
-        return self.inputs + len(self.tables)
-
 
 def plain_network(design):
     """The network that decides about room: cover by cover, then latch by latch."""
@@ -51,7 +47,7 @@ def plain_network(design):
 def needs(network, modules, chips, hextants, tables):
     """The ports and the lines that the plan in order wants: for each level the most of any node, from the root down."""
     ports, lines = [Counter() for _ in range(4)], [Counter() for _ in range(4)]
-    pins, ends = Counter(range(network.inputs)) + Counter(network.outputs), [Counter() for _ in range(network.nets)]
+    pins, ends = Counter(range(network.inputs)) + Counter(network.outputs), [Counter() for _ in range(network.inputs + len(network.tables))]
     for k, sources in enumerate(network.tables):
         ends[network.inputs + k][k // tables] += 1
         for source in sources:

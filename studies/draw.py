@@ -47,7 +47,7 @@ def marks(machine, faults, defects):
     bad = [set(), set(), set()]
     if faults:
         shorted = {wire for group in texts.short_groups(machine, faults) for wire in left_over(faults, defects, group)}
-        bad = [faults.stuck | shorted, faults.opened | faults.closed, faults.bad_tables]
+        bad = [faults.stuck | shorted, faults.crosses, faults.tables]
     if not defects:
         return [dict.fromkeys(part, FOUND) for part in bad]
     listed = [defects.wires, defects.crosses, defects.tables]
@@ -74,7 +74,7 @@ def net_names(machine, image, design):
     vectors = [[chance.randrange(2) for _ in design.inputs] for _ in range(CYCLES)]
     nets, values = designs.image_values(machine, image, vectors)
     history, by_values = designs.design_values(design, vectors), {}
-    for signal in design.outputs + design.signals:
+    for signal in design.outputs + design.inputs + [latch[1] for latch in design.latches] + [cover[1] for cover in design.covers]:
         by_values.setdefault(history[signal], "".join(signal))
     names = {k: by_values[value] for k, value in enumerate(values) if value in by_values}
     pins = list(zip(image.outputs, design.outputs)) + list(zip(image.inputs, design.inputs))
@@ -93,8 +93,8 @@ class Svg:
         self.parts.append(f'<rect x="{x}" y="{y}" width="{width}" height="{height}" fill="{fill}"{more}/>')
         self.width, self.height = max(self.width, x + width), max(self.height, y + height)
 
-    def line(self, x1, y1, x2, y2, colour, width):
-        self.parts.append(f'<path d="M{x1} {y1}L{x2} {y2}" stroke="{colour}" stroke-width="{width}"/>')
+    def line(self, ends, colour, width):
+        self.parts.append('<path d="M{} {}L{} {}"'.format(*ends) + f' stroke="{colour}" stroke-width="{width}"/>')
 
     def dot(self, x, y, radius, colour, title):
         shown = f"<title>{escape(title)}</title>"
@@ -106,8 +106,8 @@ class Svg:
 
     def whole(self):
         width, height = self.width + MARGIN, self.height + MARGIN
-        head = f'<svg xmlns="http://www.w3.org/2000/svg" width="{width}" height="{height}" font-family="sans-serif" font-size="8" fill="none">'
-        return "\n".join([head, f'<rect width="{width}" height="{height}" fill="white"/>', '<g fill="#222222">', *self.parts, "</g>", "</svg>", ""])
+        head = f'<svg xmlns="http://www.w3.org/2000/svg" width="{width}" height="{height}" font-family="sans-serif" font-size="8">'
+        return "\n".join([head, '<rect width="100%" height="100%" fill="white"/><g fill="#222222">', *self.parts, "</g></svg>", ""])
 
 
 def node_size(node):
@@ -131,13 +131,13 @@ def layout(nodes, top):
 
 def short_name(machine, wire):
     """A wire's name within its node."""
-    return machine.names[wire].replace(".t", " t").split(".", machine.names[wire].count(".") - (1 if ".t" in machine.names[wire] else 0))[-1]
+    return " ".join(machine.names[wire].rsplit(".", 2 if ".t" in machine.names[wire] else 1)[1:])
 
 
 def draw_node(svg, picture, node, x, y):
     """A crossbar: rows of taps, columns of lines, marks, and the closed crosspoints of the nets."""
     machine, left, top = picture.machine, x + LABEL, y + GAP
-    svg.text(x, y + 10, f"{node.name}", ' font-size="11" font-weight="bold"')
+    svg.text(x, y + 10, node.name, ' font-size="11" font-weight="bold"')
     width, height = CELL * len(node.lines), CELL * len(node.taps)
     svg.rect(left, top, width, height, "#f3f4f6", ' stroke="#c9ccd1" stroke-width="0.5"')
     for k, wire in enumerate(node.taps):
@@ -159,9 +159,9 @@ def draw_node(svg, picture, node, x, y):
 
 def draw_wire(svg, picture, wire, ends):
     if wire in picture.net_of:
-        svg.line(*ends, picture.colour(picture.net_of[wire]), 1.6)
+        svg.line(ends, picture.colour(picture.net_of[wire]), 1.6)
     if wire in picture.wires:
-        svg.line(*ends, picture.wires[wire], 3 if wire not in picture.net_of else 1)
+        svg.line(ends, picture.wires[wire], 3 if wire not in picture.net_of else 1)
 
 
 def draw_cross(svg, picture, node, cross, left, top):

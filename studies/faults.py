@@ -84,15 +84,15 @@ class Places:
 def one_fault(machine, kind, places, chance, count):
     """A fault of a kind as `Faults.add` takes it."""
     if kind in ("open", "closed"):
-        return kind, places.cross(count), None
+        return kind, places.cross(count), 1
     if kind in ("cells", "registers"):
         table, value = places.number("table", machine.table_count, count), chance.randrange(2)
         return ("cell", (table, chance.randrange(64)), value) if kind == "cells" else ("register", table, value)
     wire = places.number("wire", machine.wire_count, count)
     if kind == "bridges":
         other = places.number("wire", machine.wire_count, count)
-        return ("bridge", tuple(sorted((wire, other))), None) if other != wire else None
-    return {"wires": chance.choice(("stuck0", "stuck1"))}.get(kind, kind), wire, None
+        return ("bridge", tuple(sorted((wire, other))), 1) if other != wire else None
+    return {"wires": chance.choice(("stuck0", "stuck1"))}.get(kind, kind), wire, 1
 
 
 def make_faults(machine, amounts, seed, clustered=0):
@@ -103,7 +103,7 @@ def make_faults(machine, amounts, seed, clustered=0):
     parts["registers"] = machine.table_count
     for kind, wanted in amounts.items():
         count = count_of(wanted, parts.get(kind, machine.wire_count), chance)
-        if len(faults) + count > texts.FAULT_LIMIT:
+        if faults.count + count > texts.FAULT_LIMIT:
             raise ValueError(f"{kind}: {count} faults, and a fault file holds at most {texts.FAULT_LIMIT} in all")
         for _ in range(count):
             put_one(machine, kind, places, chance, count, faults)

@@ -8,7 +8,7 @@ import sys
 import matplotlib
 import pandas
 
-from shares import wilson
+from program import wilson
 
 matplotlib.use("svg")
 matplotlib.rcParams["svg.hashsalt"] = "teramac"
@@ -33,7 +33,7 @@ def fits(rows, where):
         counts = part.groupby("rate")["fit"].agg(["sum", "count"])
         shares = counts["sum"] / counts["count"]
         bounds = [wilson(hits, tries) for hits, tries in zip(counts["sum"], counts["count"])]
-        off = [[max(0, share - low) for share, (low, _) in zip(shares, bounds)], [max(0, high - share) for share, (_, high) in zip(shares, bounds)]]
+        off = [[abs(share - bound[side]) for share, bound in zip(shares, bounds)] for side in (0, 1)]
         style = {"color": colours[design], "linestyle": "-" if kind == "exact" else "--", "marker": "o" if kind == "exact" else "s"}
         named = "exact list" if kind == "exact" else "own diagnosis"
         axes.errorbar(counts.index + shift * (k - 2), shares, off, capsize=2, markersize=4, label=f"{design}, {named}", **style)

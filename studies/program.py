@@ -1,5 +1,6 @@
-"""Calls of the built program, and what its answers say."""
+"""Calls of the built program, what its answers say, and intervals of shares."""
 
+import math
 import os
 import subprocess
 import sys
@@ -58,3 +59,21 @@ def checked_design(program, path):
 
 def add_program(parser):
     parser.add_argument("--program", default=DEFAULT, help="the built teramac (default: %(default)s, or $TERAMAC)")
+
+
+def put(folder, name, data):
+    """Writes a file into a folder of the script's own; gives its path."""
+    path = os.path.join(folder, name)
+    with open(path, "wb") as file:
+        file.write(data if isinstance(data, bytes) else data.encode("utf-8", "surrogateescape"))
+    return path
+
+
+def wilson(hits, tries, z=1.959964):
+    """The interval of Wilson that holds the true share with probability 0.95, for so many hits of so many tries."""
+    if not tries:
+        return 0.0, 1.0
+    share, square = hits / tries, z * z / tries
+    middle = (share + square / 2) / (1 + square)
+    half = z * math.sqrt(share * (1 - share) / tries + square / (4 * tries)) / (1 + square)
+    return max(0.0, middle - half), min(1.0, middle + half)

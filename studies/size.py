@@ -7,15 +7,13 @@ With --rate it is tried how much must be spare so that the design fits with prob
 
 import argparse
 import math
-import os
 import sys
 import tempfile
 
 import designs
 import teramac_texts as texts
 from faults import KINDS, amount, make_faults
-from program import add_program, call, checked_design
-from shares import wilson
+from program import add_program, call, checked_design, put, wilson
 
 TREES = [(m, c, h) for m in (1, 2, 4) for c in (1, 2, 4) for h in (1, 2, 4, 8)]
 STEP, MOST_SPARE = 0.05, 3.0
@@ -27,11 +25,10 @@ def spared(count, spare):
 
 def counts_for(network, tree, spare):
     """The counts of a machine on this tree with what the plan wants and so much to spare."""
-    modules, chips, hextants = tree
-    tables = -(-spared(len(network.tables), spare) // (modules * chips * hextants))
-    ports, lines = designs.needs(network, modules, chips, hextants, tables)
-    wanted = [spared(count, spare) for count in ports + lines + [network.inputs + len(network.outputs)]]
-    return (modules, chips, hextants, tables, *wanted)
+    tables = -(-spared(len(network.tables), spare) // math.prod(tree))
+    ports, lines = designs.needs(network, *tree, tables)
+    pins = network.inputs + len(network.outputs)
+    return (*tree, tables, *(spared(count, spare) for count in [*ports, *lines, pins]))
 
 
 def best_machine(network, trees, spare):
@@ -45,11 +42,8 @@ def best_machine(network, trees, spare):
 
 def compiles(program, machine, defects, design, folder):
     """What compile says of the design on this machine with this list."""
-    paths = [os.path.join(folder, name) for name in ("machine", "defects")]
-    for path, text in zip(paths, (machine.text, texts.defects_text(machine, defects))):
-        with open(path, "w", encoding="ascii") as file:
-            file.write(text)
-    return call(program, "compile", *paths, design)
+    list_file = put(folder, "defects", texts.defects_text(machine, defects))
+    return call(program, "compile", put(folder, "machine", machine.text), list_file, design)
 
 
 def share_that_fits(args, machine, amounts, folder):
@@ -83,7 +77,7 @@ def main():
     parser.add_argument("design", help="the design's BLIF file")
     for name in ("modules", "chips", "hextants"):
         parser.add_argument(f"--{name}", type=int, metavar="N", help=f"how many {name} in each node above (default: chosen)")
-    parser.add_argument("--spare", type=amount, default=0.0, metavar="SHARE", help="so much more of everything, as 10%% or 0.1 (default: 0)")
+    parser.add_argument("--spare", type=amount, default=0.0, metavar="SHARE", help="so much more, as 10%% or 0.1 (default: 0)")
     parser.add_argument("--rate", type=amount, metavar="RATE", help="faults at this rate, tried from --spare on in steps of 5 %%")
     parser.add_argument("--kinds", default="open", help=f"kinds of faults at that rate, with commas: {', '.join(KINDS)} (default: open)")
     parser.add_argument("--trials", type=int, default=40, help="fault sets for each try (default: 40)")

@@ -13,7 +13,7 @@ FILE_LIMIT = 16_777_216
 WIRE_LIMIT, CROSS_LIMIT, TABLE_LIMIT = 16_384, 4_194_304, 4_096
 FAULT_LIMIT, CLOSED_LIMIT = 65_536, 1_048_576
 LEVELS = ("root", "module", "chip", "hextant")
-BLANKS = b" \t\r"
+BLANKS, BLANK = b" \t\r", bytes.maketrans(b"\t\r", b"  ")
 
 
 class Refused(Exception):
@@ -31,18 +31,12 @@ def numeral(word, most):
     return int(word) if len(word) < 12 and int(word) <= most else None
 
 
-def physical_lines(data):
-    """The lines of a text with their numbers; a last line may lack its LF."""
-    lines = data.split(b"\n")
-    return enumerate(lines[:-1] if lines[-1] == b"" else lines, 1)
-
-
 def logical_lines(data, file, joined=False):
     """The number, the words and whether a bad byte stands there, of each line that isn't passed over."""
     if len(data) > FILE_LIMIT:
         raise Refused(file, 0, "limit")
-    first, kept = 0, b""
-    for number, line in physical_lines(data):
+    first, kept, lines = 0, b"", data.split(b"\n")
+    for number, line in enumerate(lines if lines[-1] else lines[:-1], 1):
         line = line.split(b"#", 1)[0]
         first = first or number
         stripped = line.rstrip(BLANKS)
@@ -58,7 +52,7 @@ def logical_lines(data, file, joined=False):
 def words_of(number, line):
     """The one line, unless it has no words."""
     bad = any((byte < 32 and byte not in BLANKS) or byte == 127 for byte in line)
-    words = [word.decode("utf-8", "surrogateescape") for word in line.replace(b"\t", b" ").replace(b"\r", b" ").split(b" ") if word]
+    words = [word.decode("utf-8", "surrogateescape") for word in line.translate(BLANK).split(b" ") if word]
     if words:
         yield number, words, bad
 
@@ -103,7 +97,8 @@ class Machine:
         wires, tables = self.names, self._tables if level == 3 else 0
         at = len(wires)
         own, first = range(at, at + ports), len(self.table_pins)
-        node = Node(len(self.nodes), level, name, own, range(own.stop, own.stop + lines), list(own or self.pins), range(first, first + tables))
+        mine, taps = range(own.stop, own.stop + lines), list(own or self.pins)
+        node = Node(len(self.nodes), level, name, own, mine, taps, range(first, first + tables))
         self.nodes.append(node)
         wires += [f"{name}.o{k}" for k in range(ports)] + [f"{name}.l{k}" for k in range(lines)]
         self.table_pins += [range(w, w + 7) for w in range(len(wires), len(wires) + 7 * tables, 7)]
@@ -182,47 +177,38 @@ def machine_fault(words, bad, due, found):
     return None if due or are_within_limits(sum(list(found.values())[1:], [])) else "limit"
 
 
-@dataclass
-class Faults:
-    """The faults of a machine by numbers: wires, crosspoints, (table, address) and tables with values, pairs of wires."""
+FAULT_WORDS = {"stuck0": 2, "stuck1": 2, "open": 3, "closed": 3, "cell": 4, "register": 3, "bridge": 3}
+AGAINST = {"stuck0": "stuck1", "stuck1": "stuck0", "open": "closed", "closed": "open"}
 
-    stuck0: set = field(default_factory=set)
-    stuck1: set = field(default_factory=set)
-    opened: set = field(default_factory=set)
-    closed: set = field(default_factory=set)
-    cells: dict = field(default_factory=dict)
-    registers: dict = field(default_factory=dict)
-    bridges: set = field(default_factory=set)
+
+class Faults(dict):
+    """For each kind what has the fault, with a value: wires, crosspoints, (table, address), tables, pairs of wires."""
+
+    def __init__(self):
+        super().__init__({kind: {} for kind in FAULT_WORDS})
 
     @property
     def stuck(self):
-        return self.stuck0 | self.stuck1
+        return self["stuck0"].keys() | self["stuck1"].keys()
 
     @property
-    def bad_tables(self):
-        return {table for table, _ in self.cells} | set(self.registers)
+    def crosses(self):
+        return self["open"].keys() | self["closed"].keys()
 
-    def __len__(self):
-        return sum(map(len, vars(self).values()))
+    @property
+    def tables(self):
+        return {table for table, _ in self["cell"]} | self["register"].keys()
 
-    def add(self, kind, at, value=None):
+    @property
+    def count(self):
+        return sum(map(len, self.values()))
+
+    def add(self, kind, at, value=1):
         """Puts a fault in; the kind of the refusal where it stands there or against another, else None."""
-        if kind in ("cell", "register"):
-            here = self.cells if kind == "cell" else self.registers
-            if at in here:
-                return "doubled" if here[at] == value else "against"
-            here[at] = value
-            return None
-        pairs = {"stuck0": (self.stuck0, self.stuck1), "stuck1": (self.stuck1, self.stuck0)}
-        pairs.update({"open": (self.opened, self.closed), "closed": (self.closed, self.opened), "bridge": (self.bridges, ())})
-        here, against = pairs[kind]
-        if at in here or at in against:
-            return "doubled" if at in here else "against"
-        here.add(at)
+        if at in self[kind] or at in self.get(AGAINST.get(kind), ()):
+            return "doubled" if self[kind].get(at) == value else "against"
+        self[kind][at] = value
         return None
-
-
-FAULT_WORDS = {"stuck0": 2, "stuck1": 2, "open": 3, "closed": 3, "cell": 4, "register": 3, "bridge": 3}
 
 
 def read_faults(machine, data):
@@ -247,7 +233,7 @@ def fault_entry(machine, words, faults):
             return kind
         at = (table, address) if kind == "cell" else table
     else:
-        value, wires = None, [machine.numbers.get(word) for word in words[1:]]
+        value, wires = 1, [machine.numbers.get(word) for word in words[1:]]
         if None in wires:
             return "wire"
         at = wires[0] if kind.startswith("stuck") else tuple(sorted(wires))
@@ -257,24 +243,27 @@ def fault_entry(machine, words, faults):
             return "cross"
         if kind == "bridge" and wires[0] == wires[1]:
             return "same"
-    return faults.add(kind, at, value) or ("limit" if len(faults) > FAULT_LIMIT else None)
+    return faults.add(kind, at, value) or ("limit" if faults.count > FAULT_LIMIT else None)
 
 
 def faults_text(machine, faults):
     """The spelling that the program itself would write: by kind, then by number."""
-    wires, tables = machine.names, machine.table_names
-    lines = [f"stuck0 {wires[w]}" for w in sorted(faults.stuck0)] + [f"stuck1 {wires[w]}" for w in sorted(faults.stuck1)]
-    lines += [f"open {machine.cross_name(c)}" for c in sorted(faults.opened)]
-    lines += [f"closed {machine.cross_name(c)}" for c in sorted(faults.closed)]
-    lines += [f"cell {tables[t]} {a} {value}" for (t, a), value in sorted(faults.cells.items())]
-    lines += [f"register {tables[t]} {value}" for t, value in sorted(faults.registers.items())]
-    lines += [f"bridge {wires[a]} {wires[b]}" for a, b in sorted(faults.bridges)]
-    return "".join(line + "\n" for line in lines)
+
+    def words(kind, at, value):
+        if kind in ("cell", "register"):
+            table, *address = at if kind == "cell" else (at,)
+            return [machine.table_names[table], *address, value]
+        if kind in AGAINST and not kind.startswith("stuck"):
+            return [machine.cross_name(at)]
+        return [machine.names[wire] for wire in (at if kind == "bridge" else (at,))]
+
+    entries = [[kind, *words(kind, at, value)] for kind in FAULT_WORDS for at, value in sorted(faults[kind].items())]
+    return "".join(" ".join(map(str, entry)) + "\n" for entry in entries)
 
 
 def short_groups(machine, faults):
     """The sets of at least two wires that crosspoints stuck closed and bridges hold together."""
-    return groups(list(faults.bridges) + [machine.ends(cross) for cross in faults.closed])
+    return groups(list(faults["bridge"]) + [machine.ends(cross) for cross in faults["closed"]])
 
 
 def groups(pairs):
@@ -317,22 +306,16 @@ def exact_list(machine, faults):
     for group in short_groups(machine, faults):
         kept = max(group, key=lambda wire: (wire not in lines, -wire)) if faults.stuck.isdisjoint(group) else None
         wires.update(wire for wire in group if wire != kept)
-    crosses = {c for c in faults.opened | faults.closed if wires.isdisjoint(machine.ends(c))}
-    tables = {t for t in faults.bad_tables if wires.isdisjoint(machine.table_pins[t])}
+    crosses = {c for c in faults.crosses if wires.isdisjoint(machine.ends(c))}
+    tables = {t for t in faults.tables if wires.isdisjoint(machine.table_pins[t])}
     return Defects(wires, crosses, tables)
-
-
-def sound_wires(machine, faults):
-    """Which wires are neither stuck nor shorted to another."""
-    return set(range(machine.wire_count)) - faults.stuck - {wire for group in short_groups(machine, faults) for wire in group}
 
 
 def sound_listed(machine, faults, defects):
     """How many sound wires, crosspoints and tables a list holds."""
-    sound = sound_wires(machine, faults)
-    stuck = faults.opened | faults.closed
-    crosses = sum(c not in stuck and sound.issuperset(machine.ends(c)) for c in defects.crosses)
-    tables = sum(t not in faults.bad_tables and sound.issuperset(machine.table_pins[t]) for t in defects.tables)
+    sound = set(range(machine.wire_count)).difference(faults.stuck, *short_groups(machine, faults))
+    crosses = sum(sound.issuperset(machine.ends(c)) for c in defects.crosses - faults.crosses)
+    tables = sum(sound.issuperset(machine.table_pins[t]) for t in defects.tables - faults.tables)
     return len(sound & defects.wires), crosses, tables
 
 
@@ -482,12 +465,6 @@ class Design:
     outputs: list
     covers: list = field(default_factory=list)
     latches: list = field(default_factory=list)
-
-    @property
-    def signals(self):
-        """Every signal once: inputs, then latches, then covers."""
-        driven = self.inputs + [latch[1] for latch in self.latches] + [cover[1] for cover in self.covers]
-        return list(dict.fromkeys(driven))
 
 
 def read_design(data):

@@ -9,8 +9,7 @@ import unittest
 import designs
 import teramac_texts as texts
 from faults import make_faults
-from program import HERE
-from shares import wilson
+from program import HERE, wilson
 
 EXAMPLES = os.path.normpath(os.path.join(HERE, "../examples"))
 
@@ -72,8 +71,8 @@ class Scripts(unittest.TestCase):
         for seed in range(40):
             faults = make_faults(machine, {"open": 4, "closed": 5, "wires": 3, "cells": 2, "registers": 1, "bridges": 3}, seed)
             listed = texts.exact_list(machine, faults)
-            self.assertFalse(any(listed.is_free_cross(machine, cross) for cross in faults.opened | faults.closed))
-            self.assertFalse(any(listed.is_free_table(machine, table) for table in faults.bad_tables))
+            self.assertFalse(any(listed.is_free_cross(machine, cross) for cross in faults.crosses))
+            self.assertFalse(any(listed.is_free_table(machine, table) for table in faults.tables))
             for group in texts.short_groups(machine, faults):
                 self.assertLessEqual(len(set(group) - listed.wires), int(faults.stuck.isdisjoint(group)))
             self.assertLessEqual(faults.stuck, listed.wires)
@@ -89,7 +88,3 @@ class Scripts(unittest.TestCase):
         design = texts.read_design(b".model m\n.inputs a b c d e f g h\n.outputs y\n.names a b c d e f g h y\n1111111- 1\n-----111 1\n")
         network = designs.plain_network(design)
         self.assertEqual([len(sources) for sources in network.tables], [6, 1, 2, 3, 2])
-
-
-if __name__ == "__main__":
-    unittest.main()

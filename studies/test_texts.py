@@ -8,7 +8,7 @@ import unittest
 import designs
 import teramac_texts as texts
 from faults import KINDS, make_faults
-from program import DEFAULT, call
+from program import DEFAULT, call, put
 
 EXAMPLES = os.path.join(os.path.dirname(os.path.abspath(__file__)), "..", "examples")
 TURNS = int(os.environ.get("TURNS", "60"))
@@ -69,10 +69,7 @@ class Against(unittest.TestCase):
         self.design = self.put("design", ".model m\n.outputs f\n.names f\n1\n")
 
     def put(self, name, data):
-        path = os.path.join(self.folder.name, name)
-        with open(path, "wb") as file:
-            file.write(data if isinstance(data, bytes) else data.encode("utf-8", "surrogateescape"))
-        return path
+        return put(self.folder.name, name, data)
 
     def amounts(self, machine):
         return {kind: self.chance.randrange(min(3, machine.table_count + 1)) for kind in KINDS}
@@ -175,7 +172,3 @@ class Against(unittest.TestCase):
         machine = texts.Machine(tuple(counts))
         empty = self.put("list", texts.defects_text(machine, texts.Defects()))
         return call(DEFAULT, "compile", self.put("machine", machine.text), empty, file)
-
-
-if __name__ == "__main__":
-    unittest.main()

@@ -3,7 +3,7 @@
 
 By the exact list a design is compiled and run. By the tool's own diagnosis it goes through the command go or, with --steps,
 through diagnose (once for all designs), compile and run, which is what go does. Every run's rows are compared with eval's;
-a row that differs ends the script with status 3, and a study with it.
+rows that differ end the script with status 1, and a study with it.
 """
 
 import argparse
@@ -14,13 +14,12 @@ import tempfile
 
 import teramac_texts as texts
 from faults import KINDS, amount, make_faults
-from program import add_program, call
+from program import add_program, call, put
 
 COLUMNS = (
     "machine crosspoints kind rate seed faults design list status refusal listed_wires listed_crosses listed_tables "
     "thrown_wires thrown_crosses thrown_tables tables nets crossings closed seconds diagnose_seconds"
 ).split()
-WRONG = 3
 
 
 class Trial:
@@ -32,14 +31,11 @@ class Trial:
         self.faults = make_faults(self.machine, {args.kind: args.rate}, args.seed, args.clustered)
         self.fault_file = self.put("faults", texts.faults_text(self.machine, self.faults))
         name = os.path.splitext(os.path.basename(args.machine))[0]
-        given = (name, self.machine.cross_count, args.kind, args.rate, args.seed, len(self.faults))
+        given = (name, self.machine.cross_count, args.kind, args.rate, args.seed, self.faults.count)
         self.head = dict(zip(COLUMNS, given))
 
     def put(self, name, data):
-        path = os.path.join(self.folder, name)
-        with open(path, "wb") as file:
-            file.write(data if isinstance(data, bytes) else data.encode())
-        return path
+        return put(self.folder, name, data)
 
     def call(self, *words):
         return call(self.args.program, *words, seconds=self.args.seconds)
@@ -74,14 +70,9 @@ class Trial:
             want = self.call("eval", design, vectors)
             if want.status == 0 and want.rows != answer.rows:
                 kept = f"wrong-{os.path.basename(design)}-{self.args.kind}-{self.args.rate}-{self.args.seed}.faults"
-                self.keep(kept)
-                print(f"{design}: the rows are not those of eval; the faults are in {kept}", file=sys.stderr)
-                sys.exit(WRONG)
+                texts.write_new(kept, texts.read_file(self.fault_file))
+                sys.exit(f"{design}: the rows are not those of eval; the faults are in {kept}")
         return answer
-
-    def keep(self, name):
-        with open(name, "wb") as file:
-            file.write(texts.read_file(self.fault_file))
 
     def laid(self, list_file, design, vectors):
         """compile and run on a list; the answer with the seconds of both, and the image's sizes where there is one."""

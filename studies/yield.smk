@@ -5,7 +5,11 @@ import sys
 
 HERE = os.path.dirname(os.path.abspath(workflow.snakefile))
 OUT = config["folder"]
-PROGRAM = os.path.abspath(config.get("program") or os.environ.get("TERAMAC") or os.path.join(HERE, "../crates/teramac/out/teramac"))
+TRIAL = OUT + "/trials/{machine}-{kind}-{rate}-{seed}.csv"
+sys.path.insert(0, HERE)
+from program import DEFAULT
+
+PROGRAM = os.path.abspath(config.get("program", DEFAULT))
 MACHINES = {os.path.splitext(os.path.basename(path))[0]: os.path.join(HERE, path) for path in config["machines"]}
 DESIGNS = [f"{os.path.join(HERE, design)}:{os.path.join(HERE, vectors)}" for design, vectors in config["designs"].items()]
 SEEDS = range(config.get("first_seed", 1), config.get("first_seed", 1) + config["seeds"])
@@ -22,7 +26,7 @@ rule figures:
 
 
 rule table:
-    input: expand(OUT + "/trials/{machine}-{kind}-{rate}-{seed}.csv", machine=MACHINES, kind=config["kinds"], rate=config["rates"], seed=SEEDS)
+    input: expand(TRIAL, machine=MACHINES, kind=config["kinds"], rate=config["rates"], seed=SEEDS)
     output: f"{OUT}/rows.csv"
     run:
         with open(output[0], "w", encoding="utf-8") as table:
@@ -33,13 +37,10 @@ rule table:
 
 rule trial:
     input: program=PROGRAM, machine=lambda found: MACHINES[found.machine]
-    output: OUT + "/trials/{machine}-{kind}-{rate}-{seed}.csv"
+    output: TRIAL
     params:
         designs=DESIGNS,
-        steps="--steps" if config.get("steps") else "",
-        clustered=config.get("clustered", 0),
-        seconds=config.get("seconds", 600),
+        more=f"--clustered {config.get('clustered', 0)} --seconds {config.get('seconds', 600)}" + " --steps" * bool(config.get("steps")),
     shell:
         "{sys.executable} {HERE}/trial.py {input.machine} {params.designs} --kind {wildcards.kind} --rate {wildcards.rate} "
-        "--seed {wildcards.seed} --clustered {params.clustered} --seconds {params.seconds} {params.steps} "
-        "--program {input.program} -o {output}"
+        "--seed {wildcards.seed} {params.more} --program {input.program} -o {output}"
