@@ -1,0 +1,79 @@
+"""Calls of the built program, what its answers say, and intervals of shares."""
+
+import math
+import os
+import subprocess
+import sys
+import time
+
+import teramac_texts as texts
+
+HERE = os.path.dirname(os.path.abspath(__file__))
+DEFAULT = os.environ.get("TERAMAC", os.path.normpath(os.path.join(HERE, "../crates/teramac/out/teramac")))
+
+
+class Answer:
+    """What a call wrote, its status (-1: cut off), and the seconds that it took."""
+
+    def __init__(self, status, written, seconds):
+        self.status, self.written, self.seconds = status, written, seconds
+
+    @property
+    def refusal(self):
+        """The words of the refusal line, or none."""
+        last = self.written.rsplit(b"\n", 2)[-2] if self.status > 0 and self.written.endswith(b"\n") else b""
+        return last.decode("utf-8", "surrogateescape").split()
+
+    @property
+    def rows(self):
+        """The lines behind the line `outputs`."""
+        return self.written.split(b"outputs\n", 1)[1].split() if b"outputs\n" in self.written else []
+
+    @property
+    def defects(self):
+        """The list at the head of what `go` and `diagnose` write."""
+        return self.written[: self.written.find(b"\nend\n") + 5]
+
+
+def call(program, *words, seconds=None):
+    """Runs the program on these words, for at most so many seconds."""
+    start = time.monotonic()
+    try:
+        ran = subprocess.run([program, *map(str, words)], capture_output=True, timeout=seconds, check=False)
+    except subprocess.TimeoutExpired as cut:
+        return Answer(-1, cut.stdout or b"", time.monotonic() - start)
+    except OSError as error:
+        sys.exit(f"{program}: {error.strerror}; build it by 'rt run' in crates/teramac, or name it by --program")
+    if ran.returncode < 0:
+        sys.exit(f"{program} {' '.join(map(str, words))}: ended by signal {-ran.returncode}")
+    return Answer(ran.returncode, ran.stdout, time.monotonic() - start)
+
+
+def checked_design(program, path):
+    """The design of a file that the program takes, or an end of the script with the program's refusal."""
+    answer = call(program, "eval", path, os.devnull)
+    if answer.status:
+        sys.exit(f"{path}: {' '.join(answer.refusal)}")
+    return texts.read_text(texts.read_design, path)
+
+
+def add_program(parser):
+    parser.add_argument("--program", default=DEFAULT, help="the built teramac (default: %(default)s, or $TERAMAC)")
+
+
+def put(folder, name, data):
+    """Writes a file into a folder of the script's own; gives its path."""
+    path = os.path.join(folder, name)
+    with open(path, "wb") as file:
+        file.write(data if isinstance(data, bytes) else data.encode("utf-8", "surrogateescape"))
+    return path
+
+
+def wilson(hits, tries, z=1.959964):
+    """The interval of Wilson that holds the true share with probability 0.95, for so many hits of so many tries."""
+    if not tries:
+        return 0.0, 1.0
+    share, square = hits / tries, z * z / tries
+    middle = (share + square / 2) / (1 + square)
+    half = z * math.sqrt(share * (1 - share) / tries + square / (4 * tries)) / (1 + square)
+    return max(0.0, middle - half), min(1.0, middle + half)

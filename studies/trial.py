@@ -1,0 +1,148 @@
+#!/usr/bin/env python3
+"""One machine with one set of faults: the exact list and the diagnosed one, and on each list every design. Writes rows of CSV.
+
+By the exact list a design is compiled and run. By the tool's own diagnosis it goes through the command go or, with --steps,
+through diagnose (once for all designs), compile and run, which is what go does. Every run's rows are compared with eval's;
+rows that differ end the script with status 1, and a study with it.
+"""
+
+import argparse
+import csv
+import os
+import sys
+import tempfile
+
+import teramac_texts as texts
+from faults import KINDS, amount, make_faults
+from program import add_program, call, put
+
+COLUMNS = (
+    "machine crosspoints kind rate seed faults design list status refusal listed_wires listed_crosses listed_tables "
+    "thrown_wires thrown_crosses thrown_tables tables nets crossings closed seconds diagnose_seconds"
+).split()
+
+
+class Trial:
+    """The files of one set of faults, and what is the same in all its rows."""
+
+    def __init__(self, args, folder):
+        self.args, self.folder = args, folder
+        self.machine = texts.read_text(texts.read_machine, args.machine)
+        self.faults = make_faults(self.machine, {args.kind: args.rate}, args.seed, args.clustered)
+        self.fault_file = self.put("faults", texts.faults_text(self.machine, self.faults))
+        name = os.path.splitext(os.path.basename(args.machine))[0]
+        given = (name, self.machine.cross_count, args.kind, args.rate, args.seed, self.faults.count)
+        self.head = dict(zip(COLUMNS, given))
+
+    def put(self, name, data):
+        return put(self.folder, name, data)
+
+    def call(self, *words):
+        return call(self.args.program, *words, seconds=self.args.seconds)
+
+    def row(self, design, kind, defects, answer, **more):
+        """A row of the table about one design on one list."""
+        found = texts.Defects() if defects is None else defects
+        thrown = texts.sound_listed(self.machine, self.faults, found)
+        numbers = (len(found.wires), len(found.crosses), len(found.tables), *thrown)
+        return {
+            **self.head,
+            "design": os.path.splitext(os.path.basename(design))[0],
+            "list": kind,
+            "status": "cut off" if answer.status < 0 else answer.status,
+            "refusal": " ".join(answer.refusal[1:3]),
+            **dict(zip(COLUMNS[10:16], numbers if defects is not None else [""] * 6)),
+            "seconds": round(answer.seconds, 3),
+            **more,
+        }
+
+    def shape_of(self, image):
+        """Tables, nets, crossings and closed crosspoints of an image."""
+        found = texts.read_image(self.machine, image)
+        nets = found.nets(self.machine)
+        ports = {wire for node in self.machine.nodes for wire in node.ports}
+        sizes = len(found.tables), len(nets), sum(wire in ports for net in nets for wire in net), len(found.crosses)
+        return dict(zip(("tables", "nets", "crossings", "closed"), sizes))
+
+    def compared(self, answer, design, vectors):
+        """The answer, after its rows were compared with those of eval."""
+        if answer.status == 0:
+            want = self.call("eval", design, vectors)
+            if want.status == 0 and want.rows != answer.rows:
+                kept = f"wrong-{os.path.basename(design)}-{self.args.kind}-{self.args.rate}-{self.args.seed}.faults"
+                texts.write_new(kept, texts.read_file(self.fault_file))
+                sys.exit(f"{design}: the rows are not those of eval; the faults are in {kept}")
+        return answer
+
+    def laid(self, list_file, design, vectors):
+        """compile and run on a list; the answer with the seconds of both, and the image's sizes where there is one."""
+        image = self.call("compile", self.args.machine, list_file, design)
+        if image.status:
+            return image, {}
+        ran = self.call("run", self.args.machine, self.fault_file, self.put("image", image.written), vectors)
+        ran.seconds += image.seconds
+        return self.compared(ran, design, vectors), self.shape_of(image.written)
+
+    def rows(self):
+        exact = texts.exact_list(self.machine, self.faults)
+        exact_file = self.put("exact", texts.defects_text(self.machine, exact))
+        for design, vectors in self.args.designs:
+            answer, sizes = self.laid(exact_file, design, vectors)
+            yield self.row(design, "exact", exact, answer, **sizes)
+        diagnosed = self.call("diagnose", self.args.machine, self.fault_file) if self.args.steps else None
+        for design, vectors in self.args.designs:
+            yield self.by_diagnosis(diagnosed, design, vectors)
+
+    def by_diagnosis(self, diagnosed, design, vectors):
+        """One row by the tool's own list."""
+        if diagnosed:
+            if diagnosed.status:
+                return self.row(design, "diagnosed", None, diagnosed)
+            answer, sizes = self.laid(self.put("defects", diagnosed.written), design, vectors)
+            answer.seconds += diagnosed.seconds
+            found = texts.read_defects(self.machine, diagnosed.written)
+            return self.row(design, "diagnosed", found, answer, diagnose_seconds=round(diagnosed.seconds, 3), **sizes)
+        answer = self.compared(self.call("go", self.args.machine, self.fault_file, design, vectors), design, vectors)
+        if answer.status not in (0, 3):
+            return self.row(design, "diagnosed", None, answer)
+        sizes = {}
+        if answer.status == 0:
+            sizes = self.shape_of(self.call("compile", self.args.machine, self.put("defects", answer.defects), design).written)
+        return self.row(design, "diagnosed", texts.read_defects(self.machine, answer.defects), answer, **sizes)
+
+
+def pair(word):
+    """A design and its vectors, as DESIGN:VECTORS."""
+    design, colon, vectors = word.partition(":")
+    if not colon:
+        raise argparse.ArgumentTypeError(f"{word}: not of the form DESIGN:VECTORS")
+    return design, vectors
+
+
+def main():
+    parser = argparse.ArgumentParser(description=__doc__, formatter_class=argparse.RawDescriptionHelpFormatter)
+    parser.add_argument("machine", help="the machine's file")
+    parser.add_argument("designs", nargs="+", type=pair, metavar="DESIGN:VECTORS", help="a BLIF file and its vectors")
+    parser.add_argument("--kind", choices=list(KINDS), default="open", help="the kind of faults (default: open)")
+    parser.add_argument("--rate", type=amount, required=True, help="their rate, as 0.01 or 1%%, or their number")
+    parser.add_argument("--clustered", type=float, default=0, help="in clusters of about so many (default: uniform)")
+    parser.add_argument("--seed", type=int, default=1, help="the fault set's seed (default: 1)")
+    parser.add_argument("--seconds", type=float, default=600, help="no call takes longer; it is cut off (default: 600)")
+    parser.add_argument("--steps", action="store_true", help="one diagnose for all designs in place of one go for each")
+    parser.add_argument("-o", "--output", default="-", help="a new file (default: standard output)")
+    add_program(parser)
+    args = parser.parse_args()
+    with tempfile.TemporaryDirectory() as folder, open(os.path.join(folder, "csv"), "w+", encoding="utf-8", newline="") as file:
+        try:
+            rows = list(Trial(args, folder).rows())
+        except ValueError as error:
+            sys.exit(f"{args.machine}: {error}")
+        writer = csv.DictWriter(file, COLUMNS, lineterminator="\n", restval="")
+        writer.writeheader()
+        writer.writerows(rows)
+        file.seek(0)
+        texts.write_new(args.output, file.read())
+
+
+if __name__ == "__main__":
+    main()
