@@ -1,4 +1,4 @@
-pub mod Counted
-pub mod Hitting
-pub mod Left
-pub mod Turns
+mod Counted
+mod Hitting
+mod Left
+mod Turns

@@ -1,6 +1,6 @@
 //! Which faults are allowed.
 ghost use Rattle.std.specs.Prelude.{◌≡◌, ◌↔◌, ◌<◌, IsTrue};
-ghost use Rattle.hierarchy.specs.Shape.{wires_of, ends_of};
+ghost use Rattle.hierarchy.specs.Shape.{wires_of};
 ghost use Rattle.fault_model.specs.Adding.{CanHave};
 ghost use Rattle.fault_model.specs.declared.fault.Fault.TheVariants as fault;
 ghost use Rattle.bench_gen.specs.Faults.{table_position, MayBeHit, IsAllowed};

@@ -2,7 +2,7 @@
 use Rattle.std.proofs.Common.{◌≡◌, ◌≤◌, true, [], ◌∷◌, map, length, None, refl, arith}
 use Rattle.std.specs.Prelude.{codes}
 use Rattle.std.specs.Fmt.{digits}
-use Rattle.tm_text.specs.Lines.{lines_of, texts_of}
+use Rattle.tm_text.specs.Lines.{logical_lines, texts_of}
 use Rattle.tm_text.specs.Bytes.{physical_lines}
 use Rattle.netlist.specs.declared.draft.LatchDef.{LatchDef}
 use Rattle.flatten.specs.declared.model.Model.{Model}
@@ -32,17 +32,17 @@ pub short : length bench_design ≤ 16777216
 unfolding digits
 short = omega arith
 
-some : is_some_model (models_of (lines_of true bench_design)) ≡ true
+some : is_some_model (models_of (logical_lines true bench_design)) ≡ true
 unfolding digits physical_lines texts_of head_of
 some = refl
 
-models_are : bench_model ∷ [] ≡ map spelled_model (models_of (lines_of true bench_design))
+models_are : bench_model ∷ [] ≡ map spelled_model (models_of (logical_lines true bench_design))
 unfolding digits physical_lines texts_of head_of
 models_are = refl
 
-no_fault : first_fault [] (lines_of true bench_design) ≡ None
+no_fault : first_fault [] (logical_lines true bench_design) ≡ None
 unfolding digits physical_lines texts_of head_of first_fault latch_parts_fault
 no_fault = refl
 
 pub text_is : AreModels bench_design (bench_model ∷ [])
-text_is = record { right = right_lines (lines_of true bench_design) [] no_fault; some = some; models_are = models_are }
+text_is = record { right = right_lines (logical_lines true bench_design) [] no_fault; some = some; models_are = models_are }

@@ -6,7 +6,7 @@ use Rattle.std.proofs.lemmas.List.{append-nil}
 use Rattle.tm_text.specs.Lines.{LogicalLine}
 use Rattle.blif_read.specs.declared.head.Head.{Head}
 use Rattle.blif_read.specs.declared.head.Head.TheVariants as head
-use Rattle.blif_read.specs.Grammar.{Statement, Grouped, kind_of, in_front, grouped, statements_of, is_end, ended_by, last_cover, cover_of, part_on, parts_of, is_some_statement}
+use Rattle.blif_read.specs.Grammar.{Statement, Grouped, kind_of, grouped_behind, grouped, statements_of, is_end, ended_by, last_cover, cover_of, part_on, parts_of, is_some_statement}
 use Rattle.flatten.specs.declared.model.Piece.TheVariants.{Names}
 use Rattle.blif_read.specs.Faults.{IsNew}
 
@@ -26,7 +26,7 @@ add_row g l = by g.statements
 abbrev add_new : Grouped → LogicalLine → Grouped
 add_new g l = record { rows = g.rows; statements = g.statements ++ record { head = l; rows = [] } ∷ [] }
 
-in_front-add_row : (a l : LogicalLine) (h : Head) (rows : List LogicalLine) (ss : List Statement) → in_front a h (add_row (record { rows = rows; statements = ss }) l) ≡ add_row (in_front a h (record { rows = rows; statements = ss })) l
+in_front-add_row : (a l : LogicalLine) (h : Head) (rows : List LogicalLine) (ss : List Statement) → grouped_behind a h (add_row (record { rows = rows; statements = ss }) l) ≡ add_row (grouped_behind a h (record { rows = rows; statements = ss })) l
 in_front-add_row a l head.Passed rows [] = refl
 in_front-add_row a l head.Passed rows (s ∷ ss) = refl
 in_front-add_row a l head.Row rows [] = refl
@@ -34,12 +34,12 @@ in_front-add_row a l head.Row rows (s ∷ ss) = refl
 in_front-add_row a l _ rows [] = refl
 in_front-add_row a l _ rows (s ∷ ss) = refl
 
-in_front-add_new : (a l : LogicalLine) (h : Head) (g : Grouped) → in_front a h (add_new g l) ≡ add_new (in_front a h g) l
+in_front-add_new : (a l : LogicalLine) (h : Head) (g : Grouped) → grouped_behind a h (add_new g l) ≡ add_new (grouped_behind a h g) l
 in_front-add_new a l head.Passed g = refl
 in_front-add_new a l head.Row g = refl
 in_front-add_new a l _ g = refl
 
-in_front-new : (l : LogicalLine) (h : Head) → IsNew h → in_front l h (record { rows = []; statements = [] }) ≡ record { rows = []; statements = record { head = l; rows = [] } ∷ [] }
+in_front-new : (l : LogicalLine) (h : Head) → IsNew h → grouped_behind l h (record { rows = []; statements = [] }) ≡ record { rows = []; statements = record { head = l; rows = [] } ∷ [] }
 in_front-new l head.Passed n = absurd n
 in_front-new l head.Unknown n = absurd n
 in_front-new l head.Row n = absurd n
@@ -47,15 +47,15 @@ in_front-new l _ n = refl
 
 pub grouped-passed : (above : List LogicalLine) (l : LogicalLine) → kind_of l ≡ head.Passed → grouped (above ++ l ∷ []) ≡ grouped above
 grouped-passed [] l e = rw e refl
-grouped-passed (a ∷ above) l e = ap (in_front a (kind_of a)) (grouped-passed above l e)
+grouped-passed (a ∷ above) l e = ap (grouped_behind a (kind_of a)) (grouped-passed above l e)
 
 grouped-row : (above : List LogicalLine) (l : LogicalLine) → kind_of l ≡ head.Row → grouped (above ++ l ∷ []) ≡ add_row (grouped above) l
 grouped-row [] l e = rw e refl
-grouped-row (a ∷ above) l e = ap (in_front a (kind_of a)) (grouped-row above l e) ∙ in_front-add_row a l (kind_of a) (grouped above).rows (grouped above).statements
+grouped-row (a ∷ above) l e = ap (grouped_behind a (kind_of a)) (grouped-row above l e) ∙ in_front-add_row a l (kind_of a) (grouped above).rows (grouped above).statements
 
 grouped-new : (above : List LogicalLine) (l : LogicalLine) → IsNew (kind_of l) → grouped (above ++ l ∷ []) ≡ add_new (grouped above) l
 grouped-new [] l n = in_front-new l (kind_of l) n
-grouped-new (a ∷ above) l n = ap (in_front a (kind_of a)) (grouped-new above l n) ∙ in_front-add_new a l (kind_of a) (grouped above)
+grouped-new (a ∷ above) l n = ap (grouped_behind a (kind_of a)) (grouped-new above l n) ∙ in_front-add_new a l (kind_of a) (grouped above)
 
 row_added : (g : Grouped) (ss : List Statement) (l : LogicalLine) → (add_row (record { rows = g.rows; statements = ss }) l).statements ≡ add_to_last ss l
 row_added g [] l = refl

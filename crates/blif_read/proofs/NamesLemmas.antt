@@ -12,18 +12,18 @@ use Rattle.netlist.specs.declared.fault.DesignKind.TheVariants.{Limit}
 use Rattle.blif_read.specs.declared.kind.Refusal.{Refusal}
 use Rattle.blif_read.specs.declared.kind.Refusal.TheVariants.{Memory, Kind}
 use Rattle.blif_read.specs.Refusals.{IsRefusedAs}
-use Rattle.blif_read.specs.Names.{with_name, names_after, number_of, numbers, is_long, limit_at}
+use Rattle.blif_read.specs.Names.{with_name, names_after, name_number, numbers, is_long, limit_at}
 use Rattle.flatten.proofs.TestLemmas.{or_true}
 use Rattle.flatten.proofs.NameLemmas.{now, same, any_keys, place_keys, some_is, same_name, inserted_key}
 
 module _ (w : List ℕ) (ks : List (Bor (List ℕ))) (names : List (List ℕ)) (view : map now ks ≡ names) where
-  pub known_number : (i : ℕ) → Some i ≡ position (same w) ks → i ≡ number_of names w
+  pub known_number : (i : ℕ) → Some i ≡ position (same w) ks → i ≡ name_number names w
   known_number i e = sym (some_is (nat_lt (position_or_len (same w) ks) (length ks)) _ i (sym e)) ∙ place_keys w ks ∙ ap (position_or_len (bytes_eq w)) view
 
   pub known_name : true ≡ list_any (same w) ks → names ≡ with_name names w
   known_name e = let known : list_any (bytes_eq w) names ≡ true = ap (list_any (bytes_eq w)) (sym view) ∙ sym (any_keys w ks) ∙ sym e in rw known refl
 
-  pub new_number : (i : ℕ) → i ≡ position_or_len (same w) ks → i ≡ number_of names w
+  pub new_number : (i : ℕ) → i ≡ position_or_len (same w) ks → i ≡ name_number names w
   new_number i e = e ∙ place_keys w ks ∙ ap (position_or_len (bytes_eq w)) view
 
   by_long : (b : Bool) → cond ((b || false) || true) (Some Limit) None ≡ Some Limit
@@ -98,8 +98,8 @@ short_more (v ∷ front) w h short = by (is_long v) h (short_more front w)
     by false h rest = rest h short
 
 -- a number in front of the others
-pub numbers_more : (ns : List ℕ) (names : List (List ℕ)) (w : List ℕ) (words : List (List ℕ)) (total : List ℕ) → ns ++ numbers names (w ∷ words) ≡ total → (ns ++ number_of names w ∷ []) ++ numbers (with_name names w) words ≡ total
-numbers_more ns names w words total h = append_assoc ns (number_of names w ∷ []) (numbers (with_name names w) words) ∙ h
+pub numbers_more : (ns : List ℕ) (names : List (List ℕ)) (w : List ℕ) (words : List (List ℕ)) (total : List ℕ) → ns ++ numbers names (w ∷ words) ≡ total → (ns ++ name_number names w ∷ []) ++ numbers (with_name names w) words ≡ total
+numbers_more ns names w words total h = append_assoc ns (name_number names w ∷ []) (numbers (with_name names w) words) ∙ h
 
 -- ---- numbers stay as names are added
 
@@ -114,25 +114,25 @@ known-with names w = by (list_any (bytes_eq w) names) refl
     by true e = e
     by false e = any-push w w names (same_name w)
 
-number_of-append : (names more : List (List ℕ)) (w : List ℕ) → list_any (bytes_eq w) names ≡ true → number_of (names ++ more) w ≡ number_of names w
+number_of-append : (names more : List (List ℕ)) (w : List ℕ) → list_any (bytes_eq w) names ≡ true → name_number (names ++ more) w ≡ name_number names w
 number_of-append [] more w h = absurd cc
 number_of-append (n ∷ names) more w h = by (bytes_eq w n) h (number_of-append names more w)
   where
-    by : (b : Bool) → (b || list_any (bytes_eq w) names) ≡ true → (list_any (bytes_eq w) names ≡ true → number_of (names ++ more) w ≡ number_of names w) → cond (not b) (1 + number_of (names ++ more) w) 0 ≡ cond (not b) (1 + number_of names w) 0
+    by : (b : Bool) → (b || list_any (bytes_eq w) names) ≡ true → (list_any (bytes_eq w) names ≡ true → name_number (names ++ more) w ≡ name_number names w) → cond (not b) (1 + name_number (names ++ more) w) 0 ≡ cond (not b) (1 + name_number names w) 0
     by true h rest = refl
     by false h rest = ap (λ n. 1 + n) (rest h)
 
-number_of-push : (names : List (List ℕ)) (w : List ℕ) → number_of (names ++ w ∷ []) w ≡ number_of names w
-number_of-push names w = position_or_len_push (bytes_eq w) names w ∙ rw (same_name w) (by (eqb (number_of names w) (length names)) refl)
+number_of-push : (names : List (List ℕ)) (w : List ℕ) → name_number (names ++ w ∷ []) w ≡ name_number names w
+number_of-push names w = position_or_len_push (bytes_eq w) names w ∙ rw (same_name w) (by (eqb (name_number names w) (length names)) refl)
   where
-    by : (b : Bool) → eqb (number_of names w) (length names) ≡ b → cond b (length names + 0) (number_of names w) ≡ number_of names w
+    by : (b : Bool) → eqb (name_number names w) (length names) ≡ b → cond b (length names + 0) (name_number names w) ≡ name_number names w
     by true e = rw add-zero (sym (eqb-true _ _ e))
     by false e = refl
 
-number_of-with : (names : List (List ℕ)) (w : List ℕ) → number_of (with_name names w) w ≡ number_of names w
+number_of-with : (names : List (List ℕ)) (w : List ℕ) → name_number (with_name names w) w ≡ name_number names w
 number_of-with names w = by (list_any (bytes_eq w) names)
   where
-    by : (b : Bool) → number_of (cond b names (names ++ w ∷ [])) w ≡ number_of names w
+    by : (b : Bool) → name_number (cond b names (names ++ w ∷ [])) w ≡ name_number names w
     by true = refl
     by false = number_of-push names w
 
@@ -149,12 +149,12 @@ names_after-extends (w ∷ words) names =
     by false = (w ∷ [], refl)
 
 -- a number given as a word stands is its number in the end
-pub numbers_are : (words names more : List (List ℕ)) → numbers names words ≡ map (number_of (names_after names words ++ more)) words
+pub numbers_are : (words names more : List (List ℕ)) → numbers names words ≡ map (name_number (names_after names words ++ more)) words
 numbers_are [] names more = refl
 numbers_are (w ∷ words) names more =
     let x = names_after-extends words (with_name names w) in
     let all : names_after (with_name names w) words ++ more ≡ with_name names w ++ (x.0 ++ more) = ap (λ ns. ns ++ more) x.1 ∙ append_assoc (with_name names w) x.0 more in
-    let first : number_of names w ≡ number_of (names_after (with_name names w) words ++ more) w = sym (ap (λ ns. number_of ns w) all ∙ number_of-append (with_name names w) (x.0 ++ more) w (known-with names w) ∙ number_of-with names w) in
+    let first : name_number names w ≡ name_number (names_after (with_name names w) words ++ more) w = sym (ap (λ ns. name_number ns w) all ∙ number_of-append (with_name names w) (x.0 ++ more) w (known-with names w) ∙ number_of-with names w) in
     λ i. first i ∷ numbers_are words (with_name names w) more i
 
 -- one that fails

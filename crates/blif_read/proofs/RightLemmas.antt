@@ -18,7 +18,7 @@ use Rattle.blif_read.specs.Names.{names_after, is_long, limit_at}
 use Rattle.blif_read.specs.Seen.{Seen, Above}
 use Rattle.blif_read.specs.Parts.{word, is_pair, actual_of, row_words, is_right_row, is_off, is_init, has_type, has_init, init_word, control_of}
 use Rattle.blif_read.specs.Faults.{row_fault, same_bool, names_fault, is_other, latch_parts_fault, latch_fault, pairs_fault, subckt_fault, line_fault, model_fault, head_fault, fault_of, first_fault}
-use Rattle.blif_read.specs.Right.{AreSignals, IsRow, IsNames, IsSame, IsLatch, IsSubckt, IsModel, Says, IsRight, IsRightLine}
+use Rattle.blif_read.specs.Right.{AreSignals, IsRow, IsNames, IsSame, IsLatch, IsSubckt, IsModel, IsRight, IsRightLine}
 use Rattle.blif_read.specs.Grammar.{above_by, models_of, AreRight}
 use Rattle.flatten.proofs.TestLemmas.{neither, not_true}
 use Rattle.blif_read.proofs.StateLemmas.{same_bool-is}

@@ -3,7 +3,7 @@ use Rattle.std.proofs.Common.{◌≡◌, ℕ, Bool, true, false, cond, List, [],
 use Rattle.std.specs.Prelude.{IfOk}
 use Rattle.std.specs.Global.{Vec}
 use Rattle.std.proofs.lemmas.List.{append-nil}
-use Rattle.tm_text.specs.Lines.{LogicalLine, lines_of}
+use Rattle.tm_text.specs.Lines.{LogicalLine, logical_lines}
 use Rattle.netlist.specs.declared.fault.DesignKind.{DesignKind}
 use Rattle.netlist.specs.declared.fault.DesignKind.TheVariants.{NoModel}
 use Rattle.netlist.specs.declared.fault.DesignFault.{DesignFault}
@@ -46,15 +46,15 @@ first_is lines None = refl
 
 -- a text that is read is that of the models, and their text is read
 module _ (bytes : List ℕ) where
-  pub are_models : (d : List Model) → reading (lines_of true bytes) ≡ Ok d → AreModels bytes d
+  pub are_models : (d : List Model) → reading (logical_lines true bytes) ≡ Ok d → AreModels bytes d
   are_models d h =
-      let lines = lines_of true bytes in
+      let lines = logical_lines true bytes in
       let p = reading_ok (first_fault [] lines) (is_some_model (models_of lines)) d (map spelled_model (models_of lines)) (first_is lines (first_fault [] lines) ∙ h) in
       record { right = right_lines lines [] p.0; some = p.1; models_are = p.2 }
 
-  pub are_read : (d : List Model) → AreModels bytes d → reading (lines_of true bytes) ≡ Ok d
-  are_read d is = rw (no_fault (lines_of true bytes) [] is.right, is.some, is.models_are) refl
+  pub are_read : (d : List Model) → AreModels bytes d → reading (logical_lines true bytes) ≡ Ok d
+  are_read d is = rw (no_fault (logical_lines true bytes) [] is.right, is.some, is.models_are) refl
 
-pub found_are : (bytes : List ℕ) (r : Result (Vec Model) DesignFault) → Gives (λ v. v.items) r (whole (lines_of true bytes)) → IfOk r (λ v. AreModels bytes (v.items))
-found_are bytes (Ok v) h = are_models bytes (v.items) (sym (whole_is (lines_of true bytes)) ∙ h)
+pub found_are : (bytes : List ℕ) (r : Result (Vec Model) DesignFault) → Gives (λ v. v.items) r (whole (logical_lines true bytes)) → IfOk r (λ v. AreModels bytes (v.items))
+found_are bytes (Ok v) h = are_models bytes (v.items) (sym (whole_is (logical_lines true bytes)) ∙ h)
 found_are bytes (Err e) h = tt

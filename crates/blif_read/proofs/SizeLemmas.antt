@@ -6,7 +6,7 @@ use Rattle.std.specs.List.{slice_split, onto_first, position_or_len, suffix_len}
 use Rattle.std.proofs.lemmas.Bool.{ltb-true}
 use Rattle.std.proofs.lemmas.List.{length-take, length-drop, length-map, length-append}
 use Rattle.tm_text.specs.Bytes.{is_blank, physical_lines, uncommented, joining_part, words_of}
-use Rattle.tm_text.specs.Lines.{Text, LogicalLine, line_of, texts_of, in_front, onto_next, with_words, lines_of}
+use Rattle.tm_text.specs.Lines.{Text, LogicalLine, line_of, texts_of, in_front, onto_next, with_words, logical_lines}
 use Rattle.netlist.specs.declared.draft.PortDef.{PortDef}
 use Rattle.netlist.specs.declared.fault.DesignFault.{DesignFault}
 use Rattle.netlist.specs.declared.fault.DesignKind.{DesignKind}
@@ -119,7 +119,7 @@ lines_size (t ∷ texts) = by (nat_lt 0 (length (words_of t.bytes))) (lines_size
     by true h = omega (arith, text_words t.bytes)
     by false h = omega arith
 
-words_within : (joined : Bool) (bytes : List ℕ) → words_total (lines_of joined bytes) ≤ length bytes
+words_within : (joined : Bool) (bytes : List ℕ) → words_total (logical_lines joined bytes) ≤ length bytes
 words_within joined bytes = omega (arith, lines_size (texts_of joined 1 (physical_lines bytes)), texts_size joined 1 (physical_lines bytes), physical_size bytes)
 
 -- ---- outputs
@@ -215,6 +215,6 @@ first_few : (ms : List Model) → length (first_model ms).outputs ≤ outputs_in
 first_few [] = omega arith
 first_few (m ∷ ms) = omega arith
 
-pub few_outputs : (bytes : List ℕ) (r : Result (Vec Model) DesignFault) → Gives (λ v. v.items) r (whole (lines_of true bytes)) → IfOk r (λ v. length (first_model v.items).outputs ≤ length bytes)
-few_outputs bytes (Ok v) h = omega (arith, first_few v.items, whole_few (lines_of true bytes) v.items h, words_within true bytes)
+pub few_outputs : (bytes : List ℕ) (r : Result (Vec Model) DesignFault) → Gives (λ v. v.items) r (whole (logical_lines true bytes)) → IfOk r (λ v. length (first_model v.items).outputs ≤ length bytes)
+few_outputs bytes (Ok v) h = omega (arith, first_few v.items, whole_few (logical_lines true bytes) v.items h, words_within true bytes)
 few_outputs bytes (Err e) h = tt

@@ -15,14 +15,14 @@ use Rattle.netlist.specs.declared.draft.PortDef.{PortDef}
 use Rattle.netlist.specs.declared.draft.LatchDef.{LatchDef}
 use Rattle.blif_read.specs.declared.head.Head.{Head}
 use Rattle.blif_read.specs.declared.head.Head.TheVariants as head
-use Rattle.blif_read.specs.Names.{names_after, number_of, with_name}
+use Rattle.blif_read.specs.Names.{names_after, name_number, with_name}
 use Rattle.blif_read.specs.Parts.{formal_of, actual_of, pairs_of, word, port_defs, new_sum, with_row, pattern, lit_of, is_off, row_words, is_right_row, init_of, control_of}
 use Rattle.flatten.specs.declared.model.Piece.TheVariants.{Names, Latch, Inst}
 use Rattle.netlist.specs.declared.draft.Lit.{Lit}
 use Rattle.blif_read.specs.Seen.{Seen}
 use Rattle.blif_read.specs.Faults.{IsNew, placed_fault, line_fault, row_fault, same_bool}
 use Rattle.blif_read.specs.Steps.{State, after_head, new_latch, new_inst, closed_pieces}
-use Rattle.blif_read.specs.Grammar.{Statement, kind_of, signals, signals_of, names_of, port_of, inputs_on, outputs_on, clocks_on, pair_from, cover_of, lists_off, inputs_of, outputs_of, clocks_of, parts_of, is_end, ended_by, last_cover, control_on, control_by, is_some_statement, seen_by, statements_of}
+use Rattle.blif_read.specs.Grammar.{Statement, kind_of, signals, statement_signals, names_of, port_of, inputs_on, outputs_on, clocks_on, pair_from, cover_of, lists_off, inputs_of, outputs_of, clocks_of, parts_of, is_end, ended_by, last_cover, latch_control_on, control_by, is_some_statement, seen_by, statements_of}
 use Rattle.blif_read.proofs.NamesLemmas.{numbers_are, names_after-extends}
 use Rattle.blif_read.proofs.GrammarLemmas.{add_to_last, last_split, add_to_last-at, ended_by-at, last_cover-at, some-at, closed_on, closed_parts, closed_parts-at, closed_on-rows, parts_by_last, grouped-passed, statements-row, statements-new}
 
@@ -49,7 +49,7 @@ map-map : {A B C : Type 0} (g : B → C) (f : A → B) (xs : List A) → map g (
 map-map g f [] = refl
 map-map g f (x ∷ xs) = ap (λ ys. g (f x) ∷ ys) (map-map g f xs)
 
-pairs_are : (names words : List (List ℕ)) → pairs_of (map formal_of words) (map (number_of names) (map actual_of words)) ≡ map (pair_from names) words
+pairs_are : (names words : List (List ℕ)) → pairs_of (map formal_of words) (map (name_number names) (map actual_of words)) ≡ map (pair_from names) words
 pairs_are names [] = refl
 pairs_are names (w ∷ words) = ap (λ ps. pair_from names w ∷ ps) (pairs_are names words)
 
@@ -59,7 +59,7 @@ module _ (names more : List (List ℕ)) (l : LogicalLine) where
   all h = names_after names (signals h l.words) ++ more
 
   ports_are : port_defs names (drop 1 l.words) l.number ≡ map (port_of (names_after names (drop 1 l.words) ++ more) l.number) (drop 1 l.words)
-  ports_are = ap (map (λ k. record { signal = k; line = l.number })) (numbers_are (drop 1 l.words) names more) ∙ map-map (λ k. record { signal = k; line = l.number }) (number_of (names_after names (drop 1 l.words) ++ more)) (drop 1 l.words)
+  ports_are = ap (map (λ k. record { signal = k; line = l.number })) (numbers_are (drop 1 l.words) names more) ∙ map-map (λ k. record { signal = k; line = l.number }) (name_number (names_after names (drop 1 l.words) ++ more)) (drop 1 l.words)
 
   pub inputs_are : (h : Head) → new_inputs names l h ≡ inputs_on (all h) h l
   inputs_are head.Inputs = ports_are
@@ -93,7 +93,7 @@ module _ (names more : List (List ℕ)) (l : LogicalLine) where
 -- the state after the line of a new statement
 abbrev after_new : State → Head → LogicalLine → State
 after_new s h l = record {
-  seen = record { begun = true; ended = is_end h; names = names_after s.seen.names (signals h l.words); current = new_current s.seen.names l h; control = option_or s.seen.control (control_on h l) };
+  seen = record { begun = true; ended = is_end h; names = names_after s.seen.names (signals h l.words); current = new_current s.seen.names l h; control = option_or s.seen.control (latch_control_on h l) };
   inputs = s.inputs ++ new_inputs s.seen.names l h;
   outputs = s.outputs ++ new_outputs s.seen.names l h;
   clocks = s.clocks ++ clocks_on h l;
@@ -140,9 +140,9 @@ or-assoc : (o p q : Option (List ℕ)) → option_or (option_or o p) q ≡ optio
 or-assoc None p q = refl
 or-assoc (Some c) p q = refl
 
-control_by-push : (ss : List Statement) (x : Statement) → control_by (ss ++ x ∷ []) ≡ option_or (control_by ss) (control_on (kind_of x.head) x.head)
-control_by-push [] x = or_none (control_on (kind_of x.head) x.head)
-control_by-push (s ∷ ss) x = ap (option_or (control_on (kind_of s.head) s.head)) (control_by-push ss x) ∙ sym (or-assoc (control_on (kind_of s.head) s.head) (control_by ss) (control_on (kind_of x.head) x.head))
+control_by-push : (ss : List Statement) (x : Statement) → control_by (ss ++ x ∷ []) ≡ option_or (control_by ss) (latch_control_on (kind_of x.head) x.head)
+control_by-push [] x = or_none (latch_control_on (kind_of x.head) x.head)
+control_by-push (s ∷ ss) x = ap (option_or (latch_control_on (kind_of s.head) s.head)) (control_by-push ss x) ∙ sym (or-assoc (latch_control_on (kind_of s.head) s.head) (control_by ss) (latch_control_on (kind_of x.head) x.head))
 
 -- after the line of a new statement
 new_state : (ss : List Statement) (s : State) (h : Head) (l : LogicalLine) → IsState ss s → kind_of l ≡ h → IsState (ss ++ record { head = l; rows = [] } ∷ []) (after_new s h l)
@@ -153,9 +153,9 @@ new_state ss s h l is k =
       begun = sym (some-at x ss);
       ended = sym (ended_by-at x ss ∙ ap is_end k);
       names = ap (λ ns. names_after ns (signals h l.words)) is.names
-          ∙ sym (ap (names_after []) (flat_map-append signals_of ss (x ∷ []) ∙ ap (λ ws. flat_map signals_of ss ++ ws) (append-nil (signals_of x) ∙ ap (λ g. signals g l.words) k))
-          ∙ fold-append with_name [] (flat_map signals_of ss) (signals h l.words));
-      control = ap (λ c. option_or c (control_on h l)) is.control ∙ sym (control_by-push ss x ∙ ap (λ g. option_or (control_by ss) (control_on g l)) k);
+          ∙ sym (ap (names_after []) (flat_map-append statement_signals ss (x ∷ []) ∙ ap (λ ws. flat_map statement_signals ss ++ ws) (append-nil (statement_signals x) ∙ ap (λ g. signals g l.words) k))
+          ∙ fold-append with_name [] (flat_map statement_signals ss) (signals h l.words));
+      control = ap (λ c. option_or c (latch_control_on h l)) is.control ∙ sym (control_by-push ss x ∙ ap (λ g. option_or (control_by ss) (latch_control_on g l)) k);
       current = λ more. current_is s.seen.names more l h ∙ sym (last_cover-at x (names_after s.seen.names (signals h l.words) ++ more) ss ∙ ap (λ g. cover_of (names_after s.seen.names (signals h l.words) ++ more) g x) k);
       inputs = λ more. rw ext.1 (added (λ ns t. inputs_on ns (kind_of t.head) t.head) s.inputs (new_inputs s.seen.names l h) s.seen.names ext.0 more ss x is.inputs (rw (← ext.1, k) (inputs_are s.seen.names more l h)));
       outputs = λ more. rw ext.1 (added (λ ns t. outputs_on ns (kind_of t.head) t.head) s.outputs (new_outputs s.seen.names l h) s.seen.names ext.0 more ss x is.outputs (rw (← ext.1, k) (outputs_are s.seen.names more l h)));
@@ -198,7 +198,7 @@ off_more n l (r ∷ rows) h = sym (h (omega arith))
 
 row_more : (names : List (List ℕ)) (h : Head) (st : Statement) (l : LogicalLine) (c : Cover) → Some c ≡ cover_of names h st → row_fault c l.words ≡ None → Some (with_row c l.words) ≡ cover_of names h (record { head = st.head; rows = st.rows ++ l ∷ [] })
 row_more names head.Names st l c e none =
-    let ns = map (number_of names) (drop 1 st.head.words) in
+    let ns = map (name_number names) (drop 1 st.head.words) in
     let ins = take (length ns - 1) ns in
     let row : LogicalLine → List Lit = λ r. map lit_of (pattern (length ins) r.words) in
     let whole : Cover = record { out = slice_index ns (length ns - 1); ins = ins; rows = map row st.rows; off = lists_off (length ins) st.rows; line = st.head.number } in
@@ -222,7 +222,7 @@ row_state_at front st s l c is cur none =
       begun = is.begun ∙ some-at st front ∙ sym (some-at t front);
       ended = is.ended ∙ ended_by-at st front ∙ sym (ended_by-at t front);
       control = is.control ∙ control_by-push front st ∙ sym (control_by-push front t);
-      names = is.names ∙ ap (names_after []) (same_heads signals_of front st t refl);
+      names = is.names ∙ ap (names_after []) (same_heads statement_signals front st t refl);
       current = λ more. ap (option_map (λ d. with_row d l.words)) cur
           ∙ row_more (s.seen.names ++ more) (kind_of st.head) st l c (sym cur ∙ is.current more ∙ last_cover-at st (s.seen.names ++ more) front) none
           ∙ sym (last_cover-at t (s.seen.names ++ more) front);

@@ -1,6 +1,6 @@
 -- What the text of a design is; and beside it, which fault of a text that is none comes first.
 use Rattle.std.specs.Prelude.{ℕ, ◌≡◌, ◌<◌, ◌≤◌, true, List, Err, length}
-use Rattle.tm_text.specs.Lines.{lines_of}
+use Rattle.tm_text.specs.Lines.{logical_lines}
 use Rattle.netlist.specs.declared.draft.Draft.{Draft}
 use Rattle.netlist.specs.declared.fault.DesignKind.{DesignKind}
 use Rattle.netlist.specs.declared.fault.DesignKind.TheVariants.{Limit}
@@ -23,7 +23,7 @@ pub record IsDesign (bytes : List ℕ) (draft : Draft) : Type 0 where
 -- the fault that comes first: there are too many bytes; or a line is faulty, or none begins a model; or the models don't make a sound netlist
 pub data IsDesignFault (bytes : List ℕ) (line : ℕ) (kind : DesignKind) : Type 0 where
   TooLong : 16777216 < length bytes → line ≡ 0 → kind ≡ Limit → IsDesignFault bytes line kind
-  OnLine : length bytes ≤ 16777216 → reading (lines_of true bytes) ≡ Err (line, kind) → IsDesignFault bytes line kind
+  OnLine : length bytes ≤ 16777216 → reading (logical_lines true bytes) ≡ Err (line, kind) → IsDesignFault bytes line kind
   InModels : length bytes ≤ 16777216 → (models : List Model) → AreModels bytes models → IsModelsFault models line kind → IsDesignFault bytes line kind
 
 -- what a refusal says of the bytes. Want of memory says nothing

@@ -6,13 +6,13 @@ use Rattle.netlist.specs.declared.draft.Cover.{Cover}
 use Rattle.std.specs.Prelude.{option_map, ℕ, ◌-◌, ◌≡◌, Bool, true, false, List, [], ◌∷◌, ◌++◌, Option, Some, None, length, map, take, drop, slice_index}
 use Rattle.std.specs.List.{flat_map}
 use Rattle.std.specs.Option.{option_or, option_to_list}
-use Rattle.tm_text.specs.Lines.{LogicalLine, lines_of}
+use Rattle.tm_text.specs.Lines.{LogicalLine, logical_lines}
 use Rattle.netlist.specs.declared.draft.PortDef.{PortDef}
 use Rattle.netlist.specs.declared.draft.LatchDef.{LatchDef}
 use Rattle.blif_read.specs.declared.head.Head.{Head}
 use Rattle.blif_read.specs.declared.head.Head.TheVariants as head
 use Rattle.blif_read.specs.Heads.{head_of}
-use Rattle.blif_read.specs.Names.{names_after, number_of}
+use Rattle.blif_read.specs.Names.{names_after, name_number}
 use Rattle.blif_read.specs.Parts.{formal_of, actual_of, word, lit_of, pattern, is_off, init_of, control_of}
 use Rattle.flatten.specs.declared.model.Piece.TheVariants.{Names, Latch, Inst}
 use Rattle.blif_read.specs.Seen.{Seen, Above}
@@ -33,14 +33,14 @@ pub record Grouped : Type 0 where
 abbrev pub kind_of : LogicalLine → Head
 kind_of l = head_of (word 0 l.words)
 
-abbrev pub in_front : LogicalLine → Head → Grouped → Grouped
-in_front l head.Passed g = g
-in_front l head.Row g = record { rows = l ∷ g.rows; statements = g.statements }
-in_front l _ g = record { rows = []; statements = record { head = l; rows = g.rows } ∷ g.statements }
+abbrev pub grouped_behind : LogicalLine → Head → Grouped → Grouped
+grouped_behind l head.Passed g = g
+grouped_behind l head.Row g = record { rows = l ∷ g.rows; statements = g.statements }
+grouped_behind l _ g = record { rows = []; statements = record { head = l; rows = g.rows } ∷ g.statements }
 
 abbrev pub grouped : List LogicalLine → Grouped
 grouped [] = record { rows = []; statements = [] }
-grouped (l ∷ lines) = in_front l (kind_of l) (grouped lines)
+grouped (l ∷ lines) = grouped_behind l (kind_of l) (grouped lines)
 
 abbrev pub statements_of : List LogicalLine → List Statement
 statements_of lines = (grouped lines).statements
@@ -56,15 +56,15 @@ signals head.Latch words = word 1 words ∷ word 2 words ∷ []
 signals head.Subckt words = map actual_of (drop 2 words)
 signals _ words = []
 
-abbrev pub signals_of : Statement → List (List ℕ)
-signals_of s = signals (kind_of s.head) s.head.words
+abbrev pub statement_signals : Statement → List (List ℕ)
+statement_signals s = signals (kind_of s.head) s.head.words
 
 -- the signals of a text, numbered by first appearance
 abbrev pub names_of : List Statement → List (List ℕ)
-names_of statements = names_after [] (flat_map signals_of statements)
+names_of statements = names_after [] (flat_map statement_signals statements)
 
 abbrev pub port_of : List (List ℕ) → ℕ → List ℕ → PortDef
-port_of names line w = record { signal = number_of names w; line = line }
+port_of names line w = record { signal = name_number names w; line = line }
 
 abbrev pub inputs_on : List (List ℕ) → Head → LogicalLine → List PortDef
 inputs_on names head.Inputs l = map (port_of names l.number) (drop 1 l.words)
@@ -87,7 +87,7 @@ lists_off n (row ∷ rows) = is_off n row.words
 -- the last signal is the output
 abbrev pub cover_of : List (List ℕ) → Head → Statement → Option Cover
 cover_of names head.Names s =
-    let ns = map (number_of names) (drop 1 s.head.words) in
+    let ns = map (name_number names) (drop 1 s.head.words) in
     let ins = take (length ns - 1) ns in
     Some (record {
       out = slice_index ns (length ns - 1);
@@ -99,10 +99,10 @@ cover_of names head.Names s =
 cover_of names _ s = None
 
 abbrev pub latch_of : List (List ℕ) → LogicalLine → LatchDef
-latch_of names l = record { from = number_of names (word 1 l.words); out = number_of names (word 2 l.words); init = init_of l.words; line = l.number }
+latch_of names l = record { from = name_number names (word 1 l.words); out = name_number names (word 2 l.words); init = init_of l.words; line = l.number }
 
 abbrev pub pair_from : List (List ℕ) → List ℕ → PairDef
-pair_from names w = record { formal = formal_of w; actual = number_of names (actual_of w) }
+pair_from names w = record { formal = formal_of w; actual = name_number names (actual_of w) }
 
 -- a cover, a latch with its control, or the use of a model
 abbrev pub part_on : List (List ℕ) → Head → Statement → Option Piece
@@ -155,14 +155,14 @@ last_cover names [] = None
 last_cover names (s ∷ []) = cover_of names (kind_of s.head) s
 last_cover names (s ∷ t ∷ statements) = last_cover names (t ∷ statements)
 
-abbrev pub control_on : Head → LogicalLine → Option (List ℕ)
-control_on head.Latch l = control_of l.words
-control_on _ l = None
+abbrev pub latch_control_on : Head → LogicalLine → Option (List ℕ)
+latch_control_on head.Latch l = control_of l.words
+latch_control_on _ l = None
 
 -- the first control that is a name
 abbrev pub control_by : List Statement → Option (List ℕ)
 control_by [] = None
-control_by (s ∷ statements) = option_or (control_on (kind_of s.head) s.head) (control_by statements)
+control_by (s ∷ statements) = option_or (latch_control_on (kind_of s.head) s.head) (control_by statements)
 
 abbrev pub is_some_statement : List Statement → Bool
 is_some_statement [] = false
@@ -232,6 +232,6 @@ AreRight above (l ∷ lines) = IsRightLine (above_by (models_of above)) l × Are
 
 -- the bytes are the text of these models: each line is right, one begins a model, and this is what they spell
 pub record AreModels (bytes : List ℕ) (models : List Model) : Type 0 where
-  pub right : AreRight [] (lines_of true bytes)
-  pub some : is_some_model (models_of (lines_of true bytes)) ≡ true
-  pub models_are : models ≡ map spelled_model (models_of (lines_of true bytes))
+  pub right : AreRight [] (logical_lines true bytes)
+  pub some : is_some_model (models_of (logical_lines true bytes)) ≡ true
+  pub models_are : models ≡ map spelled_model (models_of (logical_lines true bytes))

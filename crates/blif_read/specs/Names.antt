@@ -14,13 +14,13 @@ abbrev pub names_after : List (List ℕ) → List (List ℕ) → List (List ℕ)
 names_after names words = fold with_name names words
 
 -- the number of a name: its place, which for a new one is the next
-abbrev pub number_of : List (List ℕ) → List ℕ → ℕ
-number_of names w = position_or_len (bytes_eq w) names
+abbrev pub name_number : List (List ℕ) → List ℕ → ℕ
+name_number names w = position_or_len (bytes_eq w) names
 
 -- the number of each word at the moment that it stands
 abbrev pub numbers : List (List ℕ) → List (List ℕ) → List ℕ
 numbers names [] = []
-numbers names (w ∷ words) = number_of names w ∷ numbers (with_name names w) words
+numbers names (w ∷ words) = name_number names w ∷ numbers (with_name names w) words
 
 -- more than 255 bytes
 abbrev pub is_long : List ℕ → Bool

@@ -1,6 +1,6 @@
 //! What each kind of line says.
 
-ghost use Rattle.std.specs.Prelude.{option_copied, IfOk, MatchOption, vec_len, ◌≡◌, ◌++◌, ◌∷◌, [], ◌+◌, ◌-◌, ◌<◌, true, false, ◌&&◌, ◌||◌, ◌==◌, List, length, map, drop, None, Some};
+ghost use Rattle.std.specs.Prelude.{option_copied, IfOk, MatchOption, vec_len, ◌≡◌, ◌++◌, ◌∷◌, [], ◌+◌, ◌-◌, ◌<◌, true, false, ◌&&◌, ◌||◌, ◌==◌, length, map, drop, None, Some};
 ghost use Rattle.std.specs.List.{list_all};
 ghost use Rattle.std.specs.Option.{option_or};
 ghost use Rattle.blif_read.specs.Names.{names_after, numbers, limit_at};

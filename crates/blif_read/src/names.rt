@@ -3,7 +3,7 @@
 ghost use Rattle.std.specs.List.{list_any};
 ghost use Rattle.std.specs.Str.{bytes_eq};
 ghost use Rattle.std.specs.Prelude.{◌++◌, ◌≡◌, ◌<◌, ◌≤◌, ◌∷◌, false, [], length, map, IfOk, OnOk, None, IfErr, MatchResult, vec_len};
-ghost use Rattle.blif_read.specs.Names.{with_name, names_after, number_of, numbers, limit_at, is_long};
+ghost use Rattle.blif_read.specs.Names.{with_name, names_after, name_number, numbers, limit_at, is_long};
 ghost use Rattle.blif_read.specs.Refusals.{IsRefusedAs};
 
 use crate::kind::Refusal;
@@ -46,7 +46,7 @@ impl<'a> Names<'a> {
 
     /// The number of a name, which is new if it hasn't stood before.
     pub fn number(&mut self, word: &'a [u8]) -> Result<u32, Refusal>
-        ensures number { IfOk result (λ k. k ≡ number_of self.old word.now) }
+        ensures number { IfOk result (λ k. k ≡ name_number self.old word.now) }
         ensures ok { OnOk result (self.new ≡ with_name self.old word.now) }
         ensures within { OnOk result (length self.new ≤ 65535) }
         ensures short { OnOk result (is_long word.now ≡ false) }

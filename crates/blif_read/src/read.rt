@@ -4,7 +4,7 @@ ghost use Rattle.flatten.specs.declared.model.Model.{Model};
 ghost use Rattle.flatten.specs.Lines.{HaveRightRows};
 ghost use Rattle.flatten.specs.Substitution.{first_model};
 ghost use Rattle.std.specs.Prelude.{◌≡◌, true, List, None, Some, Ok, Err, IfOk, IfErr, MatchResult, length, ◌≤◌};
-ghost use Rattle.tm_text.specs.Lines.{lines_of};
+ghost use Rattle.tm_text.specs.Lines.{logical_lines};
 ghost use Rattle.blif_read.specs.Texts.{text_of};
 ghost use Rattle.blif_read.specs.Runs.{run, text_start, whole, Gives};
 ghost use Rattle.blif_read.specs.Faults.{reading};
@@ -34,7 +34,7 @@ fn new_text<'a>(alloc: Global) -> TextReader<'a>
 /// Reads the lines of a text.
 #[tactic(auto, unfolding(crate::specs::Runs::run))]
 fn read_lines<'a>(alloc: Global, bytes: &'a [u8]) -> Result<TextReader<'a>, DesignFault>
-    ensures { Gives text_of result (run text_start (lines_of true bytes.now)) }
+    ensures { Gives text_of result (run text_start (logical_lines true bytes.now)) }
 {
     let mut lines = Lines::new(alloc, bytes, true);
     let mut text = new_text(alloc);
@@ -58,7 +58,7 @@ fn read_lines<'a>(alloc: Global, bytes: &'a [u8]) -> Result<TextReader<'a>, Desi
 }
 
 fn read_whole(alloc: Global, bytes: &[u8]) -> Result<Vec<Model>, DesignFault>
-    ensures { Gives (λ v. v.items) result (whole (lines_of true bytes.now)) }
+    ensures { Gives (λ v. v.items) result (whole (logical_lines true bytes.now)) }
 {
     let TextReader {
         mut done,
@@ -83,7 +83,7 @@ fn read_models(alloc: Global, bytes: &[u8]) -> Result<Vec<Model>, DesignFault>
     // The text of models is read, unless memory runs out.
     ensures only { (models : List Model) → AreModels bytes.now models → Gives (λ v. v.items) result (Ok models) }
     // Which fault it is: that of the first faulty line, and on it the first.
-    ensures exact { Gives (λ v. v.items) result (reading (lines_of true bytes.now)) }
+    ensures exact { Gives (λ v. v.items) result (reading (logical_lines true bytes.now)) }
     // Rows are as long as their cover's inputs.
     ensures rows { IfOk result (λ v. HaveRightRows v.items) }
     // Each output stands in the text.

@@ -18,7 +18,7 @@ use Rattle.config_set.specs.declared.Setting.{Setting}
 use Rattle.config_set.specs.Configuration.{Configuration, is_closed, setting_of}
 use Rattle.config_set.specs.Faulty.{circuit_of, table_or_off, IsRun}
 use Rattle.config_set.specs.Run.{number_of, address_at, pins_read, tick_output, edge_output, at_load, after_tick, after_edge, Ticks, unticked, tick, Cycles, none, cycle}
-use Rattle.config_image.specs.Images.{ImageValue, IsImage, drive_of, row_of}
+use Rattle.config_image.specs.Images.{ImageValue, IsImage, drive_of, image_row}
 use Rattle.config_image.specs.Parts.{IsFreeImage}
 use Rattle.config_image.proofs.Driven.{drive_low, number_below, same_map, tick_of, edge_of, first_of}
 use Rattle.config_image.proofs.FreeWires.{IsGood, IsOff, joined_too}
@@ -122,10 +122,10 @@ module _ (d : Defects) (i : ImageValue) (numbered : IsNumbered i.config.shape) (
               ∙ edge_of f t (setting_of g t) s a (o t) e (cf.cells t a (on_within t on) (low_address t) (free.tables t on)) (cf.registers t (on_within t on) (free.tables t on))
               ∙ sym (edge_of h t (setting_of g t) s a (o t) e (ch.cells t a (on_within t on) (low_address t) (free.tables t on)) (ch.registers t (on_within t on) (free.tables t on)))
 
-      same_row : row_of i (pins_read (circuit_of f g) v) ≡ row_of i (pins_read (circuit_of h g) u)
+      same_row : image_row i (pins_read (circuit_of f g) v) ≡ image_row i (pins_read (circuit_of h g) u)
       same_row = ext_get_or true _ _ (length-map i.outputs _ ∙ sym (length-map i.outputs _)) one
         where
-          one : (k : ℕ) → k < length (row_of i (pins_read (circuit_of f g) v)) → get_or (row_of i (pins_read (circuit_of f g) v)) k true ≡ get_or (row_of i (pins_read (circuit_of h g) u)) k true
+          one : (k : ℕ) → k < length (image_row i (pins_read (circuit_of f g) v)) → get_or (image_row i (pins_read (circuit_of f g) v)) k true ≡ get_or (image_row i (pins_read (circuit_of h g) u)) k true
           one k l =
               let n : k < length i.outputs = rw length-map at l in
               get_or-map (λ p. get_or (pins_read (circuit_of f g) v) p true) i.outputs k 0 true n
@@ -148,12 +148,12 @@ module _ (d : Defects) (i : ImageValue) (numbered : IsNumbered i.config.shape) (
           λ t n. ap (λ o. o t) q ∙ off_tick v mid t n,
         )
 
-    same_cycles : {before other after last : Outputs} {reads others : List Pins} (vectors : List (List Bool)) → before ≡ other → IsOff g before → Cycles (circuit_of f g) before (map (drive_of i) vectors) reads after → Cycles (circuit_of h g) other (map (drive_of i) vectors) others last → map (row_of i) reads ≡ map (row_of i) others
+    same_cycles : {before other after last : Outputs} {reads others : List Pins} (vectors : List (List Bool)) → before ≡ other → IsOff g before → Cycles (circuit_of f g) before (map (drive_of i) vectors) reads after → Cycles (circuit_of h g) other (map (drive_of i) vectors) others last → map (image_row i) reads ≡ map (image_row i) others
     same_cycles [] e off none none = refl
     same_cycles (vector ∷ vectors) e off (cycle s ss) (cycle r rs) =
         let ticked = same_ticks vector e off s.ticks r.ticks in
         let au = subst (λ o. AreValues (circuit_of h g) (drive_of i vector) o r.value) (sym ticked.0) r.values in
-        let row = ap (row_of i) s.reads ∙ same_row vector s.outputs ticked.1 s.value r.value s.values au ∙ sym (ap (row_of i) r.reads) in
+        let row = ap (image_row i) s.reads ∙ same_row vector s.outputs ticked.1 s.value r.value s.values au ∙ sym (ap (image_row i) r.reads) in
         let state = s.edge ∙ same_edge vector s.outputs ticked.1 s.value r.value s.values au ∙ ap (after_edge (circuit_of h g) r.value) ticked.0 ∙ sym r.edge in
         let rest = same_cycles vectors state (λ t n. ap (λ o. o t) s.edge ∙ off_edge s.value s.outputs t n) ss rs in
         λ j. row j ∷ rest j
@@ -168,5 +168,5 @@ module _ (d : Defects) (i : ImageValue) (numbered : IsNumbered i.config.shape) (
             first_of f t (setting_of g t) s e (cf.registers t (on_within t on) (free.tables t on))
             ∙ sym (first_of h t (setting_of g t) s e (ch.registers t (on_within t on) (free.tables t on)))
 
-    pub runs_alike : (vectors : List (List Bool)) {reads others : List Pins} → IsRun f g (map (drive_of i) vectors) reads → IsRun h g (map (drive_of i) vectors) others → map (row_of i) reads ≡ map (row_of i) others
+    pub runs_alike : (vectors : List (List Bool)) {reads others : List Pins} → IsRun f g (map (drive_of i) vectors) reads → IsRun h g (map (drive_of i) vectors) others → map (image_row i) reads ≡ map (image_row i) others
     runs_alike vectors p q = same_cycles vectors same_load (λ t e. rw e refl) p.cycles q.cycles

@@ -1,3 +1,7 @@
+-- What is cited above.
+pub mod Driven
+pub mod FreeWires
+-- For the proofs of this crate alone.
 mod Bytes
 mod Wrong
 mod Passing
@@ -10,6 +14,4 @@ mod Faultless
 mod Ends
 mod Written
 mod Touching
-pub mod Driven
-pub mod FreeWires
 mod Alike

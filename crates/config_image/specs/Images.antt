@@ -51,8 +51,8 @@ row_at outputs reading = map (λ k. slice_index_or reading k true) outputs
 abbrev pub drive_of : ImageValue → List Bool → Pins
 drive_of i vector = drive_on (pins_of i.config.shape) i.inputs vector
 
-abbrev pub row_of : ImageValue → Pins → List Bool
-row_of i reading = row_at i.outputs reading
+abbrev pub image_row : ImageValue → Pins → List Bool
+image_row i reading = row_at i.outputs reading
 
 -- ---- the bytes
 

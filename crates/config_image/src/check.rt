@@ -1,6 +1,6 @@
 //! The fields of an image, each with what is wrong with its number.
 
-ghost use Rattle.std.specs.Prelude.{◌≡◌, ◌≤◌, ◌<◌, ◌+◌, length, IfOk, IfErr};
+ghost use Rattle.std.specs.Prelude.{◌≡◌, ◌≤◌, ◌<◌, length, IfOk, IfErr};
 ghost use Rattle.config_image.specs.declared.kind.ImageKind.TheVariants as kinds;
 ghost use Rattle.config_image.specs.declared.kind.ImageFault.TheVariants.{At};
 ghost use Rattle.config_image.specs.Faults.{magic_fault, count_fault, ticks_fault, most_fault, closed_fault, pin_fault, above_fault, flags_fault};

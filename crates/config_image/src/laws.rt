@@ -4,7 +4,7 @@ ghost use Rattle.hierarchy.specs.Circuit.{Pins};
 ghost use Rattle.hierarchy.specs.Defects.{Defects, Covers};
 ghost use Rattle.hierarchy.specs.Faults.{Faults};
 ghost use Rattle.config_set.specs.Faulty.{IsRun};
-ghost use Rattle.config_image.specs.Images.{ImageValue, IsImage, drive_of, row_of};
+ghost use Rattle.config_image.specs.Images.{ImageValue, IsImage, drive_of, image_row};
 ghost use Rattle.config_image.specs.Parts.{IsFreeImage};
 
 /// An image that touches only what is free reads the same rows under any two fault sets that the list covers. Every list
@@ -13,7 +13,7 @@ ghost use Rattle.config_image.specs.Parts.{IsFreeImage};
 pub fn free_images_run_alike()
     ensures { (d : Defects) (i : ImageValue) (f h : Faults) → IsImage i → IsFreeImage d i → Covers i.config.shape d f → Covers i.config.shape d h →
         (vectors : List (List Bool)) (reads others : List Pins) → IsRun f i.config (map (drive_of i) vectors) reads → IsRun h i.config (map (drive_of i) vectors) others →
-        map (row_of i) reads ≡ map (row_of i) others }
+        map (image_row i) reads ≡ map (image_row i) others }
 {
     hierarchy::the_numbering_is_sound();
 }

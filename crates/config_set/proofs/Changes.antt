@@ -1,17 +1,16 @@
 -- Configurations after a change.
-use Rattle.std.proofs.Common.{◌≡◌, ℕ, ◌<◌, Bool, true, false, not, ◌||◌, ◌&&◌, None, Option, refl, sym, ap, ◌∙◌, subst, arith}
+use Rattle.std.proofs.Common.{◌≡◌, ℕ, ◌<◌, Bool, true, false, not, ◌||◌, ◌&&◌, None, refl, sym, ap, ◌∙◌, subst, arith}
 use Rattle.std.specs.Ordering.{nat_cmp, eq_by_cmp}
 use Rattle.std.specs.Prelude.{◌==◌, if◌then◌else◌}
 use Rattle.std.specs.Cmp.{nat_cmp_total, unsigned_tied, Equal-is}
 use Rattle.std.specs.FinSet as set_
 use Rattle.std.specs.FinSet.{contains-insert, contains-remove, contains-empty, same_set, nat_cmp-IsAntisymmetric}
 use Rattle.std.proofs.lemmas.Bool.{false≢true}
-use Rattle.std.proofs.lemmas.List.{length-set, length-replicate}
+use Rattle.std.proofs.lemmas.List.{length-replicate}
 use Rattle.std.proofs.lemmas.List.Elements.{All-replicate}
 use Rattle.hierarchy.specs.declared.Shape.{Shape}
-use Rattle.hierarchy.specs.Shape.{crosses_of, tables_of}
-use Rattle.config_set.specs.declared.Setting.{Setting}
-use Rattle.config_set.specs.Configuration.{Configuration, CellsFit, IsConfiguration, is_closed, cleared, with_closed, with_open, with_setting}
+use Rattle.hierarchy.specs.Shape.{tables_of}
+use Rattle.config_set.specs.Configuration.{Configuration, CellsFit, IsConfiguration, is_closed, cleared, with_closed, with_open}
 
 pub same_number : (a b : ℕ) → eq_by_cmp nat_cmp a b ≡ true → a ≡ b
 same_number a b e = nat_cmp-IsAntisymmetric a b ((Equal-is _).0 e)

@@ -1,9 +1,8 @@
+-- What is cited above.
 pub mod Marks
 pub mod Members
 pub mod Changes
 pub mod Runs
-pub mod Finite
-pub mod Registers
 pub mod Toggles
 pub mod Readings
 pub mod Grouped
@@ -12,3 +11,6 @@ pub mod Passing
 pub mod Loops
 pub mod Cells
 pub mod FirstReadings
+-- For the proofs of this crate alone.
+mod Finite
+mod Registers

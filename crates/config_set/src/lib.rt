@@ -2,7 +2,7 @@
 //! how many ticks a cycle has.
 #![tactic(auto)]
 
-ghost use Rattle.std.specs.Prelude.{◌≡◌, ℕ, ◌+◌, ◌-◌, ◌*◌, ◌/◌, ◌≤◌, ◌<◌, Bool, true, IfOk, OnOk, OnErr, IsOk, IsSome, IfSome, Some, None, count_by, is_some, ◌==◌, if◌then◌else◌, length};
+ghost use Rattle.std.specs.Prelude.{◌≡◌, ℕ, ◌+◌, ◌-◌, ◌≤◌, ◌<◌, true, IfOk, OnOk, OnErr, IsOk, IsSome, IfSome, Some, None, count_by, is_some, ◌==◌, if◌then◌else◌};
 ghost use Rattle.std.specs.FinSet as set;
 ghost use Rattle.hierarchy.specs.Shape.{crosses_of, tables_of};
 ghost use Rattle.config_set.specs.Configuration.{IsConfiguration, cleared, is_closed, setting_of, with_closed, with_open, with_setting, with_ticks, with_bit, with_cell};

@@ -1,5 +1,5 @@
 //! Lists in which each member stands once.
-ghost use Rattle.std.specs.Prelude.{◌≡◌, ℕ, ◌*◌, ◌<◌, ◌+◌, Bool, true, false, IsTrue, IfSome, IfNone, None, [], length, All, replicate, slice_index_or, count_by, is_some, vec_len};
+ghost use Rattle.std.specs.Prelude.{◌≡◌, ℕ, ◌*◌, ◌<◌, true, false, IfSome, IfNone, None, [], length, All, replicate, slice_index_or};
 ghost use Rattle.std.specs.Vec.{vec_capacity};
 ghost use Rattle.config_set.specs.Kept.{AreMarked, AreListed, has_mark};
 

@@ -1,2 +1,2 @@
-pub mod Keeping
-pub mod Laying
+mod Keeping
+mod Laying

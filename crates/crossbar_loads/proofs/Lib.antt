@@ -1,1 +1,1 @@
-pub mod Readying
+mod Readying

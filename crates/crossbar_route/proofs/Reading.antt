@@ -7,7 +7,7 @@ use Rattle.hierarchy.specs.Faults.{Faults}
 use Rattle.hierarchy.specs.Defects.{Defects, Covers}
 use Rattle.netlist.specs.declared.draft.Draft.{Draft}
 use Rattle.config_set.specs.Configuration.{is_closed}
-use Rattle.config_image.specs.Images.{ImageValue, row_of}
+use Rattle.config_image.specs.Images.{ImageValue, image_row}
 use Rattle.config_image.specs.Parts.{IsFreeImage}
 use Rattle.table_map.specs.declared.network.Network.{Network}
 use Rattle.table_map.specs.Networks.{IsNetwork, IsDeepest}
@@ -54,4 +54,4 @@ module _ (numbered : (m : Shape) → IsNumbered m) (tree : (m : Shape) → IsTre
         (ticks_enough n i.config.ticks is.ticks) (subst (λ s. Covers s d f) back covers))
 
 pub right_image : (n : Network) (netlist : Draft) (f : Faults) (i : ImageValue) → HasRowsOf n netlist → ReadsRows f i (AreRows n) → IsRightImage f i netlist
-right_image n netlist f i has reads vectors got long run = (has vectors (map (row_of i) got)).1 (reads vectors got long run)
+right_image n netlist f i has reads vectors got long run = (has vectors (map (image_row i) got)).1 (reads vectors got long run)

@@ -11,7 +11,7 @@ use Rattle.std.proofs.lemmas.List.Elements.{All-contains}
 use Rattle.hierarchy.specs.declared.Shape.{Shape}
 use Rattle.hierarchy.specs.declared.Table.{Table}
 use Rattle.hierarchy.specs.Shape as meaning
-use Rattle.hierarchy.specs.Shape.{pins_of, wires_of, crosses_of, nodes_of, tables_of, node_of, parent_of, ends_of, hextant_of, pin_wire, table_wire, IsLine, IsPort, IsTap, tap_pin, tap_port, tap_child, tap_table}
+use Rattle.hierarchy.specs.Shape.{pins_of, wires_of, crosses_of, nodes_of, tables_of, node_of, parent_of, ends_of, IsLine, IsPort, IsTap, tap_pin, tap_port, tap_child, tap_table}
 use Rattle.hierarchy.specs.Laws.{IsNumbered, IsTree, HasParents, HasTaps, HasCrosses, HasMeanings}
 use Rattle.hierarchy.specs.Sites.{HasSites}
 use Rattle.hierarchy.specs.Defects.{Defects, IsFreeCross}

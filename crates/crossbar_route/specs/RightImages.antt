@@ -4,7 +4,7 @@ use Rattle.std.specs.List.{All}
 use Rattle.hierarchy.specs.Faults.{Faults}
 use Rattle.hierarchy.specs.Circuit.{Pins}
 use Rattle.config_set.specs.Faulty.{IsRun}
-use Rattle.config_image.specs.Images.{ImageValue, drive_of, row_of}
+use Rattle.config_image.specs.Images.{ImageValue, drive_of, image_row}
 use Rattle.netlist.specs.declared.draft.Draft.{Draft}
 use Rattle.netlist.specs.Rows as netlist
 use Rattle.table_map.specs.declared.network.Network.{Network}
@@ -14,7 +14,7 @@ use Rattle.table_map.specs.Rows.{AreRows}
 -- the relation allows for the vectors.
 abbrev pub ReadsRows : Faults → ImageValue → (List (List Bool) → List (List Bool) → Type 0) → Type 0
 ReadsRows f i Rows = (vectors : List (List Bool)) (reads : List Pins) → All (λ v. length v ≡ length i.inputs) vectors →
-    IsRun f i.config (map (drive_of i) vectors) reads → Rows vectors (map (row_of i) reads)
+    IsRun f i.config (map (drive_of i) vectors) reads → Rows vectors (map (image_row i) reads)
 
 -- it reads the network's rows
 abbrev pub IsRightForNetwork : Faults → ImageValue → Network → Type 0

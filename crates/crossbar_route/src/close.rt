@@ -1,6 +1,6 @@
 //! Closes the crosspoints of each net's lines and its taps, and switches tables on.
-ghost use Rattle.std.specs.Prelude.{◌≡◌, ◌≢◌, ◌<◌, ◌+◌, ◌*◌, ℕ, OnOk, All, AllPairs, length};
-ghost use Rattle.hierarchy.specs.Shape.{wires_of, crosses_of, tables_of, nodes_of};
+ghost use Rattle.std.specs.Prelude.{◌≡◌, ◌≢◌, ◌<◌, ◌*◌, OnOk, All, AllPairs, length};
+ghost use Rattle.hierarchy.specs.Shape.{wires_of, tables_of};
 ghost use Rattle.crossbar_route.specs.Closing.{AreLinesOf, Closes, IsJoint, IsJointAt, IsOwnedJoint, IsWireJoint, SwitchesOn};
 
 use crate::lines::line_of;

@@ -1,5 +1,5 @@
 //! The line of each net at each node that it visits.
-ghost use Rattle.std.specs.Prelude.{◌≡◌, ◌⊎◌, ℕ, OnOk, IfOk, Some};
+ghost use Rattle.std.specs.Prelude.{◌≡◌, OnOk, IfOk};
 ghost use Rattle.crossbar_route.specs.Owners.{AreLines, IsPut, line_in};
 
 use place::Visit;

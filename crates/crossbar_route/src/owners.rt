@@ -1,5 +1,5 @@
 //! The net that has each wire as a terminal or a port.
-ghost use Rattle.std.specs.Prelude.{◌≡◌, ◌<◌, ◌^◌, ℕ, IfOk, All, length};
+ghost use Rattle.std.specs.Prelude.{◌<◌, ◌^◌, IfOk, All, length};
 ghost use Rattle.hierarchy.specs.Shape.{wires_of};
 ghost use Rattle.place.specs.Choices.{AreWires};
 ghost use Rattle.place.specs.Room.{HasTerminal};

@@ -7,8 +7,8 @@ use Rattle.hierarchy.specs.declared.Shape.{Shape}
 use Rattle.hierarchy.specs.Shape.{nodes_of, parent_of}
 use Rattle.hierarchy.specs.Laws.{HasParents}
 use Rattle.hierarchy.specs.Faults.{Faults}
-use Rattle.evidence.specs.Kept.{Kept, HoldsFor, IsMore}
-use Rattle.evidence.specs.Held.{Findings, IsHeld, IsFull}
+use Rattle.evidence.specs.Kept.{Kept, IsMore}
+use Rattle.evidence.specs.Held.{Findings, IsHeld}
 use Rattle.evidence.proofs.Keeping.{held_later, full_later, holds_earlier}
 use Rattle.crossbar_test.specs.Stages.{FullIf}
 use Rattle.crossbar_walk.specs.Found.{IsFoundAt, AreFound}

@@ -1,20 +1,20 @@
-pub mod ClassLemmas
-pub mod Joining
-pub mod Links
-pub mod Bases
-pub mod Touching
-pub mod Marking
-pub mod Levels
-pub mod Ticking
-pub mod Twins
-pub mod Counts
-pub mod Loading
-pub mod Cycling
-pub mod Logging
-pub mod Sessions
-pub mod Going
-pub mod Naming
-pub mod Queueing
-pub mod Reading
-pub mod Pulling
-pub mod Eventing
+mod ClassLemmas
+mod Joining
+mod Links
+mod Bases
+mod Touching
+mod Marking
+mod Levels
+mod Ticking
+mod Twins
+mod Counts
+mod Loading
+mod Cycling
+mod Logging
+mod Sessions
+mod Going
+mod Naming
+mod Queueing
+mod Reading
+mod Pulling
+mod Eventing

@@ -1,18 +1,20 @@
-pub mod Counting
+-- What is cited above.
 pub mod Marks
-pub mod Telling
-pub mod Queries
-pub mod Sweeping
-pub mod Owning
-pub mod Putting
-pub mod PuttingWires
-pub mod Nothing
-pub mod Splits
-pub mod Rows
-pub mod Plain
-pub mod Numerals
-pub mod Forms
-pub mod Entries
-pub mod Reading
-pub mod Writing
 pub mod Only
+-- For the proofs of this crate alone.
+mod Counting
+mod Telling
+mod Queries
+mod Sweeping
+mod Owning
+mod Putting
+mod PuttingWires
+mod Nothing
+mod Splits
+mod Rows
+mod Plain
+mod Numerals
+mod Forms
+mod Entries
+mod Reading
+mod Writing

@@ -1,12 +1,12 @@
 -- A list of the defects of a machine, what a further entry makes of it, and what it leaves free.
-use Rattle.std.specs.Prelude.{◌≡◌, ℕ, zero, suc, ◌+◌, ◌<◌, ◌==◌, Bool, true, not, ◌&&◌, ◌||◌, if◌then◌else◌, refl, List, [], ◌∷◌, ◌++◌}
+use Rattle.std.specs.Prelude.{◌≡◌, ℕ, zero, suc, ◌+◌, ◌==◌, Bool, true, not, ◌&&◌, ◌||◌, if◌then◌else◌, refl, List, [], ◌∷◌, ◌++◌}
 use Rattle.std.specs.Ordering.{nat_cmp}
 use Rattle.std.specs.FinSet as set
 use Rattle.std.specs.Coded.{Coded, code_by, coded×, coded_ℕ}
 use Rattle.hierarchy.specs.contracts.Shape as shape
 use Rattle.hierarchy.specs.declared.Shape.{Shape}
-use Rattle.hierarchy.specs.Shape.{wires_of, crosses_of, tables_of, lines_of, own_ports_of, pins_of, ends_of, table_wire, line_at, port_at, pin_wire}
-use Rattle.hierarchy.specs.Defects.{Defects, IsFreeWire}
+use Rattle.hierarchy.specs.Shape.{crosses_of, tables_of, lines_of, own_ports_of, pins_of, ends_of, table_wire, line_at, port_at, pin_wire}
+use Rattle.hierarchy.specs.Defects.{Defects, AreDefectsOf}
 
 -- the defects that are listed of a machine of this shape
 pub record DefectList : Type 0 where
@@ -24,14 +24,9 @@ coded_list = code_by (Shape × Defects) (coded× shape.the_row.coded coded_defec
 abbrev pub no_defects : Defects
 no_defects = record { wires = set.empty; crosses = set.empty; tables = set.empty }
 
--- what holds of every list: it is of its machine, lists no crosspoint of a listed wire, and no table with a listed pin
-pub record IsDefectList (d : DefectList) : Type 0 where
-  pub wires : (w : ℕ) → set.contains d.list.wires w ≡ true → w < wires_of d.shape
-  pub crosses : (x : ℕ) → set.contains d.list.crosses x ≡ true → x < crosses_of d.shape
-  pub tables : (t : ℕ) → set.contains d.list.tables t ≡ true → t < tables_of d.shape
-  pub taps : (x : ℕ) → set.contains d.list.crosses x ≡ true → IsFreeWire d.list (ends_of d.shape x).0
-  pub lines : (x : ℕ) → set.contains d.list.crosses x ≡ true → IsFreeWire d.list (ends_of d.shape x).1
-  pub pins : (t k : ℕ) → set.contains d.list.tables t ≡ true → k < 7 → IsFreeWire d.list (table_wire d.shape t k)
+-- what holds of every list
+abbrev pub IsDefectList : DefectList → Type 0
+IsDefectList d = AreDefectsOf d.shape d.list
 
 -- ---- numbers that pass a test
 

@@ -1,10 +1,9 @@
 //! What is counted: open lines and free ports by node, and free pins of the machine.
 
-ghost use Rattle.std.specs.Prelude.{◌≡◌, ◌<◌, ◌==◌, ℕ, not, Some, length, slice_set, slice_index_or};
+ghost use Rattle.std.specs.Prelude.{◌≡◌, ◌<◌, ◌==◌, Some, length, slice_set, slice_index_or};
 ghost use Rattle.tm_bits.specs.Numbers.{has_number};
-ghost use Rattle.hierarchy.specs.Shape.{wires_of, nodes_of, lines_of, own_ports_of, pins_of, line_at, port_at, pin_wire, parent_of};
-ghost use Rattle.defect_db.specs.Lists.{how_many};
-ghost use Rattle.defect_db.specs.Kept.{is_clear_line, count_at, clear_lines_at, free_ports_at, free_pins_in, AreRecounted, IsRecounted, IsItOrAbove};
+ghost use Rattle.hierarchy.specs.Shape.{wires_of, nodes_of, parent_of};
+ghost use Rattle.defect_db.specs.Kept.{clear_lines_at, free_ports_at, free_pins_in, AreRecounted, IsRecounted, IsItOrAbove};
 
 use hierarchy::{Node, Shape};
 use tm_bits::BitSet;

@@ -1,8 +1,8 @@
 //! The marks and counts that are kept of a list of defects.
 
-ghost use Rattle.std.specs.Prelude.{◌≡◌, ◌<◌, ◌+◌, ◌-◌, ◌==◌, if◌then◌else◌, ℕ, false, None, List, Option, IfOk, IfSome, length, slice_index_or, slice_set};
+ghost use Rattle.std.specs.Prelude.{◌≡◌, ◌<◌, ◌+◌, ◌-◌, ◌==◌, if◌then◌else◌, false, None, Option, IfOk, IfSome, length, slice_index_or, slice_set};
 ghost use Rattle.tm_bits.specs.Numbers.{has_number};
-ghost use Rattle.hierarchy.specs.Shape.{wires_of, crosses_of, tables_of, table_wire};
+ghost use Rattle.hierarchy.specs.Shape.{wires_of, crosses_of, tables_of};
 ghost use Rattle.defect_db.specs.Kept.{IsKept, AreOwners, AreOwnersBefore, Loses, count_at, list_in};
 ghost use Rattle.defect_db.specs.Lists.{IsWithWire, no_defects, with_cross, with_table};
 

@@ -5,7 +5,7 @@ ghost use Rattle.tm_text.specs.Written.{written_line};
 ghost use Rattle.defect_db.specs.Lists.{IsDefectList, DefectList, no_defects};
 ghost use Rattle.defect_db.specs.Text.{IsEntryOf, IsFreeEntry, words_of, counts_of, entries_of, is_before, first_row, shape_row};
 ghost use Rattle.tm_text.specs.Size.{most_bytes};
-ghost use Rattle.defect_db.specs.Faults.{AreCounts, IsBeforeLast, IsLineFault, IsRefusedAs, IsText, GivesOrLacks};
+ghost use Rattle.defect_db.specs.Faults.{AreCounts, IsLineFault, IsRefusedAs, IsText, GivesOrLacks};
 ghost use Rattle.defect_db.specs.Steps.{row_of, IsLast, IsReadTo, Steps, IsFirst, IsAdded, IsBeyond, is_behind};
 ghost use Rattle.defect_db.specs.declared.entry.Entry.{Entry};
 

@@ -1,6 +1,6 @@
 //! Bars the crosspoints of a wire that is to be listed.
 
-ghost use Rattle.std.specs.Prelude.{◌≡◌, ◌<◌, ◌-◌, ℕ, true, false, Some, length, slice_set, if◌then◌else◌};
+ghost use Rattle.std.specs.Prelude.{◌≡◌, ◌<◌, ◌-◌, true, false, Some, length, slice_set, if◌then◌else◌};
 ghost use Rattle.tm_bits.specs.Numbers.{has_number};
 ghost use Rattle.hierarchy.specs.Shape.{wires_of, crosses_of, nodes_of, node_of, parent_of, ends_of, node_of_cross};
 ghost use Rattle.defect_db.specs.Kept.{count_at, IsSwept, AreShutBy};

@@ -1,11 +1,11 @@
 //! Writes a list of defects.
 
-ghost use Rattle.std.specs.Prelude.{◌≡◌, ◌≤◌, ◌++◌, ◌∷◌, [], if◌then◌else◌, ℕ, List, length, map, OnOk, IfOk};
+ghost use Rattle.std.specs.Prelude.{◌≡◌, ◌++◌, ◌∷◌, [], if◌then◌else◌, map, OnOk, IfOk};
 ghost use Rattle.std.specs.FinSet as set;
 ghost use Rattle.hierarchy.specs.Shape.{wires_of, crosses_of, tables_of};
 ghost use Rattle.tm_text.specs.Written.{written, written_line};
-ghost use Rattle.defect_db.specs.Lists.{IsDefectList, those};
-ghost use Rattle.defect_db.specs.Text.{IsEntryOf, words_of, first_row, shape_row, end_row, counts_of, as_wire, as_cross, as_table, text_of};
+ghost use Rattle.defect_db.specs.Lists.{those};
+ghost use Rattle.defect_db.specs.Text.{IsEntryOf, words_of, first_row, shape_row, counts_of, as_wire, as_cross, as_table, text_of};
 ghost use Rattle.defect_db.specs.Faults.{IsText};
 ghost use Rattle.defect_db.specs.Steps.{numerals};
 

@@ -10,7 +10,7 @@ use Rattle.hierarchy.specs.Circuit.{Pins}
 use Rattle.hierarchy.specs.Faults.{Faults, stuck_cross}
 use Rattle.hierarchy.specs.Joined.{here}
 use Rattle.config_set.specs.Groups.{among, IsWithin, AreGroups}
-use Rattle.config_set.specs.Route.{LeadsTo, ends, goes}
+use Rattle.config_set.specs.Route.{LeadsTo}
 use Rattle.config_set.specs.Configuration.{Configuration, is_closed, with_open}
 use Rattle.config_set.specs.Tests.{IsLed, IsLoop, IsDrivenAlone, AreReleased}
 use Rattle.config_set.proofs.Changes.{is_closed-open}

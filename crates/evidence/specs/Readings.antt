@@ -1,5 +1,5 @@
 -- What tests read, and where they are bound to pass. `told` is the faults of the machine, where they are told.
-use Rattle.std.specs.Prelude.{◌≡◌, ◌≢◌, ◌↔◌, ℕ, Bool, true, false, Option, Some, None, IsTrue, List, [], ◌∷◌, All, flat_map, slice_index_or}
+use Rattle.std.specs.Prelude.{◌≡◌, ◌≢◌, ◌↔◌, ℕ, Bool, true, false, Option, Some, IsTrue, List, [], ◌∷◌, All, flat_map, slice_index_or}
 use Rattle.hierarchy.specs.Circuit.{Pins}
 use Rattle.hierarchy.specs.Faults.{Faults}
 use Rattle.hierarchy.specs.Shape.{pin_wire}

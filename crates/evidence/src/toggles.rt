@@ -1,5 +1,5 @@
 //! Tests that read a pin twice, with one thing changed between.
-ghost use Rattle.std.specs.Prelude.{◌≡◌, ◌≤◌, ◌<◌, ◌+◌, Bool, true, false, Some, [], ◌∷◌, length, IfOk, OnOk, IsTrue, IfSome, IsSome, OnErr, IsErrOf};
+ghost use Rattle.std.specs.Prelude.{◌≡◌, ◌≤◌, ◌<◌, ◌+◌, true, false, Some, [], ◌∷◌, length, IfOk, OnOk, IsTrue, IfSome, IsSome, OnErr, IsErrOf};
 ghost use Rattle.tm_outside.specs.Counts.{Rose};
 ghost use Rattle.hierarchy.specs.Shape.{pins_of, crosses_of, tables_of};
 ghost use Rattle.config_set.specs.Configuration.{is_closed, setting_of, with_open, with_setting, with_cell, with_init};

@@ -1,8 +1,10 @@
-pub mod Adding
+-- What is cited above.
 pub mod Keeping
-pub mod Lengths
-pub mod Names
-pub mod Parts
-pub mod Reading
-pub mod Words
-pub mod Writing
+-- For the proofs of this crate alone.
+mod Adding
+mod Lengths
+mod Names
+mod Parts
+mod Reading
+mod Words
+mod Writing

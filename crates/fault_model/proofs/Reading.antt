@@ -13,7 +13,7 @@ use Rattle.hierarchy.specs.Shape.Ends.{in_order, turned}
 use Rattle.tm_text.specs.declared.lines.LineFault.{LineFault}
 use Rattle.tm_text.specs.declared.lines.LineFault.TheVariants as line
 use Rattle.tm_text.specs.Faults.{IsFaultAt as IsFaultAtLine}
-use Rattle.tm_text.specs.Lines.{LogicalLine, lines_of, is_bad_line}
+use Rattle.tm_text.specs.Lines.{LogicalLine, logical_lines, is_bad_line}
 use Rattle.tm_text.specs.Bytes.{is_bad}
 use Rattle.fault_model.specs.declared.fault.Fault.{Fault}
 use Rattle.fault_model.specs.declared.fault.Fault.TheVariants.{Stuck, CrossStuck, Cell, Register, Bridge}
@@ -120,7 +120,7 @@ stops_at m lines left s line.Memory k h = tt
 stops_at m lines [] s (line.BadByte number) k h = absurd h
 stops_at m lines (l ∷ rest) s (line.BadByte number) k h = stops_bad m lines (l ∷ rest) rest l s k refl number h
 
-pub ends : (m : Shape) (bytes : List ℕ) (left : List LogicalLine) (s : Faulty) → IsReadTo m (lines_of false bytes) left s → left ≡ [] → IsFaultText m bytes s.faults
+pub ends : (m : Shape) (bytes : List ℕ) (left : List LogicalLine) (s : Faulty) → IsReadTo m (logical_lines false bytes) left s → left ≡ [] → IsFaultText m bytes s.faults
 ends m bytes left s k none = record {
   entries = k.entries;
   rows = ap (map (λ (r : LogicalLine). r.words)) (sym k.parts ∙ ap (λ ls. k.above ++ ls) none ∙ append-nil k.above) ∙ k.rows;
@@ -210,7 +210,7 @@ one_list m k f g (x ∷ es) (y ∷ fs) e p q =
 same_faults : (m : Shape) → IsTold m → (bytes : List ℕ) (f g : Faults) → IsFaultText m bytes f → IsFaultText m bytes g → f ≡ g
 same_faults m k bytes f g s t = sym s.all ∙ ap (with_all no_faults) (one_list m k no_faults no_faults s.entries t.entries (sym s.rows ∙ t.rows) s.added t.added) ∙ t.all
 
-pub only_is : (m : Shape) → IsTold m → (bytes : List ℕ) (r : Result Faulty FaultsFault) → IfOk r (λ s. (s.shape ≡ m) × IsFaultText m bytes s.faults) → IfErr r (IsFirst m (lines_of false bytes)) → (f : Faults) → IsFaultText m bytes f → GivesOrLacks (record { shape = m; faults = f }) r
+pub only_is : (m : Shape) → IsTold m → (bytes : List ℕ) (r : Result Faulty FaultsFault) → IfOk r (λ s. (s.shape ≡ m) × IsFaultText m bytes s.faults) → IfErr r (IsFirst m (logical_lines false bytes)) → (f : Faults) → IsFaultText m bytes f → GivesOrLacks (record { shape = m; faults = f }) r
 only_is m k bytes (Ok s) got first f t = let same = same_faults m k bytes s.faults f got.1 t in (λ i. record { shape = got.0 i; faults = same i })
 only_is m k bytes (Err Memory) got first f t = tt
 only_is m k bytes (Err (At number k')) got first f t = no_first m k no_faults first.above first.line first.below first.entries t.entries k' (ap (map (λ (r : LogicalLine). r.words)) first.parts ∙ t.rows) first.rows first.added t.added first.fault

@@ -8,8 +8,8 @@ use Rattle.std.proofs.lemmas.Map.Lookups.{exact_unsigned}
 use Rattle.hierarchy.specs.declared.Shape.{Shape}
 use Rattle.hierarchy.specs.Shape.{wires_of, crosses_of, tables_of}
 use Rattle.hierarchy.specs.Faults.{Faults}
-use Rattle.tm_text.specs.Lines.{lines_of}
-use Rattle.tm_text.specs.Written.{is_graphic, written, AreRows, numbered}
+use Rattle.tm_text.specs.Lines.{logical_lines}
+use Rattle.tm_text.specs.Written.{is_graphic, written, numbered}
 use Rattle.tm_text.specs.Written as text
 use Rattle.tm_text.proofs.WrittenLemmas.{lines_back}
 use Rattle.fault_model.specs.declared.fault.Fault.{Fault}
@@ -234,7 +234,7 @@ module _ (m : Shape) (f : Faults) (s : IsFaultSet (record { shape = m; faults = 
   pub text_is : IsTold m → (bytes : List ℕ) → bytes ≡ written (map (words_of m) xs) → IsFaultText m bytes f
   text_is k bytes is = record {
     entries = xs;
-    rows = ap (λ bs. map (λ l. l.words) (lines_of false bs)) is
+    rows = ap (λ bs. map (λ l. l.words) (logical_lines false bs)) is
         ∙ ap (map (λ l. l.words)) (lines_back 1 (map (words_of m) xs) (all_from _ _ (rows_of m k xs (all_of_shape m no_faults xs makes.0))))
         ∙ words_numbered 1 (map (words_of m) xs);
     added = added m no_faults xs makes.0 (omega (arith, few_of, count_none));

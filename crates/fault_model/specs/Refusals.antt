@@ -6,7 +6,7 @@ use Rattle.hierarchy.specs.Names.{wire_name}
 use Rattle.hierarchy.specs.Faults.{Faults}
 use Rattle.tm_text.specs.declared.lines.LineFault.{LineFault}
 use Rattle.tm_text.specs.declared.lines.LineFault.TheVariants as line
-use Rattle.tm_text.specs.Lines.{LogicalLine, lines_of, is_bad_line}
+use Rattle.tm_text.specs.Lines.{LogicalLine, logical_lines, is_bad_line}
 use Rattle.tm_text.specs.Size.{most_bytes}
 use Rattle.fault_model.specs.declared.fault.Fault.{Fault}
 use Rattle.fault_model.specs.declared.fault.AddFault.{AddFault}
@@ -80,7 +80,7 @@ pub record IsFirstFault (m : Shape) (lines : List LogicalLine) (number : ℕ) (k
 abbrev pub IsFaultAt : Shape → List ℕ → ℕ → FaultsKind → Type 0
 IsFaultAt m bytes number kind =
     ((most_bytes < length bytes) × (number ≡ 0) × (kind ≡ Limit))
-    ⊎ ((length bytes ≤ most_bytes) × IsFirstFault m (lines_of false bytes) number kind)
+    ⊎ ((length bytes ≤ most_bytes) × IsFirstFault m (logical_lines false bytes) number kind)
 
 -- a text is refused for its first fault; of want of memory nothing is said
 abbrev pub IsRefusedAs : Shape → List ℕ → FaultsFault → Type 0

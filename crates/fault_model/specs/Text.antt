@@ -5,7 +5,7 @@ use Rattle.hierarchy.specs.declared.Shape.{Shape}
 use Rattle.hierarchy.specs.Shape.{ends_of}
 use Rattle.hierarchy.specs.Names.{wire_name, table_name}
 use Rattle.hierarchy.specs.Faults.{Faults}
-use Rattle.tm_text.specs.Lines.{lines_of}
+use Rattle.tm_text.specs.Lines.{logical_lines}
 use Rattle.fault_model.specs.declared.fault.Fault.{Fault}
 use Rattle.fault_model.specs.declared.fault.Fault.TheVariants.{Stuck, CrossStuck, Cell, Register, Bridge}
 use Rattle.fault_model.specs.declared.head.Head.{Head}
@@ -53,6 +53,6 @@ AreAdded m f (x ∷ xs) = CanHave m x × (refusal_of f x ≡ None) × AreAdded m
 -- a text gives these faults of a machine: each of its lines is an entry, and these are all its entries
 pub record IsFaultText (m : Shape) (bytes : List ℕ) (f : Faults) : Type 0 where
   pub entries : List Fault
-  pub rows : map (λ l. l.words) (lines_of false bytes) ≡ map (words_of m) entries
+  pub rows : map (λ l. l.words) (logical_lines false bytes) ≡ map (words_of m) entries
   pub added : AreAdded m no_faults entries
   pub all : with_all no_faults entries ≡ f

@@ -4,7 +4,7 @@ ghost use Rattle.std.specs.Prelude.{◌≡◌, false, OnOk, OnErr, None};
 ghost use Rattle.std.specs.FinMap as maps;
 ghost use Rattle.std.specs.FinSet as set;
 ghost use Rattle.std.specs.Ordering.{nat_cmp};
-ghost use Rattle.hierarchy.specs.Faults.{pair_cmp, is_bridge};
+ghost use Rattle.hierarchy.specs.Faults.{pair_cmp};
 ghost use Rattle.fault_model.specs.Adding.{no_faults, with_fault, value_at, lower_first, count_of, refusal_of, is_loop, value_of};
 ghost use Rattle.fault_model.specs.Stored.{faults_in, Lists};
 

@@ -1,6 +1,6 @@
 //! The words that begin the entries of a fault text.
 
-ghost use Rattle.std.specs.Prelude.{◌≡◌, ◌≢◌, IfSome, IfNone, ◌<◌, ◌≤◌};
+ghost use Rattle.std.specs.Prelude.{◌≡◌, ◌≢◌, IfSome, IfNone, ◌<◌};
 ghost use Rattle.fault_model.specs.Heads.{word_of, follow_of};
 ghost use Rattle.fault_model.specs.declared.head.Head.{Head};
 

@@ -1,8 +1,8 @@
 //! Reads a fault set.
 
-ghost use Rattle.std.specs.Prelude.{◌≡◌, ◌<◌, ◌≤◌, ℕ, false, length, IfOk, IfErr};
+ghost use Rattle.std.specs.Prelude.{◌≡◌, ◌<◌, ◌≤◌, false, length, IfOk, IfErr};
 ghost use Rattle.hierarchy.specs.Faults.{Faults};
-ghost use Rattle.tm_text.specs.Lines.{lines_of, is_bad_line};
+ghost use Rattle.tm_text.specs.Lines.{logical_lines, is_bad_line};
 ghost use Rattle.fault_model.specs.Text.{IsFaultText};
 ghost use Rattle.tm_text.specs.Size.{most_bytes};
 ghost use Rattle.fault_model.specs.Refusals.{IsRefusedAs, GivesOrLacks, IsFirst, Takes, told_of, line_told};
@@ -63,7 +63,7 @@ fn take_line(set: &mut FaultSet, line: &Line) -> Result<(), FaultsFault>
 /// Reads the lines of a text.
 fn read_lines(alloc: Global, shape: &Shape, bytes: &[u8]) -> Result<FaultSet, FaultsFault>
     ensures found { IfOk result (λ s. (s.shape ≡ shape.now) × IsFaultText shape.now bytes.now s.faults) }
-    ensures refused { IfErr result (IsFirst shape.now (lines_of false bytes.now)) }
+    ensures refused { IfErr result (IsFirst shape.now (logical_lines false bytes.now)) }
 {
     let Ok(mut set) = FaultSet::none(alloc, *shape) else {
         return Err(FaultsFault::Memory);

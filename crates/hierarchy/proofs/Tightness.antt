@@ -10,10 +10,10 @@ use Rattle.hierarchy.specs.Shape.{Ends, in_order, turned, ends_of, pin_wire, tab
 use Rattle.hierarchy.specs.Faults.{Faults, AreFaultsOf, stuck_cross}
 use Rattle.hierarchy.specs.Joined.{Linked, crossed, bridged, Joined, here, Shorted, net_of}
 use Rattle.hierarchy.specs.Sound.{IsSoundWire, IsSoundTable, IsServed}
-use Rattle.hierarchy.specs.Defects.{Defects, IsFreeWire, IsFreeCross, IsFreeTable, IsClear, IsOfUse, IsFair, Covers}
+use Rattle.hierarchy.specs.Defects.{Defects, IsFreeWire, IsFreeCross, IsFreeTable, IsClear, IsOfUse, IsFair, Covers, AreDefectsOf}
 use Rattle.hierarchy.specs.Served.{HasHomes}
 use Rattle.hierarchy.specs.Standing.{pin_stands, on_two, IsSeated, IsSoundCrossOf, IsStanding, HasStandingParts}
-use Rattle.hierarchy.specs.Tight.{IsFreeWireOf, IsFreeCrossOf, IsAlone, two, IsTight, AreDefectsOf, CouldStand, as_pin, on_feet, IsTakenOff, IsLeast, HasOneFree}
+use Rattle.hierarchy.specs.Tight.{IsFreeWireOf, IsFreeCrossOf, IsAlone, two, IsTight, CouldStand, as_pin, on_feet, IsTakenOff, IsLeast, HasOneFree}
 use Rattle.hierarchy.proofs.JoinedLemmas.{Ends-swap, Joined-sym, Joined-trans}
 use Rattle.hierarchy.proofs.Clear.{clear_of_sound}
 use Rattle.hierarchy.proofs.Seats.{seated_also}

@@ -17,6 +17,15 @@ pub record Defects : Type 0 where
 abbrev pub IsFreeWire : Defects → ℕ → Type 0
 IsFreeWire d w = set.contains d.wires w ≡ false
 
+-- a list of a machine of this shape: it holds crosspoints and tables only where all their wires are free
+pub record AreDefectsOf (m : Shape) (d : Defects) : Type 0 where
+  pub wires : (w : ℕ) → set.contains d.wires w ≡ true → w < wires_of m
+  pub crosses : (x : ℕ) → set.contains d.crosses x ≡ true → x < crosses_of m
+  pub tables : (t : ℕ) → set.contains d.tables t ≡ true → t < tables_of m
+  pub taps : (x : ℕ) → set.contains d.crosses x ≡ true → IsFreeWire d (ends_of m x).0
+  pub lines : (x : ℕ) → set.contains d.crosses x ≡ true → IsFreeWire d (ends_of m x).1
+  pub pins : (t k : ℕ) → set.contains d.tables t ≡ true → k < 7 → IsFreeWire d (table_wire m t k)
+
 pub record IsFreeCross (m : Shape) (d : Defects) (x : ℕ) : Type 0 where
   pub itself : set.contains d.crosses x ≡ false
   pub tap : IsFreeWire d (ends_of m x).0
@@ -35,7 +44,7 @@ pub record IsOpenLine (m : Shape) (d : Defects) (line : ℕ) : Type 0 where
 abbrev pub IsClear : Shape → Faults → ℕ → Type 0
 IsClear m f w = (u : ℕ) → Shorted m f w u → stuck_wire f u ≡ None
 
--- what is free has no fault
+-- No free crosspoint and no free table has a fault, and no free wire is shorted to a stuck one or to another free one.
 pub record Covers (m : Shape) (d : Defects) (f : Faults) : Type 0 where
   pub crosses : (x : ℕ) → x < crosses_of m → IsFreeCross m d x → stuck_cross f x ≡ None
   pub cells : (t a : ℕ) → t < tables_of m → a < 64 → IsFreeTable m d t → wrong_cell f t a ≡ None

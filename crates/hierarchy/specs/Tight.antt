@@ -2,7 +2,7 @@
 use Rattle.std.specs.Prelude.{◌≡◌, ◌≢◌, ℕ, ◌<◌, true, None}
 use Rattle.std.specs.FinSet as set
 use Rattle.hierarchy.specs.declared.Shape.{Shape}
-use Rattle.hierarchy.specs.Shape.{Ends, ends_of, pin_wire, table_wire, pins_of, wires_of, crosses_of, tables_of}
+use Rattle.hierarchy.specs.Shape.{Ends, ends_of, pin_wire, pins_of, wires_of, crosses_of, tables_of}
 use Rattle.hierarchy.specs.Faults.{Faults, stuck_cross, wrong_cell, stuck_register}
 use Rattle.hierarchy.specs.Joined.{Shorted}
 use Rattle.hierarchy.specs.Defects.{Defects, IsFreeWire, IsFreeCross, IsClear, Covers}
@@ -42,15 +42,6 @@ pub record IsTight (m : Shape) (d : Defects) (f : Faults) : Type 0 where
   pub crosses : (x : ℕ) → x < crosses_of m → set.contains d.crosses x ≡ true → stuck_cross f x ≢ None
   pub tables : (t : ℕ) → t < tables_of m → set.contains d.tables t ≡ true → IsSeated m (IsFreeWireOf m d) (IsFreeCrossOf m d) t →
       ¬ IsRightTable f t
-
--- a list of a machine of this shape: it holds crosspoints and tables only where all their wires are free
-pub record AreDefectsOf (m : Shape) (d : Defects) : Type 0 where
-  pub wires : (w : ℕ) → set.contains d.wires w ≡ true → w < wires_of m
-  pub crosses : (x : ℕ) → set.contains d.crosses x ≡ true → x < crosses_of m
-  pub tables : (t : ℕ) → set.contains d.tables t ≡ true → t < tables_of m
-  pub taps : (x : ℕ) → set.contains d.crosses x ≡ true → IsFreeWire d (ends_of m x).0
-  pub lines : (x : ℕ) → set.contains d.crosses x ≡ true → IsFreeWire d (ends_of m x).1
-  pub pins : (t k : ℕ) → set.contains d.tables t ≡ true → k < 7 → IsFreeWire d (table_wire m t k)
 
 -- a pin of the machine, or a wire with two such crosspoints
 pub data CouldStand (m : Shape) (d : Defects) (f : Faults) (w : ℕ) : Type 0 where

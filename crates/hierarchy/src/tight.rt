@@ -1,12 +1,12 @@
 //! What stands, and what a tight list leaves free.
 ghost use Rattle.std.specs.FinSet as set;
 ghost use Rattle.std.specs.Prelude.{◌≡◌, ℕ, ◌<◌, false};
-ghost use Rattle.hierarchy.specs.Defects.{Covers, Defects, IsClear, IsFair, IsFreeCross, IsFreeTable, IsFreeWire};
+ghost use Rattle.hierarchy.specs.Defects.{AreDefectsOf, Covers, Defects, IsClear, IsFair, IsFreeCross, IsFreeTable, IsFreeWire};
 ghost use Rattle.hierarchy.specs.Faults.{AreFaultsOf, Faults};
 ghost use Rattle.hierarchy.specs.Shape.{crosses_of, ends_of, tables_of, wires_of};
 ghost use Rattle.hierarchy.specs.Sound.{IsSoundCross, IsSoundTable};
 ghost use Rattle.hierarchy.specs.Standing.{HasStandingParts, IsSeated, IsSoundCrossOf, IsStanding};
-ghost use Rattle.hierarchy.specs.Tight.{AreDefectsOf, CouldStand, HasOneFree, IsLeast, IsTight};
+ghost use Rattle.hierarchy.specs.Tight.{CouldStand, HasOneFree, IsLeast, IsTight};
 ghost use Rattle.hierarchy.specs.declared.Shape.{Shape};
 
 use crate::laws::{the_crosspoints_are_sound, the_numbering_is_sound};

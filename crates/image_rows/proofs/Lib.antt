@@ -1,2 +1,4 @@
-mod RowLemmas
+-- What is cited above.
 pub mod ImageLemmas
+-- For the proofs of this crate alone.
+mod RowLemmas

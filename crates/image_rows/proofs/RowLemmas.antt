@@ -12,7 +12,7 @@ use Rattle.config_set.specs.Configuration.{Configuration}
 use Rattle.config_set.specs.Run.{at_load, none}
 use Rattle.config_set.specs.Faulty.{IsRun, circuit_of}
 use Rattle.rig.specs.Rig.{RigState, Exchange, IsTold, Begins, config_of, cycles_of, drives_of, readings_of}
-use Rattle.config_image.specs.Images.{ImageValue, drive_of, row_of}
+use Rattle.config_image.specs.Images.{ImageValue, drive_of, image_row}
 use Rattle.loader.specs.Run.{RunsRow}
 use Rattle.vector_text.specs.Rows.{row_line}
 use Rattle.steps.specs.Files.{IsNearNext, file_of, IsBegun}
@@ -65,7 +65,7 @@ told-none None config cycles is = tt
 told-none (Some f) None cycles is = tt
 told-none (Some f) (Some g) cycles is = rw is (record { outputs = at_load (circuit_of f g); cycles = none })
 
-read-told : (faults : Option Faults) (config : Option Configuration) (cycles : List Exchange) (i : ImageValue) (vectors rows : List (List Bool)) → config ≡ Some i.config → drives_of cycles ≡ map (drive_of i) vectors → rows ≡ map (row_of i) (readings_of cycles) → IfSome faults (λ f. IfSome config (λ g. IsRun f g (drives_of cycles) (readings_of cycles))) → IfSome faults (λ f. AreRunRows f i vectors rows)
+read-told : (faults : Option Faults) (config : Option Configuration) (cycles : List Exchange) (i : ImageValue) (vectors rows : List (List Bool)) → config ≡ Some i.config → drives_of cycles ≡ map (drive_of i) vectors → rows ≡ map (image_row i) (readings_of cycles) → IfSome faults (λ f. IfSome config (λ g. IsRun f g (drives_of cycles) (readings_of cycles))) → IfSome faults (λ f. AreRunRows f i vectors rows)
 read-told None config cycles i vectors rows is drives rows_are told = tt
 read-told (Some f) config cycles i vectors rows is drives rows_are told =
     let run : IsRun f i.config (drives_of cycles) (readings_of cycles) = rw is at told in
@@ -98,7 +98,7 @@ session-more rig rig' i vectors rows vector row is run =
     record {
       config = run.1.config ∙ is.config;
       drives = rw (run.1.cycles, map-append (λ (x : Exchange). x.drive) (cycles_of rig), map-append (drive_of i) vectors, is.drives) refl;
-      rows_are = rw (run.1.cycles, map-append (λ (x : Exchange). x.reading) (cycles_of rig), map-append (row_of i) (readings_of (cycles_of rig)), ← is.rows_are, run.2) refl;
+      rows_are = rw (run.1.cycles, map-append (λ (x : Exchange). x.reading) (cycles_of rig), map-append (image_row i) (readings_of (cycles_of rig)), ← is.rows_are, run.2) refl;
       room = let spare = run.1.spare in let room = is.room in omega (arith, room, spare, size);
     }
 

@@ -6,7 +6,7 @@ use Rattle.tm_outside.specs.Store.{Place}
 use Rattle.hierarchy.specs.Circuit.{Pins}
 use Rattle.hierarchy.specs.Faults.{Faults}
 use Rattle.config_set.specs.Faulty.{IsRun}
-use Rattle.config_image.specs.Images.{ImageValue, drive_of, row_of}
+use Rattle.config_image.specs.Images.{ImageValue, drive_of, image_row}
 use Rattle.rig.specs.Rig.{RigState, config_of, cycles_of, drives_of, readings_of, spare_of}
 use Rattle.steps.specs.Lines.{outputs_line}
 use Rattle.steps.specs.Outside.{Around}
@@ -21,7 +21,7 @@ most_rows = 4096
 
 -- what a machine with these faults reads at the output pins of an image that it runs under these vectors
 abbrev pub AreRunRows : Faults → ImageValue → (vectors rows : List (List Bool)) → Type 0
-AreRunRows f i vectors rows = (reads : List Pins) × IsRun f i.config (map (drive_of i) vectors) reads × (rows ≡ map (row_of i) reads)
+AreRunRows f i vectors rows = (reads : List Pins) × IsRun f i.config (map (drive_of i) vectors) reads × (rows ≡ map (image_row i) reads)
 
 -- a row for each vector, which has a bit for each input; where the faults of the machine are told, they are what it reads
 pub record AreRowsOf (rig : RigState) (i : ImageValue) (vectors rows : List (List Bool)) : Type 0 where
@@ -34,7 +34,7 @@ pub record AreRowsOf (rig : RigState) (i : ImageValue) (vectors rows : List (Lis
 pub record IsSession (rig : RigState) (i : ImageValue) (vectors rows : List (List Bool)) : Type 0 where
   pub config : config_of rig ≡ Some i.config
   pub drives : drives_of (cycles_of rig) ≡ map (drive_of i) vectors
-  pub rows_are : rows ≡ map (row_of i) (readings_of (cycles_of rig))
+  pub rows_are : rows ≡ map (image_row i) (readings_of (cycles_of rig))
   pub room : most_rows ≤ spare_of rig + length rows
 
 -- the rows of an image

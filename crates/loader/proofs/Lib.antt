@@ -1,1 +1,1 @@
-pub mod Vectors
+mod Vectors

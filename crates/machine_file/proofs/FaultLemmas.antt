@@ -11,7 +11,7 @@ use Rattle.std.proofs.lemmas.Slice.Eq.{bytes_eq-Decides}
 use Rattle.hierarchy.specs.declared.Counts.{Counts}
 use Rattle.hierarchy.specs.declared.Shape.{Shape}
 use Rattle.hierarchy.specs.Limits.{MakeShape}
-use Rattle.tm_text.specs.Lines.{LogicalLine, lines_of, is_bad_line}
+use Rattle.tm_text.specs.Lines.{LogicalLine, logical_lines, is_bad_line}
 use Rattle.machine_file.specs.declared.head.Head.{Head}
 use Rattle.machine_file.specs.declared.head.Head.TheVariants as head
 use Rattle.machine_file.specs.declared.kind.MachineKind.{MachineKind}
@@ -21,7 +21,7 @@ use Rattle.machine_file.specs.declared.kind.MachineFault.TheVariants.{At, Memory
 use Rattle.tm_text.specs.Size.{most_bytes}
 use Rattle.machine_file.specs.Faults.{AreCounts, HasCounts, AreFirstLines, PassesLimit, IsRestFault, size, format, number, limit, IsWordsFault, over, unknown, not_due, due, IsLineFault, bad, words, IsFirstFault, at_line, at_end, IsRefusedAs}
 use Rattle.machine_file.specs.Heads.{heads, word_of, place_of, follow_of, head_of}
-use Rattle.machine_file.specs.Machine.{numbers_of, row_of}
+use Rattle.machine_file.specs.Machine.{numbers_of, count_row}
 use Rattle.machine_file.specs.Readers.{IsReadFault}
 use Rattle.machine_file.specs.Reading.{State, start, is_count, counts_fault, words_fault, head_fault, said_fault, fault_of, with_numbers, after, if_sound, reading, is_shape}
 use Rattle.machine_file.proofs.CountLemmas.{made, passed}
@@ -37,7 +37,7 @@ else_some false k j e = (refl, cc)
 
 -- ---- what a line changes
 
-kept_rows : (c : Counts) (h : Head) (ns : List ℕ) → map (row_of (with_numbers c h ns)) (take (place_of h) heads) ≡ map (row_of c) (take (place_of h) heads)
+kept_rows : (c : Counts) (h : Head) (ns : List ℕ) → map (count_row (with_numbers c h ns)) (take (place_of h) heads) ≡ map (count_row c) (take (place_of h) heads)
 kept_rows c head.Teramac ns = refl
 kept_rows c head.Modules ns = refl
 kept_rows c head.Chips ns = refl
@@ -88,8 +88,8 @@ stands_on s above l st n = record {
     rows =
         map-append (λ l. l.words) above (l ∷ [])
         ∙ (λ i. above_rows i ++ its_row i ∷ [])
-        ∙ sym (map-append (row_of d) (take (place_of n.h) heads) (n.h ∷ []))
-        ∙ ap (map (row_of d)) (sym taken);
+        ∙ sym (map-append (count_row d) (take (place_of n.h) heads) (n.h ∷ []))
+        ∙ ap (map (count_row d)) (sym taken);
     counts = subst (AllByRecursion (HasCounts d)) (sym taken) (all_and (HasCounts d) (take (place_of n.h) heads) n.h above_counts its_counts);
     shape = λ many_lines. by_last (one_place n.h head.End (let more = length-append above (l ∷ []) in let e = many in let low = place_below n.h in omega (arith, many_lines, more, e, low)));
   };
@@ -113,10 +113,10 @@ stands_on s above l st n = record {
     given : numbers_of d n.h ≡ n.numbers
     given = numbers_given s.counts n.h n.numbers n.size n.format
 
-    above_rows : map (λ l. l.words) above ≡ map (row_of d) (take (place_of n.h) heads)
-    above_rows = st.first.rows ∙ ap (λ k. map (row_of s.counts) (take k heads)) many ∙ sym (kept_rows s.counts n.h n.numbers)
+    above_rows : map (λ l. l.words) above ≡ map (count_row d) (take (place_of n.h) heads)
+    above_rows = st.first.rows ∙ ap (λ k. map (count_row s.counts) (take k heads)) many ∙ sym (kept_rows s.counts n.h n.numbers)
 
-    its_row : l.words ≡ row_of d n.h
+    its_row : l.words ≡ count_row d n.h
     its_row = n.words ∙ ap (λ ns. word_of n.h ∷ map decimal ns) (sym given)
 
     above_counts : AllByRecursion (HasCounts d) (take (place_of n.h) heads)
@@ -234,7 +234,7 @@ first_from s above (l ∷ left) lines n k parts st e = by (fault_of s l) refl e 
 pub first_of : (lines : List LogicalLine) (n : ℕ) (k : MachineKind) → reading start lines ≡ Err (n, k) → IsFirstFault lines n k
 first_of lines n k e = first_from start [] lines lines n k refl (record { read = refl; few = omega arith; first = record { rows = refl; counts = tt; shape = λ lt. absurd (omega (arith, lt)) } }) e
 
-pub refused_is : (bytes : List ℕ) (r : Result Shape MachineFault) → length bytes ≤ most_bytes → IfErr r (IsReadFault (lines_of false bytes)) → IfErr r (IsRefusedAs bytes)
+pub refused_is : (bytes : List ℕ) (r : Result Shape MachineFault) → length bytes ≤ most_bytes → IfErr r (IsReadFault (logical_lines false bytes)) → IfErr r (IsRefusedAs bytes)
 refused_is bytes (Ok s) few h = tt
 refused_is bytes (Err Memory) few h = tt
-refused_is bytes (Err (At line kind)) few h = inr (few, first_of (lines_of false bytes) line kind h)
+refused_is bytes (Err (At line kind)) few h = inr (few, first_of (logical_lines false bytes) line kind h)

@@ -15,7 +15,7 @@ use Rattle.std.proofs.lemmas.Fmt.{decimal_digit, length-decimal-le}
 use Rattle.std.proofs.lemmas.Slice.Eq.{bytes_eq-Decides}
 use Rattle.hierarchy.specs.declared.Counts.{Counts}
 use Rattle.hierarchy.specs.Limits.{MakeShape}
-use Rattle.tm_text.specs.Lines.{LogicalLine, lines_of, is_bad_line}
+use Rattle.tm_text.specs.Lines.{LogicalLine, logical_lines, is_bad_line}
 use Rattle.std.specs.Prelude.{IfOk, IfErr}
 use Rattle.tm_text.specs.Bytes.{has_bad_byte}
 use Rattle.tm_text.specs.Written.{IsWord, AreRows, numbered, written, written_line, spaced}
@@ -31,7 +31,7 @@ use Rattle.machine_file.specs.declared.head.Head.TheVariants as head
 use Rattle.machine_file.specs.declared.kind.MachineKind.{MachineKind}
 use Rattle.machine_file.specs.declared.kind.MachineKind.TheVariants as kind
 use Rattle.machine_file.specs.Heads.{heads, word_of, place_of, follow_of, head_of}
-use Rattle.machine_file.specs.Machine.{numbers_of, row_of, rows_of, text_of, IsMachine}
+use Rattle.machine_file.specs.Machine.{numbers_of, count_row, count_rows, text_of, IsMachine}
 use Rattle.machine_file.specs.Reading.{State, start, value_of, is_count, counts_fault, words_fault, head_fault, said_fault, fault_of, with_numbers, with_line, after, if_sound, reading, is_shape}
 use Rattle.machine_file.proofs.CountLemmas.{count_parts, is_count-decimal, value-decimal, is_shape-made}
 
@@ -278,7 +278,7 @@ abbrev words_of_lines : List LogicalLine → List (List (List ℕ))
 words_of_lines lines = map (λ l. l.words) lines
 
 pub record Spelled (lines : List LogicalLine) (c : Counts) : Type 0 where
-  rows : words_of_lines lines ≡ rows_of c
+  rows : words_of_lines lines ≡ count_rows c
   three : length c.ports ≡ 3
   four : length c.lines ≡ 4
   small : (h : Head) → All (λ n. (0 < n) × (n ≤ 65535)) (numbers_of c h)
@@ -288,7 +288,7 @@ only_number [] e = absurd (omega arith)
 only_number (n ∷ ns) e = ap (λ r. n ∷ r) (nil_from_length ns (omega arith))
 
 -- a line in front of others, with the numbers that the counts have
-row_in_front : {s : State} {lines : List LogicalLine} {c : Counts} {h : Head} (n : Next s lines c h) (d : Counts) (rows : List (List (List ℕ))) → n.numbers ≡ numbers_of d h → words_of_lines n.rest ≡ rows → words_of_lines lines ≡ row_of d h ∷ rows
+row_in_front : {s : State} {lines : List LogicalLine} {c : Counts} {h : Head} (n : Next s lines c h) (d : Counts) (rows : List (List (List ℕ))) → n.numbers ≡ numbers_of d h → words_of_lines n.rest ≡ rows → words_of_lines lines ≡ count_row d h ∷ rows
 row_in_front {h = h} n d rows same below = ap words_of_lines n.lines_are ∙ (λ i. (n.words ∙ ap (λ ns. word_of h ∷ map decimal ns) same) i ∷ below i)
 
 abbrev Small : List ℕ → Type 0
@@ -386,7 +386,7 @@ numerals_are_words [] small k d lt = absurd (omega arith)
 numerals_are_words (n ∷ ns) small zero d lt = decimal_word n (omega (arith, (small 0 0 (omega arith)).1))
 numerals_are_words (n ∷ ns) small (suc k) d lt = numerals_are_words ns (λ j e within. small (suc j) e (omega arith)) k d (omega arith)
 
-row_is_words : (c : Counts) (h : Head) → Small (numbers_of c h) → All IsWord (row_of c h)
+row_is_words : (c : Counts) (h : Head) → Small (numbers_of c h) → All IsWord (count_row c h)
 row_is_words c h small zero d lt = word_is_word h
 row_is_words c h small (suc k) d lt = numerals_are_words (numbers_of c h) small k d (omega arith)
 
@@ -415,9 +415,9 @@ head_sound s c h place size small ready =
     let sized : (length (map decimal (numbers_of c h)) == follow_of h) ≡ true = eq-eqb _ _ (length-map (numbers_of c h) decimal ∙ size) in
     rw (placed, sized) (no_fault s.counts c h small ready)
 
-pub row_sound : (s : State) (c : Counts) (h : Head) (l : LogicalLine) → l.words ≡ row_of c h → s.read ≡ place_of h → length (numbers_of c h) ≡ follow_of h → Small (numbers_of c h) → IsReady s.counts h → fault_of s l ≡ None
+pub row_sound : (s : State) (c : Counts) (h : Head) (l : LogicalLine) → l.words ≡ count_row c h → s.read ≡ place_of h → length (numbers_of c h) ≡ follow_of h → Small (numbers_of c h) → IsReady s.counts h → fault_of s l ≡ None
 row_sound s c h l words place size small ready =
-    let good : is_bad_line l ≡ false = ap has_bad_byte words ∙ sound_words (row_of c h) (row_is_words c h small) in
+    let good : is_bad_line l ≡ false = ap has_bad_byte words ∙ sound_words (count_row c h) (row_is_words c h small) in
     let within : nat_lt 8 s.read ≡ false = not_past s.read (omega (arith, place_below h)) in
     ap (λ t. if t then Some kind.Byte else said_fault s l.words) good
     ∙ ap (λ t. if t then Some kind.After else head_fault s (head_of (get_or l.words 0 [])) (drop 1 l.words)) within
@@ -425,7 +425,7 @@ row_sound s c h l words place size small ready =
     ∙ ap (λ o. head_fault s o (map decimal (numbers_of c h))) (head_of-word_of h)
     ∙ head_sound s c h place size small ready
 
-pub after_row : (s : State) (c : Counts) (h : Head) (words : List (List ℕ)) → words ≡ row_of c h → Small (numbers_of c h) → after s words ≡ moved s h (numbers_of c h)
+pub after_row : (s : State) (c : Counts) (h : Head) (words : List (List ℕ)) → words ≡ count_row c h → Small (numbers_of c h) → after s words ≡ moved s h (numbers_of c h)
 after_row s c h words is small =
     ap (after s) is
     ∙ ap (λ o. record { read = s.read + 1; counts = with_line s.counts o (map decimal (numbers_of c h)) }) (head_of-word_of h)
@@ -436,18 +436,18 @@ record Read (s : State) (c : Counts) (h : Head) (lines : List LogicalLine) (rows
   rows_are : words_of_lines rest ≡ rows
   same : reading s lines ≡ reading (moved s h (numbers_of c h)) rest
 
-row_read : (s : State) (c : Counts) (h : Head) (lines : List LogicalLine) (rows : List (List (List ℕ))) → words_of_lines lines ≡ row_of c h ∷ rows → s.read ≡ place_of h → length (numbers_of c h) ≡ follow_of h → Small (numbers_of c h) → IsReady s.counts h → Read s c h lines rows
+row_read : (s : State) (c : Counts) (h : Head) (lines : List LogicalLine) (rows : List (List (List ℕ))) → words_of_lines lines ≡ count_row c h ∷ rows → s.read ≡ place_of h → length (numbers_of c h) ≡ follow_of h → Small (numbers_of c h) → IsReady s.counts h → Read s c h lines rows
 unfolding reading
 row_read s c h [] rows is place size small ready = absurd cc
 row_read s c h (l ∷ lines) rows is place size small ready =
-    let words : l.words ≡ row_of c h = cc in
+    let words : l.words ≡ count_row c h = cc in
     record {
       rest = lines;
       rows_are = cc;
       same = ap (λ f. if_sound l.number f (reading (after s l.words) lines)) (row_sound s c h l words place size small ready) ∙ ap (λ t. reading t lines) (after_row s c h l.words words small);
     }
 
-with_row : {P : Type 0} (s : State) (c : Counts) (h : Head) (lines : List LogicalLine) (rows : List (List (List ℕ))) → words_of_lines lines ≡ row_of c h ∷ rows → s.read ≡ place_of h → length (numbers_of c h) ≡ follow_of h → Small (numbers_of c h) → IsReady s.counts h → ((r : Read s c h lines rows) → P) → P
+with_row : {P : Type 0} (s : State) (c : Counts) (h : Head) (lines : List LogicalLine) (rows : List (List (List ℕ))) → words_of_lines lines ≡ count_row c h ∷ rows → s.read ≡ place_of h → length (numbers_of c h) ≡ follow_of h → Small (numbers_of c h) → IsReady s.counts h → ((r : Read s c h lines rows) → P) → P
 with_row s c h lines rows is place size small ready f = f (row_read s c h lines rows is place size small ready)
 
 all_read : (s : State) (lines : List LogicalLine) → s.read ≡ 9 → words_of_lines lines ≡ [] → reading s lines ≡ Ok s.counts
@@ -455,7 +455,7 @@ unfolding reading
 all_read s [] full is = rw full refl
 all_read s (l ∷ lines) full is = absurd cc
 
-pub read_back : (lines : List LogicalLine) (c : Counts) → words_of_lines lines ≡ rows_of c → length c.ports ≡ 3 → length c.lines ≡ 4 → ((h : Head) → Small (numbers_of c h)) → is_shape c ≡ true → reading start lines ≡ Ok c
+pub read_back : (lines : List LogicalLine) (c : Counts) → words_of_lines lines ≡ count_rows c → length c.ports ≡ 3 → length c.lines ≡ 4 → ((h : Head) → Small (numbers_of c h)) → is_shape c ≡ true → reading start lines ≡ Ok c
 read_back lines c rows three four small shape =
     with_row start c head.Teramac lines _ rows refl refl (small head.Teramac) tt (λ r0.
     let s1 : State = moved start head.Teramac (numbers_of c head.Teramac) in
@@ -479,26 +479,26 @@ read_back lines c rows three four small shape =
 
 -- ---- texts
 
-pub is_machine : (bytes : List ℕ) (c : Counts) → reading start (lines_of false bytes) ≡ Ok c → MakeShape c → IsMachine bytes c
+pub is_machine : (bytes : List ℕ) (c : Counts) → reading start (logical_lines false bytes) ≡ Ok c → MakeShape c → IsMachine bytes c
 is_machine bytes c e made =
-    let s = spelled (lines_of false bytes) c e in
+    let s = spelled (logical_lines false bytes) c e in
     record { rows = s.rows; three = s.three; four = s.four; small = s.small; shape = made }
 
-pub machine_is_read : (bytes : List ℕ) (c : Counts) → IsMachine bytes c → reading start (lines_of false bytes) ≡ Ok c
-machine_is_read bytes c m = read_back (lines_of false bytes) c m.rows m.three m.four m.small (is_shape-made c m.shape)
+pub machine_is_read : (bytes : List ℕ) (c : Counts) → IsMachine bytes c → reading start (logical_lines false bytes) ≡ Ok c
+machine_is_read bytes c m = read_back (logical_lines false bytes) c m.rows m.three m.four m.small (is_shape-made c m.shape)
 
-pub found_is : (bytes : List ℕ) (r : Result Shape MachineFault) → length bytes ≤ most_bytes → IfOk r (λ s. (reading start (lines_of false bytes) ≡ Ok s.counts) × MakeShape s.counts) → IfOk r (λ s. IsMachine bytes s.counts × (length bytes ≤ most_bytes))
+pub found_is : (bytes : List ℕ) (r : Result Shape MachineFault) → length bytes ≤ most_bytes → IfOk r (λ s. (reading start (logical_lines false bytes) ≡ Ok s.counts) × MakeShape s.counts) → IfOk r (λ s. IsMachine bytes s.counts × (length bytes ≤ most_bytes))
 found_is bytes (Ok s) few h = (is_machine bytes s.counts h.0 h.1, few)
 found_is bytes (Err e) few h = tt
 
-pub only_is : (bytes : List ℕ) (r : Result Shape MachineFault) → IfOk r (λ s. (reading start (lines_of false bytes) ≡ Ok s.counts) × MakeShape s.counts) → IfErr r (IsReadFault (lines_of false bytes)) → (c : Counts) → IsMachine bytes c → GivesOrLacks c r
+pub only_is : (bytes : List ℕ) (r : Result Shape MachineFault) → IfOk r (λ s. (reading start (logical_lines false bytes) ≡ Ok s.counts) × MakeShape s.counts) → IfErr r (IsReadFault (logical_lines false bytes)) → (c : Counts) → IsMachine bytes c → GivesOrLacks c r
 only_is bytes (Ok s) got first c m = let one : ◌≡◌ {A = Result Counts (ℕ × MachineKind)} (Ok s.counts) (Ok c) = sym got.0 ∙ machine_is_read bytes c m in cc
 only_is bytes (Err Memory) got first c m = tt
 only_is bytes (Err (At line kind)) got first c m = let e : ◌≡◌ {A = Result Counts (ℕ × MachineKind)} (Err (line, kind)) (Ok c) = sym first ∙ machine_is_read bytes c m in absurd cc
 
 -- ---- what is written
 
-rows_from : (c : Counts) (hs : List Head) → ((h : Head) → Small (numbers_of c h)) → AreRows (map (row_of c) hs)
+rows_from : (c : Counts) (hs : List Head) → ((h : Head) → Small (numbers_of c h)) → AreRows (map (count_row c) hs)
 rows_from c [] small k d lt = absurd (omega arith)
 rows_from c (h ∷ hs) small zero d lt = (omega arith, row_is_words c h (small h))
 rows_from c (h ∷ hs) small (suc k) d lt = rows_from c hs small k d (omega arith)
@@ -525,14 +525,14 @@ few_follow head.Lines = (omega arith, omega arith)
 few_follow head.Pins = (omega arith, omega arith)
 few_follow head.End = (omega arith, omega arith)
 
-short_rows : (c : Counts) (hs : List Head) → ((h : Head) → Small (numbers_of c h)) → ((h : Head) → length (numbers_of c h) ≡ follow_of h) → length (written (map (row_of c) hs)) ≤ 33 * length hs
+short_rows : (c : Counts) (hs : List Head) → ((h : Head) → Small (numbers_of c h)) → ((h : Head) → length (numbers_of c h) ≡ follow_of h) → length (written (map (count_row c) hs)) ≤ 33 * length hs
 short_rows c [] small size = omega arith
 short_rows c (h ∷ hs) small size =
     let behind = flat_map (λ v. 32 ∷ v) (map decimal (numbers_of c h)) in
     omega (
       arith,
-      length-append (spaced (row_of c h) ++ 10 ∷ []) (written (map (row_of c) hs)),
-      length-append (spaced (row_of c h)) (10 ∷ []),
+      length-append (spaced (count_row c h) ++ 10 ∷ []) (written (map (count_row c) hs)),
+      length-append (spaced (count_row c h)) (10 ∷ []),
       length-append (word_of h) behind,
       short_numbers (numbers_of c h) (small h),
       size h,
@@ -552,10 +552,10 @@ follow_are c three four head.Lines = four
 follow_are c three four head.Pins = refl
 follow_are c three four head.End = refl
 
-pub written_is : (c : Counts) → length c.ports ≡ 3 → length c.lines ≡ 4 → ((h : Head) → Small (numbers_of c h)) → MakeShape c → IsMachine (written (rows_of c)) c × (length (written (rows_of c)) ≤ most_bytes)
+pub written_is : (c : Counts) → length c.ports ≡ 3 → length c.lines ≡ 4 → ((h : Head) → Small (numbers_of c h)) → MakeShape c → IsMachine (written (count_rows c)) c × (length (written (count_rows c)) ≤ most_bytes)
 written_is c three four small made = (
   record {
-    rows = ap words_of_lines (lines_back 1 (rows_of c) (rows_from c heads small)) ∙ words_numbered 1 (rows_of c);
+    rows = ap words_of_lines (lines_back 1 (count_rows c) (rows_from c heads small)) ∙ words_numbered 1 (count_rows c);
     three = three;
     four = four;
     small = small;
@@ -564,12 +564,12 @@ written_is c three four small made = (
   omega (arith, short_rows c heads small (follow_are c three four)),
 )
 
-pub written_more : (c : Counts) (hs : List Head) (i : ℕ) (d : Head) → i < length hs → written (map (row_of c) (take (i + 1) hs)) ≡ written (map (row_of c) (take i hs)) ++ written_line (row_of c (get_or hs i d))
+pub written_more : (c : Counts) (hs : List Head) (i : ℕ) (d : Head) → i < length hs → written (map (count_row c) (take (i + 1) hs)) ≡ written (map (count_row c) (take i hs)) ++ written_line (count_row c (get_or hs i d))
 written_more c hs i d lt =
-    ap (λ gs. written (map (row_of c) gs)) (take_more hs i d lt)
-    ∙ ap written (map-append (row_of c) (take i hs) (get_or hs i d ∷ []))
-    ∙ flat_map-append written_line (map (row_of c) (take i hs)) (row_of c (get_or hs i d) ∷ [])
-    ∙ ap (λ bs. written (map (row_of c) (take i hs)) ++ bs) (append-nil (written_line (row_of c (get_or hs i d))))
+    ap (λ gs. written (map (count_row c) gs)) (take_more hs i d lt)
+    ∙ ap written (map-append (count_row c) (take i hs) (get_or hs i d ∷ []))
+    ∙ flat_map-append written_line (map (count_row c) (take i hs)) (count_row c (get_or hs i d) ∷ [])
+    ∙ ap (λ bs. written (map (count_row c) (take i hs)) ++ bs) (append-nil (written_line (count_row c (get_or hs i d))))
 
 -- ---- the numbers of a shape
 

@@ -1,4 +1,4 @@
-pub mod CountLemmas
-pub mod GrammarLemmas
-pub mod FaultLemmas
-pub mod OneFault
+mod CountLemmas
+mod GrammarLemmas
+mod FaultLemmas
+mod OneFault

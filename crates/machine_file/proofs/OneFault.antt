@@ -16,7 +16,7 @@ use Rattle.machine_file.specs.declared.kind.MachineKind.{MachineKind}
 use Rattle.machine_file.specs.declared.kind.MachineKind.TheVariants as kind
 use Rattle.machine_file.specs.Faults.{AreCounts, HasCounts, AreFirstLines, PassesLimit, IsRestFault, size, format, number, limit, IsWordsFault, over, unknown, not_due, due, IsLineFault, bad, words, IsFirstFault, at_line, at_end}
 use Rattle.machine_file.specs.Heads.{heads, word_of, place_of, follow_of, head_of}
-use Rattle.machine_file.specs.Machine.{numbers_of, row_of}
+use Rattle.machine_file.specs.Machine.{numbers_of, count_row}
 use Rattle.machine_file.specs.Reading.{State, start, is_count, words_fault, said_fault, fault_of, after, if_sound, reading, is_shape}
 use Rattle.machine_file.proofs.CountLemmas.{made, is_shape-made}
 use Rattle.machine_file.proofs.GrammarLemmas.{place_below, word_first, head_of-word_of, moved, IsReady, not_past, row_sound, after_row, counts_are, one_word}
@@ -57,14 +57,14 @@ module _ (c : Counts) where
   read_after s [] = omega arith
   read_after s (h ∷ hs) = let e = read_after (moved s h (numbers_of c h)) hs in omega (arith, e)
 
-  walk : (s : State) (hs : List Head) (above rest : List LogicalLine) → map (λ l. l.words) above ≡ map (row_of c) hs → AllByRecursion (HasCounts c) hs → Fits s hs → reading s (above ++ rest) ≡ reading (after_heads s hs) rest
+  walk : (s : State) (hs : List Head) (above rest : List LogicalLine) → map (λ l. l.words) above ≡ map (count_row c) hs → AllByRecursion (HasCounts c) hs → Fits s hs → reading s (above ++ rest) ≡ reading (after_heads s hs) rest
   unfolding reading
   walk s [] [] rest e has fits = refl
   walk s [] (l ∷ ls) rest e has fits = absurd cc
   walk s (h ∷ hs) [] rest e has fits = absurd cc
   walk s (h ∷ hs) (l ∷ ls) rest e has fits =
-      let its : l.words ≡ row_of c h = cc in
-      let others : map (λ l. l.words) ls ≡ map (row_of c) hs = cc in
+      let its : l.words ≡ count_row c h = cc in
+      let others : map (λ l. l.words) ls ≡ map (count_row c) hs = cc in
       ap (λ f. if_sound l.number f (reading (after s l.words) (ls ++ rest))) (row_sound s c h l its fits.0 has.0.0 has.0.1 fits.1.0)
       ∙ ap (λ t. reading t (ls ++ rest)) (after_row s c h l.words its has.0.1)
       ∙ walk (moved s h (numbers_of c h)) hs ls rest others has.1 fits.1.1
@@ -74,7 +74,7 @@ module _ (c : Counts) where
     stood = after_heads start (take (length above) heads)
 
     many : length (take (length above) heads) ≡ length above
-    many = sym (length-map (take (length above) heads) (row_of c)) ∙ sym (ap length first.rows) ∙ length-map above (λ l. l.words)
+    many = sym (length-map (take (length above) heads) (count_row c)) ∙ sym (ap length first.rows) ∙ length-map above (λ l. l.words)
 
     read_is : stood.read ≡ length above
     read_is = let e = read_after start (take (length above) heads) in let m = many in omega (arith, e, m)

@@ -6,7 +6,7 @@ use Rattle.hierarchy.specs.declared.Counts.{Counts}
 use Rattle.hierarchy.specs.declared.Shape.{Shape}
 use Rattle.hierarchy.specs.declared.Which.{Which}
 use Rattle.hierarchy.specs.Limits.{MakeShape, amount_of, most_of}
-use Rattle.tm_text.specs.Lines.{LogicalLine, lines_of, is_bad_line}
+use Rattle.tm_text.specs.Lines.{LogicalLine, logical_lines, is_bad_line}
 use Rattle.tm_text.specs.Size.{most_bytes}
 use Rattle.machine_file.specs.declared.head.Head.{Head}
 use Rattle.machine_file.specs.declared.head.Head.TheVariants as head
@@ -15,7 +15,7 @@ use Rattle.machine_file.specs.declared.kind.MachineKind.TheVariants.{Byte, Word,
 use Rattle.machine_file.specs.declared.kind.MachineFault.{MachineFault}
 use Rattle.machine_file.specs.declared.kind.MachineFault.TheVariants.{At, Memory}
 use Rattle.machine_file.specs.Heads.{heads, word_of, place_of, follow_of}
-use Rattle.machine_file.specs.Machine.{numbers_of, row_of}
+use Rattle.machine_file.specs.Machine.{numbers_of, count_row}
 
 abbrev pub AreCounts : List ℕ → Type 0
 AreCounts ns = All (λ n. (0 < n) × (n ≤ 65535)) ns
@@ -27,7 +27,7 @@ HasCounts c h = (length (numbers_of c h) ≡ follow_of h) × AreCounts (numbers_
 -- These are the first lines of a text with these counts: each is right. Where the last is among them, the counts make
 -- a shape.
 pub record AreFirstLines (c : Counts) (lines : List LogicalLine) : Type 0 where
-  pub rows : map (λ l. l.words) lines ≡ map (row_of c) (take (length lines) heads)
+  pub rows : map (λ l. l.words) lines ≡ map (count_row c) (take (length lines) heads)
   pub counts : AllByRecursion (HasCounts c) (take (length lines) heads)
   pub shape : 8 < length lines → MakeShape c
 
@@ -68,7 +68,7 @@ pub data IsFirstFault (lines : List LogicalLine) : ℕ → MachineKind → Type 
 abbrev pub IsFault : List ℕ → ℕ → MachineKind → Type 0
 IsFault bytes line kind =
     ((most_bytes < length bytes) × ((line ≡ 0) × (kind ≡ Limit)))
-    ⊎ ((length bytes ≤ most_bytes) × IsFirstFault (lines_of false bytes) line kind)
+    ⊎ ((length bytes ≤ most_bytes) × IsFirstFault (logical_lines false bytes) line kind)
 
 -- a text is refused for its fault; of want of memory nothing is said
 abbrev pub IsRefusedAs : List ℕ → MachineFault → Type 0

@@ -3,7 +3,7 @@ use Rattle.std.specs.Prelude.{ℕ, ◌≡◌, ◌<◌, ◌≤◌, false, List, [
 use Rattle.std.specs.Fmt.{decimal}
 use Rattle.hierarchy.specs.declared.Counts.{Counts}
 use Rattle.hierarchy.specs.Limits.{MakeShape}
-use Rattle.tm_text.specs.Lines.{lines_of}
+use Rattle.tm_text.specs.Lines.{logical_lines}
 use Rattle.tm_text.specs.Written.{written}
 use Rattle.machine_file.specs.declared.head.Head.{Head}
 use Rattle.machine_file.specs.declared.head.Head.TheVariants as head
@@ -22,15 +22,15 @@ numbers_of c head.Pins = c.pins ∷ []
 numbers_of c head.End = []
 
 -- the words of the nine lines
-abbrev pub row_of : Counts → Head → List (List ℕ)
-row_of c h = word_of h ∷ map decimal (numbers_of c h)
+abbrev pub count_row : Counts → Head → List (List ℕ)
+count_row c h = word_of h ∷ map decimal (numbers_of c h)
 
-abbrev pub rows_of : Counts → List (List (List ℕ))
-rows_of c = map (row_of c) heads
+abbrev pub count_rows : Counts → List (List (List ℕ))
+count_rows c = map (count_row c) heads
 
 -- a text is that of the machine of these counts
 pub record IsMachine (bytes : List ℕ) (c : Counts) : Type 0 where
-  pub rows : map (λ l. l.words) (lines_of false bytes) ≡ rows_of c
+  pub rows : map (λ l. l.words) (logical_lines false bytes) ≡ count_rows c
   pub three : length c.ports ≡ 3
   pub four : length c.lines ≡ 4
   pub small : (h : Head) → All (λ n. (0 < n) × (n ≤ 65535)) (numbers_of c h)
@@ -38,4 +38,4 @@ pub record IsMachine (bytes : List ℕ) (c : Counts) : Type 0 where
 
 -- the one text that is written: single spaces, and a line feed behind each line
 unfoldable pub text_of : Counts → List ℕ
-text_of c = written (rows_of c)
+text_of c = written (count_rows c)

@@ -1,9 +1,9 @@
 //! Reads a machine.
 
-ghost use Rattle.std.specs.Prelude.{◌≡◌, ◌≤◌, ◌∷◌, [], ℕ, Bool, true, false, List, length, None, Some, Ok, Err, IfOk, IfErr};
+ghost use Rattle.std.specs.Prelude.{◌≡◌, ◌≤◌, false, length, None, Some, Ok, Err, IfOk, IfErr};
 ghost use Rattle.hierarchy.specs.declared.Counts.{Counts};
 ghost use Rattle.hierarchy.specs.Limits.{MakeShape};
-ghost use Rattle.tm_text.specs.Lines.{lines_of};
+ghost use Rattle.tm_text.specs.Lines.{logical_lines};
 ghost use Rattle.tm_text.specs.Size.{most_bytes};
 ghost use Rattle.machine_file.specs.Faults.{IsRefusedAs, GivesOrLacks};
 ghost use Rattle.machine_file.specs.Machine.{IsMachine};
@@ -40,8 +40,8 @@ fn new_reader() -> Reader
 /// Reads the lines of a text.
 #[tactic(auto, unfolding(crate::specs::Reading::reading))]
 fn read_lines(alloc: Global, bytes: &[u8]) -> Result<Shape, MachineFault>
-    ensures found { IfOk result (λ s. (reading start (lines_of false bytes.now) ≡ Ok s.counts) × MakeShape s.counts) }
-    ensures refused { IfErr result (IsReadFault (lines_of false bytes.now)) }
+    ensures found { IfOk result (λ s. (reading start (logical_lines false bytes.now) ≡ Ok s.counts) × MakeShape s.counts) }
+    ensures refused { IfErr result (IsReadFault (logical_lines false bytes.now)) }
 {
     let mut lines = Lines::new(alloc, bytes, false);
     let mut reader = new_reader();

@@ -1,8 +1,8 @@
 //! Reads a machine line by line.
 
-ghost use Rattle.std.specs.Prelude.{◌≡◌, ◌∷◌, [], ◌+◌, ◌<◌, ℕ, Bool, true, false, List, length, map, drop, Some, None, ⊤, OnOk, IfOk, MatchOption};
+ghost use Rattle.std.specs.Prelude.{◌≡◌, ◌∷◌, [], ◌+◌, ◌<◌, false, length, map, Some, None, ⊤, OnOk, IfOk, MatchOption};
 ghost use Rattle.hierarchy.specs.Limits.{MakeShape};
-ghost use Rattle.tm_text.specs.Lines.{LogicalLine, is_bad_line};
+ghost use Rattle.tm_text.specs.Lines.{is_bad_line};
 ghost use Rattle.machine_file.specs.declared.head.Head.TheVariants as head;
 ghost use Rattle.machine_file.specs.Heads.{place_of, follow_of};
 ghost use Rattle.machine_file.specs.Steps.{Steps};

@@ -1,11 +1,11 @@
 //! Writes a machine.
 
-ghost use Rattle.std.specs.Prelude.{◌≡◌, ◌≤◌, ◌++◌, ◌∷◌, [], ◌<◌, List, length, map, OnOk, IfOk, All};
+ghost use Rattle.std.specs.Prelude.{◌≡◌, ◌≤◌, ◌++◌, ◌∷◌, [], ◌<◌, length, map, OnOk, IfOk, All};
 ghost use Rattle.std.specs.Fmt.{decimal};
 ghost use Rattle.tm_text.specs.Written.{written_line};
 ghost use Rattle.tm_text.specs.Size.{most_bytes};
 ghost use Rattle.machine_file.specs.Heads.{heads};
-ghost use Rattle.machine_file.specs.Machine.{IsMachine, numbers_of, row_of, text_of};
+ghost use Rattle.machine_file.specs.Machine.{IsMachine, numbers_of, count_row, text_of};
 
 use crate::head::{HEADS, Head};
 use hierarchy::{Counts, Shape};
@@ -28,7 +28,7 @@ fn put_row(text: &mut Vec<u8>, word: &[u8], numbers: &[u16]) -> Result<(), Alloc
 
 /// Writes the line of this kind.
 fn put_line(text: &mut Vec<u8>, counts: &Counts, head: Head) -> Result<(), AllocError>
-    ensures put { OnOk result (text.new.items ≡ text.old.items ++ written_line (row_of counts.now head)) }
+    ensures put { OnOk result (text.new.items ≡ text.old.items ++ written_line (count_row counts.now head)) }
     ensures small { All (λ n. n < 65536) (numbers_of counts.now head) }
 {
     match head {

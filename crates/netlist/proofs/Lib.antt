@@ -1,8 +1,6 @@
+-- What is cited above.
 pub mod OrderLemmas
 pub mod ListLemmas
-pub mod SearchLemmas
-pub mod StepLemmas
-pub mod CycleLemmas
 pub mod WalkLemmas
 pub mod ValuationLemmas
 pub mod EvalLemmas
@@ -10,4 +8,8 @@ pub mod WordLemmas
 pub mod CheckLemmas
 pub mod RightLemmas
 pub mod MadeLemmas
-pub mod NameLemmas
+-- For the proofs of this crate alone.
+mod SearchLemmas
+mod StepLemmas
+mod CycleLemmas
+mod NameLemmas

@@ -1,11 +1,9 @@
 -- Names that share beginnings.
-use Rattle.std.proofs.Common.{◌≡◌, ℕ, zero, suc, ◌+◌, ◌<◌, ◌≤◌, List, [], ◌∷◌, ◌++◌, Option, None, Some, length, get_or, map, fold, refl, sym, ap, subst, ◌∙◌, inl, inr, arith, append_assoc}
+use Rattle.std.proofs.Common.{◌≡◌, ℕ, zero, suc, ◌+◌, ◌<◌, ◌≤◌, List, [], ◌∷◌, ◌++◌, Option, None, Some, length, get_or, fold, refl, sym, ap, ◌∙◌, arith, append_assoc}
 use Rattle.std.specs.Prelude.{MatchOption}
-use Rattle.std.proofs.lemmas.Bool.{cases_lt}
-use Rattle.std.proofs.lemmas.List.{get_or_default, get_or_append_left, get_or_push, get_or_past, length_push, append-nil, map_push}
+use Rattle.std.proofs.lemmas.List.{get_or_default, get_or_append_left, get_or_push, get_or_past, length_push, append-nil}
 use Rattle.netlist.specs.declared.shared.Beginning.{Beginning}
-use Rattle.netlist.specs.declared.shared.Shared.{Shared}
-use Rattle.netlist.specs.Names.{with_text, texts_of, text_in, front, whole, no_beginning, beginning_at, joined}
+use Rattle.netlist.specs.Names.{with_text, texts_of, text_in, front, no_beginning, beginning_at, joined}
 
 length_texts : (bs : List Beginning) (ts : List (List ℕ)) → length (fold with_text ts bs) ≡ length ts + length bs
 length_texts [] ts = omega arith

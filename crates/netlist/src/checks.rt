@@ -1,6 +1,6 @@
 //! The check of a design.
 
-ghost use Rattle.std.specs.Prelude.{◌≡◌, ◌<◌, ℕ, length, IfOk, IfErr};
+ghost use Rattle.std.specs.Prelude.{◌≡◌, ◌<◌, length, IfOk, IfErr};
 ghost use Rattle.netlist.specs.declared.fault.DesignFault.TheVariants.{Memory};
 ghost use Rattle.netlist.specs.Drafts.{name_at, IsWellMade};
 ghost use Rattle.netlist.specs.Checks.{IsChecked, IsRefusalOf};

@@ -1,12 +1,12 @@
 //! Covers on a cycle.
 
-ghost use Rattle.std.specs.Prelude.{◌≡◌, ◌<◌, ◌≤◌, ℕ, length, IfOk, IsTrue, ◌↔◌, Some, None, if◌then◌else◌, ◌&&◌};
+ghost use Rattle.std.specs.Prelude.{◌≡◌, ◌<◌, ◌≤◌, length, IfOk, IsTrue, ◌↔◌, Some, None, if◌then◌else◌, ◌&&◌};
 ghost use Rattle.std.specs.Option.{ForSome};
 ghost use Rattle.netlist.specs.Drivers.{AreDrivers};
 ghost use Rattle.netlist.specs.Covers.{IsOnCycle, cover_line};
 ghost use Rattle.netlist.specs.Orders.{IsFirst, is_sooner};
 ghost use Rattle.netlist.specs.Sorts.{AreSorted};
-ghost use Rattle.netlist.specs.Searches.{AreNumbered, number_of, state_at};
+ghost use Rattle.netlist.specs.Searches.{AreNumbered, number_of};
 
 use crate::draft::Cover;
 use crate::search::{State, number_covers, number_of};

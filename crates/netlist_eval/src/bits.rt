@@ -1,6 +1,6 @@
 //! Bits of signals, written and read.
 
-ghost use Rattle.std.specs.Prelude.{◌≡◌, ◌<◌, length, map};
+ghost use Rattle.std.specs.Prelude.{◌≡◌, length, map};
 ghost use Rattle.netlist.specs.Valuations.{bit_at};
 ghost use Rattle.netlist_eval.specs.Bits.{bits_put, AreBelow};
 

@@ -1,6 +1,6 @@
 //! The rows of a netlist.
 
-ghost use Rattle.std.specs.Prelude.{◌≡◌, ◌<◌, ℕ, length, map, IfOk};
+ghost use Rattle.std.specs.Prelude.{◌≡◌, ◌<◌, length, map, IfOk};
 ghost use Rattle.netlist_eval.specs.Evals.{first_eval, IsStep};
 ghost use Rattle.netlist_eval.specs.Bits.{AreReady};
 ghost use Rattle.netlist.specs.Valuations.{bit_at};

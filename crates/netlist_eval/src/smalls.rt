@@ -1,6 +1,6 @@
 //! Covers of few inputs as tables.
 
-ghost use Rattle.std.specs.Prelude.{◌≡◌, ◌<◌, ◌≤◌, ℕ, [], false, length, take, slice_index_or, IfOk};
+ghost use Rattle.std.specs.Prelude.{◌≡◌, ◌<◌, ℕ, [], false, length, take, slice_index_or, IfOk};
 ghost use Rattle.netlist.specs.Covers.{cover_at, truth, IsCoverOver};
 ghost use Rattle.netlist.specs.Valuations.{bit_at};
 ghost use Rattle.netlist_eval.specs.Bits.{AreBelow};

@@ -1,6 +1,6 @@
 //! Covers as tables.
 
-ghost use Rattle.std.specs.Prelude.{◌≡◌, ◌+◌, ◌<◌, ◌≤◌, ℕ, [], map, length, slice_index_or};
+ghost use Rattle.std.specs.Prelude.{◌≡◌, ◌+◌, ◌<◌, ◌≤◌, ℕ, [], length, slice_index_or};
 ghost use Rattle.netlist.specs.Valuations.{bit_at};
 ghost use Rattle.netlist_eval.specs.Bits.{AreBelow};
 ghost use Rattle.netlist_eval.specs.Tables.{address, six_bits, AreCells, AreWires, IsTableOf};

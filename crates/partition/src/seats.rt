@@ -1,5 +1,5 @@
 //! The free tables of a machine as seats for the tables of a network.
-ghost use Rattle.std.specs.Prelude.{◌≡◌, ◌≢◌, ◌<◌, ◌≤◌, IfOk, IsFalse, OnOk, All, length, map, take};
+ghost use Rattle.std.specs.Prelude.{◌≡◌, ◌≢◌, ◌<◌, ◌≤◌, IfOk, IsFalse, OnOk, All, length, map};
 ghost use Rattle.hierarchy.specs.Shape.{nodes_of, tables_of};
 ghost use Rattle.place.specs.Plans.{number_of};
 ghost use Rattle.partition.specs.Seats.{AreFreeTables, number_at};

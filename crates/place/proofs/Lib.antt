@@ -1,11 +1,16 @@
+-- What is cited above.
 pub mod Upward
+pub mod Those
+pub mod Counting
+pub mod Transfer
+pub mod PlanNets
+pub mod Fitting
+-- For the proofs of this crate alone.
 mod Climbs
 mod Places
-pub mod Those
 mod Spreads
 mod Sieves
 mod Crossings
-pub mod Counting
 mod Moves
 mod Trails
 mod Stuck
@@ -19,13 +24,10 @@ mod Serving
 mod Boards
 mod VisitsMore
 mod Lacks
-pub mod Transfer
 mod Decided
 mod Pushes
 mod Grouping
 mod AllTerminals
-pub mod PlanNets
 mod Choosing
-pub mod Fitting
 mod Ranges
 mod Determined

@@ -1,5 +1,5 @@
 //! The in-order plan.
-ghost use Rattle.std.specs.Prelude.{◌≡◌, ◌<◌, ◌≤◌, ◌+◌, map, take, IfOk, length};
+ghost use Rattle.std.specs.Prelude.{◌≡◌, ◌<◌, ◌≤◌, ◌+◌, map, IfOk, length};
 ghost use Rattle.place.specs.Lists.{AreThose};
 ghost use Rattle.place.specs.Plans.{IsFreePinOf, IsFreeTableOf, IsInOrderOf, number_of};
 

@@ -1,6 +1,6 @@
 //! The nets that cross each node, its free ports, and which net has which port.
-ghost use Rattle.std.specs.Prelude.{◌≡◌, ◌<◌, ◌≤◌, ℕ, IfOk, IfSome, IfNone, All, length};
-ghost use Rattle.hierarchy.specs.Shape.{wires_of, nodes_of};
+ghost use Rattle.std.specs.Prelude.{◌<◌, ◌≤◌, ℕ, IfOk, IfSome, IfNone, All, length};
+ghost use Rattle.hierarchy.specs.Shape.{nodes_of};
 ghost use Rattle.place.specs.Choices.{AreWires};
 ghost use Rattle.place.specs.Lists.{AreThose, AreLists, IsNth};
 ghost use Rattle.place.specs.Room.{CrossesAt, HasTerminal, IsFreePort};

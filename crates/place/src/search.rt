@@ -1,5 +1,5 @@
 //! A line for each net that asks for one, by augmenting paths, or a set of nets that shows that lines are short.
-ghost use Rattle.std.specs.Prelude.{◌≡◌, ◌≢◌, ℕ, ◌+◌, ◌<◌, ◌≤◌, true, List, [], ◌∷◌, ◌++◌, OnOk, IfOk, IfSome, IfNone, MatchOption, All, AllPairs, Contains, Option, length};
+ghost use Rattle.std.specs.Prelude.{◌≡◌, ℕ, ◌+◌, ◌<◌, true, List, [], ◌∷◌, ◌++◌, OnOk, IfOk, IfSome, IfNone, MatchOption, All, Contains, Option, length};
 ghost use Rattle.hierarchy.specs.Shape.{wires_of};
 ghost use Rattle.place.specs.Choices.{AreWires, IsSite, is_shut, serves_all, serves_by};
 ghost use Rattle.place.specs.Search.{AreScanned, AreSeen, AskWithin, CanShift, GoesOn, IsDeadEnd, IsFree, IsPartial, IsShifted, IsStuck, IsTrail, OwnWithin, line_at, step_at};

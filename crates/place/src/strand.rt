@@ -1,5 +1,5 @@
 //! Where wires are, seen from a node.
-ghost use Rattle.std.specs.Prelude.{◌≡◌, ◌≢◌, ◌<◌, ℕ, IsTrue, IsFalse, All};
+ghost use Rattle.std.specs.Prelude.{◌≢◌, ◌<◌, ℕ, IsTrue, IsFalse, All};
 ghost use Rattle.hierarchy.specs.Shape.{wires_of};
 ghost use Rattle.place.specs.Strands.{IsAt, IsInside, Visits};
 ghost use Rattle.place.specs.declared.tree.Strand.{Strand};

@@ -1,5 +1,5 @@
 //! The nets that ask for a line at a node, and their taps there.
-ghost use Rattle.std.specs.Prelude.{◌≡◌, ◌<◌, ℕ, OnOk, IfOk, All, AllPairs, length};
+ghost use Rattle.std.specs.Prelude.{◌≡◌, ◌<◌, OnOk, IfOk, All, AllPairs, length};
 ghost use Rattle.hierarchy.specs.Shape.{wires_of, nodes_of};
 ghost use Rattle.place.specs.Choices.{AreWires};
 ghost use Rattle.place.specs.Lists.{AreThose};

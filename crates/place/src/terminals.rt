@@ -1,5 +1,5 @@
 //! The terminals of a network's nets.
-ghost use Rattle.std.specs.Prelude.{◌≡◌, ◌↔◌, ℕ, ◌+◌, ◌^◌, ◌<◌, ◌≤◌, ◌++◌, ◌∷◌, [], All, IfOk, OnOk, length, map, replicate, slice_set};
+ghost use Rattle.std.specs.Prelude.{◌≡◌, ◌+◌, ◌^◌, ◌<◌, ◌≤◌, ◌++◌, ◌∷◌, [], All, IfOk, OnOk, length, map, slice_set};
 ghost use Rattle.hierarchy.specs.Shape.{pins_of, tables_of};
 ghost use Rattle.place.specs.Plans.{IsPlan, net_by, number_of};
 ghost use Rattle.place.specs.Terminals.{AreGrouped, ArePlanNets, IsSized, NetsBelow, all_terminals, drives_of, gives_of, reads_of, reads_to, shows_of};

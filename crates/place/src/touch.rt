@@ -1,5 +1,5 @@
 //! Which nets have a terminal inside each node.
-ghost use Rattle.std.specs.Prelude.{◌≡◌, ◌<◌, ◌^◌, ℕ, [], ◌∷◌, OnOk, IfOk, All, length, slice_set};
+ghost use Rattle.std.specs.Prelude.{◌≡◌, ◌<◌, ◌^◌, [], ◌∷◌, OnOk, IfOk, All, length, slice_set};
 ghost use Rattle.hierarchy.specs.Shape.{wires_of, nodes_of};
 ghost use Rattle.place.specs.Choices.{AreWires};
 ghost use Rattle.place.specs.Touches.{AreTouched, IsSpread, list_at, with_last};

@@ -1,7 +1,7 @@
 //! A rig that fails at chosen calls.
 ghost use Rattle.std.specs.Prelude.{◌≡◌, ◌⊎◌, ◌-◌, ◌^◌, ◌<◌, ◌≤◌, [], None, Some, min, length, IfErr, OnOk, OnErr, IsErrOf};
 ghost use Rattle.tm_outside.specs.Counts.{Rose, next_count};
-ghost use Rattle.rig.specs.Rig.{RigState, Asked, shape_of, width_of, IsDetached, Attaches, AttachFails, HasFaultsOf, Begins, LoadFails, GoesOn, CycleFails};
+ghost use Rattle.rig.specs.Rig.{Asked, shape_of, width_of, IsDetached, Attaches, AttachFails, HasFaultsOf, Begins, LoadFails, GoesOn, CycleFails};
 ghost use Rattle.rig.specs.Flaky.{flaky_state, IsChosen, WantsMemory};
 
 use crate::{AskedMachines, AttachFail, PinBits, Rig, RigFail};

@@ -1,13 +1,13 @@
 -- Enough free parts are room for the in-order plan.
-use Rattle.std.proofs.Common.{◌≡◌, ◌≢◌, ℕ, zero, suc, ◌+◌, ◌<◌, ◌≤◌, List, [], ◌∷◌, ◌++◌, length, get_or, Some, refl, sym, ap, ◌∙◌, subst, arith}
+use Rattle.std.proofs.Common.{◌≡◌, ℕ, zero, suc, ◌+◌, ◌<◌, ◌≤◌, List, [], ◌∷◌, length, get_or, refl, sym, ap, subst, arith}
 use Rattle.std.specs.List.{All, AllPairs, Contains}
 use Rattle.std.proofs.lemmas.List.{length-map}
 use Rattle.std.proofs.lemmas.List.Elements.{All-weaker, Contains-get_or}
 use Rattle.hierarchy.specs.declared.Shape.{Shape}
-use Rattle.hierarchy.specs.Shape.{nodes_of, tables_of, pins_of, wires_of, hextant_of, node_of, pin_wire, table_wire, crosses_of, ends_of, parent_of, IsAbove, IsLine, IsPort}
+use Rattle.hierarchy.specs.Shape.{nodes_of, tables_of, pins_of, hextant_of, pin_wire, table_wire, IsLine, IsPort}
 use Rattle.hierarchy.specs.Faults.{Faults}
 use Rattle.hierarchy.specs.Sound.{IsSoundWire, IsSoundTable, IsWholeLine, IsServed}
-use Rattle.hierarchy.specs.Defects.{Defects, IsFreeWire, IsFreeTable, IsOpenLine, IsFair}
+use Rattle.hierarchy.specs.Defects.{Defects, IsFreeWire, IsFreeTable, IsOpenLine}
 use Rattle.hierarchy.specs.Laws.{IsNumbered, IsTree, HasParents}
 use Rattle.netlist.proofs.ListLemmas.{few_numbers}
 use Rattle.table_map.specs.declared.network.Network.{Network}
@@ -19,9 +19,9 @@ use Rattle.place.specs.declared.short.Resource.{Resource}
 use Rattle.place.specs.declared.short.Resource.TheVariants.{Tables, Pins, Ports, Lines}
 use Rattle.place.specs.declared.short.Short.{Short}
 use Rattle.place.specs.Lists.{AreThose, nth_of}
-use Rattle.place.specs.Strands.{IsInside, Crosses}
+use Rattle.place.specs.Strands.{Crosses}
 use Rattle.place.specs.Room.{HasPort, IsTapOf, by_terminal, by_child, by_port, IsFreePort, CrossesAt, VisitsAt, Serves, ArePorts, AreShort, IsUnmet}
-use Rattle.place.specs.Plans.{IsPlan, IsInOrder, IsTerminal, drives, reads, shows, nets_in, number_of, place_of, places, IsFreeTableOf, IsFreePinOf, AreNeeds, InOrderIsShort, IsShortInOrder}
+use Rattle.place.specs.Plans.{IsPlan, IsInOrder, IsTerminal, drives, reads, shows, nets_in, number_of, place_of, IsFreeTableOf, IsFreePinOf, AreNeeds, InOrderIsShort, IsShortInOrder}
 use Rattle.place.proofs.Counting.{pigeon}
 use Rattle.place.proofs.Fitting.{plan_is}
 use Rattle.place.proofs.PlanNets.{terminal_within, left_all, right_all}

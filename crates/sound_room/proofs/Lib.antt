@@ -1,1 +1,1 @@
-pub mod Enough
+mod Enough

@@ -1,15 +1,17 @@
+-- What is cited above.
 pub mod WriteLemmas
-pub mod TextLemmas
 pub mod VectorLemmas
 pub mod InputLemmas
 pub mod Following
 pub mod Leading
 pub mod EndLemmas
-pub mod AttachLemmas
 pub mod ShapeLemmas
 pub mod StartLemmas
 pub mod Excused
 pub mod Counting
 pub mod Taking
-pub mod TookLemmas
 pub mod JobLemmas
+-- For the proofs of this crate alone.
+mod TextLemmas
+mod AttachLemmas
+mod TookLemmas

@@ -2,12 +2,12 @@
 use Rattle.std.proofs.Common.{◌≡◌, ℕ, List, [], ◌∷◌, ◌++◌, refl, sym, subst, ap, ◌∙◌, inl, inr, arith, append-nil}
 use Rattle.std.specs.Prelude.{Result, Ok, Err, IfErr}
 use Rattle.tm_outside.specs.Store.{StoreState}
-use Rattle.tm_outside.specs.Sink.{SinkState, Wrote}
+use Rattle.tm_outside.specs.Sink.{SinkState}
 use Rattle.hierarchy.specs.declared.Shape.{Shape}
 use Rattle.rig.specs.Rig.{RigState, Machine, Asked}
 use Rattle.steps.specs.Outside.{Outside, outside, IsLater, StandsIn}
 use Rattle.steps.specs.Courses.{Course, Step, after, write, done}
-use Rattle.steps.specs.Stops.{Asks, AsksSome, StepStops, IsWritten, IsCounted}
+use Rattle.steps.specs.Stops.{StepStops, IsCounted}
 use Rattle.steps.specs.Took.{Took, Puts, Follows}
 use Rattle.steps.specs.Texts.{attaches, MayAsk, AsksMachine}
 use Rattle.steps.specs.declared.refusal.Refusal.TheVariants.{Memory}

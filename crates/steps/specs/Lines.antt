@@ -25,12 +25,12 @@ use Rattle.place.specs.declared.short.Resource.TheVariants as resource
 use Rattle.place.specs.declared.short.Short.{Short}
 
 -- the byte LF behind a text
-abbrev pub line_of : List ℕ → List ℕ
-line_of text = text ++ 10 ∷ []
+abbrev pub as_line : List ℕ → List ℕ
+as_line text = text ++ 10 ∷ []
 
 -- the line that stands before the rows
 abbrev pub outputs_line : List ℕ
-outputs_line = line_of (codes "outputs")
+outputs_line = as_line (codes "outputs")
 
 -- that line, and a line for each row
 abbrev pub output_text : List (List Bool) → List ℕ
@@ -118,7 +118,7 @@ vectors_word VectorLimit = codes "limit"
 
 -- the refusal of a text: its file, the number of the line, and what is wrong there
 abbrev pub text_line : List ℕ → ℕ → List ℕ → List ℕ
-text_line file line kind = line_of (codes "refused " ++ file ++ codes " " ++ decimal line ++ codes " " ++ kind)
+text_line file line kind = as_line (codes "refused " ++ file ++ codes " " ++ decimal line ++ codes " " ++ kind)
 
 -- the line of a refused machine
 abbrev pub machine_line : ℕ → MachineKind → List ℕ
@@ -165,5 +165,5 @@ nets_text nets = flat_map (λ net. 32 ∷ decimal net) nets
 -- and the nets
 abbrev pub room_line : Shape → Short → List ℕ
 room_line m s =
-    line_of (codes "refused noroom " ++ resource_word s.resource ++ codes " " ++ node_name m s.node.0
+    as_line (codes "refused noroom " ++ resource_word s.resource ++ codes " " ++ node_name m s.node.0
     ++ codes " " ++ decimal s.need ++ codes " " ++ decimal s.have ++ nets_text s.nets)

@@ -13,7 +13,7 @@ use Rattle.rig.specs.declared.rig.RigFail.TheVariants as work
 use Rattle.rig.specs.declared.rig.AttachFail.{AttachFail}
 use Rattle.rig.specs.declared.rig.AttachFail.TheVariants as attach
 use Rattle.fault_model.specs.declared.kind.FaultsFault.TheVariants as text
-use Rattle.steps.specs.Lines.{line_of, machine_line, faults_line, defects_line, image_line, design_line, vectors_line, room_line}
+use Rattle.steps.specs.Lines.{as_line, machine_line, faults_line, defects_line, image_line, design_line, vectors_line, room_line}
 use Rattle.steps.specs.Outside.{Outside}
 use Rattle.steps.specs.Courses.{Course, Step, ends, refuses, writes}
 use Rattle.steps.specs.declared.refusal.Refusal.{Refusal}
@@ -24,7 +24,7 @@ use Rattle.steps.specs.declared.refusal.Stop.TheVariants.{Refused, Sink}
 
 -- the line of a refusal
 abbrev pub refusal_text : Refusal → List ℕ
-refusal_text Words = line_of (codes "refused words")
+refusal_text Words = as_line (codes "refused words")
 refusal_text (Machine line kind) = machine_line line kind
 refusal_text (Faults line kind) = faults_line line kind
 refusal_text (Defects line kind) = defects_line line kind
@@ -32,9 +32,9 @@ refusal_text (Image line kind) = image_line line kind
 refusal_text (Design place) = design_line place.file place.line place.kind
 refusal_text (Vectors line kind) = vectors_line line kind
 refusal_text (Room place) = room_line place.shape place.short
-refusal_text Rig = line_of (codes "refused rig")
-refusal_text Store = line_of (codes "refused store")
-refusal_text Memory = line_of (codes "refused memory")
+refusal_text Rig = as_line (codes "refused rig")
+refusal_text Store = as_line (codes "refused store")
+refusal_text Memory = as_line (codes "refused memory")
 
 -- the status of a refusal
 abbrev pub status_of : Refusal → ℕ

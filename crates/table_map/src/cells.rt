@@ -1,7 +1,7 @@
 //! The cells of tables.
 
 ghost use Rattle.std.specs.Prelude.{◌≡◌, ◌<◌, ◌≤◌, ℕ, [], true, length, map, slice_index_or, IfOk};
-ghost use Rattle.netlist.specs.Covers.{fits, matches, some_matches, truth, IsCoverOver};
+ghost use Rattle.netlist.specs.Covers.{fits, matches, some_matches, truth};
 ghost use Rattle.table_map.specs.Rows.{cell_at};
 ghost use Rattle.table_map.specs.Plain.{cells_where, flip, every, any, together, met, pin_named, six_bits};
 ghost use Rattle.table_map.specs.Cells.{Give, masks_at};

@@ -1,6 +1,6 @@
 //! The tables of covers.
 
-ghost use Rattle.std.specs.Prelude.{◌≡◌, ◌<◌, ◌≤◌, ◌+◌, ◌-◌, ◌++◌, ◌∷◌, ℕ, [], false, length, map, OnOk, slice_index_or};
+ghost use Rattle.std.specs.Prelude.{◌≡◌, ◌<◌, ◌≤◌, ◌+◌, ◌-◌, ◌++◌, ◌∷◌, [], false, length, map, OnOk, slice_index_or};
 ghost use Rattle.netlist.specs.Covers.{IsCoverOver};
 ghost use Rattle.table_map.specs.Plain.{distinct, row_wants, rows_wants, tree, trees, tree_ends, want_table, wide_tables, narrow_table, cover_tables, covers_tables, cover_size};
 ghost use Rattle.table_map.specs.declared.want.Gate.TheVariants.{All};

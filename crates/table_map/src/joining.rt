@@ -3,7 +3,7 @@
 ghost use Rattle.std.specs.Prelude.{◌≡◌, ◌+◌, ◌<◌, ◌≤◌, ◌++◌, length, map, true, MatchOption, slice_index_or, if◌then◌else◌};
 ghost use Rattle.std.specs.List.{range_with_len};
 ghost use Rattle.table_map.specs.declared.source.Source.TheVariants.{Input};
-ghost use Rattle.table_map.specs.Rows.{cell_at, number_of};
+ghost use Rattle.table_map.specs.Rows.{cell_at};
 ghost use Rattle.table_map.specs.Plain.{cells_where, distinct, pin_named, six_bits};
 ghost use Rattle.table_map.specs.Cells.{is_among};
 ghost use Rattle.table_map.specs.Merging.{number, numbers_without};

@@ -1,6 +1,6 @@
 //! The depth of a network.
 
-ghost use Rattle.std.specs.Prelude.{◌≡◌, ◌<◌, ◌≤◌, ℕ, [], length, IfOk, OnOk, MatchOption};
+ghost use Rattle.std.specs.Prelude.{◌≡◌, ◌<◌, ℕ, [], length, IfOk, OnOk, MatchOption};
 ghost use Rattle.table_map.specs.declared.longest.Mark.TheVariants.{New};
 ghost use Rattle.table_map.specs.Networks.{IsNetwork, table_at};
 ghost use Rattle.table_map.specs.Depths.{IsDepth};

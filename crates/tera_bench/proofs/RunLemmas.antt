@@ -9,7 +9,7 @@ use Rattle.config_set.specs.Faulty.{IsRun, circuit_of}
 use Rattle.rig.specs.Rig.{RigState, Exchange, IsTold, Begins, LoadFails, CycleFails, width_of, config_of, cycles_of, drives_of, readings_of, spare_of}
 use Rattle.rig.specs.declared.rig.RigFail.{RigFail}
 use Rattle.rig.specs.declared.rig.RigFail.TheVariants.{Failed, Memory}
-use Rattle.config_image.specs.Images.{ImageValue, drive_of, row_of}
+use Rattle.config_image.specs.Images.{ImageValue, drive_of, image_row}
 use Rattle.hierarchy.specs.Shape.{pins_of}
 use Rattle.loader.specs.Pins.{Rows}
 use Rattle.loader.specs.Run.{RunsRow}
@@ -25,7 +25,7 @@ pins_in i = record { pins = pins_of i.config.shape; inputs = i.inputs; outputs =
 pub record IsRunning (n : ℕ) (i : ImageValue) (rig0 rig : RigState) (k ones : ℕ) : Type 0 where
   pub config : config_of rig ≡ Some i.config
   pub drives : drives_of (cycles_of rig) ≡ map (drive_of i) (first_vectors n k)
-  pub ones_are : ones ≡ ones_of (map (row_of i) (readings_of (cycles_of rig)))
+  pub ones_are : ones ≡ ones_of (map (image_row i) (readings_of (cycles_of rig)))
   pub told : IsTold rig
   pub few : ones ≤ 2 * k
   pub machine : rig.machine ≡ rig0.machine
@@ -82,13 +82,13 @@ running-more n i r rig0 rig rig' k ones more same so_far one machine later loads
     count : more ≡ ones_in row
     count = one.ones_are
 
-    rows-more : map (row_of i) (readings_of (cycles_of rig')) ≡ map (row_of i) (readings_of (cycles_of rig)) ++ row ∷ []
-    rows-more = rw (run.1.cycles, map-append (λ (x : Exchange). x.reading) (cycles_of rig), map-append (row_of i) (readings_of (cycles_of rig)), run.2) refl
+    rows-more : map (image_row i) (readings_of (cycles_of rig')) ≡ map (image_row i) (readings_of (cycles_of rig)) ++ row ∷ []
+    rows-more = rw (run.1.cycles, map-append (λ (x : Exchange). x.reading) (cycles_of rig), map-append (image_row i) (readings_of (cycles_of rig)), run.2) refl
 
-    ones-more : ones + more ≡ ones_of (map (row_of i) (readings_of (cycles_of rig')))
+    ones-more : ones + more ≡ ones_of (map (image_row i) (readings_of (cycles_of rig')))
     ones-more =
         let before = so_far.ones_are in
-        let sum : ones_of (map (row_of i) (readings_of (cycles_of rig)) ++ row ∷ []) ≡ ones_of (map (row_of i) (readings_of (cycles_of rig))) + ones_of (row ∷ []) = sum_by-append ones_in (map (row_of i) (readings_of (cycles_of rig))) (row ∷ []) in
+        let sum : ones_of (map (image_row i) (readings_of (cycles_of rig)) ++ row ∷ []) ≡ ones_of (map (image_row i) (readings_of (cycles_of rig))) + ones_of (row ∷ []) = sum_by-append ones_in (map (image_row i) (readings_of (cycles_of rig))) (row ∷ []) in
         rw rows-more (omega (arith, before, sum, count))
 
 pub running-done : (n : ℕ) (i : ImageValue) (rig0 rig : RigState) (k ones : ℕ) → k ≡ 64 → IsRunning n i rig0 rig k ones → IsBenchRun n i rig ones

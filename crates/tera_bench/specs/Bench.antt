@@ -9,7 +9,7 @@ use Rattle.netlist.specs.declared.draft.Draft.{Draft}
 use Rattle.blif_read.specs.Designs.{IsDesign}
 use Rattle.table_map.specs.Plain.{plain_network}
 use Rattle.place.specs.Plans.{nets_in}
-use Rattle.config_image.specs.Images.{ImageValue, drive_of, row_of}
+use Rattle.config_image.specs.Images.{ImageValue, drive_of, image_row}
 use Rattle.rig.specs.Rig.{RigState, IsTold, config_of, cycles_of, drives_of, readings_of}
 use Rattle.loader.specs.Pins.{Rows}
 use Rattle.loader.specs.Run.{RunsRow}
@@ -76,7 +76,7 @@ makes_design = record { stops = OnlyMemory; gives = IsDesign work.bench_design }
 pub record IsBenchRun (n : ℕ) (i : ImageValue) (rig : RigState) (ones : ℕ) : Type 0 where
   pub config : config_of rig ≡ Some i.config
   pub drives : drives_of (cycles_of rig) ≡ map (drive_of i) (bench_vectors n)
-  pub ones_are : ones ≡ ones_of (map (row_of i) (readings_of (cycles_of rig)))
+  pub ones_are : ones ≡ ones_of (map (image_row i) (readings_of (cycles_of rig)))
   pub told : IsTold rig
 
 -- one row was read, which has so many ones

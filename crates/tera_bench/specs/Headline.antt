@@ -6,7 +6,7 @@ use Rattle.hierarchy.specs.Faults.{Faults}
 use Rattle.netlist.specs.declared.draft.Draft.{Draft}
 use Rattle.netlist.specs.Rows.{AreRows}
 use Rattle.blif_read.specs.Designs.{IsDesign}
-use Rattle.config_image.specs.Images.{ImageValue, IsImage, drive_of, row_of}
+use Rattle.config_image.specs.Images.{ImageValue, IsImage, drive_of, image_row}
 use Rattle.crossbar_route.specs.RightImages.{IsRightImage}
 use Rattle.rig.specs.Rig.{config_of, cycles_of, drives_of, readings_of}
 use Rattle.bench_gen.specs.Work as work
@@ -33,9 +33,9 @@ pub record IsBenched (n : ℕ) (old new : Outside) : Type 0 where
   pub drives : drives_of (cycles_of new.rig) ≡ map (drive_of image) (bench_vectors n)
   -- the summary is written, with the ones that were read and the loads that were made
   pub ones : ℕ
-  pub ones_are : ones ≡ ones_of (map (row_of image) (readings_of (cycles_of new.rig)))
+  pub ones_are : ones ≡ ones_of (map (image_row image) (readings_of (cycles_of new.rig)))
   pub written : Wrote old.sink.written new.sink.written (summary_text n 17 18 ones (new.rig.loads - old.rig.loads))
   -- the image is right for the design under the machine's faults, so what was read is the design's rows
   pub right : (f : Faults) → new.rig.machine.faults ≡ Some f → IsRightImage f image draft
   pub rows : (f : Faults) → new.rig.machine.faults ≡ Some f →
-      AreRows draft (bench_vectors n) (map (row_of image) (readings_of (cycles_of new.rig)))
+      AreRows draft (bench_vectors n) (map (image_row image) (readings_of (cycles_of new.rig)))

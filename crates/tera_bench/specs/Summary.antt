@@ -1,17 +1,17 @@
 -- The summary that `bench` writes.
 use Rattle.std.specs.Prelude.{ℕ, List, ◌++◌, codes}
 use Rattle.std.specs.Fmt.{decimal}
-use Rattle.steps.specs.Lines.{line_of}
+use Rattle.steps.specs.Lines.{as_line}
 
 -- a line of a word and a number
 abbrev pub number_line : List ℕ → ℕ → List ℕ
-number_line word n = line_of (word ++ decimal n)
+number_line word n = as_line (word ++ decimal n)
 
 abbrev pub shape_line : List ℕ
-shape_line = line_of (codes "shape 2 2 4 8 24 24 24 32 32 32 32 28")
+shape_line = as_line (codes "shape 2 2 4 8 24 24 24 32 32 32 32 28")
 
 abbrev pub rows_line : List ℕ
-rows_line = line_of (codes "rows 64")
+rows_line = as_line (codes "rows 64")
 
 -- the number, the counts of the machine, how many tables and nets the plain network has, the rows, the ones in them, and the loads
 abbrev pub summary_text : (n tables nets ones loads : ℕ) → List ℕ

@@ -1,9 +1,8 @@
 -- What a `compile` that is done has done, from its course.
 use Rattle.std.proofs.Common.{◌≡◌, ◌∙◌, ℕ, List, [], ◌∷◌, ◌++◌, ap, sym, subst, inl, inr, append-nil}
-use Rattle.tm_outside.specs.Told.{Told, IfTold}
+use Rattle.tm_outside.specs.Told.{IfTold}
 use Rattle.tm_outside.specs.Sink.{Wrote}
 use Rattle.hierarchy.specs.declared.Shape.{Shape}
-use Rattle.defect_db.specs.Lists.{DefectList}
 use Rattle.config_image.specs.Images.{image_bytes}
 use Rattle.steps.specs.Outside.{Outside}
 use Rattle.steps.specs.Courses.{ends}

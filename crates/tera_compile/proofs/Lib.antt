@@ -1,4 +1,6 @@
-mod LayLemmas
+-- What is cited above.
+pub mod LayLemmas
+pub mod Headlines
+-- For the proofs of this crate alone.
 mod Following
 mod CompileLaws
-pub mod Headlines

@@ -3,12 +3,12 @@ use Rattle.std.proofs.Common.{◌≡◌, ℕ, List, [], ◌∷◌, ap, ◌∙◌
 use Rattle.std.specs.Prelude.{Result, Ok}
 use Rattle.hierarchy.specs.declared.Shape.{Shape}
 use Rattle.defect_db.specs.Lists.{DefectList}
-use Rattle.rig.specs.Rig.{RigState, Asked, Machine}
-use Rattle.steps.specs.Outside.{Outside, Around, around, StandsIn}
+use Rattle.rig.specs.Rig.{RigState, Asked}
+use Rattle.steps.specs.Outside.{Outside, Around, StandsIn}
 use Rattle.steps.specs.Took.{Took, Follows}
-use Rattle.steps.specs.Texts.{reads_machine, attaches, MayAsk, AsksMachine}
+use Rattle.steps.specs.Texts.{reads_machine, MayAsk, AsksMachine}
 use Rattle.steps.specs.declared.refusal.Stop.{Stop}
-use Rattle.steps.proofs.Taking.{step-gives, attach-gives, asks-machine}
+use Rattle.steps.proofs.Taking.{step-gives, asks-machine}
 use Rattle.listing.specs.Lists.{Listed, IsListed, lists, lists_now}
 use Rattle.listing.proofs.ListedLemmas.{listed-on}
 use Rattle.tera_diagnose.specs.Diagnose.{diagnose_course, machine_attached, machine_listed, list_written}

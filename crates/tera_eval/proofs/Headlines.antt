@@ -1,8 +1,7 @@
 -- What an `eval` that is done has done, from its course.
 use Rattle.std.proofs.Common.{◌≡◌, ◌∙◌, ℕ, List, [], ◌∷◌, ◌++◌, ap, subst, inl, inr}
 use Rattle.tm_outside.specs.Sink.{Wrote}
-use Rattle.netlist.specs.declared.draft.Draft.{Draft}
-use Rattle.steps.specs.Lines.{outputs_line, output_text}
+use Rattle.steps.specs.Lines.{outputs_line}
 use Rattle.steps.specs.Outside.{Outside}
 use Rattle.steps.specs.Courses.{ends, HasReadRows}
 use Rattle.tera_eval.specs.Eval.{eval_course, eval_rows}

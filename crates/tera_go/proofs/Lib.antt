@@ -1,5 +1,7 @@
-mod DesignRows
+-- What is cited above.
 pub mod Following
-mod Texts
-mod GoLaws
+pub mod Texts
 pub mod Headlines
+-- For the proofs of this crate alone.
+mod DesignRows
+mod GoLaws

@@ -9,7 +9,7 @@ use Rattle.defect_db.specs.Lists.{DefectList, IsDefectList}
 use Rattle.defect_db.specs.Text.{text_of}
 use Rattle.netlist.specs.declared.draft.Draft.{Draft}
 use Rattle.netlist.specs.Rows.{AreRows}
-use Rattle.config_image.specs.Images.{ImageValue, IsImage, drive_of, row_of}
+use Rattle.config_image.specs.Images.{ImageValue, IsImage, drive_of, image_row}
 use Rattle.config_image.specs.Parts.{IsFreeImage}
 use Rattle.crossbar_route.specs.RightImages.{IsRightImage}
 use Rattle.rig.specs.Rig.{RigState, config_of, cycles_of, drives_of, readings_of}
@@ -43,7 +43,7 @@ pub record UsesNothingListed (list : DefectList) (image : ImageValue) (rig : Rig
 -- the session has a cycle for each vector, which it drove, and the rows are what it read
 pub record IsAsRead (image : ImageValue) (all_vectors rows : List (List Bool)) (rig : RigState) : Type 0 where
   pub drives : drives_of (cycles_of rig) ≡ map (drive_of image) all_vectors
-  pub rows_are : rows ≡ map (row_of image) (readings_of (cycles_of rig))
+  pub rows_are : rows ≡ map (image_row image) (readings_of (cycles_of rig))
 
 -- Of the rig's one session: its configuration, with a list of input pins and a list of output pins, is `image`
 pub record IsGone (machine name design vectors : List ℕ) (old new : Outside) : Type 0 where

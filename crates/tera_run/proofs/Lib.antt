@@ -1,3 +1,5 @@
+-- What is cited above.
+pub mod Headlines
+-- For the proofs of this crate alone.
 mod Following
 mod RunLaws
-pub mod Headlines

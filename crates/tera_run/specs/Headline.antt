@@ -3,7 +3,7 @@ use Rattle.std.specs.Prelude.{◌≡◌, ℕ, Bool, List, [], ◌∷◌, ◌++�
 use Rattle.tm_outside.specs.Told.{IfTold}
 use Rattle.tm_outside.specs.Sink.{Wrote}
 use Rattle.hierarchy.specs.declared.Shape.{Shape}
-use Rattle.config_image.specs.Images.{ImageValue, Reads, drive_of, row_of}
+use Rattle.config_image.specs.Images.{ImageValue, Reads, drive_of, image_row}
 use Rattle.rig.specs.Rig.{config_of, cycles_of, drives_of, readings_of}
 use Rattle.steps.specs.Files.{AreAll}
 use Rattle.steps.specs.Lines.{output_text}
@@ -26,6 +26,6 @@ pub record IsRan (machine name image vectors : List ℕ) (old new : Outside) : T
   pub written : Wrote old.sink.written new.sink.written (output_text rows)
   pub config : config_of new.rig ≡ Some loaded.config
   pub drives : drives_of (cycles_of new.rig) ≡ map (drive_of loaded) all_vectors
-  pub rows_are : rows ≡ map (row_of loaded) (readings_of (cycles_of new.rig))
+  pub rows_are : rows ≡ map (image_row loaded) (readings_of (cycles_of new.rig))
   -- and where the machine's faults are told, the readings are the machine's under them
   pub rows_right : AreRowsOf new.rig loaded all_vectors rows

@@ -1,21 +1,14 @@
 -- A `run` of what a `compile` wrote.
-use Rattle.std.proofs.Common.{◌≡◌, ◌∙◌, ℕ, List, [], ◌++◌, Bool, Option, None, Some, IfSome, sym, ap, subst}
-use Rattle.tm_outside.specs.Told.{holds}
-use Rattle.tm_outside.specs.Sink.{Wrote}
-use Rattle.hierarchy.specs.declared.Shape.{Shape}
-use Rattle.hierarchy.specs.Defects.{Covers}
+use Rattle.std.proofs.Common.{◌≡◌, ◌∙◌, ℕ, List, [], ◌++◌, Bool, Option, Some, IfSome, sym, subst}
 use Rattle.hierarchy.specs.Faults.{Faults}
-use Rattle.netlist.specs.declared.draft.Draft.{Draft}
 use Rattle.netlist.specs.Rows.{AreRows}
 use Rattle.config_image.specs.Images.{ImageValue, Reads, image_bytes}
 use Rattle.crossbar_route.specs.RightImages.{IsRightImage}
 use Rattle.steps.specs.Outside.{Outside}
 use Rattle.steps.specs.Texts.{IsMachineText}
 use Rattle.steps.proofs.ShapeLemmas.{same-shape}
-use Rattle.image_rows.specs.Rows.{AreRowsOf, AreRunRows}
-use Rattle.tera_compile.specs.Headline.{IsCompiled}
-use Rattle.tera_run.specs.Headline.{IsRan}
-use Rattle.tera_top.specs.Chain.{IsHandedOn, RunsTheDesign}
+use Rattle.image_rows.specs.Rows.{AreRunRows}
+use Rattle.tera_top.specs.Chain.{RunsTheDesign}
 
 some-same : (a b : List ℕ) → Some a ≡ Some b → a ≡ b
 some-same a b is = cc

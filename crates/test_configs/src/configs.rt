@@ -1,8 +1,6 @@
 //! The configurations of tests.
-ghost use Rattle.std.specs.Prelude.{◌≡◌, ◌<◌, ◌||◌, ℕ, IfOk, OnOk, All};
+ghost use Rattle.std.specs.Prelude.{◌<◌, IfOk, OnOk, All};
 ghost use Rattle.hierarchy.specs.Shape.{crosses_of, tables_of};
-ghost use Rattle.config_set.specs.Configuration.{is_closed};
-ghost use Rattle.config_set.specs.Groups.{among};
 ghost use Rattle.test_configs.specs.Routes.{IsRoute, cross_numbers};
 ghost use Rattle.test_configs.specs.Configs.{IsLoopConfig, IsCellConfig, Closes};
 

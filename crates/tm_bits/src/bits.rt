@@ -1,6 +1,6 @@
 //! A list of bits, 64 to a word.
 
-ghost use Rattle.std.specs.Prelude.{◌≡◌, ◌≢◌, ℕ, ◌+◌, ◌*◌, ◌/◌, ◌%◌, ◌^◌, ◌-◌, ◌<◌, ◌≤◌, ◌==◌, true, false, Bool, List, length, replicate, IfOk, slice_set, slice_index, slice_index_or};
+ghost use Rattle.std.specs.Prelude.{◌≡◌, ◌≢◌, ℕ, ◌*◌, ◌/◌, ◌%◌, ◌-◌, ◌<◌, ◌≤◌, ◌==◌, false, Bool, List, length, replicate, IfOk, slice_set, slice_index, slice_index_or};
 ghost use Rattle.tm_bits.specs.Words.{is_bit, is_bit_in, bits_of};
 
 use std::alloc::{AllocError, Global};
@@ -17,7 +17,7 @@ pub struct Bits {
 }
 
 impl Model for Bits {
-    ghost use Rattle.std.specs.Prelude.{List, Bool, ◌≤◌, ◌*◌, ◌^◌, ◌<◌, length};
+    ghost use Rattle.std.specs.Prelude.{List, Bool, ◌≤◌, ◌*◌, ◌<◌, length};
     ghost use Rattle.tm_bits.specs.Words.{bits_of};
 
     ghost Value = { List Bool };

@@ -41,8 +41,8 @@ abbrev pub lines_from : Bool → ℕ → List ℕ → List LogicalLine
 lines_from joined n bytes = with_words (map line_of (texts_of joined n (physical_lines bytes)))
 
 -- the logical lines of a text
-abbrev pub lines_of : Bool → List ℕ → List LogicalLine
-lines_of joined bytes = lines_from joined 1 bytes
+abbrev pub logical_lines : Bool → List ℕ → List LogicalLine
+logical_lines joined bytes = lines_from joined 1 bytes
 
 abbrev pub is_bad_line : LogicalLine → Bool
 is_bad_line l = has_bad_byte l.words

@@ -4,7 +4,7 @@ ghost use Rattle.std.specs.Prelude.{if◌then◌else◌, ◌≡◌, ◌∷◌, �
 ghost use Rattle.std.specs.Fmt.{decimal};
 ghost use Rattle.tm_text.specs.Bytes.{physical_lines, joining_part, has_bad_byte};
 ghost use Rattle.tm_text.specs.Written.{AreRows, IsWord, written, numbered};
-ghost use Rattle.tm_text.specs.Lines.{LogicalLine, line_of, texts_of, lines_of, lines_from};
+ghost use Rattle.tm_text.specs.Lines.{LogicalLine, line_of, texts_of, logical_lines, lines_from};
 ghost use Rattle.tm_text.specs.Faults.{IsFaultAt, TakesNext};
 ghost use Rattle.tm_text.specs.declared.lines.LineFault.TheVariants.{Memory};
 
@@ -201,7 +201,7 @@ impl<'a> Model for Lines<'a> {
 impl<'a> Lines<'a> {
     /// The lines of a text that have words, where a backslash joins a line to the next if `joined`. Takes no memory.
     pub fn new(alloc: Global, bytes: &'a [u8], joined: bool) -> Self
-        ensures { result ≡ lines_of joined bytes.now }
+        ensures { result ≡ logical_lines joined bytes.now }
     {
         Lines {
             alloc,
@@ -241,7 +241,7 @@ impl From<AllocError> for LineFault {
 
 /// Lines that are written with single spaces and a line feed behind each are read back, with their numbers.
 pub fn written_lines_are_read()
-    ensures lines { (rows : List (List (List ℕ))) → AreRows rows → lines_of false (written rows) ≡ numbered 1 rows }
+    ensures lines { (rows : List (List (List ℕ))) → AreRows rows → logical_lines false (written rows) ≡ numbered 1 rows }
     ensures sound { (words : List (List ℕ)) → All IsWord words → has_bad_byte words ≡ false }
     ensures numerals { (n : ℕ) → n < 2 ^ 64 → IsWord (decimal n) }
 {}

@@ -8,7 +8,7 @@ use Rattle.vector_text.specs.declared.vectors.VectorKind.TheVariants.{Char, Widt
 use Rattle.vector_text.specs.declared.line.Step.TheVariants.{Onward, Vector, Fault}
 use Rattle.vector_text.specs.Vectors.{is_blank, is_comment_mark, is_line_feed, is_vector_byte, vector_size, PhysicalLine, put_before, physical_lines, shown, byte_fault, end_fault, fault_or, line_fault, line_says, lines_say, bits_of, SaidVectors, fault_said, with_vector, nothing_said}
 use Rattle.vector_text.specs.Lines.{PartLine, IsSound, front_of, begun, says_on, HasRead}
-use Rattle.vector_text.proofs.TextLemmas.{AreRight, lines-limit, lines-feed, lines-more, lines-end, put_before-twice, put_before-nil, first-line, shown-nil, shown-right, shown-comment, shown-blank, shown-other, unmarked, no_byte_fault, char_fault, width_fault}
+use Rattle.vector_text.proofs.TextLemmas.{lines-limit, lines-feed, lines-more, lines-end, put_before-twice, put_before-nil, first-line, shown-nil, shown-right, shown-comment, shown-blank, shown-other, unmarked, no_byte_fault, char_fault, width_fault}
 
 -- what lines say, by what is shown of the first
 says-first : (width : ℕ) (l : PhysicalLine) (ls : List PhysicalLine) (s : List ℕ) → shown l.bytes ≡ s → lines_say width (l ∷ ls) ≡ line_says width l.number l.next_at (line_fault width l.is_cut s) s (lines_say width ls)

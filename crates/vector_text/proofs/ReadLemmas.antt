@@ -9,9 +9,9 @@ use Rattle.vector_text.specs.declared.vectors.VectorsFail.TheVariants.{Text, Fai
 use Rattle.vector_text.specs.declared.line.Step.{Step}
 use Rattle.vector_text.specs.declared.line.Step.TheVariants.{Onward, Vector, Fault}
 use Rattle.vector_text.specs.Vectors.{PhysicalLine, physical_lines, put_before, shown, byte_fault, lines_say, SaidVectors, nothing_said, fault_said, with_vector, bits_of, vector_size}
-use Rattle.vector_text.specs.Readings.{VectorReading, bytes_ahead, says_next, said_ahead, NextGives, NextFails, HasMoved, AreOpen, AskedOpen, StaysWithin}
-use Rattle.vector_text.specs.Lines.{PartLine, IsSound, front_of, begun, says_on, SaysStep, IsStepTo, IsFull, EndsAs, EndSays}
-use Rattle.vector_text.specs.Steps.{reading_of, IsFed, IsRefilled, IsStoreFail, HasReadOn, answer_of, LineGives, LineFails, HasAnswered, IsWaiting, GoesOn}
+use Rattle.vector_text.specs.Readings.{bytes_ahead, says_next, said_ahead, NextGives, NextFails, HasMoved, AreOpen, AskedOpen, StaysWithin}
+use Rattle.vector_text.specs.Lines.{PartLine, IsSound, front_of, begun, says_on, EndsAs, EndSays}
+use Rattle.vector_text.specs.Steps.{reading_of, IsRefilled, IsStoreFail, HasReadOn, answer_of, LineGives, LineFails, HasAnswered, IsWaiting, GoesOn}
 use Rattle.vector_text.proofs.FeedLemmas.{rest-moved}
 use Rattle.vector_text.proofs.TextLemmas.{put_before-nil, no_byte_fault}
 use Rattle.vector_text.proofs.LineLemmas.{ended}

@@ -1,6 +1,6 @@
 //! The bytes that a store gave and that nobody has looked at yet.
 
-ghost use Rattle.std.specs.Prelude.{◌≡◌, ◌⊎◌, ◌≤◌, ◌<◌, [], ◌++◌, length, drop, IfOk, IfErr, IfSome, IsSome, OnErr};
+ghost use Rattle.std.specs.Prelude.{◌≡◌, ◌≤◌, ◌<◌, [], length, drop, IfOk, IfErr, IfSome, IsSome};
 ghost use Rattle.tm_outside.specs.Store.{ReadFails, moved, rest_of};
 ghost use Rattle.vector_text.specs.Readings.{bytes_ahead};
 

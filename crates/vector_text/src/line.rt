@@ -1,6 +1,6 @@
 //! A physical line of a vector file, read byte by byte.
 
-ghost use Rattle.std.specs.Prelude.{◌≡◌, ◌+◌, ◌-◌, ◌^◌, ◌<◌, ◌≤◌, [], ◌∷◌, ◌++◌, length, drop, Bool, false, ℕ, List, map, IfOk, if◌then◌else◌};
+ghost use Rattle.std.specs.Prelude.{◌≡◌, ◌+◌, ◌-◌, ◌^◌, ◌<◌, ◌≤◌, [], ◌∷◌, length, false, map, IfOk};
 ghost use Rattle.std.specs.Prelude.{take, ◌==◌};
 ghost use Rattle.vector_text.specs.Lines.{HasRead};
 ghost use Rattle.vector_text.specs.Vectors.{bits_of, is_vector_byte, vector_size, is_blank, is_comment_mark, is_line_feed};

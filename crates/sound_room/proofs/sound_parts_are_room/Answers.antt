@@ -1,10 +1,4 @@
 use Rattle.hierarchy.proofs.Totals.{nodes_are}
-use Rattle.std.proofs.Common.{ℕ, ◌<◌}
-use Rattle.hierarchy.specs.declared.Shape.{Shape}
-use Rattle.hierarchy.specs.Defects.{Defects, IsFair}
-use Rattle.hierarchy.specs.Faults.{Faults}
-use Rattle.table_map.specs.declared.network.Network.{Network}
-use Rattle.sound_room.specs.Enough.{HasEnough, HasSoundParts}
 use Rattle.sound_room.proofs.Enough.{sound-enough}
 use Rattle.sound_room.proofs.sound_parts_are_room.Goals as goal
 

@@ -1,5 +1,5 @@
 use Rattle.std.proofs.Common.{◌∙◌, true, subst}
-use Rattle.tm_text.specs.Lines.{lines_of}
+use Rattle.tm_text.specs.Lines.{logical_lines}
 use Rattle.blif_read.specs.Runs.{Gives}
 use Rattle.blif_read.proofs.RunLemmas.{whole_is, are_read, found_are}
 use Rattle.blif_read.proofs.RowLemmas.{right_rows}
@@ -10,13 +10,13 @@ pub returns-clause-found : goal.returns-clause-found
 returns-clause-found c = found_are c.args.bytes.now c.read_whole.result c.read_whole.ensures
 
 pub returns-clause-only : goal.returns-clause-only
-returns-clause-only c = λ d is. subst (λ r. Gives (λ v. v.items) c.read_whole.result r) (whole_is (lines_of true c.args.bytes.now) ∙ are_read c.args.bytes.now d is) c.read_whole.ensures
+returns-clause-only c = λ d is. subst (λ r. Gives (λ v. v.items) c.read_whole.result r) (whole_is (logical_lines true c.args.bytes.now) ∙ are_read c.args.bytes.now d is) c.read_whole.ensures
 
 pub returns-clause-exact : goal.returns-clause-exact
-returns-clause-exact c = subst (λ r. Gives (λ v. v.items) c.read_whole.result r) (whole_is (lines_of true c.args.bytes.now)) c.read_whole.ensures
+returns-clause-exact c = subst (λ r. Gives (λ v. v.items) c.read_whole.result r) (whole_is (logical_lines true c.args.bytes.now)) c.read_whole.ensures
 
 pub returns-clause-rows : goal.returns-clause-rows
-returns-clause-rows c = right_rows (lines_of true c.args.bytes.now) c.read_whole.result c.read_whole.ensures
+returns-clause-rows c = right_rows (logical_lines true c.args.bytes.now) c.read_whole.result c.read_whole.ensures
 
 pub returns-clause-outputs : goal.returns-clause-outputs
 returns-clause-outputs c = few_outputs c.args.bytes.now c.read_whole.result c.read_whole.ensures

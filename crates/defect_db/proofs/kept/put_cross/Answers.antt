@@ -6,7 +6,7 @@ use Rattle.defect_db.specs.Kept.{AreRight, listed_by, marks_in, count_at}
 use Rattle.defect_db.proofs.Marks.{items_after}
 use Rattle.defect_db.proofs.Putting.{cross_as_it_is, cross_right, cross_listed, few_shut, few_crosses, some_open}
 use Rattle.defect_db.proofs.kept.put_cross.Goals as goal
-use Rattle.defect_db.proofs.kept.put_cross.Goals.{After-deref_mut-2, After-insert-2}
+use Rattle.defect_db.proofs.kept.put_cross.Goals.{After-insert-2}
 
 pub returns-then-has-clause-listed : goal.returns-then-has-clause-listed
 returns-then-has-clause-listed c = ap (λ d. record { shape = c.args.kept.now.shape; list = d }) (sym (cross_as_it_is (marks_in c.args.kept.now) c.requires.kept c.args.x.0 c.requires.within (sym c.has.ensures ∙ c.if-has.true)))

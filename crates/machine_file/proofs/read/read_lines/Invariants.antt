@@ -1,12 +1,12 @@
 use Rattle.std.proofs.Common.{◌≡◌, false, length}
-use Rattle.tm_text.specs.Lines.{lines_of}
+use Rattle.tm_text.specs.Lines.{logical_lines}
 use Rattle.machine_file.specs.Readers.{state_of, IsReader}
 use Rattle.machine_file.specs.Reading.{reading, start}
 use Rattle.machine_file.proofs.read.read_lines.Given as goal
 
 abbrev pub invariant-lines : goal.invariant-lines
 invariant-lines l = record {
-  same : reading (state_of l.reader) l.lines ≡ reading start (lines_of false l.bytes);
+  same : reading (state_of l.reader) l.lines ≡ reading start (logical_lines false l.bytes);
   kept : IsReader l.reader;
 }
 

@@ -3,18 +3,18 @@ use Rattle.std.specs.List.{All}
 use Rattle.tm_text.specs.Written.{written, written_line}
 use Rattle.machine_file.specs.declared.head.Head.TheVariants.{Teramac}
 use Rattle.machine_file.specs.Heads.{heads}
-use Rattle.machine_file.specs.Machine.{row_of, numbers_of}
+use Rattle.machine_file.specs.Machine.{count_row, numbers_of}
 use Rattle.machine_file.proofs.GrammarLemmas.{written_more, all_more}
 use Rattle.machine_file.proofs.text.put_lines.Goals as goal
 
 pub heads-preserved : goal.heads-preserved
 heads-preserved c =
-    let line = written_line (row_of c.args.counts.now (get_or heads c.heads.head-index Teramac)) in
+    let line = written_line (count_row c.args.counts.now (get_or heads c.heads.head-index Teramac)) in
     record {
       put =
           c.in_ok-put_line.ensures.put
           ∙ ap (λ bs. bs ++ line) c.heads.invariant.put
-          ∙ append_assoc c.args.text.now.items (written (map (row_of c.args.counts.now) (take c.heads.head-index heads))) line
+          ∙ append_assoc c.args.text.now.items (written (map (count_row c.args.counts.now) (take c.heads.head-index heads))) line
           ∙ ap (λ bs. c.args.text.now.items ++ bs) (sym (written_more c.args.counts.now heads c.heads.head-index Teramac c.heads-test.true));
       small = all_more (λ h. All (λ n. n < 65536) (numbers_of c.args.counts.now h)) heads c.heads.head-index Teramac c.heads-test.true c.heads.invariant.small c.put_line.ensures.small;
     }

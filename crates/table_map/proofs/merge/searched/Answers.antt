@@ -1,4 +1,4 @@
-use Rattle.std.proofs.Common.{◌≡◌, List, Bool, true, length, ap, sym, ◌∙◌, subst, refl, arith}
+use Rattle.std.proofs.Common.{◌≡◌, List, Bool, true, length, ap, subst, arith}
 use Rattle.table_map.specs.Compacting.{is_dropped, IsClosed}
 use Rattle.table_map.specs.Joining.{Puts}
 use Rattle.table_map.specs.Merges.{none_gone}

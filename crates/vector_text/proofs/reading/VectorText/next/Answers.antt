@@ -1,6 +1,6 @@
-use Rattle.std.proofs.Common.{◌≡◌, Bool, true, ◌∙◌, length, subst}
+use Rattle.std.proofs.Common.{◌≡◌, true, ◌∙◌, length, subst}
 use Rattle.std.proofs.lemmas.Result.{err_from_is_err_and}
-use Rattle.vector_text.specs.Lines.{PartLine, begun}
+use Rattle.vector_text.specs.Lines.{PartLine}
 use Rattle.vector_text.specs.Vectors.{bits_of, vector_size}
 use Rattle.vector_text.specs.Readings.{VectorReading, NextGives, NextFails}
 use Rattle.vector_text.specs.Steps.{reading_of, LineGives, LineFails}
