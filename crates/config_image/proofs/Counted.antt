@@ -1,22 +1,13 @@
 -- How many closed crosspoints there are.
-use Rattle.std.proofs.Common.{◌≡◌, ℕ, zero, suc, ◌+◌, ◌<◌, ◌≤◌, [], ◌∷◌, ◌++◌, Bool, true, false, not, ◌||◌, ◌&&◌, length, refl, sym, ap, ◌∙◌, arith}
+use Rattle.std.proofs.Common.{◌≡◌, ℕ, zero, suc, ◌+◌, ◌<◌, ◌≤◌, [], ◌∷◌, ◌++◌, Bool, true, false, not, ◌&&◌, length, refl, sym, ap, ◌∙◌, arith}
 use Rattle.std.specs.Prelude.{◌==◌, if◌then◌else◌}
 use Rattle.std.specs.List.{flat_map, range_with_len}
-use Rattle.std.specs.Ordering.{nat_cmp, eq_by_cmp}
+use Rattle.std.specs.Ordering.{nat_cmp}
 use Rattle.std.specs.Cmp.{nat_cmp_total, unsigned_tied}
 use Rattle.std.specs.FinSet as set_
-use Rattle.std.specs.FinSet.{len-insert, contains-insert, contains-remove, same_set, nat_cmp-IsAntisymmetric}
+use Rattle.std.specs.FinSet.{len-insert, contains-remove}
 use Rattle.std.proofs.lemmas.Bool.Decides.{nat_tests}
-use Rattle.config_set.proofs.Changes.{same_number}
-
-back : (s : set_.FinSet nat_cmp) (y : ℕ) → set_.contains s y ≡ true → set_.insert (set_.remove s y) y ≡ s
-back s y is = same_set nat_cmp_total nat_cmp-IsAntisymmetric _ _ (λ q.
-    contains-insert nat_cmp_total (set_.remove s y) y q ∙ ap (λ b. eq_by_cmp nat_cmp q y || b) (contains-remove nat_cmp_total s y q)
-    ∙ back_in (eq_by_cmp nat_cmp q y) (set_.contains s q) (λ e. ap (set_.contains s) (same_number q y e) ∙ is))
-  where
-    back_in : (a b : Bool) → (a ≡ true → b ≡ true) → (a || (not a && b)) ≡ b
-    back_in true b h = sym (h refl)
-    back_in false b h = refl
+use Rattle.config_set.proofs.Changes.{insert-remove}
 
 unequal : (x y : ℕ) → y < x → (x == y) ≡ false
 unequal x y h = grind (arith, nat_tests, h)
@@ -26,7 +17,7 @@ equal x = grind (arith, nat_tests)
 
 one_less : (s : set_.FinSet nat_cmp) (y : ℕ) → set_.contains s y ≡ true → set_.len s ≡ set_.len (set_.remove s y) + 1
 one_less s y is =
-    ap set_.len (sym (back s y is)) ∙ len-insert nat_cmp_total (set_.remove s y) y
+    ap set_.len (sym (insert-remove s y is)) ∙ len-insert nat_cmp_total (set_.remove s y) y
     ∙ ap (λ b. if b then set_.len (set_.remove s y) else set_.len (set_.remove s y) + 1)
     (contains-remove nat_cmp_total s y y ∙ ap (λ b. not b && set_.contains s y) (unsigned_tied y y ∙ equal y))
 

@@ -29,7 +29,7 @@ remove_unknown s y is = same_set nat_cmp_total nat_cmp-IsAntisymmetric _ _ (λ q
     kept true b h = sym (h refl)
     kept false b h = refl
 
-insert-remove : (s : set_.FinSet nat_cmp) (y : ℕ) → set_.contains s y ≡ true → set_.insert (set_.remove s y) y ≡ s
+pub insert-remove : (s : set_.FinSet nat_cmp) (y : ℕ) → set_.contains s y ≡ true → set_.insert (set_.remove s y) y ≡ s
 insert-remove s y is = same_set nat_cmp_total nat_cmp-IsAntisymmetric _ _ (λ q.
     contains-insert nat_cmp_total (set_.remove s y) y q ∙ ap (λ b. eq_by_cmp nat_cmp q y || b) (contains-remove nat_cmp_total s y q)
     ∙ back_in (eq_by_cmp nat_cmp q y) (set_.contains s q) (λ e. ap (set_.contains s) (same_number q y e) ∙ is))

@@ -3,7 +3,7 @@ use Rattle.std.proofs.Common.{◌≡◌, ◌⊎◌, ℕ, ◌<◌, Bool, true, fa
 use Rattle.std.specs.FinSet.{contains, contains-remove}
 use Rattle.std.specs.Cmp.{nat_cmp_total}
 use Rattle.std.specs.Ordering.{nat_cmp, eq_by_cmp}
-use Rattle.std.proofs.lemmas.Bool.{false≢true}
+use Rattle.std.proofs.lemmas.Bool.{false≢true, or_left, or_right, or_cases}
 use Rattle.hierarchy.specs.declared.Shape.{Shape}
 use Rattle.hierarchy.specs.Shape.{Ends, in_order, turned, ends_of, pin_wire, pins_of}
 use Rattle.hierarchy.specs.Faults.{Faults, stuck_cross}
@@ -46,17 +46,6 @@ module _ (g : Configuration) (x : ℕ) where
       by_test : (t : Bool) → eq_by_cmp nat_cmp y x ≡ t → (y ≡ x) ⊎ (is_closed (with_open g x) y ≡ true)
       by_test true e = inl (same_number y x e)
       by_test false e = inr (contains-remove nat_cmp_total g.closed x y ∙ other_than _ _ e on)
-
-or_left : (a b : Bool) → a ≡ true → (a || b) ≡ true
-or_left a b e = rw e refl
-
-or_right : (a b : Bool) → b ≡ true → (a || b) ≡ true
-or_right true b e = refl
-or_right false b e = e
-
-or_cases : (a b : Bool) → (a || b) ≡ true → (a ≡ true) ⊎ (b ≡ true)
-or_cases true b e = inl refl
-or_cases false b e = inr e
 
 -- with a crosspoint between them closed, two groups are one
 module _ (f : Faults) (g : Configuration) (x t s : ℕ) (left right : ℕ → Bool) (groups : AreGroups g.shape f (is_closed (with_open g x)) left right) (at : Ends (ends_of g.shape x) t s) (is : left t ≡ true) (on : right s ≡ true) where

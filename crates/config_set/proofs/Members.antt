@@ -2,7 +2,7 @@
 use Rattle.std.proofs.Common.{◌≡◌, ℕ, suc, ◌+◌, All, ◌<◌, ◌≤◌, Bool, true, false, not, ◌||◌, ◌&&◌, Some, None, Option, List, [], ◌∷◌, ◌++◌, map, length, get_or, set, refl, sym, ap, ◌∙◌, subst, replicate, eqb-true, arith}
 use Rattle.std.specs.Prelude.{◌==◌, if◌then◌else◌, is_some, count_by}
 use Rattle.std.specs.List.{list_any, swap_remove}
-use Rattle.std.specs.Ordering.{nat_cmp, eq_by_cmp}
+use Rattle.std.specs.Ordering.{nat_cmp}
 use Rattle.std.specs.Cmp.{nat_cmp_total, unsigned_tied}
 use Rattle.std.specs.FinSet as set_
 use Rattle.std.specs.FinSet.{len-empty, len-insert, contains-from_list_nat, contains-insert, contains-remove, same_set, nat_cmp-IsAntisymmetric}
@@ -46,10 +46,6 @@ contains_times xs q b e = contains-from_list_nat (map (λ x. x.0) xs) q ∙ any_
 pub contains_marked : (marks : List Bool) (xs : List Cross) → AreMarked marks xs → (q : ℕ) → set_.contains (set_of xs) q ≡ has_mark marks q
 contains_marked marks xs are q = contains_times xs q (has_mark marks q) (are q)
 
--- what `eq_by_cmp` says of numbers
-tied : (a b : ℕ) → eq_by_cmp nat_cmp a b ≡ (a == b)
-tied a b = unsigned_tied a b
-
 or_if : (t b : Bool) → (t || b) ≡ (if t then true else b)
 or_if true b = refl
 or_if false b = refl
@@ -63,12 +59,12 @@ module _ (marks more : List Bool) (xs ys : List Cross) (c : ℕ) (are : AreMarke
   pub set_inserted : ((q : ℕ) → has_mark more q ≡ (if q == c then true else has_mark marks q)) → set_of ys ≡ set_.insert (set_of xs) c
   set_inserted h = same_set nat_cmp_total nat_cmp-IsAntisymmetric _ _ (λ q.
       contains_marked more ys also q ∙ h q ∙ ap (λ b. if q == c then true else b) (sym (contains_marked marks xs are q))
-      ∙ sym (contains-insert nat_cmp_total (set_of xs) c q ∙ ap (λ t. t || set_.contains (set_of xs) q) (tied q c) ∙ or_if (q == c) _))
+      ∙ sym (contains-insert nat_cmp_total (set_of xs) c q ∙ ap (λ t. t || set_.contains (set_of xs) q) (unsigned_tied q c) ∙ or_if (q == c) _))
 
   pub set_removed : ((q : ℕ) → has_mark more q ≡ (if q == c then false else has_mark marks q)) → set_of ys ≡ set_.remove (set_of xs) c
   set_removed h = same_set nat_cmp_total nat_cmp-IsAntisymmetric _ _ (λ q.
       contains_marked more ys also q ∙ h q ∙ ap (λ b. if q == c then false else b) (sym (contains_marked marks xs are q))
-      ∙ sym (contains-remove nat_cmp_total (set_of xs) c q ∙ ap (λ t. not t && set_.contains (set_of xs) q) (tied q c) ∙ and_if (q == c) _))
+      ∙ sym (contains-remove nat_cmp_total (set_of xs) c q ∙ ap (λ t. not t && set_.contains (set_of xs) q) (unsigned_tied q c) ∙ and_if (q == c) _))
 
 -- a crosspoint more, and one less
 pub AreMarked-push : (marks more : List Bool) (xs : List Cross) (c : Cross) → AreMarked marks xs → has_mark marks c.0 ≡ false →

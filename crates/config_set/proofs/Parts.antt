@@ -1,6 +1,7 @@
 -- Groups of wires that are clear and unshorted, part by part.
-use Rattle.std.proofs.Common.{◌≡◌, ◌⊎◌, ℕ, Bool, true, false, ◌||◌, [], ◌∷◌, refl, subst, inl, inr, arith}
+use Rattle.std.proofs.Common.{◌≡◌, ◌⊎◌, ℕ, Bool, true, false, [], ◌∷◌, subst, inl, inr, arith}
 use Rattle.std.proofs.lemmas.Bool.Decides.{nat_tests}
+use Rattle.std.proofs.lemmas.Bool.{or_cases}
 use Rattle.hierarchy.specs.declared.Shape.{Shape}
 use Rattle.hierarchy.specs.Faults.{Faults}
 use Rattle.hierarchy.specs.Joined.{Shorted}
@@ -12,16 +13,12 @@ use Rattle.config_set.specs.Tests.{IsLoose}
 use Rattle.hierarchy.proofs.JoinedLemmas.{Joined-sym}
 use Rattle.hierarchy.proofs.Clear.{unshorted_of_sound}
 
-either_of : (a b : Bool) → (a || b) ≡ true → (a ≡ true) ⊎ (b ≡ true)
-either_of true b e = inl refl
-either_of false b e = inr e
-
 in_one : (x w : ℕ) → among (x ∷ []) w ≡ true → x ≡ w
 in_one x w e = grind (arith, nat_tests)
 
 module _ (m : Shape) (f : Faults) where
   pub clear_both : (p q : ℕ → Bool) → AreClear m f p → AreClear m f q → AreClear m f (both p q)
-  clear_both p q a b w is = by_side (either_of (p w) (q w) is)
+  clear_both p q a b w is = by_side (or_cases (p w) (q w) is)
     where
       by_side : (p w ≡ true) ⊎ (q w ≡ true) → IsClear m f w
       by_side (inl h) = a w h
@@ -34,7 +31,7 @@ module _ (m : Shape) (f : Faults) where
   unshorted_turned p q a w u is on s = a u w on is (Joined-sym s)
 
   pub unshorted_left : (p q r : ℕ → Bool) → AreUnshorted m f p r → AreUnshorted m f q r → AreUnshorted m f (both p q) r
-  unshorted_left p q r a b w u is on = by_side (either_of (p w) (q w) is)
+  unshorted_left p q r a b w u is on = by_side (or_cases (p w) (q w) is)
     where
       by_side : (p w ≡ true) ⊎ (q w ≡ true) → ¬ Shorted m f w u
       by_side (inl h) = a w u h on

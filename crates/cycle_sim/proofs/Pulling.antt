@@ -1,9 +1,9 @@
 -- The tables that pull each class are counted.
 use Rattle.std.proofs.Common.{◌≡◌, ◌≢◌, ◌⊎◌, inl, inr, ⊎_elim, ℕ, zero, suc, ◌+◌, ◌<◌, ◌≤◌, Bool, true, false, not, ◌&&◌, cond, nat_lt, None, List, [], length, get_or, set, take, replicate, refl, sym, ap, ◌∙◌, subst, arith, add-one}
 use Rattle.std.proofs.Math.Dec.{eqb}
-use Rattle.std.proofs.Math.Bool.{beq}
+use Rattle.std.proofs.Math.Bool.{beq, and-false}
 use Rattle.std.specs.List.{count_by, All}
-use Rattle.std.proofs.lemmas.Bool.{false≢true, cases_eq, cases_lt, cases_Bool, eq-eqb, eqb-true, leb-true, le-leb}
+use Rattle.std.proofs.lemmas.Bool.{false≢true, cases_eq, cases_lt, cases_Bool, eq-eqb, eqb-true, leb-true, le-leb, and_parts, not-true}
 use Rattle.std.proofs.lemmas.Bool.Decides.{eqb_tells}
 use Rattle.std.proofs.lemmas.List.{get_or-set_other, get_or-set_same, length-set, get_or_default, get_or_past, get_or-replicate, length-replicate, set-get_or, take_all, length-take-le}
 use Rattle.std.proofs.lemmas.List.Sums.{sum_by-set, sum_by-take-le, count_by-le-length, count_by_more_no, count_by_more_yes}
@@ -19,29 +19,17 @@ plain = record { table = record { 0 = 0 }; setting = record { cells = 0; latched
 abbrev counted : Bool → ℕ
 counted b = cond b 1 0
 
-no_and : (b : Bool) → (b && false) ≡ false
-no_and true = refl
-no_and false = refl
-
-both : (a b : Bool) → (a && b) ≡ true → (a ≡ true) × (b ≡ true)
-both true b e = (refl, e)
-both false b e = absurd (false≢true e)
-
-not_true : (b : Bool) → not b ≡ true → b ≡ false
-not_true true e = absurd (false≢true e)
-not_true false e = refl
-
 pub pulls_yes : (r : ℕ) (x : Gate) → x.out ≡ r → x.output ≡ false → pulls_to r x ≡ true
 pulls_yes r x e low = ap (λ b. b && not x.output) (eq-eqb x.out r e) ∙ ap not low
 
 pub pulls_no : (r : ℕ) (x : Gate) → x.output ≡ true → pulls_to r x ≡ false
-pulls_no r x high = ap (λ b. eqb x.out r && not b) high ∙ no_and (eqb x.out r)
+pulls_no r x high = ap (λ b. eqb x.out r && not b) high ∙ and-false (eqb x.out r)
 
 pub pulls_other : (r : ℕ) (x : Gate) → (r ≡ x.out → ⊥) → pulls_to r x ≡ false
 pulls_other r x other = ⊎_elim (λ t. absurd (other (sym t.1))) (λ t. ap (λ b. b && not x.output) t.0) (eqb_tells x.out r)
 
 pub pulls_from : (r : ℕ) (x : Gate) → pulls_to r x ≡ true → (x.out ≡ r) × (x.output ≡ false)
-pulls_from r x e = let t = both (eqb x.out r) (not x.output) e in (eqb-true x.out r t.0, not_true x.output t.1)
+pulls_from r x e = let t = and_parts (eqb x.out r) (not x.output) e in (eqb-true x.out r t.0, not-true x.output t.1)
 
 module _ (gates : List Gate) (r : ℕ) where
   -- where some are counted one pulls

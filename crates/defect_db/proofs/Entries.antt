@@ -6,7 +6,7 @@ use Rattle.std.specs.FinSet as sets
 use Rattle.std.specs.FinSet.{contains-empty}
 use Rattle.std.specs.Ordering.{nat_cmp}
 use Rattle.std.proofs.lemmas.List.{map-append}
-use Rattle.std.proofs.lemmas.Bool.{eq-eqb}
+use Rattle.std.proofs.lemmas.Bool.{eq-eqb, and_parts}
 use Rattle.std.proofs.lemmas.Bool.Decides.{nat_tests}
 use native.Mathlib.Decide.{ℕ_discrete, dec_lt}
 use Rattle.hierarchy.specs.declared.Shape.{Shape}
@@ -15,7 +15,7 @@ use Rattle.defect_db.specs.declared.entry.Entry.{Entry}
 use Rattle.defect_db.specs.declared.entry.Entry.TheVariants.{Wire, Cross, Table}
 use Rattle.defect_db.specs.Lists.{DefectList, IsDefectList, IsWithWire, no_defects, those, touches_cross, touches_table, with_cross, with_table, has_free_ends, has_free_pins}
 use Rattle.hierarchy.specs.Defects.{IsFreeCross, IsFreeTable}
-use Rattle.defect_db.proofs.Telling.{both, cross_tells, table_tells}
+use Rattle.defect_db.proofs.Telling.{cross_tells, table_tells}
 use Rattle.defect_db.specs.Text.{IsEntryOf, IsFreeEntry, kind_of, number_of, is_before, as_wire, as_cross, as_table, entries_of}
 use Rattle.defect_db.proofs.Marks.{contains_more, or_if}
 use Rattle.defect_db.specs.Steps.{is_listed, is_same, is_behind, IsLast, IsBeyond, IsAdded}
@@ -356,10 +356,10 @@ added_table d d2 t e free = record { shape = ap (λ (v : DefectList). v.shape) e
 
 -- a crosspoint that is free has free ends, and a table free pins
 pub free_ends : (d : DefectList) (x : ℕ) → IsFreeCross d.shape d.list x → has_free_ends d.shape d.list x ≡ true
-free_ends d x f = (both (not (sets.contains d.list.crosses x)) (has_free_ends d.shape d.list x) ((cross_tells d.shape d.list x).1 f)).1
+free_ends d x f = (and_parts (not (sets.contains d.list.crosses x)) (has_free_ends d.shape d.list x) ((cross_tells d.shape d.list x).1 f)).1
 
 pub free_pins : (d : DefectList) (t : ℕ) → IsFreeTable d.shape d.list t → has_free_pins d.shape d.list t ≡ true
-free_pins d t f = (both (not (sets.contains d.list.tables t)) (has_free_pins d.shape d.list t) ((table_tells d.shape d.list t).1 f)).1
+free_pins d t f = (and_parts (not (sets.contains d.list.tables t)) (has_free_pins d.shape d.list t) ((table_tells d.shape d.list t).1 f)).1
 
 pub free_unlisted : (d : DefectList) (e : Entry) → IsFreeEntry d e → is_listed d e ≡ false
 free_unlisted d (Wire w) f = f

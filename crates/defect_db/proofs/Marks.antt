@@ -4,13 +4,15 @@ use Rattle.std.specs.Prelude.{◌==◌}
 use Rattle.std.specs.Prelude.{Vec}
 use Rattle.std.specs.Vec.{with_items}
 use Rattle.std.specs.List.{list_any}
-use Rattle.std.specs.Ordering.{nat_cmp, eq_by_cmp}
+use Rattle.std.specs.Ordering.{nat_cmp}
 use Rattle.std.specs.Cmp.{nat_cmp_total, unsigned_tied}
 use Rattle.std.specs.FinSet as sets
 use Rattle.std.specs.FinSet.{contains-from_list_nat, contains-insert, contains-empty, same_set, nat_cmp-IsAntisymmetric}
 use Rattle.std.proofs.lemmas.List.{get_or-set_same, get_or-set_other, get_or_past, get_or-replicate, length-replicate, with_items_is}
 use Rattle.std.proofs.lemmas.List.Folds.{list_any-append}
 use Rattle.std.proofs.lemmas.Bool.Decides.{nat_tests}
+use Rattle.std.proofs.Math.Bool.{or-false}
+use Rattle.std.proofs.lemmas.Bool.{and_parts}
 use native.Mathlib.Decide.{ℕ_discrete, dec_lt}
 use Rattle.tm_bits.specs.Numbers.{has_number}
 use Rattle.defect_db.specs.Kept.{marked}
@@ -20,14 +22,10 @@ pub or_if : (t b : Bool) → (t || b) ≡ (if t then true else b)
 or_if true b = refl
 or_if false b = refl
 
-pub or_false : (b : Bool) → (b || false) ≡ b
-or_false true = refl
-or_false false = refl
-
 -- ---- what a list of numbers contains
 
 last_any : (b : Bool) (n q : ℕ) → list_any (λ y. y == q) (if b then n ∷ [] else []) ≡ (if n == q then b else false)
-last_any true n q = or_false (n == q) ∙ same (n == q)
+last_any true n q = or-false (n == q) ∙ same (n == q)
   where
     same : (c : Bool) → c ≡ (if c then true else false)
     same true = refl
@@ -57,7 +55,7 @@ any_those f (suc n) q lt = by_place (ℕ_discrete n q) (any_those f n q)
         any_step f n q ∙ (λ i. any_beyond f n q (let d : n ≤ q = omega (arith, e) in d) i || (if one i then f n else false)) ∙ ap f e
     by_place (no ne) more =
         let apart : (n == q) ≡ false = grind (arith, nat_tests, ne) in
-        any_step f n q ∙ (λ i. more (let d : q < n = omega (arith, lt, ne) in d) i || (if apart i then f n else false)) ∙ or_false (f q)
+        any_step f n q ∙ (λ i. more (let d : q < n = omega (arith, lt, ne) in d) i || (if apart i then f n else false)) ∙ or-false (f q)
 
 -- ---- marks
 
@@ -89,11 +87,8 @@ has_set marks i q b lt = by_place (ℕ_discrete q i)
         let apart : (q == i) ≡ false = grind (arith, nat_tests, ne) in
         get_or-set_other marks i q b false ne ∙ sym (ap (λ c. if c then b else has_number marks q) apart)
 
-tied : (a b : ℕ) → eq_by_cmp nat_cmp a b ≡ (a == b)
-tied a b = unsigned_tied a b
-
 pub contains_more : (s : sets.FinSet nat_cmp) (i q : ℕ) → sets.contains (sets.insert s i) q ≡ (if q == i then true else sets.contains s q)
-contains_more s i q = contains-insert nat_cmp_total s i q ∙ ap (λ t. t || sets.contains s q) (tied q i) ∙ or_if (q == i) _
+contains_more s i q = contains-insert nat_cmp_total s i q ∙ ap (λ t. t || sets.contains s q) (unsigned_tied q i) ∙ or_if (q == i) _
 
 pub same_members : (s t : sets.FinSet nat_cmp) → ((q : ℕ) → sets.contains s q ≡ sets.contains t q) → s ≡ t
 same_members s t h = same_set nat_cmp_total nat_cmp-IsAntisymmetric s t h
@@ -122,16 +117,12 @@ put_again s i is = same_members _ _ (λ q. contains_more s i q ∙ by_place q (�
 
 -- ---- a test of all numbers below one
 
-both : (a b : Bool) → (a && b) ≡ true → (a ≡ true) × (b ≡ true)
-both true b e = (refl, e)
-both false b e = absurd cc
-
 pub all_each : (f : ℕ → Bool) (n k : ℕ) → all_below n f ≡ true → k < n → f k ≡ true
 all_each f zero k e lt = absurd (let no : ⊥ = omega (arith, lt) in no)
-all_each f (suc n) k e lt = by_place (ℕ_discrete k n) (all_each f n k (both (all_below n f) (f n) e).0)
+all_each f (suc n) k e lt = by_place (ℕ_discrete k n) (all_each f n k (and_parts (all_below n f) (f n) e).0)
   where
     by_place : Dec (k ≡ n) → (k < n → f k ≡ true) → f k ≡ true
-    by_place (yes g) more = ap f g ∙ (both (all_below n f) (f n) e).1
+    by_place (yes g) more = ap f g ∙ (and_parts (all_below n f) (f n) e).1
     by_place (no ne) more = more (omega (arith, lt, ne))
 
 pub each_all : (f : ℕ → Bool) (n : ℕ) → ((k : ℕ) → k < n → f k ≡ true) → all_below n f ≡ true

@@ -4,6 +4,7 @@ use Rattle.std.specs.Prelude.{IfOk, IfErr}
 use Rattle.std.specs.Fmt.{decimal}
 use Rattle.std.specs.FinSet as sets
 use Rattle.std.specs.List.{AllByRecursion}
+use Rattle.std.specs.Cmp.{both_ways}
 use Rattle.hierarchy.specs.declared.Shape.{Shape}
 use Rattle.hierarchy.specs.Laws.{HasNames, HasCrosses, IsNumbered}
 use Rattle.hierarchy.specs.Shape.{ends_of, table_wire}
@@ -23,7 +24,6 @@ use Rattle.defect_db.specs.Faults.IsLineFault.{formless, other_machine, nameless
 use Rattle.defect_db.specs.Faults.AreAbove.{nothing, begun, listed}
 use Rattle.defect_db.specs.Steps.{is_listed, IsFirst}
 use Rattle.defect_db.proofs.Marks.{same_members}
-use Rattle.defect_db.proofs.Telling.{same_by}
 use Rattle.defect_db.proofs.Rows.{IsCleanRow, AreCleanRows, first_rows, front, clean_append}
 use Rattle.defect_db.proofs.Plain.{wire_is_word, table_is_word}
 use Rattle.defect_db.proofs.Numerals.{one_number}
@@ -139,13 +139,13 @@ one_by_entries d e p q same entries = (λ i. record { shape = same i; list = rec
     back a h = (in_listed d a (in_same a (entries_of e) (entries_of d) (sym entries) (listed_in e q a h))).0
 
     wires : d.list.wires ≡ e.list.wires
-    wires = same_members d.list.wires e.list.wires (λ w. same_by _ _ (forth (Wire (record { 0 = w }))) (back (Wire (record { 0 = w }))))
+    wires = same_members d.list.wires e.list.wires (λ w. both_ways _ _ (forth (Wire (record { 0 = w }))) (back (Wire (record { 0 = w }))))
 
     crosses : d.list.crosses ≡ e.list.crosses
-    crosses = same_members d.list.crosses e.list.crosses (λ x. same_by _ _ (forth (Cross (record { 0 = x }))) (back (Cross (record { 0 = x }))))
+    crosses = same_members d.list.crosses e.list.crosses (λ x. both_ways _ _ (forth (Cross (record { 0 = x }))) (back (Cross (record { 0 = x }))))
 
     tables : d.list.tables ≡ e.list.tables
-    tables = same_members d.list.tables e.list.tables (λ t. same_by _ _ (forth (Table (record { 0 = t }))) (back (Table (record { 0 = t }))))
+    tables = same_members d.list.tables e.list.tables (λ t. both_ways _ _ (forth (Table (record { 0 = t }))) (back (Table (record { 0 = t }))))
 
 -- ---- the order of a text's entries
 

@@ -3,7 +3,7 @@ use Rattle.std.proofs.Common.{◌≡◌, ◌≢◌, ℕ, ◌+◌, ◌-◌, ◌<�
 use Rattle.std.specs.Prelude.{◌==◌}
 use Rattle.std.specs.FinSet as sets
 use Rattle.std.proofs.lemmas.List.{length-set}
-use Rattle.std.proofs.lemmas.Bool.{eq-eqb}
+use Rattle.std.proofs.lemmas.Bool.{eq-eqb, or_parts, not-false}
 use Rattle.std.proofs.lemmas.Bool.Decides.{nat_tests}
 use native.Mathlib.Decide.{ℕ_discrete}
 use Rattle.tm_bits.specs.Numbers.{has_number}
@@ -17,14 +17,6 @@ use Rattle.defect_db.specs.Kept.{Marks, AreRight, AreShutBy, listed_by, marked, 
 use Rattle.defect_db.proofs.Marks.{in_marked, marked_more, put_again, all_each, all_same}
 use Rattle.defect_db.proofs.Counting.{how_many_less, how_many_same, how_many_some, how_many_at_most}
 use Rattle.defect_db.proofs.Sweeping.{count_set, set_here, set_there, shut_less, shut_elsewhere, ends_are}
-
-pub or_parts : (a b : Bool) → (a || b) ≡ false → (a ≡ false) × (b ≡ false)
-or_parts true b e = absurd cc
-or_parts false b e = (refl, e)
-
-not_parts : (b : Bool) → not b ≡ false → b ≡ true
-not_parts true e = refl
-not_parts false e = absurd cc
 
 pub few_crosses : (m : Shape) → crosses_of m ≤ 4194304
 unfolding crosses_of levels_of
@@ -51,7 +43,7 @@ module _ (k : Marks) (is : AreRight k) (t : ℕ) (lt : t < tables_of k.shape) wh
 
   module _ (off : has_number k.lost t ≡ false) where
     parts : (has_number k.tables t ≡ false) × (all_below 7 (λ j. not (has_number k.wires (table_wire k.shape t j))) ≡ true)
-    parts = let p = or_parts (has_number k.tables t) _ (sym (is.lost t lt) ∙ off) in (p.0, not_parts _ p.1)
+    parts = let p = or_parts (has_number k.tables t) _ (sym (is.lost t lt) ∙ off) in (p.0, not-false _ p.1)
 
     low : t < length k.tables
     low = subst (λ n. t < n) (sym is.wide.tables) lt

@@ -2,8 +2,9 @@
 use Rattle.std.proofs.Common.{◌≡◌, ◌≢◌, ◌⊎◌, inl, inr, ℕ, zero, suc, ◌+◌, ◌<◌, ◌≤◌, Bool, true, false, not, ◌&&◌, ◌||◌, if◌then◌else◌, Option, Some, None, List, length, get_or, set, refl, sym, ap, ◌∙◌, subst, arith, eqb-true}
 use Rattle.std.specs.Prelude.{◌==◌, IfSome}
 use Rattle.std.proofs.lemmas.List.{length-set, get_or_default}
-use Rattle.std.proofs.lemmas.Bool.{eq-eqb}
+use Rattle.std.proofs.lemmas.Bool.{eq-eqb, false_from_ne_true}
 use Rattle.std.proofs.lemmas.Bool.Decides.{nat_tests}
+use Rattle.std.proofs.Math.Bool.{and-false, or-true}
 use native.Mathlib.Decide.{ℕ_discrete, dec_lt}
 use Rattle.tm_bits.specs.Numbers.{has_number}
 use Rattle.hierarchy.specs.declared.Shape.{Shape}
@@ -22,18 +23,6 @@ and_true : (b : Bool) → (b && true) ≡ b
 and_true true = refl
 and_true false = refl
 
-and_false : (b : Bool) → (b && false) ≡ false
-and_false true = refl
-and_false false = refl
-
-or_true : (b : Bool) → (b || true) ≡ true
-or_true true = refl
-or_true false = refl
-
-from_ne : (b : Bool) → (b ≡ true → ⊥) → b ≡ false
-from_ne false f = refl
-from_ne true f = absurd (f refl)
-
 true_is_no_false : true ≡ false → ⊥
 true_is_no_false e = cc
 
@@ -44,7 +33,7 @@ untouched : (m : Shape) (w u : ℕ) → ((i : ℕ) → i < 7 → table_wire m u 
 untouched m w u apart = ap not (each_all (λ i. not (table_wire m u i == w)) 7 (λ i li. ap not (let e : (table_wire m u i == w) ≡ false = let ne = apart i li in grind (arith, nat_tests, ne) in e)))
 
 touched : (m : Shape) (w u i : ℕ) → i < 7 → table_wire m u i ≡ w → touches_table m w u ≡ true
-touched m w u i li e = ap not (from_ne _ (λ all. true_is_no_false (sym (all_each (λ i. not (table_wire m u i == w)) 7 i all li) ∙ ap not (eq-eqb (table_wire m u i) w e))))
+touched m w u i li e = ap not (false_from_ne_true _ (λ all. true_is_no_false (sym (all_each (λ i. not (table_wire m u i == w)) 7 i all li) ∙ ap not (eq-eqb (table_wire m u i) w e))))
 
 module _ (k : Marks) (is : AreRight k) (w : ℕ) (lw : w < wires_of k.shape) where
   abbrev m : Shape
@@ -137,7 +126,7 @@ module _ (k : Marks) (is : AreRight k) (w : ℕ) (lw : w < wires_of k.shape) whe
     pin_of = (is.owners.others w t own).1
 
     pin_marked : all_below 7 (λ i. not (has_number wires_now (table_wire m t.0 i))) ≡ false
-    pin_marked = from_ne _ (λ all. true_is_no_false (sym (all_each (λ i. not (has_number wires_now (table_wire m t.0 i))) 7 pin_of.0 all pin_of.1) ∙ ap not (wire_here (table_wire m t.0 pin_of.0) pin_of.2)))
+    pin_marked = false_from_ne_true _ (λ all. true_is_no_false (sym (all_each (λ i. not (has_number wires_now (table_wire m t.0 i))) 7 pin_of.0 all pin_of.1) ∙ ap not (wire_here (table_wire m t.0 pin_of.0) pin_of.2)))
 
     counted_now : (free : ℕ) → (b : Bool) → has_number k.lost t.0 ≡ b → free + (if b then 0 else 1) ≡ k.free_tables → free ≡ how_many (λ u. not (has_number lost_now u)) (tables_of m)
     counted_now free true on e =
@@ -170,12 +159,12 @@ module _ (k : Marks) (is : AreRight k) (w : ℕ) (lw : w < wires_of k.shape) whe
 
         lost : (u : ℕ) → u < tables_of m → Dec (u ≡ t.0) → has_number lost_now u ≡ is_lost m wires_now tables_now u
         lost u lu (no ne) = set_there k.lost t.0 u true ne ∙ is.lost u lu ∙ other_lost tables_now u (λ i li. owned_apart t own u i lu ne li) (table_there u ne)
-        lost u lu (yes g) = lost_here u g ∙ sym (ap (λ b. has_number tables_now u || not b) (ap (λ v. all_below 7 (λ i. not (has_number wires_now (table_wire m v i)))) g ∙ pin_marked) ∙ or_true (has_number tables_now u))
+        lost u lu (yes g) = lost_here u g ∙ sym (ap (λ b. has_number tables_now u || not b) (ap (λ v. all_below 7 (λ i. not (has_number wires_now (table_wire m v i)))) g ∙ pin_marked) ∙ or-true (has_number tables_now u))
 
         by_place : (u : ℕ) → Dec (u < tables_of m) → Dec (u ≡ t.0) → has_number tables_now u ≡ (has_number k.tables u && not (touches_table m w u))
         by_place u (no ge) d = beyond tables_now width u (omega (arith, ge))
         by_place u (yes lu) (no ne) = other_listed tables_now u (λ i li. owned_apart t own u i lu ne li) (table_there u ne)
-        by_place u (yes lu) (yes g) = table_here u g ∙ sym (ap (λ b. has_number k.tables u && not b) (ap (touches_table m w) g ∙ touched m w t.0 pin_of.0 pin_of.1 pin_of.2) ∙ and_false (has_number k.tables u))
+        by_place u (yes lu) (yes g) = table_here u g ∙ sym (ap (λ b. has_number k.tables u && not b) (ap (touches_table m w) g ∙ touched m w t.0 pin_of.0 pin_of.1 pin_of.2) ∙ and-false (has_number k.tables u))
 
   -- the owner as it is read
   pub owner_read : (o : Option Table) → o ≡ get_or k.owners w o → get_or k.owners w None ≡ o
@@ -201,7 +190,7 @@ module _ (k : Marks) (is : AreRight k) (w : ℕ) (lw : w < wires_of k.shape) whe
 
     ends_now : (x : ℕ) → x < crosses_of m → has_number crosses x ≡ true → (has_number wires_now (ends_of m x).0 ≡ false) × (has_number wires_now (ends_of m x).1 ≡ false)
     ends_now x lx on =
-        let off : touches_cross m w x ≡ false = from_ne _ (λ h. true_is_no_false (sym on ∙ swept.done_crosses x lx h)) in
+        let off : touches_cross m w x ≡ false = false_from_ne_true _ (λ h. true_is_no_false (sym on ∙ swept.done_crosses x lx h)) in
         let apart = ends_apart x off in
         let was = is.ends x lx (swept.fewer x on) in
         (wire_there (ends_of m x).0 apart.0 ∙ was.0, wire_there (ends_of m x).1 apart.1 ∙ was.1)
@@ -213,16 +202,16 @@ module _ (k : Marks) (is : AreRight k) (w : ℕ) (lw : w < wires_of k.shape) whe
     barred_now x lx true on = swept.done_barred x lx on ∙ sym (by_end (touched_by m w x on))
       where
         by_end : ((ends_of m x).0 ≡ w) ⊎ ((ends_of m x).1 ≡ w) → is_barred m wires_now crosses x ≡ true
-        by_end (inl e) = ap (λ b. has_number crosses x || (b || has_number wires_now (ends_of m x).1)) (wire_here (ends_of m x).0 e) ∙ or_true (has_number crosses x)
-        by_end (inr e) = ap (λ b. has_number crosses x || (has_number wires_now (ends_of m x).0 || b)) (wire_here (ends_of m x).1 e) ∙ ap (λ b. has_number crosses x || b) (or_true (has_number wires_now (ends_of m x).0)) ∙ or_true (has_number crosses x)
+        by_end (inl e) = ap (λ b. has_number crosses x || (b || has_number wires_now (ends_of m x).1)) (wire_here (ends_of m x).0 e) ∙ or-true (has_number crosses x)
+        by_end (inr e) = ap (λ b. has_number crosses x || (has_number wires_now (ends_of m x).0 || b)) (wire_here (ends_of m x).1 e) ∙ ap (λ b. has_number crosses x || b) (or-true (has_number wires_now (ends_of m x).0)) ∙ or-true (has_number crosses x)
 
     crosses_listed : (x : ℕ) → has_number crosses x ≡ (has_number k.crosses x && not (touches_cross m w x))
     crosses_listed x = by_place (dec_lt x (crosses_of m)) (touches_cross m w x) refl
       where
         by_place : Dec (x < crosses_of m) → (b : Bool) → touches_cross m w x ≡ b → has_number crosses x ≡ (has_number k.crosses x && not b)
         by_place d false off = swept.other_crosses x off ∙ sym (and_true (has_number k.crosses x))
-        by_place (yes lx) true on = swept.done_crosses x lx on ∙ sym (and_false (has_number k.crosses x))
-        by_place (no ge) true on = unmarked_beyond crosses x (let l = swept.crosses_width in omega (arith, ge, l)) ∙ sym (and_false (has_number k.crosses x))
+        by_place (yes lx) true on = swept.done_crosses x lx on ∙ sym (and-false (has_number k.crosses x))
+        by_place (no ge) true on = unmarked_beyond crosses x (let l = swept.crosses_width in omega (arith, ge, l)) ∙ sym (and-false (has_number k.crosses x))
 
     module _ (laws : HasCrosses m) (taps : HasTaps m) (tree : IsTree m) (parents : HasParents m) (meanings : HasMeanings m) where
       abbrev node : ℕ
@@ -239,7 +228,7 @@ module _ (k : Marks) (is : AreRight k) (w : ℕ) (lw : w < wires_of k.shape) whe
 
       -- the crosspoints of a line of another node are as they were
       cross_elsewhere : (n x : ℕ) → x < crosses_of m → n ≢ node → parent_of m node ≢ Some n → node_of_cross m x ≡ n → has_number crosses x ≡ has_number k.crosses x
-      cross_elsewhere n x lx ne above at = swept.other_crosses x (from_ne _ (λ on. by_case (all_touched m laws tree parents taps w x lx on)))
+      cross_elsewhere n x lx ne above at = swept.other_crosses x (false_from_ne_true _ (λ on. by_case (all_touched m laws tree parents taps w x lx on)))
         where
           by_case : AtNode m node w x ⊎ (OnLine m node w x ⊎ AtAbove m node w x) → ⊥
           by_case (inl h) = ne (sym at ∙ h.0)
@@ -250,7 +239,7 @@ module _ (k : Marks) (is : AreRight k) (w : ℕ) (lw : w < wires_of k.shape) whe
       shut_elsewhere_ n line ne above at = how_many_same (λ x. has_number k.crosses x && ((ends_of m x).1 == line)) (λ x. has_number crosses x && ((ends_of m x).1 == line)) (crosses_of m) (λ x lx. by_line x lx ((ends_of m x).1 == line) refl)
         where
           by_line : (x : ℕ) → x < crosses_of m → (b : Bool) → ((ends_of m x).1 == line) ≡ b → (has_number k.crosses x && b) ≡ (has_number crosses x && b)
-          by_line x lx false e = and_false (has_number k.crosses x) ∙ sym (and_false (has_number crosses x))
+          by_line x lx false e = and-false (has_number k.crosses x) ∙ sym (and-false (has_number crosses x))
           by_line x lx true e = ap (λ b. b && true) (sym (cross_elsewhere n x lx ne above (sym (line_of m laws tree x lx) ∙ ap (node_of m) (eqb-true (ends_of m x).1 line e) ∙ at)))
 
       lines_elsewhere : (n : ℕ) → n < nodes_of m → n ≢ node → parent_of m node ≢ Some n → clear_lines_at m k.wires k.shut n ≡ clear_lines_at m wires_now shut n
@@ -376,7 +365,7 @@ module _ (k : Marks) (is : AreRight k) (w : ℕ) (lw : w < wires_of k.shape) whe
 
       cross : (x : ℕ) (b : Bool) → has_number k.crosses x ≡ b → b ≡ (b && not (touches_cross m w x))
       cross x false e = refl
-      cross x true e = sym (ap not (from_ne (touches_cross m w x) (λ h. by_end x e (touched_by m w x h))))
+      cross x true e = sym (ap not (false_from_ne_true (touches_cross m w x) (λ h. by_end x e (touched_by m w x h))))
 
       table : (u : ℕ) (b : Bool) → has_number k.tables u ≡ b → b ≡ (b && not (touches_table m w u))
       table u false e = refl

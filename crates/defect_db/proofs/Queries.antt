@@ -1,8 +1,9 @@
 -- What is kept tells what is free.
 use Rattle.std.proofs.Common.{◌≡◌, ℕ, ◌<◌, Bool, true, false, not, ◌&&◌, ◌||◌, refl, sym, ap, ◌∙◌, subst, eqb-true}
 use Rattle.std.specs.Prelude.{◌==◌, ◌↔◌}
-use Rattle.std.proofs.lemmas.Bool.{eq-eqb, false_from_ne_true}
+use Rattle.std.proofs.lemmas.Bool.{eq-eqb, false_from_ne_true, and_parts}
 use Rattle.std.specs.FinSet as sets
+use Rattle.std.specs.Cmp.{both_ways}
 use Rattle.tm_bits.specs.Numbers.{has_number}
 use Rattle.hierarchy.specs.Shape.{wires_of, crosses_of, tables_of, nodes_of, lines_of, pins_of, ends_of, table_wire, line_at}
 use Rattle.hierarchy.specs.Defects.{Defects, IsFreeWire, IsFreeCross, IsFreeTable, IsOpenLine}
@@ -11,7 +12,7 @@ use Rattle.defect_db.specs.Kept.{IsKept, list_in, is_clear_line, count_at}
 use Rattle.defect_db.specs.Lists.{IsDefectList, is_free_wire, is_free_cross, is_free_table, is_open_line, leaves_open, all_below, open_lines_of, free_ports_of, free_tables_of, free_pins_of}
 use Rattle.defect_db.proofs.Marks.{in_marked, has_below, all_each, each_all, all_same}
 use Rattle.defect_db.proofs.Counting.{how_many_same, how_many_none, none_passes}
-use Rattle.defect_db.proofs.Telling.{both, same_by, wire_tells, cross_tells, table_tells, open_tells, leaves, leaves_from}
+use Rattle.defect_db.proofs.Telling.{wire_tells, cross_tells, table_tells, open_tells, leaves, leaves_from}
 
 or_none : (a b c : Bool) → not (a || (b || c)) ≡ (not a && (not b && not c))
 or_none true b c = refl
@@ -55,7 +56,7 @@ module _ (k : Kept) (is : IsKept k) where
 
   listed_here : (line x : ℕ) → x < crosses_of k.shape → is_free_wire d line ≡ true → all_below (crosses_of k.shape) (leaves_open k.shape d line) ≡ true → (has_number k.crosses x && ((ends_of k.shape x).1 == line)) ≡ true → ⊥
   listed_here line x lt free all e =
-      let p = both (has_number k.crosses x) ((ends_of k.shape x).1 == line) e in
+      let p = and_parts (has_number k.crosses x) ((ends_of k.shape x).1 == line) e in
       let tap : IsFreeWire d (ends_of k.shape x).0 = in_marked k.wires (ends_of k.shape x).0 ∙ (is.ends x lt p.0).0 in
       let f = leaves k.shape d line x (all_each (leaves_open k.shape d line) (crosses_of k.shape) x all lt) (eqb-true (ends_of k.shape x).1 line p.1) tap in
       let g = ((cross_tells k.shape d x).0 f).itself in
@@ -74,7 +75,7 @@ module _ (k : Kept) (is : IsKept k) where
       unlisted true b e f = absurd (let g : true ≡ false = sym f ∙ e in cc)
 
   shut_is : (line : ℕ) → line < wires_of k.shape → is_free_wire d line ≡ true → (count_at k.shut.items line == 0) ≡ all_below (crosses_of k.shape) (leaves_open k.shape d line)
-  shut_is line lt free = same_by _ _
+  shut_is line lt free = both_ways _ _
       (λ e. each_all (leaves_open k.shape d line) (crosses_of k.shape) (λ x lx. leaves_here line x lx free (none_passes (λ x. has_number k.crosses x && ((ends_of k.shape x).1 == line)) (crosses_of k.shape) x lx (sym (is.shut line lt) ∙ eqb-true (count_at k.shut.items line) 0 e))))
       (λ e. eq-eqb (count_at k.shut.items line) 0 (is.shut line lt ∙ how_many_none (λ x. has_number k.crosses x && ((ends_of k.shape x).1 == line)) (crosses_of k.shape) (λ x lx. false_from_ne_true _ (listed_here line x lx free e))))
 

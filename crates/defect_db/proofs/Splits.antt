@@ -4,21 +4,17 @@ use Rattle.std.specs.Prelude.{◌==◌}
 use Rattle.std.specs.Str.{bytes_eq}
 use Rattle.std.specs.List.{position_or_len}
 use Rattle.defect_db.specs.Steps.{without}
-use Rattle.std.proofs.lemmas.Bool.{eq-eqb, false≢true}
-
-both : (a b : Bool) → (a && b) ≡ true → (a ≡ true) × (b ≡ true)
-both true b e = (refl, e)
-both false b e = absurd cc
+use Rattle.std.proofs.lemmas.Bool.{eq-eqb, false≢true, and_parts}
 
 pub without_head : (s b : ℕ) (bs : List ℕ) → without s (b ∷ bs) ≡ true → (b ≢ s) × (without s bs ≡ true)
 without_head s b bs h =
-    let p = both (not (b == s)) (without s bs) h in
+    let p = and_parts (not (b == s)) (without s bs) h in
     ((λ e. false≢true (ap not (sym (eq-eqb b s e)) ∙ p.0)), p.1)
 
 pub without_append : (s : ℕ) (a b : List ℕ) → without s a ≡ true → without s b ≡ true → without s (a ++ b) ≡ true
 without_append s [] b p q = q
 without_append s (x ∷ a) b p q =
-    let h = both (not (x == s)) (without s a) p in
+    let h = and_parts (not (x == s)) (without s a) p in
     (λ i. h.0 i && without_append s a b h.1 q i)
 
 -- the first place of a byte
@@ -104,5 +100,5 @@ same_bytes [] [] e = refl
 same_bytes [] (y ∷ b) e = absurd cc
 same_bytes (x ∷ a) [] e = absurd cc
 same_bytes (x ∷ a) (y ∷ b) e =
-    let p = both (x == y) (bytes_eq a b) e in
+    let p = and_parts (x == y) (bytes_eq a b) e in
     (λ i. eqb-true x y p.0 i ∷ same_bytes a b p.1 i)

@@ -4,6 +4,7 @@ use Rattle.std.specs.Prelude.{◌==◌}
 use Rattle.std.proofs.lemmas.List.{get_or-set_same, get_or-set_other, length-set}
 use Rattle.std.proofs.lemmas.Bool.{eq-eqb}
 use Rattle.std.proofs.lemmas.Bool.Decides.{nat_tests}
+use Rattle.std.proofs.Math.Bool.{and-false}
 use native.Mathlib.Decide.{ℕ_discrete}
 use Rattle.tm_bits.specs.Numbers.{has_number}
 use Rattle.hierarchy.specs.declared.Shape.{Shape}
@@ -38,10 +39,6 @@ set_there marks i q b ne = get_or-set_other marks i q b false ne
 abbrev on_line : Shape → List Bool → ℕ → ℕ → Bool
 on_line m crosses line x = has_number crosses x && ((ends_of m x).1 == line)
 
-and_none : (b : Bool) → (b && false) ≡ false
-and_none true = refl
-and_none false = refl
-
 -- the marks differ at one crosspoint alone, where the second has none
 module _ (m : Shape) (more less : List Bool) (x : ℕ) (lt : x < crosses_of m) (others : (y : ℕ) → y ≢ x → has_number less y ≡ has_number more y) where
   pub shut_elsewhere : (line : ℕ) → (ends_of m x).1 ≢ line → shut_at m less line ≡ shut_at m more line
@@ -51,7 +48,7 @@ module _ (m : Shape) (more less : List Bool) (x : ℕ) (lt : x < crosses_of m) (
       by_place y (no ne) = ap (λ b. b && ((ends_of m y).1 == line)) (others y ne)
       by_place y (yes e) =
           let off : ((ends_of m y).1 == line) ≡ false = ap (λ z. (ends_of m z).1 == line) e ∙ (grind (arith, nat_tests, apart)) in
-          ap (λ b. has_number less y && b) off ∙ and_none (has_number less y) ∙ sym (and_none (has_number more y)) ∙ ap (λ b. has_number more y && b) (sym off)
+          ap (λ b. has_number less y && b) off ∙ and-false (has_number less y) ∙ sym (and-false (has_number more y)) ∙ ap (λ b. has_number more y && b) (sym off)
 
   pub shut_less : has_number more x ≡ true → has_number less x ≡ false → shut_at m less (ends_of m x).1 + 1 ≡ shut_at m more (ends_of m x).1
   shut_less is off =

@@ -1,7 +1,7 @@
 -- The tests tell what is free.
-use Rattle.std.proofs.Common.{◌≡◌, ℕ, Bool, true, false, not, ◌&&◌, ◌||◌, refl, sym, ap, eqb-true}
+use Rattle.std.proofs.Common.{◌≡◌, ℕ, Bool, true, false, not, ◌&&◌, ◌||◌, refl, eqb-true}
 use Rattle.std.specs.Prelude.{◌==◌, ◌↔◌}
-use Rattle.std.proofs.lemmas.Bool.{not-true, eq-eqb}
+use Rattle.std.proofs.lemmas.Bool.{not-true, eq-eqb, and_parts, not_from_false}
 use Rattle.std.specs.FinSet as sets
 use Rattle.hierarchy.specs.declared.Shape.{Shape}
 use Rattle.hierarchy.specs.Shape.{crosses_of, ends_of, table_wire}
@@ -9,36 +9,24 @@ use Rattle.hierarchy.specs.Defects.{Defects, IsFreeWire, IsFreeCross, IsFreeTabl
 use Rattle.defect_db.specs.Lists.{is_free_wire, is_free_cross, is_free_table, is_open_line, leaves_open, has_free_ends, has_free_pins}
 use Rattle.defect_db.proofs.Marks.{all_each, each_all}
 
-pub both : (a b : Bool) → (a && b) ≡ true → (a ≡ true) × (b ≡ true)
-both true b e = (refl, e)
-both false b e = absurd cc
-
-pub same_by : (a b : Bool) → (a ≡ true → b ≡ true) → (b ≡ true → a ≡ true) → a ≡ b
-same_by true b f g = sym (f refl)
-same_by false true f g = g refl
-same_by false false f g = refl
-
-pub not_of : (b : Bool) → b ≡ false → not b ≡ true
-not_of b e = ap not e
-
 pub wire_tells : (d : Defects) (w : ℕ) → (is_free_wire d w ≡ true) ↔ IsFreeWire d w
-wire_tells d w = ((λ e. not-true (sets.contains d.wires w) e), (λ e. not_of (sets.contains d.wires w) e))
+wire_tells d w = ((λ e. not-true (sets.contains d.wires w) e), (λ e. not_from_false (sets.contains d.wires w) e))
 
 pub cross_tells : (m : Shape) (d : Defects) (x : ℕ) → (is_free_cross m d x ≡ true) ↔ IsFreeCross m d x
 cross_tells m d x = (
   (λ e.
-      let p = both (not (sets.contains d.crosses x)) (has_free_ends m d x) e in
-      let q = both (is_free_wire d (ends_of m x).0) (is_free_wire d (ends_of m x).1) p.1 in
+      let p = and_parts (not (sets.contains d.crosses x)) (has_free_ends m d x) e in
+      let q = and_parts (is_free_wire d (ends_of m x).0) (is_free_wire d (ends_of m x).1) p.1 in
       record { itself = not-true (sets.contains d.crosses x) p.0; tap = (wire_tells d (ends_of m x).0).0 q.0; line = (wire_tells d (ends_of m x).1).0 q.1 }),
-  (λ f. (λ i. not_of (sets.contains d.crosses x) f.itself i && (not_of (sets.contains d.wires (ends_of m x).0) f.tap i && not_of (sets.contains d.wires (ends_of m x).1) f.line i))),
+  (λ f. (λ i. not_from_false (sets.contains d.crosses x) f.itself i && (not_from_false (sets.contains d.wires (ends_of m x).0) f.tap i && not_from_false (sets.contains d.wires (ends_of m x).1) f.line i))),
 )
 
 pub table_tells : (m : Shape) (d : Defects) (t : ℕ) → (is_free_table m d t ≡ true) ↔ IsFreeTable m d t
 table_tells m d t = (
   (λ e.
-      let p = both (not (sets.contains d.tables t)) (has_free_pins m d t) e in
+      let p = and_parts (not (sets.contains d.tables t)) (has_free_pins m d t) e in
       record { itself = not-true (sets.contains d.tables t) p.0; pins = λ k lt. (wire_tells d (table_wire m t k)).0 (all_each (λ k. is_free_wire d (table_wire m t k)) 7 k p.1 lt) }),
-  (λ f. (λ i. not_of (sets.contains d.tables t) f.itself i && each_all (λ k. is_free_wire d (table_wire m t k)) 7 (λ k lt. (wire_tells d (table_wire m t k)).1 (f.pins k lt)) i)),
+  (λ f. (λ i. not_from_false (sets.contains d.tables t) f.itself i && each_all (λ k. is_free_wire d (table_wire m t k)) 7 (λ k lt. (wire_tells d (table_wire m t k)).1 (f.pins k lt)) i)),
 )
 
 pub leaves : (m : Shape) (d : Defects) (line x : ℕ) → leaves_open m d line x ≡ true → (ends_of m x).1 ≡ line → IsFreeWire d (ends_of m x).0 → is_free_cross m d x ≡ true
@@ -60,7 +48,7 @@ leaves_from m d line x h = by_line ((ends_of m x).1 == line) refl (is_free_wire 
 pub open_tells : (m : Shape) (d : Defects) (line : ℕ) → (is_open_line m d line ≡ true) ↔ IsOpenLine m d line
 open_tells m d line = (
   (λ e.
-      let p = both (is_free_wire d line) _ e in
+      let p = and_parts (is_free_wire d line) _ e in
       record {
         itself = (wire_tells d line).0 p.0;
         crosses = λ x lt is free. (cross_tells m d x).0 (leaves m d line x (all_each (leaves_open m d line) (crosses_of m) x p.1 lt) is free);

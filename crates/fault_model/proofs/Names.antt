@@ -4,6 +4,7 @@ use Rattle.std.proofs.Common.{◌≡◌, ◌<◌, ◌-◌, ℕ, Bool, true, fals
 use Rattle.std.specs.Prelude.{not, ◌==◌}
 use Rattle.std.specs.List.{list_all, list_any}
 use Rattle.std.proofs.lemmas.Fmt.{decimal_nonempty}
+use Rattle.std.proofs.lemmas.Bool.{and_parts}
 use Rattle.hierarchy.specs.declared.Shape.{Shape}
 use Rattle.hierarchy.specs.Shape.{ends_of}
 use Rattle.hierarchy.proofs.PlainNames.{AllPlain, IsPlainWord, plain-decimal, wire_word, table_word}
@@ -20,16 +21,12 @@ use Rattle.fault_model.proofs.Words.{IsTold, tap_in, line_in}
 plain_byte : ℕ → Bool
 plain_byte b = nat_lt 35 b && nat_lt b 127
 
-both_true : (a b : Bool) → (a && b) ≡ true → (a ≡ true) × (b ≡ true)
-both_true true b e = (refl, e)
-both_true false b e = absurd cc
-
 from_test : (w : List ℕ) → list_all plain_byte w ≡ true → AllPlain w
 unfolding plain_byte
 from_test [] e = tt
 from_test (b ∷ bs) e =
-    let h = both_true (plain_byte b) (list_all plain_byte bs) e in
-    let g = both_true (nat_lt 35 b) (nat_lt b 127) h.0 in
+    let h = and_parts (plain_byte b) (list_all plain_byte bs) e in
+    let g = and_parts (nat_lt 35 b) (nat_lt b 127) h.0 in
     (ltb-true 35 b g.0, ltb-true b 127 g.1, from_test bs h.1)
 
 head_word : (h : Head) → IsPlainWord (word_of h)

@@ -12,6 +12,7 @@ use Rattle.std.specs.declared.cmp.Ordering.{Ordering}
 use Rattle.std.specs.declared.cmp.Ordering.TheVariants.{Less}
 use Rattle.std.proofs.lemmas.Map.Lookups.{CmpEqualImpliesEq}
 use Rattle.std.proofs.lemmas.Map.Views.{tells_apart}
+use Rattle.std.proofs.Math.Bool.{or_assoc, or-false}
 
 both_some : {X : Type 0} (x : Option X) (v u : X) → x ≡ Some v → x ≡ Some u → v ≡ u
 both_some None v u e g = absurd cc
@@ -22,16 +23,8 @@ or_move true true c = refl
 or_move true false c = refl
 or_move false b c = refl
 
-or_assoc : (a b c : Bool) → ((a || b) || c) ≡ (a || (b || c))
-or_assoc true b c = refl
-or_assoc false b c = refl
-
 or_move' : (a b c : Bool) → (b || (a || c)) ≡ (a || (b || c))
 or_move' a b c = or_move a b c ∙ or_assoc a b c
-
-or_none : (a : Bool) → (a || false) ≡ a
-or_none true = refl
-or_none false = refl
 
 not_true : (b : Bool) → b ≡ true → not b ≡ true → ⊥
 not_true true e f = cc
@@ -165,7 +158,7 @@ module _ {K X : Type 0} {R : K → K → Ordering} (o : IsTotalOrder R) (exact :
     pub all_put : put_all (maps.empty {R = R}) es ≡ maps.from_entries es
     all_put = same_from _ _
         (each_put (λ q v. maps.get (maps.from_entries es) q ≡ Some v) maps.empty es (nothing_yet _) (each_found es (apart es s)))
-        (λ q. there_put maps.empty es q ∙ ap (λ b. list_any (eq_by_cmp R q) (keys_of es) || is_some b) (maps.get-empty R q) ∙ or_none _ ∙ sym (there_from es q))
+        (λ q. there_put maps.empty es q ∙ ap (λ b. list_any (eq_by_cmp R q) (keys_of es) || is_some b) (maps.get-empty R q) ∙ or-false _ ∙ sym (there_from es q))
 
     -- those that fail a test of the value, and then those that pass it
     module _ (p : X → Bool) where
@@ -210,7 +203,7 @@ module _ {K X : Type 0} {R : K → K → Ordering} (o : IsTotalOrder R) (exact :
       parts_put = same_from _ _
           (each_put (λ q v. maps.get (maps.from_entries es) q ≡ Some v) _ passes (λ q v e. (before q v e).0) (all_weaker (λ g h. h.0) passes found_passing))
           (λ q. there_put (put_all maps.empty fails) passes q
-          ∙ ap (λ b. list_any (eq_by_cmp R q) (keys_of passes) || b) (there_put maps.empty fails q ∙ ap (λ b. list_any (eq_by_cmp R q) (keys_of fails) || is_some b) (maps.get-empty R q) ∙ or_none _)
+          ∙ ap (λ b. list_any (eq_by_cmp R q) (keys_of passes) || b) (there_put maps.empty fails q ∙ ap (λ b. list_any (eq_by_cmp R q) (keys_of fails) || is_some b) (maps.get-empty R q) ∙ or-false _)
           ∙ any_either q es ∙ sym (there_from es q))
 
 -- ---- the same of a set
@@ -230,7 +223,7 @@ module _ {K : Type 0} {R : K → K → Ordering} (o : IsTotalOrder R) (exact : C
   contains_put s (k ∷ ks) q = contains_put (set.insert s k) ks q ∙ ap (λ b. list_any (eq_by_cmp R q) ks || b) (set.contains-insert o s k q) ∙ or_move (eq_by_cmp R q k) (list_any (eq_by_cmp R q) ks) (set.contains s q)
 
   pub each_put_in : (ks : List K) → put_each (set.empty {R = R}) ks ≡ set.from_list ks
-  each_put_in ks = set.same_set o exact _ _ (λ q. contains_put set.empty ks q ∙ ap (λ b. list_any (eq_by_cmp R q) ks || b) (set.contains-empty R q) ∙ or_none _ ∙ sym (set.contains-from_list o ks q))
+  each_put_in ks = set.same_set o exact _ _ (λ q. contains_put set.empty ks q ∙ ap (λ b. list_any (eq_by_cmp R q) ks || b) (set.contains-empty R q) ∙ or-false _ ∙ sym (set.contains-from_list o ks q))
 
   still_out : (s : set.FinSet R) (k : K) (ks : List K) → AllByRecursion (λ q. R k q ≡ Less) ks → AllByRecursion (λ q. set.contains s q ≡ false) ks → AllByRecursion (λ q. set.contains (set.insert s k) q ≡ false) ks
   still_out s k [] a all = tt

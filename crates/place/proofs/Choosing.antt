@@ -2,7 +2,7 @@
 use Rattle.std.proofs.Common.{◌≡◌, ℕ, ◌<◌, ◌≤◌, Bool, true, false, ◌==◌, ◌&&◌, List, [], ◌∷◌, zero, suc, length, get_or, Some, if◌then◌else◌, ◌⊎◌, inl, inr, refl, sym, ap, ◌∙◌, subst, arith, eq-eqb}
 use Rattle.std.specs.List.{AllPairs, Contains}
 use Rattle.std.proofs.lemmas.List.Elements.{All-contains, All-weaker, Contains-append_right}
-use Rattle.std.proofs.lemmas.Bool.{cases_order}
+use Rattle.std.proofs.lemmas.Bool.{cases_order, and_parts}
 use Rattle.hierarchy.specs.declared.Shape.{Shape}
 use Rattle.hierarchy.specs.Shape.{wires_of, nodes_of, ends_of, node_of, parent_of, cross_at, IsLine, IsTap, tap_port, tap_child}
 use Rattle.hierarchy.specs.Defects.{Defects, IsFreeWire}
@@ -20,7 +20,7 @@ use Rattle.place.specs.Choosing.{port_in, HasFreeCross, IsChoice}
 use Rattle.place.proofs.Places.{IsAt-unique, visits_inside}
 use Rattle.place.proofs.Spreads.{above_le, decide_inside}
 use Rattle.place.proofs.Those.{those_unique}
-use Rattle.place.proofs.Shut.{eq_from, both}
+use Rattle.place.proofs.Shut.{eq_from}
 
 -- a port of the net at the node that is in the list is found
 pub port_found : (ps : List Port) (n k w : ℕ) → Contains ps (record { node = n; net = k; wire = w }) → Contains ps (record { node = n; net = k; wire = port_in ps n k })
@@ -45,7 +45,7 @@ port_found (p ∷ ps) n k w has = by ((p.node == n) && (p.net == k)) refl (λ h.
 
     by : (b : Bool) → ((p.node == n) && (p.net == k)) ≡ b → (Contains ps (record { node = n; net = k; wire = w }) → Contains ps (record { node = n; net = k; wire = port_in ps n k })) → Contains (p ∷ ps) (record { node = n; net = k; wire = port_in (p ∷ ps) n k })
     by true e more =
-        let q = both (p.node == n) (p.net == k) e in
+        let q = and_parts (p.node == n) (p.net == k) e in
         let f : port_in (p ∷ ps) n k ≡ p.wire = ap (λ b. if b then p.wire else port_in ps n k) e in
         subst (λ z. Contains (p ∷ ps) (record { node = n; net = k; wire = z })) (sym f) (0, omega arith, same p (eq_from p.node n q.0) (eq_from p.net k q.1))
     by false e more =

@@ -33,9 +33,6 @@ use Rattle.place.proofs.Transfer.{suffices_on, first_on, visits_are_on, held_are
 left_of : (P : ℕ → Type 0) (xs ys : List ℕ) → All P (xs ++ ys) → All P xs
 left_of P xs ys all = left_all P xs ys all
 
-right_of : (P : ℕ → Type 0) (xs ys : List ℕ) → All P (xs ++ ys) → All P ys
-right_of P xs ys all = right_all P xs ys all
-
 joined : (a b : ℕ) (xs us vs : List ℕ) → us ≡ take a xs → vs ≡ take b (drop a xs) → us ++ vs ≡ take (a + b) xs
 joined a b xs us vs e f =
     let x : take a (take (a + b) xs) ≡ take a xs = take-take a (a + b) xs (omega arith) in
@@ -77,7 +74,7 @@ module _ (m : Shape) (d : Defects) (n : Network) (p : Plan) (nets : List (List �
         left all = left_of (λ k. k < pins_of m) p.inputs p.outputs all
     own_tap k w x (drives (source.Table j) is) e = table_tap j 6 x is (omega arith) e
     own_tap k w x (reads j i s l b q) e = table_tap j i x l (let f : length (table_at n j).ins ≤ 6 = network.narrow j no_table l in omega arith) e
-    own_tap k w x (shows o s l q) e = pin_tap p.outputs o x (right_of (λ k. k < pins_of m) p.inputs p.outputs plan.pins_within) (let f = plan.outputs in omega arith) e
+    own_tap k w x (shows o s l q) e = pin_tap p.outputs o x (right_all (λ k. k < pins_of m) p.inputs p.outputs plan.pins_within) (let f = plan.outputs in omega arith) e
 
     pub plan_choice : (ports : List Port) (vs : List Visit) → AreHeld m d (length nets) (HasTerminal nets) (nodes_of m) ports → AreVisits m d (length nets) (HasTerminal nets) (nodes_of m) vs → IsChoice m d (nets_in n) (IsTerminal m n p) ports vs
     plan_choice ports vs held visits = choice_is m d (nets_in n) (IsTerminal m n p) tree parents taps crosses sites (terminal_within m d n p network plan numbered) own_tap ports vs (plan_held ports held) (plan_visited vs visits)

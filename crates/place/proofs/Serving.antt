@@ -6,7 +6,7 @@ use Rattle.std.proofs.lemmas.List.Elements.{All-contains, All-map, All-get_or, A
 use Rattle.std.proofs.lemmas.List.Sums.{length-filter}
 use Rattle.std.proofs.lemmas.List.Kept.{AllPairs-filter}
 use Rattle.std.proofs.lemmas.List.Folds.{Any-from_list_any, list_any-from_Any}
-use Rattle.std.proofs.lemmas.Bool.{cases_order}
+use Rattle.std.proofs.lemmas.Bool.{cases_order, false_from_ne_true}
 use Rattle.hierarchy.specs.declared.Shape.{Shape}
 use Rattle.hierarchy.specs.Shape.{nodes_of, crosses_of, ends_of, node_of, parent_of}
 use Rattle.hierarchy.specs.Defects.{Defects, IsFreeCross}
@@ -22,7 +22,7 @@ use Rattle.place.specs.Room.{HasTerminal, CrossesAt, VisitsAt, IsFreePort, HasPo
 use Rattle.place.specs.Taps.{IsHeld, IsTapAmong, IsBoard, AreAsks, IsAskOf, net_of, IsFreeLine}
 use Rattle.place.specs.Touches.{list_at}
 use Rattle.place.proofs.Ranges.{range_below, in_range}
-use Rattle.place.proofs.Shut.{shut_by, shut_has, free_cross_to, free_cross_from, isnt_false}
+use Rattle.place.proofs.Shut.{shut_by, shut_has, free_cross_to, free_cross_from}
 use Rattle.place.proofs.Stuck.{kept}
 use Rattle.place.proofs.Those.{those_have, those_unique}
 
@@ -105,7 +105,7 @@ module _ (m : Shape) (d : Defects) (nets crossing ports : List (List ℕ)) (boar
 
       serves_from : (i w : ℕ) → i < length asks → Serves m d (length nets) (HasTerminal nets) n (net_at i) w → serves_by D asks i w ≡ true
       unfolding D net_at
-      serves_from i w l is = ap not (isnt_false (list_any (λ u. is_shut D u w) (ask_at asks i).taps) (λ e.
+      serves_from i w l is = ap not (false_from_ne_true (list_any (λ u. is_shut D u w) (ask_at asks i).taps) (λ e.
           let a = Any-from_list_any (λ u. is_shut D u w) (ask_at asks i).taps e in
           let h = shut_has D a.1 w a.4 in
           h.3 (is.crosses a.1 h.0 (tap_to (net_at i) a.1 ((ask_of i l a.1).0 (a.0, a.2, a.3))) h.1 h.2)))

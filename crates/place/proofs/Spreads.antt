@@ -5,7 +5,7 @@ use Rattle.std.specs.List.{All, Contains}
 use Rattle.std.specs.Prelude.{nat_lt}
 use Rattle.std.proofs.lemmas.List.{length-set, get_or-set_same, get_or-set_other, get_or_default, length_push, get_or_push, length-replicate, get_or-replicate}
 use Rattle.std.proofs.lemmas.List.Elements.{All-head, All-tail, Contains-push, Contains-append_right, Contains-push_cases, Contains-append_left}
-use Rattle.std.proofs.lemmas.Bool.{cases_eq, lt-ltb}
+use Rattle.std.proofs.lemmas.Bool.{cases_eq, lt-ltb, and_parts}
 use Rattle.hierarchy.specs.declared.Shape.{Shape}
 use Rattle.hierarchy.specs.Shape.{wires_of, nodes_of, node_of, parent_of, IsAbove, itself, below}
 use Rattle.hierarchy.specs.Laws.{HasParents}
@@ -33,15 +33,11 @@ only_one w k (suc i, lt, e) = absurd (none i lt)
 eq_from : (a b : ℕ) → (a == b) ≡ true → a ≡ b
 eq_from a b e = eqb→eq a b (subst T (sym e) tt)
 
-both : (a b : Bool) → (a && b) ≡ true → (a ≡ true) × (b ≡ true)
-both true b e = (refl, e)
-both false b e = cc
-
 pub last_is : (xs : List ℕ) (k : ℕ) → is_last xs k ≡ true → Contains xs k
 last_is [] k e = cc
 last_is (x ∷ xs) k e =
     let lt : length (x ∷ xs) - 1 < length (x ∷ xs) = omega arith in
-    (length (x ∷ xs) - 1, lt, get_or_default (x ∷ xs) (length (x ∷ xs) - 1) k 0 lt ∙ eq_from (get_or (x ∷ xs) (length (x ∷ xs) - 1) 0) k (both (nat_lt 0 (length (x ∷ xs))) (get_or (x ∷ xs) (length (x ∷ xs) - 1) 0 == k) e).1)
+    (length (x ∷ xs) - 1, lt, get_or_default (x ∷ xs) (length (x ∷ xs) - 1) k 0 lt ∙ eq_from (get_or (x ∷ xs) (length (x ∷ xs) - 1) 0) k (and_parts (nat_lt 0 (length (x ∷ xs))) (get_or (x ∷ xs) (length (x ∷ xs) - 1) 0 == k) e).1)
 
 pushed_last : (xs : List ℕ) (k : ℕ) → is_last (xs ++ k ∷ []) k ≡ true
 pushed_last xs k = and (nat_lt 0 (length (xs ++ k ∷ []))) (get_or (xs ++ k ∷ []) (length (xs ++ k ∷ []) - 1) 0 == k) some (eq-eqb (get_or (xs ++ k ∷ []) (length (xs ++ k ∷ []) - 1) 0) k at)

@@ -8,6 +8,7 @@ use Rattle.std.proofs.lemmas.Nat.Bits.{bit_at_and, bit_at_or, bit_at_not, bit_at
 use Rattle.std.proofs.lemmas.List.{drop_more, drop_all, ext_get_or, length-map, get_or-map}
 use Rattle.std.proofs.lemmas.List.FromFn.{get_or-map-range_with_len, length-map-range_with_len}
 use Rattle.std.proofs.lemmas.Bool.Decides.{nat_tests}
+use Rattle.std.proofs.Math.Bool.{or_assoc, or-false}
 use Rattle.netlist.specs.declared.draft.Lit.{Lit}
 use Rattle.netlist.specs.Covers.{fits, matches, some_matches}
 use Rattle.table_map.specs.declared.want.Want.{Want}
@@ -59,17 +60,9 @@ pub and_assoc : (a b c : Bool) → ((a && b) && c) ≡ (a && (b && c))
 and_assoc true b c = refl
 and_assoc false b c = refl
 
-pub or_assoc : (a b c : Bool) → ((a || b) || c) ≡ (a || (b || c))
-or_assoc true b c = refl
-or_assoc false b c = refl
-
 pub and_true : (a : Bool) → (a && true) ≡ a
 and_true true = refl
 and_true false = refl
-
-pub or_false : (a : Bool) → (a || false) ≡ a
-or_false true = refl
-or_false false = refl
 
 -- the bits of a number that is made of bits
 
@@ -178,7 +171,7 @@ module _ (ws : List Want) (a : ℕ) (few : length ws ≤ 6) (la : a < 64) where
   all_ends k x le old = sym (and_true (cell_at x a)) ∙ ap (λ xs. cell_at x a && every (met xs (drop k (six_bits a)))) (sym (drop_all k ws le)) ∙ old
 
   pub some_ends : (k x : ℕ) → length ws ≤ k → (cell_at x a || any (met (drop k ws) (drop k (six_bits a)))) ≡ any (met ws (six_bits a)) → cell_at x a ≡ any (met ws (six_bits a))
-  some_ends k x le old = sym (or_false (cell_at x a)) ∙ ap (λ xs. cell_at x a || any (met xs (drop k (six_bits a)))) (sym (drop_all k ws le)) ∙ old
+  some_ends k x le old = sym (or-false (cell_at x a)) ∙ ap (λ xs. cell_at x a || any (met xs (drop k (six_bits a)))) (sym (drop_all k ws le)) ∙ old
 
 -- names
 
@@ -240,4 +233,4 @@ module _ (rows : List (List Lit)) (bits : List Bool) where
       ∙ old
 
   pub rows_end : (k x a : ℕ) → length rows ≤ k → (cell_at x a || some_matches (drop k rows) bits) ≡ some_matches rows bits → cell_at x a ≡ some_matches rows bits
-  rows_end k x a le old = sym (or_false (cell_at x a)) ∙ ap (λ xs. cell_at x a || some_matches xs bits) (sym (drop_all k rows le)) ∙ old
+  rows_end k x a le old = sym (or-false (cell_at x a)) ∙ ap (λ xs. cell_at x a || some_matches xs bits) (sym (drop_all k rows le)) ∙ old
