@@ -75,7 +75,8 @@ pub data Takes (m : Shape) (f : Faults) (x : Fault) (g : Faults) : Type 0 where
 -- the faults after so many turns from the number n
 pub data AfterTurns (m : Shape) (n : ℕ) : ℕ → Faults → Type 0 where
   none : AfterTurns m n zero no_faults
-  turn : {turns : ℕ} {f g : Faults} → AfterTurns m n turns f → Takes m f (fault_of_turn m (turn_state n turns)) g → AfterTurns m n (suc turns) g
+  turn : {turns : ℕ} {f g : Faults} → AfterTurns m n turns f → Takes m f (fault_of_turn m (turn_state n turns)) g →
+      AfterTurns m n (suc turns) g
 
 -- the faults that the number n makes for this shape
 abbrev pub AreBenchFaults : Shape → ℕ → Faults → Type 0

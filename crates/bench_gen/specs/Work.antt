@@ -5,7 +5,8 @@ use Rattle.std.specs.Fmt.{decimal}
 use Rattle.hierarchy.specs.declared.Counts.{Counts}
 
 abbrev pub bench_counts : Counts
-bench_counts = record { modules = 2; chips = 2; hextants = 4; tables = 8; ports = 24 ∷ 24 ∷ 24 ∷ []; lines = 32 ∷ 32 ∷ 32 ∷ 32 ∷ []; pins = 28 }
+bench_counts =
+    record { modules = 2; chips = 2; hextants = 4; tables = 8; ports = 24 ∷ 24 ∷ 24 ∷ []; lines = 32 ∷ 32 ∷ 32 ∷ 32 ∷ []; pins = 28 }
 
 abbrev pub line : List ℕ → List ℕ
 line text = text ++ 10 ∷ []

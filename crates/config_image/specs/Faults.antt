@@ -1,6 +1,7 @@
 -- The first fault of the bytes of an image. The fields stand in order; each is faulty, or it is right and
 -- what is behind it is looked at.
-use Rattle.std.specs.Prelude.{◌≡◌, ℕ, zero, suc, ◌+◌, ◌^◌, ◌<◌, ◌==◌, ◌&&◌, nat_lt, nat_le, if◌then◌else◌, List, [], ◌∷◌, ◌++◌, length, drop, codes, Option, Some, None}
+use Rattle.std.specs.Prelude.{◌≡◌, ℕ, zero, suc, ◌+◌, ◌^◌, ◌<◌, ◌==◌, ◌&&◌, nat_lt, nat_le, if◌then◌else◌, List, [], ◌∷◌, ◌++◌, length}
+use Rattle.std.specs.Prelude.{drop, codes, Option, Some, None}
 use Rattle.std.specs.List.{list_any}
 use Rattle.byteorder.specs.Endian.{big_bytes, big_number}
 use Rattle.hierarchy.specs.declared.Shape.{Shape}
@@ -14,7 +15,8 @@ Stands size n bytes at = (n < 256 ^ size) × (drop at bytes ≡ big_bytes size n
 
 -- The first fault is that of the field at a place, or the field is right and the fault is behind it. A field
 -- that isn't there whole is cut off, at the number of bytes.
-pub data InField (bytes : List ℕ) (line : ℕ) (fault : ImageKind) (at size : ℕ) (fault_of : ℕ → Option ImageKind) (Behind : ℕ → Type 0) : Type 0 where
+pub data InField (bytes : List ℕ) (line : ℕ) (fault : ImageKind) (at size : ℕ) (fault_of : ℕ → Option ImageKind)
+    (Behind : ℕ → Type 0) : Type 0 where
   cut : length bytes < at + size → line ≡ length bytes → fault ≡ kind.Short → InField bytes line fault at size fault_of Behind
   wrong : (n : ℕ) → Stands size n bytes at → fault_of n ≡ Some fault → line ≡ at → InField bytes line fault at size fault_of Behind
   behind : (n : ℕ) → Stands size n bytes at → fault_of n ≡ None → Behind n → InField bytes line fault at size fault_of Behind
@@ -103,7 +105,8 @@ InCounts m bytes line fault at (c ∷ cs) =
 
 -- the machine's counts, in the order in which they are written
 abbrev pub counts_of : Shape → List ℕ
-counts_of m = m.counts.modules ∷ m.counts.chips ∷ m.counts.hextants ∷ m.counts.tables ∷ (m.counts.ports ++ (m.counts.lines ++ (m.counts.pins ∷ [])))
+counts_of m = m.counts.modules ∷ m.counts.chips ∷ m.counts.hextants ∷ m.counts.tables ∷
+    (m.counts.ports ++ (m.counts.lines ++ (m.counts.pins ∷ [])))
 
 -- the whole
 abbrev pub InImage : Shape → List ℕ → ℕ → ImageKind → Type 0

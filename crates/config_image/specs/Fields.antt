@@ -20,7 +20,8 @@ pub record IsField (size : ℕ) (fault_of : ℕ → Option ImageKind) (bytes : L
 -- a field is refused as cut off, or for the number that stands there
 pub data IsRefusedField (size : ℕ) (fault_of : ℕ → Option ImageKind) (bytes : List ℕ) (at : ℕ) (fault : ImageFault) : Type 0 where
   is_cut : IsCut size bytes at fault → IsRefusedField size fault_of bytes at fault
-  is_wrong : (n : ℕ) (k : ImageKind) → Stands size n bytes at → fault_of n ≡ Some k → fault ≡ At at k → IsRefusedField size fault_of bytes at fault
+  is_wrong : (n : ℕ) (k : ImageKind) → Stands size n bytes at → fault_of n ≡ Some k → fault ≡ At at k →
+      IsRefusedField size fault_of bytes at fault
 
 -- a fault has this place and kind; of want of memory nothing is said
 abbrev pub FaultIn : (ℕ → ImageKind → Type 0) → ImageFault → Type 0

@@ -1,5 +1,6 @@
 -- Images: a configuration with its input pins and its output pins, and their bytes.
-use Rattle.std.specs.Prelude.{◌≡◌, ◌≢◌, ℕ, ◌+◌, ◌<◌, ◌≤◌, ◌==◌, Bool, true, if◌then◌else◌, List, [], ◌∷◌, ◌++◌, map, length, codes, Option, Some, None, slice_index_or, All, AllPairs, ◌⊎◌, refl}
+use Rattle.std.specs.Prelude.{◌≡◌, ◌≢◌, ℕ, ◌+◌, ◌<◌, ◌≤◌, ◌==◌, Bool, true, if◌then◌else◌, List, [], ◌∷◌, ◌++◌, map, length, codes, Option}
+use Rattle.std.specs.Prelude.{Some, None, slice_index_or, All, AllPairs, ◌⊎◌, refl}
 use Rattle.std.specs.List.{range_with_len, flat_map}
 use Rattle.std.specs.FinSet as set
 use Rattle.std.specs.Coded.{Coded, code_by, coded×, coded_ℕ, coded_list}
@@ -30,7 +31,8 @@ pub record IsImage (i : ImageValue) : Type 0 where
 
 -- codes, by which a proof tells these values apart
 abbrev pub coded_image : Coded ImageValue
-coded_image = code_by (Configuration × (List ℕ × List ℕ)) (coded× coded_configuration (coded× (coded_list coded_ℕ) (coded_list coded_ℕ))) (λ i. (i.config, (i.inputs, i.outputs))) (λ p. record { config = p.0; inputs = p.1.0; outputs = p.1.1 }) (λ _. refl)
+coded_image = code_by (Configuration × (List ℕ × List ℕ)) (coded× coded_configuration (coded× (coded_list coded_ℕ) (coded_list coded_ℕ)))
+    (λ i. (i.config, (i.inputs, i.outputs))) (λ p. record { config = p.0; inputs = p.1.0; outputs = p.1.1 }) (λ _. refl)
 
 -- ---- drives and rows
 
@@ -98,11 +100,13 @@ unfoldable pub IsFirstImageFault : Shape → List ℕ → ℕ → ImageKind → 
 IsFirstImageFault m bytes line kind = InImage m bytes line kind
 
 abbrev pub IsImageFault : Shape → List ℕ → ℕ → ImageKind → Type 0
-IsImageFault m bytes line kind = ((16777216 < length bytes) × ((line ≡ 0) × (kind ≡ Limit))) ⊎ ((length bytes ≤ 16777216) × IsFirstImageFault m bytes line kind)
+IsImageFault m bytes line kind = ((16777216 < length bytes) × ((line ≡ 0) × (kind ≡ Limit)))
+    ⊎ ((length bytes ≤ 16777216) × IsFirstImageFault m bytes line kind)
 
 abbrev pub IsRefusedAs : Shape → List ℕ → ImageFault → Type 0
 IsRefusedAs m bytes Memory = Unit {0}
-IsRefusedAs m bytes (At line kind) = IsImageFault m bytes line kind × ((i : ImageValue) → IsImage i → i.config.shape ≡ m → image_bytes i ≡ bytes → length bytes ≤ 16777216 → ⊥)
+IsRefusedAs m bytes (At line kind) = IsImageFault m bytes line kind
+    × ((i : ImageValue) → IsImage i → i.config.shape ≡ m → image_bytes i ≡ bytes → length bytes ≤ 16777216 → ⊥)
 
 -- the bytes are the one spelling of this image, and of no other
 pub record Reads (m : Shape) (bytes : List ℕ) (i : ImageValue) : Type 0 where

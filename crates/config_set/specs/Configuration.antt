@@ -1,5 +1,6 @@
 -- A configuration: what is set on a machine.
-use Rattle.std.specs.Prelude.{◌≡◌, ℕ, ◌^◌, ◌<◌, ◌≤◌, Bool, true, false, ◌==◌, Option, None, List, All, IfSome, length, if◌then◌else◌, slice_index_or, slice_set, bit_xor, replicate, refl}
+use Rattle.std.specs.Prelude.{◌≡◌, ℕ, ◌^◌, ◌<◌, ◌≤◌, Bool, true, false, ◌==◌, Option, None, List, All, IfSome, length, if◌then◌else◌}
+use Rattle.std.specs.Prelude.{slice_index_or, slice_set, bit_xor, replicate, refl}
 use Rattle.std.specs.Int.{bit_at}
 use Rattle.std.specs.Ordering.{nat_cmp}
 use Rattle.std.specs.FinSet as set
@@ -75,10 +76,15 @@ with_init s b = record s { init = b }
 
 -- codes, by which a proof tells these values apart
 abbrev pub coded_setting : Coded Setting
-coded_setting = code_by (ℕ × (Bool × Bool)) (coded× coded_ℕ (coded× coded_bool coded_bool)) (λ s. (s.cells, (s.latched, s.init))) (λ p. record { cells = p.0; latched = p.1.0; init = p.1.1 }) (λ _. refl)
+coded_setting = code_by (ℕ × (Bool × Bool)) (coded× coded_ℕ (coded× coded_bool coded_bool)) (λ s. (s.cells, (s.latched, s.init)))
+    (λ p. record { cells = p.0; latched = p.1.0; init = p.1.1 }) (λ _. refl)
 
 abbrev pub coded_configuration : Coded Configuration
-coded_configuration = code_by ((Shape × ℕ) × (set.FinSet nat_cmp × List (Option Setting))) (coded× (coded× shape.the_row.coded coded_ℕ) (coded× (set.code coded_ℕ) (coded_list (coded_option coded_setting)))) (λ g. ((g.shape, g.ticks), (g.closed, g.tables))) (λ p. record { shape = p.0.0; ticks = p.0.1; closed = p.1.0; tables = p.1.1 }) (λ _. refl)
+coded_configuration = code_by ((Shape × ℕ) × (set.FinSet nat_cmp × List (Option Setting)))
+    (coded× (coded× shape.the_row.coded coded_ℕ) (coded× (set.code coded_ℕ) (coded_list (coded_option coded_setting))))
+    (λ g. ((g.shape, g.ticks), (g.closed, g.tables))) (λ p. record { shape = p.0.0; ticks = p.0.1; closed = p.1.0; tables = p.1.1 })
+    (λ _. refl)
 
 abbrev pub coded_roomy : Coded Roomy
-coded_roomy = code_by (Configuration × ℕ) (coded× coded_configuration coded_ℕ) (λ r. (r.config, r.spare)) (λ p. record { config = p.0; spare = p.1 }) (λ _. refl)
+coded_roomy = code_by (Configuration × ℕ) (coded× coded_configuration coded_ℕ) (λ r. (r.config, r.spare))
+    (λ p. record { config = p.0; spare = p.1 }) (λ _. refl)

@@ -1,6 +1,7 @@
 -- How a configuration is kept: its closed crosspoints as marks and as a list, its tables in place and,
 -- those that are on, as a list.
-use Rattle.std.specs.Prelude.{◌≡◌, ℕ, ◌≤◌, Bool, false, ◌==◌, Option, None, List, length, map, if◌then◌else◌, slice_index_or, is_some, vec_len, count_by}
+use Rattle.std.specs.Prelude.{◌≡◌, ℕ, ◌≤◌, Bool, false, ◌==◌, Option, None, List, length, map, if◌then◌else◌, slice_index_or, is_some}
+use Rattle.std.specs.Prelude.{vec_len, count_by}
 use Rattle.std.specs.Vec.{vec_capacity}
 use Rattle.std.specs.Ordering.{nat_cmp}
 use Rattle.std.specs.FinSet as set

@@ -45,7 +45,8 @@ after_edge c value outputs t = edge_output (c.table t) (address_at c value t) (o
 -- n ticks lead from the outputs before to the outputs after
 pub data Ticks (c : Circuit) (drive : Pins) (before : Outputs) : ℕ → Outputs → Type 0 where
   unticked : Ticks c drive before zero before
-  tick : {n : ℕ} {mid after : Outputs} (value : ℕ → Bool) → Ticks c drive before n mid → AreValues c drive mid value → after ≡ after_tick c value mid → Ticks c drive before (suc n) after
+  tick : {n : ℕ} {mid after : Outputs} (value : ℕ → Bool) → Ticks c drive before n mid → AreValues c drive mid value →
+      after ≡ after_tick c value mid → Ticks c drive before (suc n) after
 
 -- one cycle: the ticks, the reading, and the clock edge
 pub record Cycle (c : Circuit) (before : Outputs) (drive read : Pins) (after : Outputs) : Type 0 where
@@ -59,7 +60,8 @@ pub record Cycle (c : Circuit) (before : Outputs) (drive read : Pins) (after : O
 -- under these drives the circuit gives these readings, from the outputs before to the outputs after
 pub data Cycles (c : Circuit) : Outputs → List Pins → List Pins → Outputs → Type 0 where
   none : {outputs : Outputs} → Cycles c outputs [] [] outputs
-  cycle : {before mid after : Outputs} {drive read : Pins} {drives reads : List Pins} → Cycle c before drive read mid → Cycles c mid drives reads after → Cycles c before (drive ∷ drives) (read ∷ reads) after
+  cycle : {before mid after : Outputs} {drive read : Pins} {drives reads : List Pins} → Cycle c before drive read mid →
+      Cycles c mid drives reads after → Cycles c before (drive ∷ drives) (read ∷ reads) after
 
 -- after a load the circuit gives these readings under these drives
 pub record Runs (c : Circuit) (drives reads : List Pins) : Type 0 where

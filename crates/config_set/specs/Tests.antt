@@ -80,14 +80,16 @@ pub record IsCellTest (f : Faults) (g : Configuration) (t a : ℕ) (s : Setting)
   pub k_left : left (pin_wire g.shape k) ≡ true
   pub l_right : right (pin_wire g.shape l) ≡ true
   pub inputs : (j : ℕ) → j < 6 →
-      ((bits j ≡ false) × (left (table_wire g.shape t j) ≡ true) × Joined (net_of g.shape f (is_closed g)) (table_wire g.shape t j) (pin_wire g.shape k)) ⊎
+      ((bits j ≡ false) × (left (table_wire g.shape t j) ≡ true)
+          × Joined (net_of g.shape f (is_closed g)) (table_wire g.shape t j) (pin_wire g.shape k)) ⊎
       ((bits j ≡ true) × IsLoose g.shape f left right (table_wire g.shape t j))
   pub number : number_of (map bits (range_with_len 0 6)) ≡ a
   pub led : Joined (net_of g.shape f (is_closed g)) (pin_wire g.shape l) (table_wire g.shape t 6)
 
 -- One table is on and latched, and its register isn't stuck. Its output is led to the right pin, and each pin that is
 -- driven 0 is in the left group.
-pub record IsRegisterTest (f : Faults) (g : Configuration) (t : ℕ) (s : Setting) (left right : ℕ → Bool) (drive : Pins) (l : ℕ) : Type 0 where
+pub record IsRegisterTest (f : Faults) (g : Configuration) (t : ℕ) (s : Setting) (left right : ℕ → Bool) (drive : Pins)
+    (l : ℕ) : Type 0 where
   pub on : setting_of g t ≡ Some s
   pub off : (u : ℕ) → u ≢ t → setting_of g u ≡ None
   pub latched : s.latched ≡ true

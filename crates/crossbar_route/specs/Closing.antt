@@ -49,5 +49,6 @@ IsOwnedJoint m lines owners i x = (t : ℕ) × (t < i) × IsJointAt m lines owne
 pub record SwitchesOn (seats : List Table) (tables : List NetTable) (n : ℕ) (old new : Configuration) : Type 0 where
   pub sized : length new.tables ≡ length old.tables
   pub on : (j : ℕ) → j < n → setting_of new (slice_index_or seats j no_seat).0 ≡ Some (setting_in (slice_index_or tables j no_table))
-  pub others : (t : ℕ) → IsSome (setting_of new t) → IsSome (setting_of old t) ⊎ ((j : ℕ) × (j < n) × ((slice_index_or seats j no_seat).0 ≡ t))
+  pub others : (t : ℕ) → IsSome (setting_of new t) → IsSome (setting_of old t)
+      ⊎ ((j : ℕ) × (j < n) × ((slice_index_or seats j no_seat).0 ≡ t))
   pub rest : new ≡ record old { tables = new.tables }

@@ -23,7 +23,8 @@ use Rattle.crossbar_route.specs.Ticks.{AreTicks}
 use Rattle.crossbar_route.specs.Trees.{IsLaidOnTree}
 
 -- the terminals of the plan's nets, and the ports and the lines of the nets
-pub record IsLaidBy (m : Shape) (d : Defects) (n : Network) (p : Plan) (nets : List (List ℕ)) (ports : List Port) (visits : List Visit) : Type 0 where
+pub record IsLaidBy (m : Shape) (d : Defects) (n : Network) (p : Plan) (nets : List (List ℕ)) (ports : List Port)
+    (visits : List Visit) : Type 0 where
   pub nets_are : ArePlanNets m n p nets
   pub held : AreHeld m d (nets_in n) (IsTerminal m n p) (nodes_of m) ports
   pub visited : AreVisits m d (nets_in n) (IsTerminal m n p) (nodes_of m) visits
@@ -47,7 +48,8 @@ pub record IsJoined (m : Shape) (nets : List (List ℕ)) (ports : List Port) (vi
   pub closed : Closes (IsOwnedJoint m lines owners (wires_of m)) (2 * wires_of m) (cleared m) g
 
 -- the network's tables are on, its nets are laid on these ports and lines, and not many crosspoints are closed
-pub record IsRouted (m : Shape) (d : Defects) (n : Network) (p : Plan) (ports : List Port) (visits : List Visit) (g : Configuration) : Type 0 where
+pub record IsRouted (m : Shape) (d : Defects) (n : Network) (p : Plan) (ports : List Port) (visits : List Visit)
+    (g : Configuration) : Type 0 where
   pub shape : g.shape ≡ m
   pub sets : IsSet d n p g
   pub laid : IsLaidOnTree m (IsTerminal m n p) (is_closed g) (HasLine visits) (HasPortIn ports)

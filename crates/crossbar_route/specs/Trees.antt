@@ -23,7 +23,8 @@ pub record IsLaidOnTree (m : Shape) (terminal : ℕ → ℕ → Type 0) (closed 
   pub ports : (n k w : ℕ) → port n k w → IsPort m n w
   pub ports_apart : (n k l w : ℕ) → port n k w → port n l w → k ≡ l
   pub closes : (n k w t : ℕ) → line n k w → IsNetTap m terminal port n k t → (x : ℕ) × (closed x ≡ true) × (ends_of m x ≡ (t, w))
-  pub only : (x : ℕ) → closed x ≡ true → (n : ℕ) × (k : ℕ) × (w : ℕ) × (t : ℕ) × line n k w × IsNetTap m terminal port n k t × (ends_of m x ≡ (t, w))
+  pub only : (x : ℕ) → closed x ≡ true → (n : ℕ) × (k : ℕ) × (w : ℕ) × (t : ℕ) × line n k w × IsNetTap m terminal port n k t
+      × (ends_of m x ≡ (t, w))
 
 -- the wires of a net
 pub data IsOfNet (terminal : ℕ → ℕ → Type 0) (line port : ℕ → ℕ → ℕ → Type 0) (k w : ℕ) : Type 0 where

@@ -9,7 +9,8 @@ pub record Logged : Type 0 where
   pub room : ℕ
 
 abbrev pub coded_logged : Coded Logged
-coded_logged = code_by (List Bool × ℕ) (coded× (coded_list coded_bool) coded_ℕ) (λ l. (l.bits, l.room)) (λ p. record { bits = p.0; room = p.1 }) (λ _. refl)
+coded_logged = code_by (List Bool × ℕ) (coded× (coded_list coded_bool) coded_ℕ) (λ l. (l.bits, l.room))
+    (λ p. record { bits = p.0; room = p.1 }) (λ _. refl)
 
 -- a bit of the blocks, each of 4,096 bits
 abbrev pub bit_in : List (List Bool) → ℕ → Bool

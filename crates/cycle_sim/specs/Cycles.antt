@@ -35,24 +35,28 @@ pub record IsTick (f : Faults) (knots : List Knot) (low_pins : List Bool) (old n
 -- so many ticks lead from the one list of tables to the other
 pub data HaveTicked (f : Faults) (knots : List Knot) (low_pins : List Bool) (old : List Gate) : ℕ → List Gate → Type 0 where
   not_yet : HaveTicked f knots low_pins old zero old
-  once_more : {n : ℕ} {mid new : List Gate} → HaveTicked f knots low_pins old n mid → IsTick f knots low_pins mid new → HaveTicked f knots low_pins old (suc n) new
+  once_more : {n : ℕ} {mid new : List Gate} → HaveTicked f knots low_pins old n mid → IsTick f knots low_pins mid new →
+      HaveTicked f knots low_pins old (suc n) new
 
 -- the reading, and the tables after the clock edge
-pub record IsEdge (f : Faults) (knots : List Knot) (low_pins low_tables : List Bool) (pins : List ℕ) (read : Pins) (old new : List Gate) : Type 0 where
+pub record IsEdge (f : Faults) (knots : List Knot) (low_pins low_tables : List Bool) (pins : List ℕ) (read : Pins)
+    (old new : List Gate) : Type 0 where
   pub marks : List Bool
   pub marked : AreMarkedToo low_tables marks (IsPulledBy old (length old))
   pub reads : read ≡ map (level_at knots low_pins marks) pins
   pub next : new ≡ map (clocked f (level_at knots low_pins marks)) old
 
 -- the tables after some ticks of a cycle
-pub record HasTicked (f : Faults) (g : Configuration) (root : ℕ → ℕ) (knots : List Knot) (pins : List ℕ) (drive : Pins) (n : ℕ) (before : Outputs) (gates : List Gate) : Type 0 where
+pub record HasTicked (f : Faults) (g : Configuration) (root : ℕ → ℕ) (knots : List Knot) (pins : List ℕ) (drive : Pins) (n : ℕ)
+    (before : Outputs) (gates : List Gate) : Type 0 where
   pub outputs : Outputs
   pub ticks : Ticks (circuit_of f g) drive before n outputs
   pub wired : IsWired f g root knots pins gates
   pub gives : AreOutputs g gates outputs
 
 -- and after the whole cycle
-pub record HasCycled (f : Faults) (g : Configuration) (root : ℕ → ℕ) (knots : List Knot) (pins : List ℕ) (drive read : Pins) (before : Outputs) (gates : List Gate) : Type 0 where
+pub record HasCycled (f : Faults) (g : Configuration) (root : ℕ → ℕ) (knots : List Knot) (pins : List ℕ) (drive read : Pins)
+    (before : Outputs) (gates : List Gate) : Type 0 where
   pub outputs : Outputs
   pub cycle : Cycle (circuit_of f g) before drive read outputs
   pub wired : IsWired f g root knots pins gates

@@ -1,5 +1,6 @@
 -- The switched-on tables of a loaded machine, and what its wires are at a tick.
-use Rattle.std.specs.Prelude.{◌≡◌, ◌⊎◌, ℕ, ◌<◌, ◌≤◌, Bool, true, false, not, ◌||◌, if◌then◌else◌, Option, Some, None, IsSome, List, length, map, slice_index, slice_index_or, unwrap_or, All}
+use Rattle.std.specs.Prelude.{◌≡◌, ◌⊎◌, ℕ, ◌<◌, ◌≤◌, Bool, true, false, not, ◌||◌, if◌then◌else◌, Option, Some, None, IsSome, List, length}
+use Rattle.std.specs.Prelude.{map, slice_index, slice_index_or, unwrap_or, All}
 use Rattle.std.specs.List.{range_with_len}
 use Rattle.hierarchy.specs.Shape.{table_wire, tables_of}
 use Rattle.hierarchy.specs.Circuit.{Outputs, Pins}
@@ -39,7 +40,8 @@ abbrev pub ticked : Faults → (ℕ → Bool) → Gate → Gate
 ticked f level gate = record gate { output = if gate.setting.latched then gate.output else cell_by f gate (address_by level gate.ins) }
 
 abbrev pub clocked : Faults → (ℕ → Bool) → Gate → Gate
-clocked f level gate = record gate { output = if gate.setting.latched then unwrap_or gate.held (cell_by f gate (address_by level gate.ins)) else gate.output }
+clocked f level gate = record gate { output = if gate.setting.latched then unwrap_or gate.held
+    (cell_by f gate (address_by level gate.ins)) else gate.output }
 
 -- a table as the code keeps it
 pub record IsGate (f : Faults) (g : Configuration) (root : ℕ → ℕ) (gate : Gate) : Type 0 where

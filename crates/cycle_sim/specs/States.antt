@@ -15,13 +15,16 @@ pub record SimState : Type 0 where
 
 -- codes, by which a proof tells these values apart
 abbrev pub coded_exchange : Coded Exchange
-coded_exchange = code_by (List Bool × List Bool) (coded× (coded_list coded_bool) (coded_list coded_bool)) (λ e. (e.drive, e.reading)) (λ p. record { drive = p.0; reading = p.1 }) (λ _. refl)
+coded_exchange = code_by (List Bool × List Bool) (coded× (coded_list coded_bool) (coded_list coded_bool)) (λ e. (e.drive, e.reading))
+    (λ p. record { drive = p.0; reading = p.1 }) (λ _. refl)
 
 abbrev pub coded_session : Coded Session
-coded_session = code_by (Configuration × (List Exchange × ℕ)) (coded× coded_configuration (coded× (coded_list coded_exchange) coded_ℕ)) (λ s. (s.config, (s.cycles, s.spare))) (λ p. record { config = p.0; cycles = p.1.0; spare = p.1.1 }) (λ _. refl)
+coded_session = code_by (Configuration × (List Exchange × ℕ)) (coded× coded_configuration (coded× (coded_list coded_exchange) coded_ℕ))
+    (λ s. (s.config, (s.cycles, s.spare))) (λ p. record { config = p.0; cycles = p.1.0; spare = p.1.1 }) (λ _. refl)
 
 abbrev pub coded_sim : Coded SimState
-coded_sim = code_by (Faulty × Option Session) (coded× coded_faulty (coded_option coded_session)) (λ s. (s.machine, s.session)) (λ p. record { machine = p.0; session = p.1 }) (λ _. refl)
+coded_sim = code_by (Faulty × Option Session) (coded× coded_faulty (coded_option coded_session)) (λ s. (s.machine, s.session))
+    (λ p. record { machine = p.0; session = p.1 }) (λ _. refl)
 
 -- the session goes on by a cycle, takes at most one place of its room, and its readings are the run
 pub record GoesOnFrom (f : Faults) (drive read : Pins) (old new : Session) : Type 0 where

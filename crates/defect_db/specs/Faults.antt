@@ -1,5 +1,6 @@
 -- Which fault a text has, and where.
-use Rattle.std.specs.Prelude.{◌≡◌, ◌≢◌, ◌⊎◌, ℕ, ◌+◌, ◌<◌, ◌≤◌, ◌==◌, Bool, true, not, ◌&&◌, List, [], ◌∷◌, ◌++◌, length, codes, Result, Ok, Err}
+use Rattle.std.specs.Prelude.{◌≡◌, ◌≢◌, ◌⊎◌, ℕ, ◌+◌, ◌<◌, ◌≤◌, ◌==◌, Bool, true, not, ◌&&◌, List, [], ◌∷◌, ◌++◌, length, codes, Result, Ok}
+use Rattle.std.specs.Prelude.{Err}
 use Rattle.std.specs.List.{list_all, AllByRecursion}
 use Rattle.hierarchy.specs.declared.Shape.{Shape}
 use Rattle.tm_text.specs.Written.{written, written_line}
@@ -10,7 +11,8 @@ use Rattle.defect_db.specs.declared.kind.DefectsKind.TheVariants.{Word, Order, N
 use Rattle.defect_db.specs.declared.kind.DefectsFault.{DefectsFault}
 use Rattle.defect_db.specs.declared.kind.DefectsFault.TheVariants.{At, Memory}
 use Rattle.defect_db.specs.Lists.{DefectList, IsDefectList, no_defects}
-use Rattle.defect_db.specs.Text.{IsEntryOf, IsFreeEntry, words_of, is_before, entries_of, counts_of, first_row, shape_row, end_row, rows_of, text_of}
+use Rattle.defect_db.specs.Text.{IsEntryOf, IsFreeEntry, words_of, is_before, entries_of, counts_of, first_row, shape_row, end_row, rows_of}
+use Rattle.defect_db.specs.Text.{text_of}
 
 -- a byte that is neither a space nor the end of a line
 abbrev pub is_inner : ℕ → Bool
@@ -47,10 +49,14 @@ pub record IsBeforeLast (e : Entry) (d : DefectList) : Type 0 where
 -- what is wrong with the first line of the bytes that are left, where so many lines stand above, which list these defects
 pub data IsLineFault (d : DefectList) (above : ℕ) (left : List ℕ) : DefectsKind → Type 0 where
   formless : ((row : List (List ℕ)) (more : List ℕ) → IsForm above row → left ≢ written_line row ++ more) → IsLineFault d above left Word
-  other_machine : (ns more : List ℕ) → above ≡ 1 → AreCounts ns → left ≡ written_line (shape_row ns) ++ more → ns ≢ counts_of d.shape.counts → IsLineFault d above left WrongMachine
-  nameless : (row : List (List ℕ)) (more : List ℕ) → 2 ≤ above → IsEntryForm row → left ≡ written_line row ++ more → ((e : Entry) → IsEntryOf d.shape e → words_of d.shape e ≢ row) → IsLineFault d above left Name
-  earlier : (e : Entry) (more : List ℕ) → 2 ≤ above → IsEntryOf d.shape e → left ≡ written_line (words_of d.shape e) ++ more → IsBeforeLast e d → IsLineFault d above left Order
-  again : (e : Entry) (more : List ℕ) → 2 ≤ above → IsEntryOf d.shape e → left ≡ written_line (words_of d.shape e) ++ more → ¬ IsBeforeLast e d → ¬ IsFreeEntry d e → IsLineFault d above left Doubled
+  other_machine : (ns more : List ℕ) → above ≡ 1 → AreCounts ns → left ≡ written_line (shape_row ns) ++ more →
+      ns ≢ counts_of d.shape.counts → IsLineFault d above left WrongMachine
+  nameless : (row : List (List ℕ)) (more : List ℕ) → 2 ≤ above → IsEntryForm row → left ≡ written_line row ++ more →
+      ((e : Entry) → IsEntryOf d.shape e → words_of d.shape e ≢ row) → IsLineFault d above left Name
+  earlier : (e : Entry) (more : List ℕ) → 2 ≤ above → IsEntryOf d.shape e → left ≡ written_line (words_of d.shape e) ++ more →
+      IsBeforeLast e d → IsLineFault d above left Order
+  again : (e : Entry) (more : List ℕ) → 2 ≤ above → IsEntryOf d.shape e → left ≡ written_line (words_of d.shape e) ++ more →
+      ¬ IsBeforeLast e d → ¬ IsFreeEntry d e → IsLineFault d above left Doubled
 
 -- the lines at the beginning of a text of this machine that has no fault so far, and what they list
 pub data AreAbove (m : Shape) : DefectList → List (List (List ℕ)) → Type 0 where

@@ -1,11 +1,13 @@
 -- How a list of defects is kept: by marks and counts.
-use Rattle.std.specs.Prelude.{◌≡◌, ◌⊎◌, ℕ, ◌+◌, ◌<◌, ◌==◌, if◌then◌else◌, slice_set, Bool, true, false, not, ◌&&◌, ◌||◌, Option, Some, None, List, length, slice_index_or}
+use Rattle.std.specs.Prelude.{◌≡◌, ◌⊎◌, ℕ, ◌+◌, ◌<◌, ◌==◌, if◌then◌else◌, slice_set, Bool, true, false, not, ◌&&◌, ◌||◌, Option, Some, None}
+use Rattle.std.specs.Prelude.{List, length, slice_index_or}
 use Rattle.std.specs.FinSet as set
 use Rattle.std.specs.Ordering.{nat_cmp}
 use Rattle.tm_bits.specs.Numbers.{has_number}
 use Rattle.hierarchy.specs.declared.Shape.{Shape}
 use Rattle.hierarchy.specs.declared.Table.{Table}
-use Rattle.hierarchy.specs.Shape.{wires_of, crosses_of, tables_of, nodes_of, lines_of, own_ports_of, pins_of, ends_of, table_wire, line_at, port_at, pin_wire, parent_of}
+use Rattle.hierarchy.specs.Shape.{wires_of, crosses_of, tables_of, nodes_of, lines_of, own_ports_of, pins_of, ends_of, table_wire, line_at}
+use Rattle.hierarchy.specs.Shape.{port_at, pin_wire, parent_of}
 use Rattle.defect_db.specs.declared.kept.Kept.{Kept}
 use Rattle.defect_db.specs.Lists.{DefectList, those, how_many, all_below, touches_cross}
 
@@ -74,13 +76,15 @@ list_in k = listed_by (marks_in k)
 -- the owner of each wire is the table whose pin it is
 pub record AreOwners (m : Shape) (owners : List (Option Table)) : Type 0 where
   pub owned : (t k : ℕ) → t < tables_of m → k < 7 → slice_index_or owners (table_wire m t k) None ≡ Some (record { 0 = t })
-  pub others : (w : ℕ) (t : Table) → slice_index_or owners w None ≡ Some t → (t.0 < tables_of m) × ((k : ℕ) × (k < 7) × (table_wire m t.0 k ≡ w))
+  pub others : (w : ℕ) (t : Table) → slice_index_or owners w None ≡ Some t → (t.0 < tables_of m)
+      × ((k : ℕ) × (k < 7) × (table_wire m t.0 k ≡ w))
 
 -- the first i pins of a table have it as owner, and of the tables before it all; no other wire has an owner
 pub record AreOwnersBefore (m : Shape) (n i : ℕ) (owners : List (Option Table)) : Type 0 where
   pub earlier : (t k : ℕ) → t < n → k < 7 → slice_index_or owners (table_wire m t k) None ≡ Some (record { 0 = t })
   pub own : (k : ℕ) → k < i → slice_index_or owners (table_wire m n k) None ≡ Some (record { 0 = n })
-  pub others : (w : ℕ) (t : Table) → slice_index_or owners w None ≡ Some t → (t.0 < tables_of m) × ((k : ℕ) × (k < 7) × (table_wire m t.0 k ≡ w))
+  pub others : (w : ℕ) (t : Table) → slice_index_or owners w None ≡ Some t → (t.0 < tables_of m)
+      × ((k : ℕ) × (k < 7) × (table_wire m t.0 k ≡ w))
 
 -- ---- counts
 
@@ -110,7 +114,8 @@ abbrev pub IsItOrAbove : Shape → ℕ → ℕ → Type 0
 IsItOrAbove m n i = (i ≡ n) ⊎ (parent_of m n ≡ Some i)
 
 -- the counts of these nodes are right, and those of the others are as they were
-pub record IsRecounted (m : Shape) (wires : List Bool) (shut : List ℕ) (these : ℕ → Type 0) (lines_old ports_old lines ports : List ℕ) : Type 0 where
+pub record IsRecounted (m : Shape) (wires : List Bool) (shut : List ℕ) (these : ℕ → Type 0)
+    (lines_old ports_old lines ports : List ℕ) : Type 0 where
   pub lines_width : length lines ≡ nodes_of m
   pub ports_width : length ports ≡ nodes_of m
   pub these_lines : (i : ℕ) → these i → count_at lines i ≡ clear_lines_at m wires shut i
@@ -121,7 +126,8 @@ pub record IsRecounted (m : Shape) (wires : List Bool) (shut : List ℕ) (these 
 -- ---- a wire's crosspoints are barred
 
 -- Those that are done are barred and listed no more. Those that the wire doesn't touch are as they were.
-pub record IsSwept (m : Shape) (w : ℕ) (done : ℕ → Type 0) (crosses_old barred_old crosses barred : List Bool) (shut : List ℕ) : Type 0 where
+pub record IsSwept (m : Shape) (w : ℕ) (done : ℕ → Type 0) (crosses_old barred_old crosses barred : List Bool)
+    (shut : List ℕ) : Type 0 where
   pub crosses_width : length crosses ≡ crosses_of m
   pub barred_width : length barred ≡ crosses_of m
   pub shut_width : length shut ≡ wires_of m
@@ -136,7 +142,9 @@ pub record IsSwept (m : Shape) (w : ℕ) (done : ℕ → Type 0) (crosses_old ba
 -- a table of these, if there is one, is listed no more and free no more
 abbrev pub Loses : Option Table → List Bool → List Bool → ℕ → List Bool → List Bool → ℕ → Type 0
 Loses None tables_old lost_old free_old tables lost free = (tables ≡ tables_old) × (lost ≡ lost_old) × (free ≡ free_old)
-Loses (Some t) tables_old lost_old free_old tables lost free = (tables ≡ slice_set tables_old t.0 false) × (lost ≡ slice_set lost_old t.0 true) × (free + (if has_number lost_old t.0 then 0 else 1) ≡ free_old)
+Loses (Some t) tables_old lost_old free_old tables lost free =
+    (tables ≡ slice_set tables_old t.0 false) × (lost ≡ slice_set lost_old t.0 true)
+    × (free + (if has_number lost_old t.0 then 0 else 1) ≡ free_old)
 
 -- ---- all of it
 
@@ -156,7 +164,8 @@ pub record IsWide (k : Marks) : Type 0 where
 pub record AreRight (k : Marks) : Type 0 where
   pub wide : IsWide k
   pub owners : AreOwners k.shape k.owners
-  pub ends : (x : ℕ) → x < crosses_of k.shape → has_number k.crosses x ≡ true → (has_number k.wires (ends_of k.shape x).0 ≡ false) × (has_number k.wires (ends_of k.shape x).1 ≡ false)
+  pub ends : (x : ℕ) → x < crosses_of k.shape → has_number k.crosses x ≡ true → (has_number k.wires (ends_of k.shape x).0 ≡ false)
+      × (has_number k.wires (ends_of k.shape x).1 ≡ false)
   pub pins : (t i : ℕ) → t < tables_of k.shape → has_number k.tables t ≡ true → i < 7 → has_number k.wires (table_wire k.shape t i) ≡ false
   pub barred : (x : ℕ) → x < crosses_of k.shape → has_number k.barred x ≡ is_barred k.shape k.wires k.crosses x
   pub lost : (t : ℕ) → t < tables_of k.shape → has_number k.lost t ≡ is_lost k.shape k.wires k.tables t

@@ -15,10 +15,13 @@ pub record DefectList : Type 0 where
 
 -- codes, by which a proof tells these values apart
 abbrev pub coded_defects : Coded Defects
-coded_defects = code_by (set.FinSet nat_cmp × (set.FinSet nat_cmp × set.FinSet nat_cmp)) (coded× (set.code coded_ℕ) (coded× (set.code coded_ℕ) (set.code coded_ℕ))) (λ d. (d.wires, (d.crosses, d.tables))) (λ p. record { wires = p.0; crosses = p.1.0; tables = p.1.1 }) (λ _. refl)
+coded_defects = code_by (set.FinSet nat_cmp × (set.FinSet nat_cmp × set.FinSet nat_cmp))
+    (coded× (set.code coded_ℕ) (coded× (set.code coded_ℕ) (set.code coded_ℕ))) (λ d. (d.wires, (d.crosses, d.tables)))
+    (λ p. record { wires = p.0; crosses = p.1.0; tables = p.1.1 }) (λ _. refl)
 
 abbrev pub coded_list : Coded DefectList
-coded_list = code_by (Shape × Defects) (coded× shape.the_row.coded coded_defects) (λ d. (d.shape, d.list)) (λ p. record { shape = p.0; list = p.1 }) (λ _. refl)
+coded_list = code_by (Shape × Defects) (coded× shape.the_row.coded coded_defects) (λ d. (d.shape, d.list))
+    (λ p. record { shape = p.0; list = p.1 }) (λ _. refl)
 
 -- nothing is listed
 abbrev pub no_defects : Defects

@@ -68,7 +68,8 @@ pub record IsReadTo (m : Shape) (bytes left : List ℕ) (d : DefectList) (last :
 
 -- a line of the list is read
 abbrev pub Steps : DefectList → Option Entry → List ℕ → Step → DefectList → Option Entry → Type 0
-Steps d last left (Further rest) d2 last2 = (e : Entry) × (left ≡ written_line (words_of d.shape e) ++ rest.now) × (d2.shape ≡ d.shape) × IsDefectList d2 × (entries_of d2 ≡ entries_of d ++ e ∷ []) × IsLast (entries_of d2) last2
+Steps d last left (Further rest) d2 last2 = (e : Entry) × (left ≡ written_line (words_of d.shape e) ++ rest.now) × (d2.shape ≡ d.shape)
+    × IsDefectList d2 × (entries_of d2 ≡ entries_of d ++ e ∷ []) × IsLast (entries_of d2) last2
 Steps d last left (End rest) d2 last2 = (left ≡ written_line end_row ++ rest.now) × (d2 ≡ d)
 Steps d last left (Refused kind) d2 last2 = (above : ℕ) → 2 ≤ above → IsLineFault d above left kind
 

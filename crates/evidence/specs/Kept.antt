@@ -23,11 +23,15 @@ pub record Kept : Type 0 where
 
 -- codes, by which a proof tells these values apart
 abbrev pub coded_pairs : Coded Pairs
-coded_pairs = code_by (ℕ × List Bool) (coded× coded_ℕ (coded_list coded_bool)) (λ p. (p.n, p.marks)) (λ p. record { n = p.0; marks = p.1 }) (λ _. refl)
+coded_pairs = code_by (ℕ × List Bool) (coded× coded_ℕ (coded_list coded_bool)) (λ p. (p.n, p.marks))
+    (λ p. record { n = p.0; marks = p.1 }) (λ _. refl)
 
 abbrev pub coded_kept : Coded Kept
-coded_kept = code_by ((Shape × Pairs) × ((List Bool × List Bool) × (List Bool × List Bool))) (coded× (coded× shape.the_row.coded coded_pairs) (coded× (coded× (coded_list coded_bool) (coded_list coded_bool)) (coded× (coded_list coded_bool) (coded_list coded_bool))))
-    (λ k. ((k.shape, k.pairs), ((k.crosses, k.wires), (k.cells, k.registers)))) (λ p. record { shape = p.0.0; crosses = p.1.0.0; wires = p.1.0.1; pairs = p.0.1; cells = p.1.1.0; registers = p.1.1.1 }) (λ _. refl)
+coded_kept = code_by ((Shape × Pairs) × ((List Bool × List Bool) × (List Bool × List Bool)))
+    (coded× (coded× shape.the_row.coded coded_pairs)
+    (coded× (coded× (coded_list coded_bool) (coded_list coded_bool)) (coded× (coded_list coded_bool) (coded_list coded_bool))))
+    (λ k. ((k.shape, k.pairs), ((k.crosses, k.wires), (k.cells, k.registers))))
+        (λ p. record { shape = p.0.0; crosses = p.1.0.0; wires = p.1.0.1; pairs = p.0.1; cells = p.1.1.0; registers = p.1.1.1 }) (λ _. refl)
 
 -- what is kept
 unfoldable pub keeps_cross : Kept → ℕ → Bool

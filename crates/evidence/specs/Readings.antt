@@ -56,7 +56,8 @@ pub record TellsPins (told : Option Faults) (g : Configuration) (drive : Pins) (
       (IsTrue yes ↔ (slice_index_or r k true ≢ slice_index_or r l true))
 
 -- yes exactly where the pin of a route reads otherwise, at one time, than that of each of some others
-pub record TellsFromAll (told : Option Faults) (g : Configuration) (drive : Pins) (left : Walk) (rights : List Walk) (yes : Bool) : Type 0 where
+pub record TellsFromAll (told : Option Faults) (g : Configuration) (drive : Pins) (left : Walk) (rights : List Walk)
+    (yes : Bool) : Type 0 where
   pub exact : (f : Faults) (r : Pins) → told ≡ Some f → IsRun f g (drive ∷ []) (r ∷ []) →
       (IsTrue yes ↔ All (λ s. slice_index_or r left.pin true ≢ slice_index_or r s.pin true) rights)
 
@@ -74,11 +75,13 @@ pub record IsReady (k : Kept) (g : Configuration) (r : Walk) : Type 0 where
 
 -- .. the crosspoint closes a loop of two groups, the pin of the one is driven, and so is none outside this one
 pub record CrossPasses (told : Option Faults) (g : Configuration) (x : ℕ) (drive : Pins) (pin : ℕ) (yes : Bool) : Type 0 where
-  pub at : (f : Faults) (left right : ℕ → Bool) (k : ℕ) → told ≡ Some f → IsLoop f g x left right k pin → IsDrivenIn g.shape drive k left → IsTrue yes
+  pub at : (f : Faults) (left right : ℕ → Bool) (k : ℕ) → told ≡ Some f → IsLoop f g x left right k pin →
+      IsDrivenIn g.shape drive k left → IsTrue yes
 
 -- .. the cell is tested by two groups, and the pin of the one alone is driven
 pub record CellPasses (told : Option Faults) (g : Configuration) (t a : ℕ) (drive : Pins) (pin : ℕ) (yes : Bool) : Type 0 where
-  pub at : (f : Faults) (s : Setting) (left right bits : ℕ → Bool) (k : ℕ) → told ≡ Some f → IsCellTest f g t a s left right bits k pin → IsDrivenAlone drive k → IsTrue yes
+  pub at : (f : Faults) (s : Setting) (left right bits : ℕ → Bool) (k : ℕ) → told ≡ Some f → IsCellTest f g t a s left right bits k pin →
+      IsDrivenAlone drive k → IsTrue yes
 
 -- .. the register is tested by two groups
 pub record RegisterPasses (told : Option Faults) (g : Configuration) (t : ℕ) (drive : Pins) (pin : ℕ) (yes : Bool) : Type 0 where
@@ -97,6 +100,7 @@ pub record ApartPasses (told : Option Faults) (g : Configuration) (drive : Pins)
 
 -- .. all tables are off, and the pin of the left route is in one group and those of the right ones in another that is
 -- apart from it, of which the left one alone is driven
-pub record AllApartPasses (told : Option Faults) (g : Configuration) (drive : Pins) (left : Walk) (rights : List Walk) (yes : Bool) : Type 0 where
+pub record AllApartPasses (told : Option Faults) (g : Configuration) (drive : Pins) (left : Walk) (rights : List Walk)
+    (yes : Bool) : Type 0 where
   pub at : (f : Faults) (l r : ℕ → Bool) → told ≡ Some f → AreOff g → AreGroups g.shape f (is_closed g) l r →
       l (pin_wire g.shape left.pin) ≡ true → All (λ s. r (pin_wire g.shape s.pin) ≡ true) rights → IsDrivenAlone drive left.pin → IsTrue yes

@@ -23,10 +23,16 @@ abbrev pub coded_pair : Coded (ℕ × ℕ)
 coded_pair = coded× coded_ℕ coded_ℕ
 
 abbrev pub coded_faults : Coded Faults
-coded_faults = code_by ((map.FinMap nat_cmp Bool × map.FinMap nat_cmp Bool) × (map.FinMap nat_cmp Bool × (map.FinMap pair_cmp Bool × set.FinSet pair_cmp))) (coded× (coded× (map.code coded_ℕ coded_bool) (map.code coded_ℕ coded_bool)) (coded× (map.code coded_ℕ coded_bool) (coded× (map.code coded_pair coded_bool) (set.code coded_pair)))) (λ f. ((f.wires, f.crosses), (f.registers, (f.cells, f.bridges)))) (λ p. record { wires = p.0.0; crosses = p.0.1; registers = p.1.0; cells = p.1.1.0; bridges = p.1.1.1 }) (λ _. refl)
+coded_faults = code_by ((map.FinMap nat_cmp Bool × map.FinMap nat_cmp Bool)
+    × (map.FinMap nat_cmp Bool × (map.FinMap pair_cmp Bool × set.FinSet pair_cmp)))
+    (coded× (coded× (map.code coded_ℕ coded_bool) (map.code coded_ℕ coded_bool))
+    (coded× (map.code coded_ℕ coded_bool) (coded× (map.code coded_pair coded_bool) (set.code coded_pair))))
+    (λ f. ((f.wires, f.crosses), (f.registers, (f.cells, f.bridges))))
+    (λ p. record { wires = p.0.0; crosses = p.0.1; registers = p.1.0; cells = p.1.1.0; bridges = p.1.1.1 }) (λ _. refl)
 
 abbrev pub coded_faulty : Coded Faulty
-coded_faulty = code_by (Shape × Faults) (coded× shape.the_row.coded coded_faults) (λ s. (s.shape, s.faults)) (λ p. record { shape = p.0; faults = p.1 }) (λ _. refl)
+coded_faulty = code_by (Shape × Faults) (coded× shape.the_row.coded coded_faults) (λ s. (s.shape, s.faults))
+    (λ p. record { shape = p.0; faults = p.1 }) (λ _. refl)
 
 -- how many faults there are
 abbrev pub count_of : Faults → ℕ

@@ -62,7 +62,8 @@ kind_of add.Memory = Limit
 pub data IsLineFault (m : Shape) (f : Faults) (l : LogicalLine) : FaultsKind → Type 0 where
   bad : is_bad_line l ≡ true → IsLineFault m f l Byte
   no_entry : {kind : FaultsKind} → is_bad_line l ≡ false → IsNoEntry m l.words kind → IsLineFault m f l kind
-  refused : (x : Fault) (why : AddFault) → is_bad_line l ≡ false → words_of m x ≡ l.words → CanHave m x → refusal_of f x ≡ Some why → IsLineFault m f l (kind_of why)
+  refused : (x : Fault) (why : AddFault) → is_bad_line l ≡ false → words_of m x ≡ l.words → CanHave m x → refusal_of f x ≡ Some why →
+      IsLineFault m f l (kind_of why)
 
 -- the first line that has a fault: those above it are entries
 pub record IsFirstFault (m : Shape) (lines : List LogicalLine) (number : ℕ) (kind : FaultsKind) : Type 0 where
@@ -112,6 +113,7 @@ IsFirst m lines (At number kind) = IsFirstFault m lines number kind
 
 -- the fault that the line gives is added, or the line's fault is told
 abbrev pub Takes : Faulty → LogicalLine → Result (Unit {0}) FaultsFault → Faulty → Type 0
-Takes old l (Ok u) new = (x : Fault) × (words_of old.shape x ≡ l.words) × CanHave old.shape x × (refusal_of old.faults x ≡ None) × (new ≡ record { shape = old.shape; faults = with_fault old.faults x })
+Takes old l (Ok u) new = (x : Fault) × (words_of old.shape x ≡ l.words) × CanHave old.shape x × (refusal_of old.faults x ≡ None)
+    × (new ≡ record { shape = old.shape; faults = with_fault old.faults x })
 Takes old l (Err Memory) new = Unit {0}
 Takes old l (Err (At number kind)) new = (number ≡ l.number) × IsLineFault old.shape old.faults l kind

@@ -10,7 +10,8 @@ pub record Rows : Type 0 where
 
 -- codes, by which a proof tells these values apart
 abbrev pub coded_rows : Coded Rows
-coded_rows = code_by (ℕ × (List ℕ × List ℕ)) (coded× coded_ℕ (coded× (coded_list coded_ℕ) (coded_list coded_ℕ))) (λ r. (r.pins, (r.inputs, r.outputs))) (λ p. record { pins = p.0; inputs = p.1.0; outputs = p.1.1 }) (λ _. refl)
+coded_rows = code_by (ℕ × (List ℕ × List ℕ)) (coded× coded_ℕ (coded× (coded_list coded_ℕ) (coded_list coded_ℕ)))
+    (λ r. (r.pins, (r.inputs, r.outputs))) (λ p. record { pins = p.0; inputs = p.1.0; outputs = p.1.1 }) (λ _. refl)
 
 -- its pins are those of the machine, and all different
 pub record ArePinsOfRows (r : Rows) : Type 0 where

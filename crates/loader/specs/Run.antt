@@ -7,7 +7,8 @@ use Rattle.loader.specs.Pins.{Rows}
 
 -- the session goes on by a cycle that drives the vector, and the row is its reading at the output pins
 abbrev pub RunsRow : Rows → RigState → RigState → List Bool → List Bool → Type 0
-RunsRow r old new vector row = (reading : Pins) × GoesOn (drive_on r.pins r.inputs vector) reading old new × (row ≡ row_at r.outputs reading)
+RunsRow r old new vector row = (reading : Pins) × GoesOn (drive_on r.pins r.inputs vector) reading old new
+    × (row ≡ row_at r.outputs reading)
 
 -- where a run doesn't begin there is no session, or nothing changed
 abbrev pub EndsOrKeeps : RigState → RigState → Type 0

@@ -32,7 +32,10 @@ pub record IsChoice (m : Shape) (d : Defects) (count : ℕ) (terminal : ℕ → 
   pub nets_apart : AllPairs (λ v u. v.node ≡ u.node → v.net ≢ u.net) vs
   pub lines_apart : AllPairs (λ v u. v.line ≢ u.line) vs
   -- the j-th net that crosses a node has the j-th free port of it
-  pub are_ports : (n k : ℕ) → CrossesAt m count terminal n k → HasPort m d count terminal n k (port_in ports n k) × IsPort m n (port_in ports n k) × IsFreeWire d (port_in ports n k)
-  pub ports_apart : (n k l : ℕ) → CrossesAt m count terminal n k → CrossesAt m count terminal n l → port_in ports n k ≡ port_in ports n l → k ≡ l
+  pub are_ports : (n k : ℕ) → CrossesAt m count terminal n k → HasPort m d count terminal n k (port_in ports n k)
+      × IsPort m n (port_in ports n k) × IsFreeWire d (port_in ports n k)
+  pub ports_apart : (n k l : ℕ) → CrossesAt m count terminal n k → CrossesAt m count terminal n l →
+      port_in ports n k ≡ port_in ports n l → k ≡ l
   -- the crosspoints of a net's line and its taps are free
-  pub serves : All (λ v. (t : ℕ) (s : Strand) → terminal v.net t → IsAt m v.node t s → HasFreeCross m d (tap_of (λ c. port_in ports c v.net) v.node s) v.line) vs
+  pub serves : All (λ v. (t : ℕ) (s : Strand) → terminal v.net t → IsAt m v.node t s →
+      HasFreeCross m d (tap_of (λ c. port_in ports c v.net) v.node s) v.line) vs

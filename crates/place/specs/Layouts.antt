@@ -19,7 +19,8 @@ use Rattle.place.specs.declared.short.Short.{Short}
 use Rattle.place.specs.declared.short.Visit.{Visit}
 use Rattle.place.specs.Choices.{ask_at}
 use Rattle.place.specs.Lists.{AreThose, AreLists, nth_of}
-use Rattle.place.specs.Room.{HasTerminal, CrossesAt, VisitsAt, HasPort, Serves, IsChoiceAt, PortsSuffice, PortsAreShort, AreShort, NodeSuffices, Suffices, IsFirstShort, IsFreePort}
+use Rattle.place.specs.Room.{HasTerminal, CrossesAt, VisitsAt, HasPort, Serves, IsChoiceAt, PortsSuffice, PortsAreShort, AreShort}
+use Rattle.place.specs.Room.{NodeSuffices, Suffices, IsFirstShort, IsFreePort}
 use Rattle.place.specs.Touches.{AreTouched}
 
 -- the net that gets a line, by the place of its ask
@@ -63,7 +64,8 @@ abbrev pub NodeIsShortOf : Resource → Shape → Defects → ℕ → (ℕ → �
 NodeIsShortOf Tables m d count terminal s = ⊥
 NodeIsShortOf Pins m d count terminal s = ⊥
 NodeIsShortOf Ports m d count terminal s = PortsAreShort m d count terminal s
-NodeIsShortOf Lines m d count terminal s = PortsSuffice m d count terminal s.node.0 × AreShort m d count terminal s.node.0 s.nets s.need s.have
+NodeIsShortOf Lines m d count terminal s = PortsSuffice m d count terminal s.node.0
+    × AreShort m d count terminal s.node.0 s.nets s.need s.have
 
 pub record NodeIsShort (m : Shape) (d : Defects) (count : ℕ) (terminal : ℕ → ℕ → Type 0) (n : ℕ) (s : Short) : Type 0 where
   pub node : s.node.0 ≡ n
@@ -78,7 +80,9 @@ pub record IsBoardOf (d : DefectList) (nets : List (List ℕ)) (b : Board) : Typ
 
 -- there is room, and these are the lines and ports; or this is the first short resource
 abbrev pub IsRoom : Shape → Defects → ℕ → (ℕ → ℕ → Type 0) → Need → Need → Room → Type 0
-IsRoom m d count terminal tables pins (Enough ports visits) = Suffices m d count terminal tables pins × AreHeld m d count terminal (nodes_of m) ports.items × AreVisits m d count terminal (nodes_of m) visits.items
+IsRoom m d count terminal tables pins (Enough ports visits) =
+    Suffices m d count terminal tables pins × AreHeld m d count terminal (nodes_of m) ports.items
+    × AreVisits m d count terminal (nodes_of m) visits.items
 IsRoom m d count terminal tables pins (Lacks s) = IsFirstShort m d count terminal tables pins s
 
 -- the ports of the nets that cross a node
@@ -87,20 +91,23 @@ port_by n crossing ports j = record { node = n; net = nth_of crossing j; wire = 
 
 -- the ports go on by those of the nets that cross the node
 abbrev pub HoldOn : ℕ → List ℕ → List ℕ → List Port → List Port → Type 0
-HoldOn n crossing ports old new = (length crossing ≤ length ports) × (new ≡ old ++ map (port_by n crossing ports) (range_with_len 0 (length crossing)))
+HoldOn n crossing ports old new = (length crossing ≤ length ports)
+    × (new ≡ old ++ map (port_by n crossing ports) (range_with_len 0 (length crossing)))
 
 -- the nodes before this one suffice
 abbrev pub SufficeBefore : Shape → Defects → ℕ → (ℕ → ℕ → Type 0) → ℕ → Type 0
 SufficeBefore m d count terminal n = (i : ℕ) → i < n → NodeSuffices m d count terminal i
 
 -- the first nodes suffice, with these ports and lines
-pub record IsEnough (m : Shape) (d : Defects) (count : ℕ) (terminal : ℕ → ℕ → Type 0) (nodes : ℕ) (ports : List Port) (visits : List Visit) : Type 0 where
+pub record IsEnough (m : Shape) (d : Defects) (count : ℕ) (terminal : ℕ → ℕ → Type 0) (nodes : ℕ) (ports : List Port)
+    (visits : List Visit) : Type 0 where
   pub suffice : SufficeBefore m d count terminal nodes
   pub ports_are : AreHeld m d count terminal nodes ports
   pub visits_are : AreVisits m d count terminal nodes visits
 
 -- the node suffices, with these further ports and lines
-pub record IsRoomAt (m : Shape) (d : Defects) (count : ℕ) (terminal : ℕ → ℕ → Type 0) (n : ℕ) (old_ports : List Port) (old_visits : List Visit) (ports : List Port) (visits : List Visit) : Type 0 where
+pub record IsRoomAt (m : Shape) (d : Defects) (count : ℕ) (terminal : ℕ → ℕ → Type 0) (n : ℕ) (old_ports : List Port)
+    (old_visits : List Visit) (ports : List Port) (visits : List Visit) : Type 0 where
   pub crossing : List ℕ
   pub free : List ℕ
   pub are_crossing : AreThose (CrossesAt m count terminal n) crossing

@@ -49,8 +49,10 @@ nets_in n = n.inputs + length n.tables
 -- The terminals of the nets: what drives each, and the table input pins and output pins that read it.
 pub data IsTerminal (m : Shape) (n : Network) (p : Plan) : ℕ → ℕ → Type 0 where
   drives : (s : Source) → IsSourceOf n s → IsTerminal m n p (net_of n s) (driver_of m p s)
-  reads : (j k : ℕ) (s : Source) → j < length n.tables → k < length (table_at n j).ins → slice_index_or (table_at n j).ins k s ≡ s → IsTerminal m n p (net_of n s) (table_wire m (place_of p j) k)
-  shows : (o : ℕ) (s : Source) → o < length n.outputs → slice_index_or n.outputs o s ≡ s → IsTerminal m n p (net_of n s) (pin_wire m (nth_of p.outputs o))
+  reads : (j k : ℕ) (s : Source) → j < length n.tables → k < length (table_at n j).ins → slice_index_or (table_at n j).ins k s ≡ s →
+      IsTerminal m n p (net_of n s) (table_wire m (place_of p j) k)
+  shows : (o : ℕ) (s : Source) → o < length n.outputs → slice_index_or n.outputs o s ≡ s →
+      IsTerminal m n p (net_of n s) (pin_wire m (nth_of p.outputs o))
 
 -- a plan for the network, on free and different tables and pins of the machine
 pub record IsPlan (m : Shape) (d : Defects) (n : Network) (p : Plan) : Type 0 where

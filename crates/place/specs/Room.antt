@@ -123,14 +123,17 @@ PortsAreShort m d count terminal s = ArePorts m d count terminal s.node.0 s.need
 
 -- the node is the first that doesn't suffice
 abbrev pub IsFirstNode : Shape → Defects → ℕ → (ℕ → ℕ → Type 0) → Need → Need → ℕ → Type 0
-IsFirstNode m d count terminal tables pins n = IsMet tables × IsMet pins × (n < nodes_of m) × ((i : ℕ) → i < n → NodeSuffices m d count terminal i)
+IsFirstNode m d count terminal tables pins n = IsMet tables × IsMet pins × (n < nodes_of m)
+    × ((i : ℕ) → i < n → NodeSuffices m d count terminal i)
 
 -- by the resource
 abbrev pub IsShortOf : Resource → Shape → Defects → ℕ → (ℕ → ℕ → Type 0) → Need → Need → Short → Type 0
 IsShortOf Tables m d count terminal tables pins s = (s.node.0 ≡ 0) × IsUnmet tables s
 IsShortOf Pins m d count terminal tables pins s = IsMet tables × (s.node.0 ≡ 0) × IsUnmet pins s
 IsShortOf Ports m d count terminal tables pins s = IsFirstNode m d count terminal tables pins s.node.0 × PortsAreShort m d count terminal s
-IsShortOf Lines m d count terminal tables pins s = IsFirstNode m d count terminal tables pins s.node.0 × PortsSuffice m d count terminal s.node.0 × AreShort m d count terminal s.node.0 s.nets s.need s.have
+IsShortOf Lines m d count terminal tables pins s =
+    IsFirstNode m d count terminal tables pins s.node.0 × PortsSuffice m d count terminal s.node.0
+    × AreShort m d count terminal s.node.0 s.nets s.need s.have
 
 -- The first short resource, its node, need and have, and for lines a set that shows it.
 abbrev pub IsFirstShort : Shape → Defects → ℕ → (ℕ → ℕ → Type 0) → Need → Need → Short → Type 0

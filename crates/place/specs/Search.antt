@@ -1,5 +1,6 @@
 -- What the search for lines keeps true.
-use Rattle.std.specs.Prelude.{◌≡◌, ◌≢◌, ℕ, suc, ◌+◌, ◌<◌, Bool, true, false, not, List, [], ◌∷◌, ◌++◌, length, count_by, slice_index_or, Option, Some, None}
+use Rattle.std.specs.Prelude.{◌≡◌, ◌≢◌, ℕ, suc, ◌+◌, ◌<◌, Bool, true, false, not, List, [], ◌∷◌, ◌++◌, length, count_by, slice_index_or}
+use Rattle.std.specs.Prelude.{Option, Some, None}
 use Rattle.std.specs.List.{All, AllPairs, Contains}
 use Rattle.place.specs.declared.search.Step.{Step}
 use Rattle.place.specs.declared.search.Hold.{Hold}
@@ -32,7 +33,8 @@ pub record IsTrail (serves : ℕ → ℕ → Bool) (lines : List ℕ) (owners : 
   pub some : 0 < length steps
   pub owned : (h : ℕ) → 0 < h → h < length steps → owner_at owners (step_at steps h).line ≡ Some (step_at steps h).ask
   pub back : (h : ℕ) → 0 < h → h < length steps → (step_at steps h).from < h
-  pub served : (h : ℕ) → 0 < h → h < length steps → serves (step_at steps (step_at steps h).from).ask (line_at lines (step_at steps h).line) ≡ true
+  pub served : (h : ℕ) → 0 < h → h < length steps →
+      serves (step_at steps (step_at steps h).from).ask (line_at lines (step_at steps h).line) ≡ true
   pub apart : (i h : ℕ) → 0 < i → i < h → h < length steps → (step_at steps i).line ≢ (step_at steps h).line
 
 -- the lines of the steps are marked as seen, and no others
@@ -49,7 +51,8 @@ pub record GoesOn (old new : List Step) : Type 0 where
 
 -- all lines that serve the first h nets are seen
 abbrev pub AreScanned : (ℕ → ℕ → Bool) → List ℕ → List Step → List Bool → ℕ → Type 0
-AreScanned serves lines steps seen h = (i j : ℕ) → i < h → j < length lines → serves (step_at steps i).ask (line_at lines j) ≡ true → is_seen seen j ≡ true
+AreScanned serves lines steps seen h = (i j : ℕ) → i < h → j < length lines → serves (step_at steps i).ask (line_at lines j) ≡ true →
+    is_seen seen j ≡ true
 
 -- a line without a net that serves the net of a step
 pub record IsFree (serves : ℕ → ℕ → Bool) (lines : List ℕ) (owners : List (Option ℕ)) (steps : List Step) (h j : ℕ) : Type 0 where
@@ -59,7 +62,8 @@ pub record IsFree (serves : ℕ → ℕ → Bool) (lines : List ℕ) (owners : L
   pub serves_it : serves (step_at steps h).ask (line_at lines j) ≡ true
 
 -- the lines before the j-th are looked at for the net of step h
-pub record IsScanning (serves : ℕ → ℕ → Bool) (lines : List ℕ) (owners : List (Option ℕ)) (old steps : List Step) (seen : List Bool) (h net j : ℕ) : Type 0 where
+pub record IsScanning (serves : ℕ → ℕ → Bool) (lines : List ℕ) (owners : List (Option ℕ)) (old steps : List Step) (seen : List Bool)
+    (h net j : ℕ) : Type 0 where
   pub trail : IsTrail serves lines owners steps
   pub marks : AreSeen lines steps seen
   pub on : GoesOn old steps
@@ -68,7 +72,8 @@ pub record IsScanning (serves : ℕ → ℕ → Bool) (lines : List ℕ) (owners
   pub upto : (i : ℕ) → i < j → serves net (line_at lines i) ≡ true → is_seen seen i ≡ true
 
 -- the free line may go to the net of step h
-pub record IsShifting (serves : ℕ → ℕ → Bool) (lines : List ℕ) (steps : List Step) (old owners : List (Option ℕ)) (h free : ℕ) : Type 0 where
+pub record IsShifting (serves : ℕ → ℕ → Bool) (lines : List ℕ) (steps : List Step) (old owners : List (Option ℕ))
+    (h free : ℕ) : Type 0 where
   pub sized : length owners ≡ length lines
   pub step : h < length steps
   pub owned : (i : ℕ) → 0 < i → i < suc h → owner_at owners (step_at steps i).line ≡ Some (step_at steps i).ask
@@ -87,7 +92,8 @@ pub record IsStuck (serves : ℕ → ℕ → Bool) (lines : List ℕ) (steps : L
 pub record ArePicks (lines : List ℕ) (owners : List (Option ℕ)) (picks : List Hold) (j : ℕ) : Type 0 where
   pub only : All (λ p. (i : ℕ) × (i < j) × (owner_at owners i ≡ Some p.ask) × (line_at lines i ≡ p.line)) picks
   pub each : (i n : ℕ) → i < j → owner_at owners i ≡ Some n → Contains picks (record { ask = n; line = line_at lines i })
-  pub places : AllPairs (λ p q. (i k : ℕ) × (i < k) × (k < j) × (owner_at owners i ≡ Some p.ask) × (line_at lines i ≡ p.line) × (owner_at owners k ≡ Some q.ask) × (line_at lines k ≡ q.line)) picks
+  pub places : AllPairs (λ p q. (i k : ℕ) × (i < k) × (k < j) × (owner_at owners i ≡ Some p.ask) × (line_at lines i ≡ p.line)
+      × (owner_at owners k ≡ Some q.ask) × (line_at lines k ≡ q.line)) picks
 
 -- The steps of a search from this net that came to no free line.
 pub record IsDeadEnd (serves : ℕ → ℕ → Bool) (lines : List ℕ) (owners : List (Option ℕ)) (net : ℕ) (steps : List Step) : Type 0 where
@@ -115,9 +121,13 @@ pub record IsShiftingFor (steps : List Step) (from line : ℕ) (old owners : Lis
   pub sized : length owners ≡ length old
   pub step : h < length steps
   pub within : free < length old
-  pub shifting : (serves : ℕ → ℕ → Bool) (lines : List ℕ) → IsTrail serves lines old steps → IsFree serves lines old steps from line → length old ≡ length lines → IsShifting serves lines steps old owners h free
+  pub shifting : (serves : ℕ → ℕ → Bool) (lines : List ℕ) → IsTrail serves lines old steps → IsFree serves lines old steps from line →
+      length old ≡ length lines → IsShifting serves lines steps old owners h free
 
 -- lines have gone from step to step, so that the one of the first step has one too
 abbrev pub IsShifted : List Step → ℕ → ℕ → List (Option ℕ) → List (Option ℕ) → Type 0
-IsShifted steps from line old new = (length new ≡ length old) × ((serves : ℕ → ℕ → Bool) (lines done : List ℕ) → IsTrail serves lines old steps → IsFree serves lines old steps from line → length old ≡ length lines →
-    IsPartial serves lines done old → ¬ Contains done (step_at steps 0).ask → IsPartial serves lines (done ++ (step_at steps 0).ask ∷ []) new)
+IsShifted steps from line old new = (length new ≡ length old)
+    × ((serves : ℕ → ℕ → Bool) (lines done : List ℕ) → IsTrail serves lines old steps → IsFree serves lines old steps from line →
+    length old ≡ length lines →
+    IsPartial serves lines done old → ¬ Contains done (step_at steps 0).ask →
+        IsPartial serves lines (done ++ (step_at steps 0).ask ∷ []) new)

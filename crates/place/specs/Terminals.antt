@@ -55,7 +55,8 @@ shows_of m inputs outs sources n = map (show_by m inputs outs sources) (range_wi
 
 -- all terminals, net numbers and wires
 abbrev pub all_terminals : Shape → Network → Plan → List Terminal
-all_terminals m n p = ((drives_of m p.inputs (length p.inputs) ++ gives_of m n.inputs (places p) (length p.tables)) ++ reads_to m n (places p) (length p.tables)) ++ shows_of m n.inputs p.outputs n.outputs (length p.outputs)
+all_terminals m n p = ((drives_of m p.inputs (length p.inputs) ++ gives_of m n.inputs (places p) (length p.tables)) ++ reads_to m n
+    (places p) (length p.tables)) ++ shows_of m n.inputs p.outputs n.outputs (length p.outputs)
 
 -- the nets of these sources have numbers below the count
 abbrev pub NetsBelow : ℕ → ℕ → List Source → Type 0

@@ -88,7 +88,8 @@ spare_of rig = option_map_or (λ s. s.spare) rig.session 0
 
 -- the session's readings are the run of its configuration under its drives, where the faults are told
 abbrev pub IsTold : RigState → Type 0
-IsTold rig = IfSome rig.machine.faults (λ f. IfSome (config_of rig) (λ g. IsRun f g (drives_of (cycles_of rig)) (readings_of (cycles_of rig))))
+IsTold rig = IfSome rig.machine.faults (λ f. IfSome (config_of rig)
+    (λ g. IsRun f g (drives_of (cycles_of rig)) (readings_of (cycles_of rig))))
 
 -- the faults, where they are told, are faults of a machine of this shape
 abbrev pub HasFaultsOf : Shape → RigState → Type 0
@@ -123,7 +124,8 @@ abbrev pub AttachFails : AttachFail → Asked → RigState → RigState → Type
 AttachFails attach.Failed machine old new =
     Rose old.failures new.failures × (new.machine.asked ≡ old.machine.asked ++ machine ∷ []) × (new.machine.refused ≡ old.machine.refused)
 AttachFails (attach.Faults fault) machine old new =
-    (new.machine.asked ≡ old.machine.asked ++ machine ∷ []) × RefusesText fault machine.shape (old.machine.texts machine.name) old.machine.refused new.machine.refused
+    (new.machine.asked ≡ old.machine.asked ++ machine ∷ [])
+        × RefusesText fault machine.shape (old.machine.texts machine.name) old.machine.refused new.machine.refused
 AttachFails attach.Memory machine old new = (new.machine.asked ≡ old.machine.asked) × (new.machine.refused ≡ old.machine.refused)
 
 -- a session with this configuration begins

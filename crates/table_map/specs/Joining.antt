@@ -1,5 +1,6 @@
 -- A table that is put into its reader, and who reads a table.
-use Rattle.std.specs.Prelude.{◌≡◌, ◌+◌, ◌*◌, ◌<◌, ◌≤◌, ◌==◌, ◌&&◌, ◌↔◌, replicate, ℕ, List, [], ◌∷◌, Bool, true, false, map, nat_lt, length, slice_set, slice_index_or, if◌then◌else◌}
+use Rattle.std.specs.Prelude.{◌≡◌, ◌+◌, ◌*◌, ◌<◌, ◌≤◌, ◌==◌, ◌&&◌, ◌↔◌, replicate, ℕ, List, [], ◌∷◌, Bool, true, false, map, nat_lt, length}
+use Rattle.std.specs.Prelude.{slice_set, slice_index_or, if◌then◌else◌}
 use Rattle.std.specs.List.{range_with_len, Contains}
 use Rattle.table_map.specs.declared.source.Source.{Source}
 use Rattle.table_map.specs.declared.source.Source.TheVariants.{Input, Table}
@@ -22,7 +23,8 @@ address_by f ins = number_of (map (λ k. slice_index_or (map f ins) k true) (ran
 -- what the reader gives where what the table gives is its input
 unfoldable pub joined_truth : List ℕ → ℕ → NetTable → NetTable → List Bool → Bool
 joined_truth numbers j inner reader pins =
-    cell_at reader.cells (address_by (bit_with numbers pins j (cell_at inner.cells (address_by (bit_with numbers pins j true) inner.ins))) reader.ins)
+    cell_at reader.cells (address_by (bit_with numbers pins j
+        (cell_at inner.cells (address_by (bit_with numbers pins j true) inner.ins))) reader.ins)
 
 -- the reader with the table put into it
 pub record IsJoined (j : ℕ) (inner reader joined : NetTable) : Type 0 where

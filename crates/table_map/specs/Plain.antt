@@ -1,5 +1,6 @@
 -- The plain network of a netlist: one table for a narrow cover, trees of tables for a wide one, and one table for a latch.
-use Rattle.std.specs.Prelude.{◌≡◌, ◌+◌, ◌-◌, ◌/◌, ◌==◌, ◌++◌, ◌&&◌, ◌||◌, ℕ, zero, suc, List, [], ◌∷◌, Bool, true, false, not, nat_lt, map, length, take, drop, sum_by, slice_index_or, if◌then◌else◌}
+use Rattle.std.specs.Prelude.{◌≡◌, ◌+◌, ◌-◌, ◌/◌, ◌==◌, ◌++◌, ◌&&◌, ◌||◌, ℕ, zero, suc, List, [], ◌∷◌, Bool, true, false, not, nat_lt, map}
+use Rattle.std.specs.Prelude.{length, take, drop, sum_by, slice_index_or, if◌then◌else◌}
 use Rattle.std.specs.List.{range_with_len, filter}
 use Rattle.netlist.specs.declared.draft.Cover.{Cover}
 use Rattle.netlist.specs.declared.draft.Draft.{Draft}
@@ -94,7 +95,8 @@ trees first (ws ∷ more) = tree All false first ws ++ trees (first + length (tr
 -- the last tables of these trees, wanted at 1
 unfoldable pub tree_ends : ℕ → List (List Want) → List Want
 tree_ends first [] = []
-tree_ends first (ws ∷ more) = want_table (first + length (tree All false first ws) - 1) ∷ tree_ends (first + length (tree All false first ws)) more
+tree_ends first (ws ∷ more) = want_table (first + length (tree All false first ws) - 1) ∷ tree_ends
+    (first + length (tree All false first ws)) more
 
 -- Covers
 
@@ -111,7 +113,8 @@ rows_wants source c = map (λ row. row_wants source row c.ins) c.rows
 -- a tree of AND for each row, and a tree of OR over them
 abbrev pub wide_tables : (ℕ → Source) → ℕ → Cover → List NetTable
 wide_tables source first c =
-    trees first (rows_wants source c) ++ tree Some c.off (first + length (trees first (rows_wants source c))) (tree_ends first (rows_wants source c))
+    trees first (rows_wants source c) ++ tree Some c.off (first + length (trees first (rows_wants source c)))
+        (tree_ends first (rows_wants source c))
 
 -- the different ones, in order of first appearance
 abbrev pub distinct : List ℕ → List ℕ
@@ -157,7 +160,8 @@ latch_table source l = record (gives (source l.from ∷ []) (λ pins. slice_inde
 
 -- what gives each word that drives: an input of the network, the last table of a cover, the table of a latch
 unfoldable pub sources_of : Draft → List Source
-sources_of d = map Input (range_with_len 0 (length d.inputs)) ++ cover_ends 0 d.covers ++ map Table (range_with_len (sum_by cover_size d.covers) (length d.latches))
+sources_of d = map Input (range_with_len 0 (length d.inputs)) ++ cover_ends 0 d.covers ++ map Table
+    (range_with_len (sum_by cover_size d.covers) (length d.latches))
 
 -- the source of the first word of the signal
 unfoldable pub source_among : List PortDef → List Source → ℕ → Source

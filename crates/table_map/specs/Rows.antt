@@ -53,7 +53,9 @@ abbrev pub RowsFrom : Network → (ℕ → Bool) → List (List Bool) → List (
 RowsFrom n state [] [] = Unit {0}
 RowsFrom n state [] (row ∷ rows) = ⊥
 RowsFrom n state (vector ∷ vectors) [] = ⊥
-RowsFrom n state (vector ∷ vectors) (row ∷ rows) = (given : ℕ → Bool) × IsRight n state vector given × (row ≡ outputs_in n vector given) × RowsFrom n (next_state n vector given) vectors rows
+RowsFrom n state (vector ∷ vectors) (row ∷ rows) =
+    (given : ℕ → Bool) × IsRight n state vector given × (row ≡ outputs_in n vector given)
+    × RowsFrom n (next_state n vector given) vectors rows
 
 -- the network's rows for the vectors
 abbrev pub AreRows : Network → List (List Bool) → List (List Bool) → Type 0
@@ -65,4 +67,5 @@ HasRowsOf n d = (vectors rows : List (List Bool)) → netlist.AreRows d vectors 
 
 -- exactly one list is that of the rows
 abbrev pub HasOneRows : Network → List (List Bool) → Type 0
-HasOneRows n vectors = (rows : List (List Bool)) × AreRows n vectors rows × ((other : List (List Bool)) → AreRows n vectors other → other ≡ rows)
+HasOneRows n vectors = (rows : List (List Bool)) × AreRows n vectors rows
+    × ((other : List (List Bool)) → AreRows n vectors other → other ≡ rows)
