@@ -81,7 +81,7 @@ pub record IsCellTest (f : Faults) (g : Configuration) (t a : ℕ) (s : Setting)
   pub l_right : right (pin_wire g.shape l) ≡ true
   pub inputs : (j : ℕ) → j < 6 →
       ((bits j ≡ false) × (left (table_wire g.shape t j) ≡ true)
-          × Joined (net_of g.shape f (is_closed g)) (table_wire g.shape t j) (pin_wire g.shape k)) ⊎
+      × Joined (net_of g.shape f (is_closed g)) (table_wire g.shape t j) (pin_wire g.shape k)) ⊎
       ((bits j ≡ true) × IsLoose g.shape f left right (table_wire g.shape t j))
   pub number : number_of (map bits (range_with_len 0 6)) ≡ a
   pub led : Joined (net_of g.shape f (is_closed g)) (pin_wire g.shape l) (table_wire g.shape t 6)

@@ -15,8 +15,12 @@ use Rattle.cycle_sim.specs.Classes.{knot_at, AreTied}
 
 -- nothing is linked but by these bridges
 abbrev pub bridged_net : Shape → List (Wire × Wire) → Net
-bridged_net m pairs = record { shape = m; conducts = λ _. false; is_bridge = λ p. set.contains
-    (set.from_list {R = pair_cmp} (map pair_of pairs)) p }
+bridged_net m pairs = record {
+  shape = m;
+  conducts = λ _. false;
+  is_bridge = λ p. set.contains
+      (set.from_list {R = pair_cmp} (map pair_of pairs)) p;
+}
 
 -- all bridges, and the crosspoints below n that are stuck closed
 abbrev pub stuck_net : Shape → Faults → ℕ → Net

@@ -40,8 +40,10 @@ abbrev pub ticked : Faults → (ℕ → Bool) → Gate → Gate
 ticked f level gate = record gate { output = if gate.setting.latched then gate.output else cell_by f gate (address_by level gate.ins) }
 
 abbrev pub clocked : Faults → (ℕ → Bool) → Gate → Gate
-clocked f level gate = record gate { output = if gate.setting.latched then unwrap_or gate.held
-    (cell_by f gate (address_by level gate.ins)) else gate.output }
+clocked f level gate = record gate {
+  output = if gate.setting.latched then unwrap_or gate.held
+      (cell_by f gate (address_by level gate.ins)) else gate.output;
+}
 
 -- a table as the code keeps it
 pub record IsGate (f : Faults) (g : Configuration) (root : ℕ → ℕ) (gate : Gate) : Type 0 where

@@ -16,8 +16,13 @@ setting_in gates t = option_map (λ (x : Gate). x.setting) (find (λ (x : Gate).
 
 -- the configuration of these closed crosspoints and these tables
 abbrev pub config_in : Shape → List Cross → List Gate → ℕ → Configuration
-config_in m closed gates ticks = record { shape = m; closed = set_of closed; tables = map (setting_in gates)
-    (range_with_len 0 (tables_of m)); ticks = ticks }
+config_in m closed gates ticks = record {
+  shape = m;
+  closed = set_of closed;
+  tables = map (setting_in gates)
+      (range_with_len 0 (tables_of m));
+  ticks = ticks;
+}
 
 -- so many cycles, of each of which the drive stands before the reading
 abbrev pub cycles_in : ℕ → ℕ → List Bool → List Exchange

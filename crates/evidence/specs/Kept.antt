@@ -31,7 +31,7 @@ coded_kept = code_by ((Shape × Pairs) × ((List Bool × List Bool) × (List Boo
     (coded× (coded× shape.the_row.coded coded_pairs)
     (coded× (coded× (coded_list coded_bool) (coded_list coded_bool)) (coded× (coded_list coded_bool) (coded_list coded_bool))))
     (λ k. ((k.shape, k.pairs), ((k.crosses, k.wires), (k.cells, k.registers))))
-        (λ p. record { shape = p.0.0; crosses = p.1.0.0; wires = p.1.0.1; pairs = p.0.1; cells = p.1.1.0; registers = p.1.1.1 }) (λ _. refl)
+    (λ p. record { shape = p.0.0; crosses = p.1.0.0; wires = p.1.0.1; pairs = p.0.1; cells = p.1.1.0; registers = p.1.1.1 }) (λ _. refl)
 
 -- what is kept
 unfoldable pub keeps_cross : Kept → ℕ → Bool

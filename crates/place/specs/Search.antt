@@ -130,4 +130,4 @@ IsShifted steps from line old new = (length new ≡ length old)
     × ((serves : ℕ → ℕ → Bool) (lines done : List ℕ) → IsTrail serves lines old steps → IsFree serves lines old steps from line →
     length old ≡ length lines →
     IsPartial serves lines done old → ¬ Contains done (step_at steps 0).ask →
-        IsPartial serves lines (done ++ (step_at steps 0).ask ∷ []) new)
+    IsPartial serves lines (done ++ (step_at steps 0).ask ∷ []) new)

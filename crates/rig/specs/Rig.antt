@@ -125,7 +125,7 @@ AttachFails attach.Failed machine old new =
     Rose old.failures new.failures × (new.machine.asked ≡ old.machine.asked ++ machine ∷ []) × (new.machine.refused ≡ old.machine.refused)
 AttachFails (attach.Faults fault) machine old new =
     (new.machine.asked ≡ old.machine.asked ++ machine ∷ [])
-        × RefusesText fault machine.shape (old.machine.texts machine.name) old.machine.refused new.machine.refused
+    × RefusesText fault machine.shape (old.machine.texts machine.name) old.machine.refused new.machine.refused
 AttachFails attach.Memory machine old new = (new.machine.asked ≡ old.machine.asked) × (new.machine.refused ≡ old.machine.refused)
 
 -- a session with this configuration begins

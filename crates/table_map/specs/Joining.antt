@@ -24,7 +24,7 @@ address_by f ins = number_of (map (λ k. slice_index_or (map f ins) k true) (ran
 unfoldable pub joined_truth : List ℕ → ℕ → NetTable → NetTable → List Bool → Bool
 joined_truth numbers j inner reader pins =
     cell_at reader.cells (address_by (bit_with numbers pins j
-        (cell_at inner.cells (address_by (bit_with numbers pins j true) inner.ins))) reader.ins)
+    (cell_at inner.cells (address_by (bit_with numbers pins j true) inner.ins))) reader.ins)
 
 -- the reader with the table put into it
 pub record IsJoined (j : ℕ) (inner reader joined : NetTable) : Type 0 where

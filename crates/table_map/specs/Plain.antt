@@ -114,7 +114,7 @@ rows_wants source c = map (λ row. row_wants source row c.ins) c.rows
 abbrev pub wide_tables : (ℕ → Source) → ℕ → Cover → List NetTable
 wide_tables source first c =
     trees first (rows_wants source c) ++ tree Some c.off (first + length (trees first (rows_wants source c)))
-        (tree_ends first (rows_wants source c))
+    (tree_ends first (rows_wants source c))
 
 -- the different ones, in order of first appearance
 abbrev pub distinct : List ℕ → List ℕ
