@@ -1,13 +1,11 @@
 -- How the steps of `run` follow one another.
-use Rattle.std.proofs.Common.{◌≡◌, ℕ, List, [], ◌∷◌, Some, option_map, sym, ap, subst, inl, ◌∙◌}
+use Rattle.std.proofs.Common.{◌≡◌, ℕ, List, [], ◌∷◌, Some, option_map, sym, ap, subst, ◌∙◌}
 use Rattle.std.specs.Prelude.{Result, Ok, Err}
 use Rattle.tm_outside.specs.Told.{Told}
-use Rattle.tm_outside.specs.Store.{StoreState}
 use Rattle.hierarchy.specs.declared.Shape.{Shape}
 use Rattle.rig.specs.Rig.{RigState, Asked, shape_of}
 use Rattle.config_image.specs.Images.{ImageValue}
-use Rattle.steps.specs.Outside.{Outside, Around, around}
-use Rattle.steps.specs.Courses.{Course}
+use Rattle.steps.specs.Outside.{Outside, Around}
 use Rattle.steps.specs.Took.{Took, Follows}
 use Rattle.steps.specs.Texts.{reads_machine, reads_image, MayAsk, AsksMachine}
 use Rattle.steps.specs.declared.refusal.Stop.{Stop}

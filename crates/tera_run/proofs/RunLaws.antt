@@ -2,7 +2,6 @@
 use Rattle.std.proofs.Common.{◌≡◌, ◌∙◌, ℕ, ◌≤◌, List, [], ◌∷◌, ◌++◌, length, None, refl, subst, inl, inr}
 use Rattle.hierarchy.specs.declared.Shape.{Shape}
 use Rattle.config_image.specs.Images.{ImageValue, Reads}
-use Rattle.rig.specs.Rig.{Asked}
 use Rattle.steps.specs.Files.{says_at, vectors_at}
 use Rattle.steps.specs.Lines.{outputs_line}
 use Rattle.steps.specs.Outside.{Around}
@@ -21,9 +20,6 @@ module _ (machine name image vectors : List ℕ) (old new : Around) where
   abbrev t : RunFiles
   t = run_files old machine image vectors
 
-  abbrev asked : Shape → Asked
-  asked m = record { shape = m; name = name }
-
   -- there is one machine and one image of right files
   the-shape : (right : RunRight t) (m : Shape) → (reads_machine t.machine).gives m → right.shape ≡ m
   the-shape right m is =
@@ -34,9 +30,6 @@ module _ (machine name image vectors : List ℕ) (old new : Around) where
   the-image right m i shape is =
       let text : Reads m right.image_file i = rw right.image_told at is.1 in
       text.only right.image right.image_right (right.image_shape ∙ shape) right.image_is
-
-  abbrev any : List ℕ → Type 0
-  any text = Unit {0}
 
   -- the rows of an image, and where its work begins
   abbrev rows : ImageValue → RowWork
@@ -54,12 +47,12 @@ module _ (machine name image vectors : List ℕ) (old new : Around) where
   run-right : Leads (Fronts (λ front. RunRight t)) (run_course machine name image vectors old new) (EndsWell old new)
   run-right text next is at =
       let right = is [] text refl in
-      after-leads (reads_machine t.machine) (IsUnloadedIn (machine ∷ []) old new) (machine_attached machine name image vectors old new) any (EndsWell old new)
+      after-leads (reads_machine t.machine) (IsUnloadedIn (machine ∷ []) old new) (machine_attached machine name image vectors old new) (λ _. Unit {0}) (EndsWell old new)
       (λ _ refusal stops. machine-excused old new right.machine_file right.shape.counts right.machine right.machine_within refusal (rw right.machine_told at stops))
       (λ m read. let shape = the-shape right m read in
-      after-leads (attaches (asked m) old.rig new.rig) (IsUnloadedIn (machine ∷ []) old new) (λ _. image_read machine image vectors old new m) any (EndsWell old new)
-      (λ _ refusal stops. attach-excused old new (asked m) refusal stops)
-      (λ _ _. after-leads (reads_image t.image m) (IsUnloadedIn (image ∷ machine ∷ []) old new) (image_run machine image vectors old new) any (EndsWell old new)
+      after-leads (attaches (record { shape = m; name = name }) old.rig new.rig) (IsUnloadedIn (machine ∷ []) old new) (λ _. image_read machine image vectors old new m) (λ _. Unit {0}) (EndsWell old new)
+      (λ _ refusal stops. attach-excused old new (record { shape = m; name = name }) refusal stops)
+      (λ _ _. after-leads (reads_image t.image m) (IsUnloadedIn (image ∷ machine ∷ []) old new) (image_run machine image vectors old new) (λ _. Unit {0}) (EndsWell old new)
       (λ _ refusal stops. image-excused old new right.image_file m right.image right.image_right (right.image_shape ∙ shape) right.image_is right.image_within refusal (rw right.image_told at stops))
       (λ i given. image-well (rows i) (begin i) old new right.vectors_file right.vectors_told (same-fault right i (the-image right m i shape given)))))
       text next tt at

@@ -1,6 +1,6 @@
 use Rattle.std.proofs.Common.{refl}
 use Rattle.std.proofs.lemmas.Result.{err_from_is_err_and}
-use Rattle.image_rows.proofs.RowLemmas.{Keeps, IsDriving-start, IsDriving-more, cycle-stops, row-stops, rows-end}
+use Rattle.image_rows.proofs.RowLemmas.{IsDriving-start, IsDriving-more, cycle-stops, row-stops, rows-end}
 use Rattle.image_rows.proofs.image.write_rows.Goals as goal
 
 pub file-init : goal.file-init

@@ -83,13 +83,12 @@ returns-in_err-image-clause-does g c =
     let ended = around new in
     let read = c.in_ok-shape.ensures.took r0 a in
     let m = c.in_ok-shape.shape in
-    let asked = asked_for machine name image vectors old ended m in
     let e = c.in_ok-attach.ensures in
     let took = c.in_err-image.ensures.took r1 a in
     let file = ap (λ contents. contents image) read.later.contents in
     let stands = stands-then (machine ∷ []) (image ∷ []) s0 s1 s2 read.place took.place in
     rw (p.1, p.2) (read-then machine name image vectors old ended m _ (outside s0 r0 a) (outside s1 r0 a) new read refl
-    (attach-gives asked (IsUnloadedIn (machine ∷ []) old ended) (λ _. image_read machine image vectors old ended m) (image ∷ vectors ∷ []) r0 _ (outside s1 r0 a) mid new (e.took s1 a) e.asked
+    (attach-gives (asked_for machine name image vectors old ended m) (IsUnloadedIn (machine ∷ []) old ended) (λ _. image_read machine image vectors old ended m) (image ∷ vectors ∷ []) r0 _ (outside s1 r0 a) mid new (e.took s1 a) e.asked
     (image-stops machine name image vectors old ended m (s1.contents image) file mid new (r1.machine ≡ r1.machine) _ _ refl took (stands, e.loads) refl)))
 
 pub run_image-requires : goal.run_image-requires
@@ -123,7 +122,6 @@ returns-clause-does g c =
     let ended = around new in
     let read = c.in_ok-shape.ensures.took r0 a in
     let m = c.in_ok-shape.shape in
-    let asked = asked_for machine name image vectors old ended m in
     let e = c.in_ok-attach.ensures in
     let i = c.in_ok-image.image in
     let took = c.in_ok-image.ensures.took r1 a in
@@ -131,7 +129,7 @@ returns-clause-does g c =
     let same = ap (λ contents. contents vectors) (took.later.contents ∙ read.later.contents) in
     let stands = stands-then (machine ∷ []) (image ∷ []) s0 s1 s2 read.place took.place in
     read-then machine name image vectors old ended m _ (outside s0 r0 a) (outside s1 r0 a) new read refl
-    (attach-gives asked (IsUnloadedIn (machine ∷ []) old ended) (λ _. image_read machine image vectors old ended m) (image ∷ vectors ∷ []) r0 _ (outside s1 r0 a) mid new (e.took s1 a) e.asked
+    (attach-gives (asked_for machine name image vectors old ended m) (IsUnloadedIn (machine ∷ []) old ended) (λ _. image_read machine image vectors old ended m) (image ∷ vectors ∷ []) r0 _ (outside s1 r0 a) mid new (e.took s1 a) e.asked
     (image-then machine name image vectors old ended m (s1.contents image) file mid held (r2.machine ≡ r1.machine) i _ new took
     (run-then machine name image vectors old ended (r2.machine ≡ r1.machine) i (s2.contents vectors) r1.loads _ held new same e.loads
     (c.run_image.ensures.follows (image ∷ machine ∷ []) s0 stands))))
