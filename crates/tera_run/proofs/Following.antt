@@ -1,72 +1,49 @@
 -- How the steps of `run` follow one another.
-use Rattle.std.proofs.Common.{◌≡◌, ℕ, List, Some, option_map, refl, sym, ap, subst, inl, inr, ◌∙◌}
-use Rattle.std.specs.Prelude.{Result, Err}
-use Rattle.tm_outside.specs.Store.{StoreState}
-use Rattle.tm_outside.specs.Sink.{SinkState}
+use Rattle.std.proofs.Common.{◌≡◌, ℕ, List, [], ◌∷◌, Some, option_map, sym, ap, subst, ◌∙◌}
+use Rattle.std.specs.Prelude.{Result, Ok, Err}
+use Rattle.tm_outside.specs.Told.{Told}
 use Rattle.hierarchy.specs.declared.Shape.{Shape}
 use Rattle.rig.specs.Rig.{RigState, Asked, shape_of}
 use Rattle.config_image.specs.Images.{ImageValue}
-use Rattle.steps.specs.Outside.{Around, StaysNear}
-use Rattle.steps.specs.Courses.{Course, after}
-use Rattle.steps.specs.Stops.{IsWritten, StopWrote, StepStops}
-use Rattle.steps.specs.Texts.{reads_machine, reads_image, attaches, MayAsk, LoadsOnce, AsksRig}
+use Rattle.steps.specs.Outside.{Outside, Around}
+use Rattle.steps.specs.Took.{Took, Follows}
+use Rattle.steps.specs.Texts.{reads_machine, reads_image, MayAsk, AsksMachine}
 use Rattle.steps.specs.declared.refusal.Stop.{Stop}
-use Rattle.steps.proofs.Counting.{near-near}
-use Rattle.steps.proofs.Following.{after-stops, after-gives, course-map}
-use Rattle.image_rows.specs.Rows.{image_course}
-use Rattle.image_rows.proofs.ImageLemmas.{near-text}
-use Rattle.tera_run.specs.Run.{run_course}
+use Rattle.steps.proofs.Taking.{step-stops, step-gives, read-gives, asks-machine}
+use Rattle.image_rows.specs.Rows.{image_rows, image_course}
+use Rattle.tera_run.specs.Run.{run_course, machine_attached, image_read, image_run, IsUnloadedIn}
 
--- ---- the machine is read and attached, and the image is read
-
-module _ (machine name image vectors : List ℕ) (old new : Around) where
-  abbrev near : Type 0
-  near = StaysNear old.store new.store
-
-  abbrev asked_for : Shape → Asked
-  asked_for m = record { shape = m; name = name }
-
-  abbrev on_image : ImageValue → Course
-  on_image i = image_course i vectors near (old.store.contents vectors) new
-
-  abbrev on_attached : Shape → Course
-  on_attached m = after (reads_image (old.store.contents image) m) near on_image
-
-  abbrev on_machine : Shape → Course
-  on_machine m = after (attaches (asked_for m) old.rig new.rig) near (λ _. on_attached m)
-
-  pub machine-stops : (stop : Stop) (a : SinkState) → StepStops (reads_machine (old.store.contents machine)) stop → near → StopWrote (run_course machine name image vectors old new) stop a a
-  machine-stops stop a stops at = after-stops (reads_machine (old.store.contents machine)) near on_machine stop a stops at
-
-  pub attach-stopped : (m : Shape) (stop : Stop) (a : SinkState) → (reads_machine (old.store.contents machine)).gives m → StepStops (attaches (asked_for m) old.rig new.rig) stop → near → StopWrote (run_course machine name image vectors old new) stop a a
-  attach-stopped m stop a is stops at =
-      let e : Result (Unit {0}) Stop = Err stop in
-      after-gives (reads_machine (old.store.contents machine)) near on_machine m e a a is
-      (after-stops (attaches (asked_for m) old.rig new.rig) near (λ _. on_attached m) stop a stops at)
-
-  attached : {U : Type 0} (m : Shape) (result : Result U Stop) (a b : SinkState) → (reads_machine (old.store.contents machine)).gives m → new.rig.machine.attached ≡ Some (asked_for m) → IsWritten (on_attached m) result a b → IsWritten (run_course machine name image vectors old new) result a b
-  attached m result a b is named w =
-      after-gives (reads_machine (old.store.contents machine)) near on_machine m result a b is
-      (after-gives (attaches (asked_for m) old.rig new.rig) near (λ _. on_attached m) tt result a b named w)
-
-  pub image-stops : (m : Shape) (stop : Stop) (a : SinkState) → (reads_machine (old.store.contents machine)).gives m → new.rig.machine.attached ≡ Some (asked_for m) → StepStops (reads_image (old.store.contents image) m) stop → near → StopWrote (run_course machine name image vectors old new) stop a a
-  image-stops m stop a is named stops at =
-      let e : Result (Unit {0}) Stop = Err stop in
-      attached m e a a is named (after-stops (reads_image (old.store.contents image) m) near on_image stop a stops at)
-
-  pub image-runs : {U : Type 0} (m : Shape) (i : ImageValue) (mid : StoreState) (result : Result U Stop) (a b : SinkState) → (reads_machine (old.store.contents machine)).gives m → new.rig.machine.attached ≡ Some (asked_for m) → (reads_image (old.store.contents image) m).gives i → StaysNear old.store mid → mid.contents ≡ old.store.contents → IsWritten (image_course i vectors (StaysNear mid new.store) (mid.contents vectors) new) result a b → IsWritten (run_course machine name image vectors old new) result a b
-  image-runs m i mid result a b is named read at contents w =
-      let told : mid.contents vectors ≡ old.store.contents vectors = rw contents refl in
-      let w' : IsWritten (image_course i vectors (StaysNear mid new.store) (old.store.contents vectors) new) result a b = rw told at w in
-      let on = course-map (image_course i vectors (StaysNear mid new.store) (old.store.contents vectors) new) (on_image i) (near-text i vectors (StaysNear mid new.store) near (old.store.contents vectors) new (λ h. near-near old.store mid new.store at h)) result a b w' in
-      attached m result a b is named (after-gives (reads_image (old.store.contents image) m) near on_image i result a b read on)
-
--- ---- what was asked of the rig
-
-pub asks-rig : (is_shape : Shape → Type 0) (name : List ℕ) (m : Shape) (old mid new : RigState) → is_shape m → MayAsk (record { shape = m; name = name }) old.machine.asked mid.machine.asked → mid.loads ≡ old.loads → new.machine.asked ≡ mid.machine.asked → LoadsOnce mid.loads new.loads → AsksRig is_shape name LoadsOnce old new
-asks-rig is_shape name m old mid new is (inl none) loads asked once = record { machines = inl (asked ∙ none); loads = subst (λ n. LoadsOnce n new.loads) loads once }
-asks-rig is_shape name m old mid new is (inr one) loads asked once = record { machines = inr (m, is, asked ∙ one); loads = subst (λ n. LoadsOnce n new.loads) loads once }
-
--- the shape that is attached is the image's
+-- the machine that is attached has the image's shape
 pub attached-shape : (rig : RigState) (m : Shape) (name : List ℕ) (i : ImageValue) → rig.machine.attached ≡ Some (record { shape = m; name = name }) → i.config.shape ≡ m → shape_of rig ≡ Some i.config.shape
 attached-shape rig m name i is shape = ap (option_map (λ (a : Asked). a.shape)) is ∙ ap Some (sym shape)
+
+module _ (machine name image vectors : List ℕ) (begun ended : Around) where
+  abbrev told : Shape → Type 0
+  told = (reads_machine (begun.store.contents machine)).gives
+
+  abbrev pub asked_for : Shape → Asked
+  asked_for m = record { shape = m; name = name }
+
+  -- the machine was read
+  pub read-then : {U : Type 0} (m : Shape) (result : Result U Stop) (old mid new : Outside) → Took (machine ∷ []) (reads_machine (begun.store.contents machine)) (Ok m) old mid → mid.rig ≡ old.rig → Follows ⊥ (image ∷ vectors ∷ []) (MayAsk (asked_for m) mid.rig.machine.asked new.rig.machine.asked) (machine_attached machine name image vectors begun ended m) result mid new → Follows ⊥ (machine ∷ image ∷ vectors ∷ []) (AsksMachine told name old.rig.machine.asked new.rig.machine.asked) (run_course machine name image vectors begun ended) result old new
+  read-then m result old mid new took same rest_is =
+      let asks = rw same at (asks-machine told name m mid.rig.machine.asked new.rig.machine.asked took.gives rest_is.machines) in
+      step-gives (reads_machine (begun.store.contents machine)) (IsUnloadedIn (machine ∷ []) begun ended) (machine_attached machine name image vectors begun ended) (reads_machine (begun.store.contents machine)) (machine ∷ []) (image ∷ vectors ∷ []) _ _ m m result old mid new took took.gives rest_is asks
+
+  -- the image isn't read, or it was
+  module _ (m : Shape) (told_image : Told) (same : told_image ≡ begun.store.contents image) (old mid : Outside) where
+    pub image-stops : {U : Type 0} (asks : Type 0) (stop : Stop) (result : Result U Stop) → result ≡ Err stop → Took {T = ImageValue} (image ∷ []) (reads_image told_image m) (Err stop) old mid → IsUnloadedIn (image ∷ machine ∷ []) begun ended → asks → Follows ⊥ (image ∷ vectors ∷ []) asks (image_read machine image vectors begun ended m) result old mid
+    image-stops asks stop result is took at asked =
+        let took_image = subst (λ t. Took {T = ImageValue} (image ∷ []) (reads_image t m) (Err stop) old mid) same took in
+        step-stops (reads_image (begun.store.contents image) m) (IsUnloadedIn (image ∷ machine ∷ []) begun ended) (image_run machine image vectors begun ended) (reads_image (begun.store.contents image) m) (image ∷ []) (vectors ∷ []) asks stop result old mid is took_image took_image.stops at asked
+
+    pub image-then : {U : Type 0} (asks : Type 0) (i : ImageValue) (result : Result U Stop) (new : Outside) → Took (image ∷ []) (reads_image told_image m) (Ok i) old mid → Follows ⊥ (vectors ∷ []) asks (image_run machine image vectors begun ended i) result mid new → Follows ⊥ (image ∷ vectors ∷ []) asks (image_read machine image vectors begun ended m) result old new
+    image-then asks i result new took rest_is =
+        let took_image = subst (λ t. Took (image ∷ []) (reads_image t m) (Ok i) old mid) same took in
+        read-gives (reads_image (begun.store.contents image) m) (IsUnloadedIn (image ∷ machine ∷ []) begun ended) (image_run machine image vectors begun ended) image (vectors ∷ []) asks i result old mid new took_image rest_is
+
+  -- the rows that were followed are those of this image, wherever the store and the rig stood before the load
+  pub run-then : {U : Type 0} (asks : Type 0) (i : ImageValue) (told_vectors : Told) (before : ℕ) (result : Result U Stop) (mid new : Outside) → told_vectors ≡ begun.store.contents vectors → before ≡ begun.rig.loads → Follows ⊥ (vectors ∷ []) asks (image_course (image_rows i told_vectors ended.store.current ended.rig) (record { image = i; vectors = vectors; files = image ∷ machine ∷ []; begun = begun.store; before = before }) ended) result mid new → Follows ⊥ (vectors ∷ []) asks (image_run machine image vectors begun ended i) result mid new
+  run-then asks i told_vectors before result mid new file loads rest_is =
+      let of_file : Follows ⊥ (vectors ∷ []) asks (image_course (image_rows i (begun.store.contents vectors) ended.store.current ended.rig) (record { image = i; vectors = vectors; files = image ∷ machine ∷ []; begun = begun.store; before = before }) ended) result mid new = rw file at rest_is in
+      rw loads at of_file

@@ -1,10 +1,10 @@
 -- What a `run` that is done has done, from its course.
-use Rattle.std.proofs.Common.{◌≡◌, ◌∙◌, ℕ, List, [], ◌∷◌, ◌++◌, ap, subst, inl, inr}
+use Rattle.std.proofs.Common.{◌≡◌, ℕ, List, [], ◌∷◌, ◌++◌, subst, inl, inr}
 use Rattle.tm_outside.specs.Sink.{Wrote}
-use Rattle.steps.specs.Lines.{outputs_line}
 use Rattle.steps.specs.Outside.{Outside, around}
-use Rattle.steps.specs.Courses.{ends, HasReadRows}
+use Rattle.steps.specs.Courses.{ends}
 use Rattle.image_rows.specs.Rows.{image_rows}
+use Rattle.image_rows.proofs.CourseLemmas.{image-ends}
 use Rattle.tera_run.specs.Run.{run_course}
 use Rattle.tera_run.specs.Headline.{IsRan}
 
@@ -13,11 +13,9 @@ module _ (machine name image vectors : List ℕ) (old new : Outside) where
   ran text asked wrote (inl h) = absurd h.1
   ran text asked wrote (inr (m, read, inl h)) = absurd h.1
   ran text asked wrote (inr (m, read, inr (u, attached, inl h))) = absurd h.1
-  ran text asked wrote (inr (m, read, inr (u, attached, inr (i, is, inl h)))) = absurd h.1
-  ran text asked wrote (inr (m, read, inr (u, attached, inr (i, is, inr (v, loaded, inl h))))) = absurd h.1
-  ran text asked wrote (inr (m, read, inr (u, attached, inr (i, is, inr (v, loaded, inr (w, opened, inl h)))))) = let line = h.1 in absurd (cc)
-  ran text asked wrote (inr (m, read, inr (u, attached, inr (i, is, inr (v, loaded, inr (w, opened, inr (more, first, h))))))) =
-      let rows : HasReadRows (image_rows i (old.store.contents vectors) new.store.current new.rig) more = h.0 in
+  ran text asked wrote (inr (m, read, inr (u, attached, inr (i, is, h)))) =
+      let run = image-ends (image_rows i (old.store.contents vectors) new.store.current new.rig) (record { image = i; vectors = vectors; files = image ∷ machine ∷ []; begun = old.store; before = old.rig.loads }) (around new) text h in
+      let rows = run.rows in
       record {
         shape = m;
         loaded = i;
@@ -27,10 +25,11 @@ module _ (machine name image vectors : List ℕ) (old new : Outside) where
         machine_is = read;
         attached = attached;
         image_is = is.1;
-        are_all = h.1;
-        written = subst (λ t. Wrote old.sink.written new.sink.written t) (first ∙ ap (λ t. outputs_line ++ t) rows.has.text_is) wrote;
+        are_all = run.all;
+        written = subst (λ t. Wrote old.sink.written new.sink.written t) run.text_is wrote;
         config = rows.session.config;
         drives = rows.session.drives;
         rows_are = rows.session.rows_are;
         rows_right = rows.has.are;
+        loads = run.loaded;
       }

@@ -1,44 +1,24 @@
 -- What the command `run` comes to.
-use Rattle.std.proofs.Common.{◌≡◌, ◌∙◌, ℕ, ◌<◌, List, [], ◌++◌, length, Option, None, Some, refl, sym, subst, inl, inr, arith}
-use Rattle.tm_outside.specs.Told.{Told, holds}
-use Rattle.tm_outside.specs.Store.{Place}
+use Rattle.std.proofs.Common.{◌≡◌, ◌∙◌, ℕ, ◌≤◌, List, [], ◌∷◌, ◌++◌, length, None, refl, subst, inl, inr}
 use Rattle.hierarchy.specs.declared.Shape.{Shape}
 use Rattle.config_image.specs.Images.{ImageValue, Reads}
-use Rattle.rig.specs.Rig.{Asked}
-use Rattle.steps.specs.Files.{says_at, vectors_at, IsNearNext}
+use Rattle.steps.specs.Files.{says_at, vectors_at}
 use Rattle.steps.specs.Lines.{outputs_line}
-use Rattle.steps.specs.Outside.{Around, StaysNear}
-use Rattle.steps.specs.Courses.{Course, after, write, all_rows, refuses}
-use Rattle.steps.specs.Texts.{reads_machine, reads_image, attaches, opens, IsMachineText}
-use Rattle.steps.specs.Jobs.{IsLawful, IsExcused, Leads, Fronts, EndsWell}
-use Rattle.steps.specs.declared.refusal.Refusal.{Refusal}
-use Rattle.steps.specs.declared.refusal.Refusal.TheVariants.{Memory, Rig}
-use Rattle.steps.proofs.Leading.{after-leads, write-leads}
-use Rattle.steps.proofs.Excused.{machine-excused, image-excused, attach-excused, open-excused, rows-well}
-use Rattle.image_rows.specs.Rows.{image_rows, IsSession, NotLoaded, loads}
-use Rattle.tera_run.specs.Run.{run_course, run_files, run_job, RunFiles, RunRight, RunFew}
+use Rattle.steps.specs.Outside.{Around}
+use Rattle.steps.specs.Courses.{RowWork, refuses}
+use Rattle.steps.specs.Texts.{reads_machine, reads_image, attaches, IsMachineText}
+use Rattle.steps.specs.Jobs.{IsLawful, Leads, Fronts, EndsWell}
+use Rattle.steps.specs.declared.refusal.Refusal.TheVariants.{Memory}
+use Rattle.steps.proofs.Leading.{after-leads}
+use Rattle.steps.proofs.Excused.{machine-excused, image-excused, attach-excused}
 use Rattle.steps.proofs.ShapeLemmas.{same-shape}
-
-load-excused : (old new : Around) (refusal : Refusal) → NotLoaded refusal → IsExcused refusal old new
-load-excused old new Rig stops = tt
-load-excused old new Memory stops = tt
-load-excused old new refusal stops = absurd stops
-
--- the next vector is one of the file
-near-count : (told : Told) (file : List ℕ) (i j : ImageValue) (place : Option Place) (count : ℕ) → told ≡ holds file → j ≡ i → IsNearNext (length i.inputs) told place count → count < length (vectors_at (length j.inputs) file)
-near-count told file i j place count is same near =
-    let next = rw is at near in
-    subst (λ (w : ImageValue). count < length (vectors_at (length w.inputs) file)) (sym same) next.0
+use Rattle.image_rows.specs.Rows.{most_rows, RowsBegin, image_rows}
+use Rattle.image_rows.proofs.CourseLemmas.{image-well, image-few}
+use Rattle.tera_run.specs.Run.{run_course, machine_attached, image_read, image_run, IsUnloadedIn, run_files, run_job, RunFiles, RunRight, RunFew}
 
 module _ (machine name image vectors : List ℕ) (old new : Around) where
   abbrev t : RunFiles
   t = run_files old machine image vectors
-
-  abbrev here : Type 0
-  here = StaysNear old.store new.store
-
-  abbrev asked : Shape → Asked
-  asked m = record { shape = m; name = name }
 
   -- there is one machine and one image of right files
   the-shape : (right : RunRight t) (m : Shape) → (reads_machine t.machine).gives m → right.shape ≡ m
@@ -51,59 +31,44 @@ module _ (machine name image vectors : List ℕ) (old new : Around) where
       let text : Reads m right.image_file i = rw right.image_told at is.1 in
       text.only right.image right.image_right (right.image_shape ∙ shape) right.image_is
 
-  -- what follows on each step
-  abbrev on_loaded : ImageValue → Course
-  on_loaded i = after (opens t.vectors) here (λ _. write outputs_line ((new.store.current ≡ Some (record { name = vectors; at = 0 })) × IsSession new.rig i [] []) (all_rows (image_rows i t.vectors new.store.current new.rig)))
+  -- the rows of an image, and where its work begins
+  abbrev rows : ImageValue → RowWork
+  rows i = image_rows i t.vectors new.store.current new.rig
 
-  abbrev on_image : ImageValue → Course
-  on_image i = after loads here (λ _. on_loaded i)
-
-  abbrev on_attached : Shape → Course
-  on_attached m = after (reads_image t.image m) here on_image
-
-  abbrev on_machine : Shape → Course
-  on_machine m = after (attaches (asked m) old.rig new.rig) here (λ _. on_attached m)
-
-  abbrev any : List ℕ → Type 0
-  any text = Unit {0}
+  abbrev begin : ImageValue → RowsBegin
+  begin i = record { image = i; vectors = vectors; files = image ∷ machine ∷ []; begun = old.store; before = old.rig.loads }
 
   same-fault : (right : RunRight t) (i : ImageValue) → right.image ≡ i → (says_at (length i.inputs) right.vectors_file).fault ≡ None
   same-fault right i same = subst (λ (w : ImageValue). (says_at (length w.inputs) right.vectors_file).fault ≡ None) same right.no_fault
 
+  same-few : (few : RunFew t) (i : ImageValue) → few.right.image ≡ i → length (vectors_at (length i.inputs) few.right.vectors_file) ≤ most_rows
+  same-few few i same = subst (λ (w : ImageValue). length (vectors_at (length w.inputs) few.right.vectors_file) ≤ most_rows) same few.few
+
   run-right : Leads (Fronts (λ front. RunRight t)) (run_course machine name image vectors old new) (EndsWell old new)
   run-right text next is at =
       let right = is [] text refl in
-      after-leads (reads_machine t.machine) here on_machine any (EndsWell old new)
+      after-leads (reads_machine t.machine) (IsUnloadedIn (machine ∷ []) old new) (machine_attached machine name image vectors old new) (λ _. Unit {0}) (EndsWell old new)
       (λ _ refusal stops. machine-excused old new right.machine_file right.shape.counts right.machine right.machine_within refusal (rw right.machine_told at stops))
       (λ m read. let shape = the-shape right m read in
-      after-leads (attaches (asked m) old.rig new.rig) here (λ _. on_attached m) any (EndsWell old new)
-      (λ _ refusal stops. attach-excused old new (asked m) refusal stops)
-      (λ _ _. after-leads (reads_image t.image m) here on_image any (EndsWell old new)
+      after-leads (attaches (record { shape = m; name = name }) old.rig new.rig) (IsUnloadedIn (machine ∷ []) old new) (λ _. image_read machine image vectors old new m) (λ _. Unit {0}) (EndsWell old new)
+      (λ _ refusal stops. attach-excused old new (record { shape = m; name = name }) refusal stops)
+      (λ _ _. after-leads (reads_image t.image m) (IsUnloadedIn (image ∷ machine ∷ []) old new) (image_run machine image vectors old new) (λ _. Unit {0}) (EndsWell old new)
       (λ _ refusal stops. image-excused old new right.image_file m right.image right.image_right (right.image_shape ∙ shape) right.image_is right.image_within refusal (rw right.image_told at stops))
-      (λ i given. after-leads loads here (λ _. on_loaded i) any (EndsWell old new)
-      (λ _ refusal stops. load-excused old new refusal stops)
-      (λ _ _. after-leads (opens t.vectors) here (λ _. write outputs_line ((new.store.current ≡ Some (record { name = vectors; at = 0 })) × IsSession new.rig i [] []) (all_rows (image_rows i t.vectors new.store.current new.rig))) any (EndsWell old new)
-      (λ _ refusal stops. open-excused old new refusal stops)
-      (λ _ _. write-leads outputs_line ((new.store.current ≡ Some (record { name = vectors; at = 0 })) × IsSession new.rig i [] []) (all_rows (image_rows i t.vectors new.store.current new.rig)) any (EndsWell old new) tt
-      (rows-well old new (image_rows i t.vectors new.store.current new.rig) right.vectors_file any right.vectors_told (same-fault right i (the-image right m i shape given))))))))
+      (λ i given. image-well (rows i) (begin i) old new right.vectors_file right.vectors_told (same-fault right i (the-image right m i shape given)))))
       text next tt at
 
   -- after the line `outputs` memory is wanting only for more rows than there was room for
-  run-few : RunFew t → (text : List ℕ) → (more : List ℕ) × (text ≡ outputs_line ++ more) → run_course machine name image vectors old new text (refuses Memory) → ⊥
-  run-few few text begun (inl h) = let begins = begun.1 in let empty = h.0 in absurd (cc)
-  run-few few text begun (inr (m, read, inl h)) = let begins = begun.1 in let empty = h.0 in absurd (cc)
-  run-few few text begun (inr (m, read, inr (u, attached, inl h))) = let begins = begun.1 in let empty = h.0 in absurd (cc)
-  run-few few text begun (inr (m, read, inr (u, attached, inr (i, given, inl h)))) = let begins = begun.1 in let empty = h.0 in absurd (cc)
-  run-few few text begun (inr (m, read, inr (u, attached, inr (i, given, inr (v, loaded, inl h))))) = let begins = begun.1 in let empty = h.0 in absurd (cc)
-  run-few few text begun (inr (m, read, inr (u, attached, inr (i, given, inr (v, loaded, inr (w, opened, inl h)))))) = let line = h.1 in absurd (cc)
-  run-few few text begun (inr (m, read, inr (u, attached, inr (i, given, inr (v, loaded, inr (w, opened, inr (more, is, h))))))) =
+  run-few : RunFew t → (text more : List ℕ) → text ≡ outputs_line ++ more → run_course machine name image vectors old new text (refuses Memory) → ⊥
+  run-few few text more begins (inl h) = let empty = h.0 in absurd (cc)
+  run-few few text more begins (inr (m, read, inl h)) = let empty = h.0 in absurd (cc)
+  run-few few text more begins (inr (m, read, inr (u, attached, inl h))) = let empty = h.0 in absurd (cc)
+  run-few few text more begins (inr (m, read, inr (u, attached, inr (i, given, h)))) =
       let same = the-image few.right m i (the-shape few.right m read) given in
-      let next = near-count t.vectors few.right.vectors_file i few.right.image new.store.current (length h.0.has.rows) few.right.vectors_told same h.2 in
-      absurd (let most = h.1 in let within = few.few in omega (arith, next, most, within))
+      image-few (rows i) (begin i) new few.right.vectors_file few.right.vectors_told (λ count most. most) (same-few few i same) text more begins h
 
 pub run-lawful : (machine name image vectors : List ℕ) → IsLawful (run_job machine name image vectors)
 run-lawful machine name image vectors = record {
   right = λ old new. run-right machine name image vectors old new;
   short = λ old new text next is at. absurd (is [] text refl);
-  few = λ old new few text begun at. run-few machine name image vectors old new few text begun at;
+  few = λ old new few text begun at. run-few machine name image vectors old new few text begun.0 begun.1 at;
 }

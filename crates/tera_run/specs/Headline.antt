@@ -1,5 +1,6 @@
 -- What a `run` that is done has done.
 use Rattle.std.specs.Prelude.{◌≡◌, ℕ, Bool, List, [], ◌∷◌, ◌++◌, map, length, Some}
+use Rattle.tm_outside.specs.Counts.{next_count}
 use Rattle.tm_outside.specs.Told.{IfTold}
 use Rattle.tm_outside.specs.Sink.{Wrote}
 use Rattle.hierarchy.specs.declared.Shape.{Shape}
@@ -29,3 +30,5 @@ pub record IsRan (machine name image vectors : List ℕ) (old new : Outside) : T
   pub rows_are : rows ≡ map (image_row loaded) (readings_of (cycles_of new.rig))
   -- and where the machine's faults are told, the readings are the machine's under them
   pub rows_right : AreRowsOf new.rig loaded all_vectors rows
+  -- one load was made in all
+  pub loads : new.rig.loads ≡ next_count old.rig.loads

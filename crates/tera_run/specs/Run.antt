@@ -7,19 +7,39 @@ use Rattle.config_image.specs.Images.{ImageValue, IsImage, image_bytes}
 use Rattle.tm_text.specs.Size.{most_bytes}
 use Rattle.steps.specs.Files.{says_at, vectors_at}
 use Rattle.steps.specs.Lines.{outputs_line}
-use Rattle.steps.specs.Outside.{Around, StaysNear}
+use Rattle.steps.specs.Outside.{Around, StandsIn}
 use Rattle.steps.specs.Courses.{Course, after}
-use Rattle.steps.specs.Texts.{reads_machine, reads_image, attaches, AsksRig, LoadsOnce}
+use Rattle.steps.specs.Texts.{reads_machine, reads_image, attaches, AsksMachine}
 use Rattle.steps.specs.Jobs.{Job}
-use Rattle.image_rows.specs.Rows.{most_rows, image_course}
+use Rattle.image_rows.specs.Rows.{most_rows, image_rows, image_course}
 
--- The machine is read and attached, the image is read, and it is loaded and its rows are written
+-- the store stands in one of these files, the last asked first, and no load was made yet
+abbrev pub IsUnloadedIn : (files : List (List ℕ)) → Around → Around → Type 0
+IsUnloadedIn files old new = StandsIn files old.store new.store × (new.rig.loads ≡ old.rig.loads)
+
+-- The image is loaded by one load, and its rows are written
+abbrev pub image_run : (machine image vectors : List ℕ) → Around → Around → ImageValue → Course
+image_run machine image vectors old new i =
+    image_course (image_rows i (old.store.contents vectors) new.store.current new.rig)
+    (record { image = i; vectors = vectors; files = image ∷ machine ∷ []; begun = old.store; before = old.rig.loads }) new
+
+-- The image is read and run
+abbrev pub image_read : (machine image vectors : List ℕ) → Around → Around → Shape → Course
+image_read machine image vectors old new m =
+    after (reads_image (old.store.contents image) m) (IsUnloadedIn (image ∷ machine ∷ []) old new)
+    (image_run machine image vectors old new)
+
+-- The machine is attached, and the image is read and run
+abbrev pub machine_attached : (machine name image vectors : List ℕ) → Around → Around → Shape → Course
+machine_attached machine name image vectors old new m =
+    after (attaches (record { shape = m; name = name }) old.rig new.rig) (IsUnloadedIn (machine ∷ []) old new)
+    (λ _. image_read machine image vectors old new m)
+
+-- The machine is read and attached, and the image is read and run
 abbrev pub run_course : (machine name image vectors : List ℕ) → Around → Around → Course
 run_course machine name image vectors old new =
-    after (reads_machine (old.store.contents machine)) (StaysNear old.store new.store) (λ m.
-    after (attaches (record { shape = m; name = name }) old.rig new.rig) (StaysNear old.store new.store) (λ _.
-    after (reads_image (old.store.contents image) m) (StaysNear old.store new.store) (λ i.
-    image_course i vectors (StaysNear old.store new.store) (old.store.contents vectors) new)))
+    after (reads_machine (old.store.contents machine)) (IsUnloadedIn (machine ∷ []) old new)
+    (machine_attached machine name image vectors old new)
 
 -- what is told of the files
 pub record RunFiles : Type 0 where
@@ -58,7 +78,7 @@ pub record RunFew (t : RunFiles) : Type 0 where
 abbrev pub run_job : (machine name image vectors : List ℕ) → Job
 run_job machine name image vectors = record {
   files = machine ∷ image ∷ vectors ∷ [];
-  asks = λ old new. AsksRig (reads_machine (old.store.contents machine)).gives name LoadsOnce old.rig new.rig;
+  asks = λ old new. AsksMachine (reads_machine (old.store.contents machine)).gives name old.rig.machine.asked new.rig.machine.asked;
   course = run_course machine name image vectors;
   right = λ old new front. RunRight (run_files old machine image vectors);
   short = λ old new front. ⊥;
