@@ -1,0 +1,14 @@
+use Rattle.std.proofs.Common.{◌∙◌, ap, length}
+use Rattle.lay.proofs.laying.drawn.Goals as goal
+
+pub returns : goal.returns
+returns c =
+    let made = c.in_ok-image.ensures in
+    record {
+      image = c.config.ensures.right;
+      shape = made.route.routed.shape;
+      inputs = ap length made.route.inputs ∙ (c.requires.plan.inputs ∙ c.requires.inputs);
+      outputs = ap length made.route.outputs ∙ (c.requires.plan.outputs ∙ c.requires.outputs);
+      free = made.free;
+      right = λ f covers. made.right c.args.netlist.now f c.requires.rows covers;
+    }
