@@ -3,7 +3,6 @@
 -- ---- cited above
 
 pub mod Laying
-
 -- ---- of this crate's bodies
 
 pub mod Wants

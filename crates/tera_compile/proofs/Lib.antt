@@ -1,5 +1,5 @@
 -- What is cited above.
 pub mod Headlines
 -- For the proofs of this crate alone.
-mod Following
+mod Reading
 mod CompileLaws

@@ -6,7 +6,7 @@ use Rattle.steps.specs.Courses.{done}
 use Rattle.steps.proofs.Taking.{took-lacks, step-stops, step-gives}
 use Rattle.lay.specs.Laying.{lays}
 use Rattle.tera_compile.specs.Compile.{image_written}
-use Rattle.tera_compile.proofs.Following.{line-last}
+use Rattle.tera_compile.proofs.Reading.{line-last}
 use Rattle.tera_compile.proofs.command.lay_and_write.Goals as goal
 
 pub returns-in_err-image : goal.returns-in_err-image
@@ -16,7 +16,7 @@ returns-in_err-image g c =
     let laid = lays c.args.list.now c.args.netlist.now in
     λ files begun store rig near.
     let o = outside store rig a in
-    let took = c.in_err-image.ensures o in
+    let took = c.in_err-image.ensures.took o in
     rw (p.1, p.2) (step-stops laid (StandsIn files begun store) (image_written files begun store) laid [] [] (Unit {0}) _ _ o o refl took took.stops near tt)
 
 pub returns-in_err-bytes : goal.returns-in_err-bytes
@@ -26,7 +26,7 @@ returns-in_err-bytes g c =
     let laid = lays c.args.list.now c.args.netlist.now in
     λ files begun store rig near.
     let o = outside store rig a in
-    let took = took-lacks laid laid [] c.in_ok-image.image o o (c.in_ok-image.ensures o) tt in
+    let took = took-lacks laid laid [] c.in_ok-image.image o o (c.in_ok-image.ensures.took o) tt in
     rw (p.1, p.2) (step-stops laid (StandsIn files begun store) (image_written files begun store) laid [] [] (Unit {0}) _ _ o o refl took took.stops near tt)
 
 pub returns : goal.returns
@@ -39,6 +39,6 @@ returns g c =
     λ files begun store rig near.
     let here = StandsIn files begun store in
     let o = outside store rig a in
-    let took = c.in_ok-image.ensures o in
+    let took = c.in_ok-image.ensures.took o in
     step-gives laid here (image_written files begun store) laid [] [] (Unit {0}) (Unit {0}) i i _ o o (outside store rig b) took took.gives
     (line-last (image_bytes i) here store rig a b _ puts near) tt
