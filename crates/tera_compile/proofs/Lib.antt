@@ -1,6 +1,5 @@
 -- What is cited above.
-pub mod LayLemmas
 pub mod Headlines
 -- For the proofs of this crate alone.
-mod Following
+mod Reading
 mod CompileLaws
