@@ -1,19 +1,18 @@
 -- The rows of an image that is loaded, wherever it comes from.
-use Rattle.std.specs.Prelude.{◌≡◌, ℕ, ◌+◌, ◌≤◌, Bool, List, [], map, length, Option, Some, IfSome}
+use Rattle.std.specs.Prelude.{◌≡◌, ℕ, ◌+◌, ◌≤◌, Bool, List, [], ◌∷◌, map, length, Option, Some, IfSome}
 use Rattle.std.specs.List.{All}
 use Rattle.tm_outside.specs.Told.{Told}
-use Rattle.tm_outside.specs.Store.{Place}
+use Rattle.tm_outside.specs.Counts.{next_count}
+use Rattle.tm_outside.specs.Store.{Place, StoreState}
 use Rattle.hierarchy.specs.Circuit.{Pins}
 use Rattle.hierarchy.specs.Faults.{Faults}
 use Rattle.config_set.specs.Faulty.{IsRun}
 use Rattle.config_image.specs.Images.{ImageValue, drive_of, image_row}
 use Rattle.rig.specs.Rig.{RigState, config_of, cycles_of, drives_of, readings_of, spare_of}
 use Rattle.steps.specs.Lines.{outputs_line}
-use Rattle.steps.specs.Outside.{Around}
+use Rattle.steps.specs.Outside.{Around, StandsIn}
 use Rattle.steps.specs.Courses.{Course, Step, RowWork, after, write, all_rows}
-use Rattle.steps.specs.Texts.{opens}
-use Rattle.steps.specs.declared.refusal.Refusal.{Refusal}
-use Rattle.steps.specs.declared.refusal.Refusal.TheVariants as refused
+use Rattle.steps.specs.Texts.{opens, FailsOnRig, LoadsOnce}
 
 -- for how many rows the rig is asked for room
 abbrev pub most_rows : ℕ
@@ -50,23 +49,32 @@ image_rows i told place rig = record {
 
 -- ---- an image is loaded, and all memory for its rows is taken
 
-abbrev pub NotLoaded : Refusal → Type 0
-NotLoaded refused.Rig = Unit {0}
-NotLoaded refused.Memory = Unit {0}
-NotLoaded refusal = ⊥
+-- where the work begins: the image, the file of vectors, and of what came before the files that were read, the last first, the
+-- store as the command began, and how many loads were made
+pub record RowsBegin : Type 0 where
+  pub image : ImageValue
+  pub vectors : List ℕ
+  pub files : List (List ℕ)
+  pub begun : StoreState
+  pub before : ℕ
 
-abbrev pub loads : Step (Unit {0})
-loads = record { stops = NotLoaded; gives = λ _. Unit {0} }
+-- it is one load more; or the rig fails or memory is wanting, with one load more or none
+abbrev pub loads : (before : ℕ) → RigState → Step (Unit {0})
+loads before rig = record {
+  stops = λ refusal. FailsOnRig refusal × LoadsOnce before rig.loads;
+  gives = λ _. rig.loads ≡ next_count before;
+}
 
 -- while the line `outputs` is written the vectors were opened and none was read, and the session has no cycles
 abbrev pub IsAtOutputs : ImageValue → (vectors : List ℕ) → Around → Type 0
 IsAtOutputs i vectors new = (new.store.current ≡ Some (record { name = vectors; at = 0 })) × IsSession new.rig i [] []
 
--- the image is loaded, the vectors are opened, and the rows are written behind the line `outputs`. Before that line the
--- store stands here
-abbrev pub image_course : ImageValue → (vectors : List ℕ) → (here : Type 0) → Told → (new : Around) → Course
-image_course i vectors here told new =
-    after loads here (λ _.
-    after (opens told) here (λ _.
-    write outputs_line (IsAtOutputs i vectors new)
-    (all_rows (image_rows i told new.store.current new.rig))))
+-- the vectors are opened, and the rows are written behind the line `outputs`
+abbrev pub loaded_course : RowWork → RowsBegin → (new : Around) → Course
+loaded_course w b new =
+    after (opens w.told) (StandsIn (b.vectors ∷ b.files) b.begun new.store) (λ _.
+    write outputs_line (IsAtOutputs b.image b.vectors new) (all_rows w))
+
+-- the image is loaded, and its rows are written
+abbrev pub image_course : RowWork → RowsBegin → (new : Around) → Course
+image_course w b new = after (loads b.before new.rig) (StandsIn b.files b.begun new.store) (λ _. loaded_course w b new)

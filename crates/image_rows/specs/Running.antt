@@ -1,6 +1,6 @@
 -- What the steps of a run say.
 use Rattle.std.specs.Prelude.{◌≡◌, ◌<◌, ◌≤◌, Bool, true, false, length, None}
-use Rattle.tm_outside.specs.Counts.{Rose}
+use Rattle.tm_outside.specs.Counts.{Rose, next_count}
 use Rattle.tm_outside.specs.Store.{StoreState, IsFailure}
 use Rattle.hierarchy.specs.Shape.{pins_of}
 use Rattle.rig.specs.Rig.{RigState, Begins, spare_of}
@@ -10,10 +10,11 @@ use Rattle.loader.specs.Run.{RunsRow}
 use Rattle.vector_text.specs.declared.vectors.VectorsFail.TheVariants.{Text}
 use Rattle.vector_text.specs.Readings.{new_reading, NextGives, NextFails, HasMoved, StaysWithin}
 use Rattle.steps.specs.Files.{most_vector_bytes, most_ahead}
+use Rattle.steps.specs.Courses.{Step}
 use Rattle.steps.specs.declared.refusal.Refusal.TheVariants as refused
 use Rattle.steps.specs.declared.refusal.Stop.{Stop}
 use Rattle.steps.specs.declared.refusal.Stop.TheVariants.{Refused}
-use Rattle.image_rows.specs.Rows.{most_rows}
+use Rattle.image_rows.specs.Rows.{most_rows, loads}
 use Rattle.image_rows.specs.declared.image.Running.{Running}
 
 -- the pins of an image, as a run keeps them
@@ -34,6 +35,13 @@ pub record IsLoaded (rows : Running) (rig : RigState) : Type 0 where
   pub fits : IsFitting rows
   pub vectors : rows.vectors ≡ new_reading (length rows.image.inputs) most_vector_bytes
   pub begins : Begins rows.image.config most_rows rig
+
+-- the image is loaded so, by one load; or it isn't
+abbrev pub prepares : ImageValue → (old new : RigState) → Step Running
+prepares image old new = record {
+  stops = (loads old.loads new).stops;
+  gives = λ rows. (rows.image ≡ image) × IsLoaded rows new × (new.loads ≡ next_count old.loads);
+}
 
 -- a vector was read
 pub record IsRead (old new : Running) (before after : StoreState) : Type 0 where

@@ -1,22 +1,23 @@
 //! The rows of an image.
-ghost use Rattle.std.specs.Prelude.{◌≡◌, ◌≤◌, ◌∷◌, [], Some, OnOk, IfOk, IfErr, IsSome, length};
-ghost use Rattle.tm_outside.specs.Sink.{Wrote};
+ghost use Rattle.std.specs.Prelude.{◌≡◌, ℕ, ◌≤◌, List, ◌∷◌, [], Some, OnOk, IfOk, IfErr, IsSome, length};
+ghost use Rattle.tm_outside.specs.Store.{StoreState};
+ghost use Rattle.tm_outside.specs.Sink.{SinkState, Wrote};
 ghost use Rattle.hierarchy.specs.Shape.{pins_of};
 ghost use Rattle.rig.specs.Rig.{shape_of, width_of};
 ghost use Rattle.vector_text.specs.Rows.{row_line};
 ghost use Rattle.steps.specs.Files.{IsBegun, file_of};
-ghost use Rattle.steps.specs.Outside.{StaysNear, outside, around};
+ghost use Rattle.steps.specs.Outside.{StandsIn, outside, around};
 ghost use Rattle.steps.specs.Courses.{all_rows};
-ghost use Rattle.steps.specs.Stops.{Asks, IsWritten, IsCounted, StepStops, WriteStops};
-ghost use Rattle.steps.specs.Texts.{LoadsOnce, RigCounts};
-ghost use Rattle.image_rows.specs.Rows.{image_rows, image_course, loads};
-ghost use Rattle.image_rows.specs.Running.{IsFitting, IsLoaded, CycleGives, CycleStops};
+ghost use Rattle.steps.specs.Stops.{WriteStops};
+ghost use Rattle.steps.specs.Took.{Took, Follows};
+ghost use Rattle.image_rows.specs.Rows.{RowsBegin, image_rows, image_course};
+ghost use Rattle.image_rows.specs.Running.{IsFitting, IsLoaded, CycleGives, CycleStops, prepares};
 
 use config_image::Image;
 use loader::{Run, begin};
 use rig::Rig;
 use std::alloc::Global;
-use steps::{Stop, write};
+use steps::{Stop, open_vectors, write};
 use tm_outside::{Sink, Store};
 use vector_text::{RowText, VectorText};
 
@@ -52,12 +53,10 @@ fn prepare(alloc: Global, image: Image, rig: &mut Box<dyn Rig>) -> Result<Runnin
     requires { shape_of (rig_state rig.old) ≡ Some image.config.shape }
 
     ensures machine { (rig_state rig.new).machine ≡ (rig_state rig.old).machine }
-    ensures later { (rig_state rig.old).failures ≤ (rig_state rig.new).failures }
-    ensures loads { LoadsOnce (rig_state rig.old).loads (rig_state rig.new).loads }
-    ensures image { IfOk result (λ rows. rows.image ≡ image) }
-    ensures loaded { IfOk result (λ rows. IsLoaded rows (rig_state rig.new)) }
-    ensures refused { IfErr result (StepStops loads) }
-    ensures counted { IfErr result (λ stop. RigCounts stop (rig_state rig.old) (rig_state rig.new)) }
+    // Whatever the store and the sink are.
+    ensures took { let old = rig_state rig.old in let new = rig_state rig.new in
+        (store : StoreState) (sink : SinkState) →
+        Took [] (prepares image old new) result (outside store old sink) (outside store new sink) }
 {
     let (inputs, outputs) = widths(&image);
     let vectors = VectorText::new(alloc, inputs)?;
@@ -127,21 +126,10 @@ fn write_rows<S: Store, K: Sink>(
     requires begun { IsBegun (S.store_state store.old) }
     requires loaded { IsLoaded rows.old (rig_state rig.old) }
 
-    ensures contents { (S.store_state store.new).contents ≡ (S.store_state store.old).contents }
-    ensures store_later { (S.store_state store.old).failures ≤ (S.store_state store.new).failures }
-    ensures asked { (S.store_state store.new).asked ≡ (S.store_state store.old).asked }
-    ensures machine { (rig_state rig.new).machine ≡ (rig_state rig.old).machine }
-    ensures loads { (rig_state rig.new).loads ≡ (rig_state rig.old).loads }
-    ensures rig_later { (rig_state rig.old).failures ≤ (rig_state rig.new).failures }
-    ensures kind { (K.sink_state sink.new).can_lack ≡ (K.sink_state sink.old).can_lack }
-    ensures sink_later { (K.sink_state sink.old).failures ≤ (K.sink_state sink.new).failures }
-
-    ensures written { let old = S.store_state store.old in let new = S.store_state store.new in
-        let work = image_rows rows.old.image (file_of old) new.current (rig_state rig.new) in
-        IsWritten (all_rows work) result (K.sink_state sink.old) (K.sink_state sink.new) }
-    ensures counted { let old = outside (S.store_state store.old) (rig_state rig.old) (K.sink_state sink.old) in
+    ensures follows { let old = outside (S.store_state store.old) (rig_state rig.old) (K.sink_state sink.old) in
         let new = outside (S.store_state store.new) (rig_state rig.new) (K.sink_state sink.new) in
-        IfErr result (λ stop. IsCounted ⊥ stop old new) }
+        let work = image_rows rows.old.image (file_of old.store) new.store.current new.rig in
+        Follows ⊥ [] ((new.rig.machine ≡ old.rig.machine) × (new.rig.loads ≡ old.rig.loads)) (all_rows work) result old new }
 {
     'file: while next_row(rows, store, rig)? {
         write_row(rows, sink)?;
@@ -169,25 +157,16 @@ pub fn run_image<S: Store, K: Sink>(
 ) -> Result<(), Stop>
     requires { shape_of (rig_state rig.old) ≡ Some image.config.shape }
 
-    ensures contents { (S.store_state store.new).contents ≡ (S.store_state store.old).contents }
-    ensures store_later { (S.store_state store.old).failures ≤ (S.store_state store.new).failures }
-    ensures asked { Asks (vectors.now ∷ []) result (S.store_state store.old) (S.store_state store.new) }
-    ensures machine { (rig_state rig.new).machine ≡ (rig_state rig.old).machine }
-    ensures loads { LoadsOnce (rig_state rig.old).loads (rig_state rig.new).loads }
-    ensures rig_later { (rig_state rig.old).failures ≤ (rig_state rig.new).failures }
-    ensures kind { (K.sink_state sink.new).can_lack ≡ (K.sink_state sink.old).can_lack }
-    ensures sink_later { (K.sink_state sink.old).failures ≤ (K.sink_state sink.new).failures }
-
-    ensures written { let old = outside (S.store_state store.old) (rig_state rig.old) (K.sink_state sink.old) in
+    // Wherever the store stood as the command began.
+    ensures follows { let old = outside (S.store_state store.old) (rig_state rig.old) (K.sink_state sink.old) in
         let new = outside (S.store_state store.new) (rig_state rig.new) (K.sink_state sink.new) in
-        let course = image_course image vectors.now (StaysNear old.store new.store) (old.store.contents vectors.now) (around new) in
-        IsWritten course result old.sink new.sink }
-    ensures counted { let old = outside (S.store_state store.old) (rig_state rig.old) (K.sink_state sink.old) in
-        let new = outside (S.store_state store.new) (rig_state rig.new) (K.sink_state sink.new) in
-        IfErr result (λ stop. IsCounted ⊥ stop old new) }
+        let rows = image_rows image (old.store.contents vectors.now) new.store.current new.rig in
+        (files : List (List ℕ)) (begun : StoreState) → StandsIn files begun old.store →
+        let b : RowsBegin = record { image = image; vectors = vectors.now; files = files; begun = begun; before = old.rig.loads } in
+        Follows ⊥ (vectors.now ∷ []) (new.rig.machine ≡ old.rig.machine) (image_course rows b (around new)) result old new }
 {
     let mut rows = prepare(alloc, image, rig)?;
-    store.start(vectors)?;
+    open_vectors(store, vectors)?;
     write(sink, b"outputs\n")?;
     write_rows(&mut rows, store, rig, sink)
 }
