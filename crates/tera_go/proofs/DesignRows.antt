@@ -12,8 +12,8 @@ use Rattle.rig.specs.Rig.{RigState}
 use Rattle.steps.specs.Outside.{Around}
 use Rattle.steps.specs.Courses.{Next, all_rows, HasRows, HasReadRows, IsBeforeRow, ends, refuses, writes}
 use Rattle.steps.specs.declared.refusal.Refusal.TheVariants as refused
-use Rattle.image_rows.specs.Rows.{image_rows, image_course, AreRunRows, AreRowsOf}
-use Rattle.tera_go.specs.GoRows.{AreDesignRows, design_rows, design_course}
+use Rattle.image_rows.specs.Rows.{RowsBegin, image_rows, image_course, AreRunRows, AreRowsOf}
+use Rattle.tera_go.specs.GoRows.{AreDesignRows, design_rows}
 
 netlist-rows : (faults : Option Faults) (i : ImageValue) (draft : Draft) (vectors rows : List (List Bool)) → ((f : Faults) → faults ≡ Some f → IsRightImage f i draft) → All (λ vector. length vector ≡ length i.inputs) vectors → IfSome faults (λ f. AreRunRows f i vectors rows) → IfSome faults (λ f. AreRows draft vectors rows)
 netlist-rows None i draft vectors rows right widths read = tt
@@ -58,10 +58,9 @@ module _ (draft : Draft) (i : ImageValue) (told : Told) (place : Option Place) (
   rows-design text (refuses refused.Memory) h = (read-design text h.0, h.1, h.2)
   rows-design text (refuses refusal) h = absurd h
 
--- so the course of an image that is right for a design is that of the design
-pub course-design : (draft : Draft) (i : ImageValue) (vectors : List ℕ) (here here' : Type 0) (told : Told) (new : Around) → ((f : Faults) → new.rig.machine.faults ≡ Some f → IsRightImage f i draft) → (here → here') → (text : List ℕ) (next : Next) → image_course i vectors here told new text next → design_course draft i vectors here' told new text next
-course-design draft i vectors here here' told new right f text next (inl h) = inl (h.0, h.1, f h.2)
-course-design draft i vectors here here' told new right f text next (inr (u, given, inl h)) = inr (u, given, inl (h.0, h.1, f h.2))
-course-design draft i vectors here here' told new right f text next (inr (u, given, inr (v, opened, inl h))) = inr (u, given, inr (v, opened, inl h))
-course-design draft i vectors here here' told new right f text next (inr (u, given, inr (v, opened, inr (more, is, rows)))) =
-    inr (u, given, inr (v, opened, inr (more, is, rows-design draft i told new.store.current new.rig right more next rows)))
+  pub course-design : (b : RowsBegin) (new : Around) (text : List ℕ) (next : Next) → image_course (image_rows i told place rig) b new text next → image_course (design_rows draft i told place rig) b new text next
+  course-design b new text next (inl h) = inl h
+  course-design b new text next (inr (u, given, inl h)) = inr (u, given, inl h)
+  course-design b new text next (inr (u, given, inr (v, opened, inl h))) = inr (u, given, inr (v, opened, inl h))
+  course-design b new text next (inr (u, given, inr (v, opened, inr (more, is, rows)))) =
+      inr (u, given, inr (v, opened, inr (more, is, rows-design more next rows)))
