@@ -25,6 +25,7 @@ module _ (machine defects design : List ℕ) (old new : Outside) where
     machine_is = subst (λ (s : Shape). IfTold (old.store.contents machine) (λ bytes. IsMachineText bytes s)) (sym listed.0) read;
     list_is = subst (λ (s : Shape). IfTold (old.store.contents defects) (λ bytes. IsDefectsText s bytes d)) (sym listed.0) listed.1;
     design_is = drawn;
-    image_for = laid;
+    image_for = laid.0;
+    room = laid.1;
     written = subst (λ t. Wrote old.sink.written new.sink.written t) (first ∙ (ap (λ t. image_bytes i ++ t) h.0 ∙ append-nil (image_bytes i))) wrote;
   }

@@ -2,73 +2,49 @@
 use Rattle.std.specs.Prelude.{◌≡◌, ℕ, ◌≤◌, List, [], ◌∷◌, length}
 use Rattle.tm_outside.specs.Told.{Told, holds}
 use Rattle.tm_outside.specs.Store.{StoreState}
-use Rattle.hierarchy.specs.Defects.{Covers}
-use Rattle.hierarchy.specs.Faults.{Faults}
+use Rattle.hierarchy.specs.declared.Shape.{Shape}
 use Rattle.machine_file.specs.Machine.{IsMachine}
 use Rattle.defect_db.specs.Lists.{DefectList}
 use Rattle.defect_db.specs.Faults.{IsText}
 use Rattle.netlist.specs.declared.draft.Draft.{Draft}
 use Rattle.blif_read.specs.Designs.{IsDesign}
-use Rattle.table_map.specs.declared.network.Network.{Network}
-use Rattle.table_map.specs.Plain.{IsPlainNetwork}
-use Rattle.place.specs.declared.plan.Plan.{Plan}
-use Rattle.place.specs.declared.short.Short.{Short}
-use Rattle.place.specs.Plans.{FitsInOrder, IsShortInOrder}
-use Rattle.config_image.specs.Images.{ImageValue, IsImage, image_bytes}
-use Rattle.config_image.specs.Parts.{IsFreeImage}
-use Rattle.crossbar_route.specs.RightImages.{IsRightImage}
-use Rattle.steps.specs.Faults.{ShortPlace}
+use Rattle.config_image.specs.Images.{ImageValue, image_bytes}
 use Rattle.tm_text.specs.Size.{most_bytes}
-use Rattle.steps.specs.Outside.{StaysNear}
-use Rattle.steps.specs.Courses.{Course, Step, after, write, done}
+use Rattle.steps.specs.Outside.{StandsIn}
+use Rattle.steps.specs.Courses.{Course, after, write, done}
 use Rattle.steps.specs.Texts.{reads_machine, reads_defects, reads_design}
 use Rattle.steps.specs.Jobs.{Job}
 use Rattle.steps.specs.declared.design_file.DesignFile.TheVariants.{Design}
-use Rattle.steps.specs.declared.refusal.Refusal.{Refusal}
-use Rattle.steps.specs.declared.refusal.Refusal.TheVariants as refused
+use Rattle.lay.specs.Laying.{lays, HasRoom, LacksRoom}
 
--- ---- the design is laid on what a list leaves free
+-- ---- the steps
 
--- this is the first thing that the in-order plan of the design's plain network is short of
-pub record IsNoRoom (d : DefectList) (draft : Draft) (place : ShortPlace) : Type 0 where
-  pub network : Network
-  pub plain : IsPlainNetwork draft network
-  pub shape : place.shape ≡ d.shape
-  pub short : IsShortInOrder d.shape d.list network place.short
+-- The bytes of an image are written at one go
+abbrev pub image_written : (files : List (List ℕ)) → StoreState → StoreState → ImageValue → Course
+image_written files old new i = write (image_bytes i) (StandsIn files old new) (done (StandsIn files old new))
 
--- The image is of the machine, has a pin for each input and output of the design, touches only what the list leaves free, and
--- is right for the design under all faults that the list covers. The plain network of the design fits in order.
-pub record IsImageFor (d : DefectList) (draft : Draft) (i : ImageValue) : Type 0 where
-  pub network : Network
-  pub plan : Plan
-  pub plain : IsPlainNetwork draft network
-  pub fits : FitsInOrder d.shape d.list network plan
-  pub image : IsImage i
-  pub shape : i.config.shape ≡ d.shape
-  pub inputs : length i.inputs ≡ length draft.inputs
-  pub outputs : length i.outputs ≡ length draft.outputs
-  pub free : IsFreeImage d.list i
-  pub right : (f : Faults) → Covers d.shape d.list f → IsRightImage f i draft
+-- The design is laid on what the list leaves free, and its image is written
+abbrev pub design_laid : (files : List (List ℕ)) → StoreState → StoreState → DefectList → Draft → Course
+design_laid files old new d draft = after (lays d draft) (StandsIn files old new) (image_written files old new)
 
-abbrev pub NotLaid : DefectList → Draft → Refusal → Type 0
-NotLaid d draft (refused.Room place) = IsNoRoom d draft place
-NotLaid d draft refused.Memory = Unit {0}
-NotLaid d draft refusal = ⊥
+-- The design is read and laid
+abbrev pub design_read : (machine defects design : List ℕ) → StoreState → StoreState → DefectList → Course
+design_read machine defects design old new d =
+    after (reads_design Design (old.contents design)) (StandsIn (design ∷ defects ∷ machine ∷ []) old new)
+    (design_laid (design ∷ defects ∷ machine ∷ []) old new d)
 
-abbrev pub lays : DefectList → Draft → Step ImageValue
-lays d draft = record { stops = NotLaid d draft; gives = IsImageFor d draft }
+-- The list of the machine's defects is read, and then the design
+abbrev pub list_read : (machine defects design : List ℕ) → StoreState → StoreState → Shape → Course
+list_read machine defects design old new m =
+    after (reads_defects (old.contents defects) m) (StandsIn (defects ∷ machine ∷ []) old new)
+    (design_read machine defects design old new)
 
--- ---- the command
-
--- the machine is read, the list of its defects, and the design; the design is laid, and the bytes of the image are
--- written at one go
+-- The machine is read, then the list and the design
 abbrev pub compile_course : (machine defects design : List ℕ) → StoreState → StoreState → Course
 compile_course machine defects design old new =
-    after (reads_machine (old.contents machine)) (StaysNear old new) (λ m.
-    after (reads_defects (old.contents defects) m) (StaysNear old new) (λ d.
-    after (reads_design Design (old.contents design)) (StaysNear old new) (λ draft.
-    after (lays d draft) (StaysNear old new) (λ i.
-    write (image_bytes i) (StaysNear old new) (done (StaysNear old new))))))
+    after (reads_machine (old.contents machine)) (StandsIn (machine ∷ []) old new) (list_read machine defects design old new)
+
+-- ---- the files
 
 -- what is told of the files
 pub record CompileFiles : Type 0 where
@@ -94,25 +70,21 @@ pub record AreRightFiles (t : CompileFiles) : Type 0 where
   pub design : IsDesign design_file draft
   pub design_within : length design_file ≤ most_bytes
 
--- and the plain network fits in order
+-- and there is room for the design
 pub record CompileRight (t : CompileFiles) : Type 0 where
   pub files : AreRightFiles t
-  pub network : Network
-  pub plan : Plan
-  pub plain : IsPlainNetwork files.draft network
-  pub fits : FitsInOrder files.list.shape files.list.list network plan
+  pub room : HasRoom files.list files.draft
 
--- or it is short of something
+-- or there is none
 pub record CompileShort (t : CompileFiles) : Type 0 where
   pub files : AreRightFiles t
-  pub network : Network
-  pub short : Short
-  pub plain : IsPlainNetwork files.draft network
-  pub is_short : IsShortInOrder files.list.shape files.list.list network short
+  pub lacks : LacksRoom files.list files.draft
 
 abbrev pub compile_files : StoreState → (machine defects design : List ℕ) → CompileFiles
 compile_files old machine defects design =
     record { machine = old.contents machine; defects = old.contents defects; design = old.contents design }
+
+-- ---- the command
 
 abbrev pub compile_job : (machine defects design : List ℕ) → Job
 compile_job machine defects design = record {

@@ -7,10 +7,10 @@ use Rattle.netlist.specs.declared.draft.Draft.{Draft}
 use Rattle.config_image.specs.Images.{ImageValue, image_bytes}
 use Rattle.steps.specs.Outside.{Outside}
 use Rattle.steps.specs.Texts.{IsMachineText, IsDefectsText, IsDesignText}
-use Rattle.tera_compile.specs.Compile.{IsImageFor}
+use Rattle.lay.specs.Laying.{IsImageFor, HasRoom}
 
 -- The bytes of an image are written that touches only what the list leaves free, and is right for the design under all faults
--- that the list covers
+-- that the list covers. There is room for the design on the list
 pub record IsCompiled (machine defects design : List ℕ) (old new : Outside) : Type 0 where
   pub list : DefectList
   pub draft : Draft
@@ -20,4 +20,5 @@ pub record IsCompiled (machine defects design : List ℕ) (old new : Outside) : 
   pub list_is : IfTold (old.store.contents defects) (λ bytes. IsDefectsText list.shape bytes list)
   pub design_is : IfTold (old.store.contents design) (λ bytes. IsDesignText bytes draft)
   pub image_for : IsImageFor list draft image
+  pub room : HasRoom list draft
   pub written : Wrote old.sink.written new.sink.written (image_bytes image)

@@ -1,46 +1,36 @@
 //! The command that makes an image of a design for a machine with defects.
-ghost use Rattle.std.specs.Prelude.{◌≡◌, ◌≤◌, ◌∷◌, [], IfErr};
+ghost use Rattle.std.specs.Prelude.{◌≡◌, ℕ, List, []};
+ghost use Rattle.tm_outside.specs.Store.{StoreState};
 ghost use Rattle.rig.specs.Rig.{RigState};
-ghost use Rattle.steps.specs.Outside.{outside};
-ghost use Rattle.steps.specs.Stops.{Asks, IsWritten};
-ghost use Rattle.steps.specs.Texts.{FlowCounts};
+ghost use Rattle.steps.specs.Outside.{outside, StandsIn};
 ghost use Rattle.steps.specs.Jobs.{Does, IsLawful};
-ghost use Rattle.tera_compile.specs.Compile.{compile_course, compile_job};
+ghost use Rattle.steps.specs.Took.{Follows};
+ghost use Rattle.tera_compile.specs.Compile.{compile_job, design_laid};
 
-use crate::laying::lay;
 use config_image::write_image;
+use defect_db::Defects;
+use lay::lay;
+use netlist::Netlist;
 use place::in_order_plans_are_decided;
 use std::alloc::Global;
 use steps::{DesignFile, Stop, read_design, read_list, read_shape, write};
 use tm_outside::{Sink, Store};
 
-// Reads a machine, a list of its defects and a design, and writes an image.
-fn work<S: Store, K: Sink>(
+// Lays a design on what a list leaves free, and writes the bytes of its image.
+fn lay_and_write<K: Sink>(
     alloc: Global,
-    machine: &str,
-    defects: &str,
-    design: &str,
-    store: &mut S,
+    netlist: &Netlist,
+    list: &Defects,
     sink: &mut K,
 ) -> Result<(), Stop>
-    ensures contents { (S.store_state store.new).contents ≡ (S.store_state store.old).contents }
-    ensures store_later { (S.store_state store.old).failures ≤ (S.store_state store.new).failures }
-    ensures kind { (K.sink_state sink.new).can_lack ≡ (K.sink_state sink.old).can_lack }
-    ensures sink_later { (K.sink_state sink.old).failures ≤ (K.sink_state sink.new).failures }
-    ensures asked { Asks (machine.now ∷ defects.now ∷ design.now ∷ []) result (S.store_state store.old) (S.store_state store.new) }
-
-    ensures written { let old = S.store_state store.old in let new = S.store_state store.new in
-        IsWritten (compile_course machine.now defects.now design.now old new) result (K.sink_state sink.old) (K.sink_state sink.new) }
-    ensures counted { let old = S.store_state store.old in let new = S.store_state store.new in
-        IfErr result (λ stop. FlowCounts stop old new (K.sink_state sink.old) (K.sink_state sink.new)) }
+    // Wherever the store stands after these files were read, and whatever the rig is.
+    ensures { (files : List (List ℕ)) (begun store : StoreState) (rig : RigState) → StandsIn files begun store →
+        Follows ⊥ [] (Unit {0}) (design_laid files begun store list.now netlist.now) result
+        (outside store rig (K.sink_state sink.old)) (outside store rig (K.sink_state sink.new)) }
 {
-    let shape = read_shape(alloc, store, machine)?;
-    let list = read_list(alloc, &shape, defects, store)?;
-    let netlist = read_design(alloc, DesignFile::Design, store, design)?;
-    let image = lay(alloc, &netlist, &list)?;
+    let image = lay(alloc, netlist, list)?;
     let bytes = write_image(alloc, &image)?;
-    write(sink, &bytes)?;
-    Ok(())
+    write(sink, &bytes)
 }
 
 /// Reads a machine, a list of its defects and a design, and writes the bytes of an image of the design that touches
@@ -64,5 +54,8 @@ pub fn compile<S: Store, K: Sink>(
         (outside (S.store_state store.old) rig (K.sink_state sink.old)) (outside (S.store_state store.new) rig (K.sink_state sink.new)) }
 {
     in_order_plans_are_decided();
-    work(alloc, machine, defects, design, store, sink)
+    let shape = read_shape(alloc, store, machine)?;
+    let list = read_list(alloc, &shape, defects, store)?;
+    let netlist = read_design(alloc, DesignFile::Design, store, design)?;
+    lay_and_write(alloc, &netlist, &list, sink)
 }

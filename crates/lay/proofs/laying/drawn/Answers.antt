@@ -1,5 +1,5 @@
 use Rattle.std.proofs.Common.{◌∙◌, ap, length}
-use Rattle.tera_compile.proofs.laying.drawn.Goals as goal
+use Rattle.lay.proofs.laying.drawn.Goals as goal
 
 pub returns : goal.returns
 returns c =

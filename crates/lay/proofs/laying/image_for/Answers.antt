@@ -1,0 +1,14 @@
+use Rattle.std.proofs.lemmas.Result.{err_from_is_err_and}
+use Rattle.lay.proofs.LayLemmas.{plan-image, plain-inputs, plain-outputs}
+use Rattle.lay.proofs.laying.image_for.Goals as goal
+
+pub returns-in_err-placed-clause-refused : goal.returns-in_err-placed-clause-refused
+returns-in_err-placed-clause-refused c =
+    let p = err_from_is_err_and c.from_residual-in_err-placed.result c.from_residual-in_err-placed.ensures.1 in
+    rw (p.1, p.2) (plan-image _ _ _ _ c.in_ok-network.ensures.plain c.in_err-placed.ensures.refused)
+
+pub drawn-requires-clause-inputs : goal.drawn-requires-clause-inputs
+drawn-requires-clause-inputs c = plain-inputs c.args.netlist.now c.in_ok-network.network c.in_ok-network.ensures.plain
+
+pub drawn-requires-clause-outputs : goal.drawn-requires-clause-outputs
+drawn-requires-clause-outputs c = plain-outputs c.args.netlist.now c.in_ok-network.network c.in_ok-network.ensures.plain

@@ -1,0 +1,95 @@
+//! Designs that are laid on a machine.
+ghost use Rattle.std.specs.Prelude.{◌≡◌, [], IfOk, IfErr, IfSome, length};
+ghost use Rattle.table_map.specs.Networks.{IsNetwork};
+ghost use Rattle.table_map.specs.Plain.{IsPlainNetwork};
+ghost use Rattle.table_map.specs.Rows.{HasRowsOf};
+ghost use Rattle.place.specs.Laying.{IsLayout};
+ghost use Rattle.place.specs.Plans.{IsPlan};
+ghost use Rattle.steps.specs.Outside.{Outside};
+ghost use Rattle.steps.specs.Stops.{StepStops};
+ghost use Rattle.steps.specs.Took.{Took};
+ghost use Rattle.lay.specs.Laying.{lays, IsImageFor};
+
+use crate::room::plan_of;
+use config_image::Image;
+use crossbar_route::route_laid;
+use defect_db::Defects;
+use netlist::Netlist;
+use partition::improve_laid;
+use place::{PlaceFail, Placed, in_order_laid};
+use std::alloc::{AllocError, Global};
+use steps::Stop;
+use table_map::{Network, merged_of, plain};
+
+// The image of a network that has a design's rows, on a plan with its layout.
+fn drawn(
+    alloc: Global,
+    netlist: &Netlist,
+    network: &Network,
+    placed: &Placed,
+    defects: &Defects,
+) -> Result<Image, AllocError>
+    requires network { IsNetwork network.now }
+    requires rows { HasRowsOf network.now netlist.now }
+    requires inputs { network.now.inputs ≡ length netlist.now.inputs }
+    requires outputs { length network.now.outputs ≡ length netlist.now.outputs }
+    requires plan { IsPlan defects.now.shape defects.now.list network.now placed.now.plan }
+    requires layout { IsLayout defects.now.shape defects.now.list network.now placed.now.plan placed.now.layout }
+    ensures { IfOk result (IsImageFor defects.now netlist.now) }
+{
+    let image = route_laid(alloc, network, &placed.plan, &placed.layout, defects)?;
+    // Its contract says that the value is an image.
+    image.config();
+    Ok(image)
+}
+
+// An image of a design by its plain network with fewer tables, if their in-order plan fits. What it is short of is no refusal.
+fn drawn_merged(
+    alloc: Global,
+    netlist: &Netlist,
+    whole: &Network,
+    defects: &Defects,
+) -> Result<Option<Image>, AllocError>
+    requires plain { IsPlainNetwork netlist.now whole.now }
+    requires network { IsNetwork whole.now }
+    requires rows { HasRowsOf whole.now netlist.now }
+    ensures { IfOk result (λ o. IfSome o (IsImageFor defects.now netlist.now)) }
+{
+    let smaller = merged_of(alloc, whole)?;
+    let placed = match in_order_laid(alloc, &smaller, defects) {
+        Ok(placed) => placed,
+        Err(PlaceFail::Short(_)) => return Ok(None),
+        Err(PlaceFail::Memory) => return Err(AllocError),
+    };
+    let better = improve_laid(alloc, &smaller, placed, defects)?;
+    let image = drawn(alloc, netlist, &smaller, &better, defects)?;
+    Ok(Some(image))
+}
+
+// The image, or why there is none.
+fn image_for(alloc: Global, netlist: &Netlist, defects: &Defects) -> Result<Image, Stop>
+    ensures found { IfOk result (lays defects.now netlist.now).gives }
+    ensures refused { IfErr result (StepStops (lays defects.now netlist.now)) }
+{
+    let network = plain(alloc, netlist)?;
+    let placed = plan_of(alloc, &network, defects)?;
+    if let Some(image) = drawn_merged(alloc, netlist, &network, defects)? {
+        return Ok(image);
+    }
+    let image = drawn(alloc, netlist, &network, &placed, defects)?;
+    Ok(image)
+}
+
+/// An image of a design on what the list leaves free, where there is room for its plain network in order. It is that of the
+/// network with fewer tables, on a plan with fewer crossings, where these fit.
+///
+/// # Errors
+///
+/// The refusal for want of room exactly where the in-order plan of the plain network doesn't fit, with the first short
+/// resource, unless memory is wanting; want of memory.
+pub fn lay(alloc: Global, netlist: &Netlist, defects: &Defects) -> Result<Image, Stop>
+    // Whatever is around it.
+    ensures took { (o : Outside) → Took [] (lays defects.now netlist.now) result o o }
+{
+    image_for(alloc, netlist, defects)
+}

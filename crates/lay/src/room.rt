@@ -1,0 +1,39 @@
+//! Room for a network, or what there is too little of.
+ghost use Rattle.std.specs.Prelude.{◌<◌, IfOk, IfErr};
+ghost use Rattle.hierarchy.specs.Shape.{nodes_of};
+ghost use Rattle.table_map.specs.Networks.{IsNetwork};
+ghost use Rattle.place.specs.Laying.{IsLayout};
+ghost use Rattle.place.specs.Plans.{FitsInOrder};
+ghost use Rattle.lay.specs.Wants.{IsRefusedFor, PlanStops};
+
+use defect_db::Defects;
+use hierarchy::Shape;
+use place::{PlaceFail, Placed, Short, in_order_laid};
+use std::alloc::Global;
+use steps::{Refusal, RefusedRoom, Stop};
+use table_map::Network;
+
+// The refusal for want of room.
+fn no_room(alloc: Global, shape: Shape, short: Short) -> Stop
+    requires { short.node.0 < nodes_of shape }
+    ensures { IsRefusedFor shape short result }
+{
+    match RefusedRoom::new(alloc, shape, short) {
+        Ok(place) => Stop::Refused(Refusal::Room(place)),
+        Err(_) => Stop::Refused(Refusal::Memory),
+    }
+}
+
+/// The in-order plan of a network with its layout, where it fits.
+pub fn plan_of(alloc: Global, network: &Network, defects: &Defects) -> Result<Placed, Stop>
+    requires { IsNetwork network.now }
+    ensures found { IfOk result (λ placed. FitsInOrder defects.now.shape defects.now.list network.now placed.plan) }
+    ensures layout { IfOk result (λ placed. IsLayout defects.now.shape defects.now.list network.now placed.plan placed.layout) }
+    ensures refused { IfErr result (PlanStops defects.now network.now) }
+{
+    match in_order_laid(alloc, network, defects) {
+        Ok(placed) => Ok(placed),
+        Err(PlaceFail::Short(short)) => Err(no_room(alloc, defects.shape(), short)),
+        Err(PlaceFail::Memory) => Err(Stop::Refused(Refusal::Memory)),
+    }
+}
