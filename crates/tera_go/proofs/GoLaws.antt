@@ -1,5 +1,5 @@
 -- What the command `go` comes to.
-use Rattle.std.proofs.Common.{◌≡◌, ◌⊎◌, ◌∙◌, ℕ, List, [], ◌++◌, length, None, refl, sym, ap, subst, inl, inr, arith, append-nil}
+use Rattle.std.proofs.Common.{◌⊎◌, ◌∙◌, ◌≡◌, ℕ, List, [], ◌++◌, length, None, refl, sym, ap, subst, inl, inr, arith, append-nil}
 use Rattle.hierarchy.specs.declared.Shape.{Shape}
 use Rattle.hierarchy.specs.Faults.{Faults}
 use Rattle.hierarchy.specs.Defects.{Defects, IsFair}
@@ -11,34 +11,28 @@ use Rattle.netlist.specs.declared.draft.Draft.{Draft}
 use Rattle.netlist.specs.Checks.{IsChecked}
 use Rattle.table_map.specs.declared.network.Network.{Network}
 use Rattle.table_map.specs.Networks.{IsNetwork}
-use Rattle.table_map.specs.Plain.{IsPlainNetwork, plain_network}
-use Rattle.place.specs.declared.plan.Plan.{Plan}
+use Rattle.table_map.specs.Plain.{plain_network}
 use Rattle.place.specs.declared.short.Short.{Short}
-use Rattle.place.specs.Plans.{FitsInOrder, IsShortInOrder}
+use Rattle.place.specs.Plans.{IsShortInOrder}
 use Rattle.sound_room.specs.Enough.{HasSoundParts}
 use Rattle.steps.specs.Files.{says_at, IsNearNext}
 use Rattle.steps.specs.Faults.{ShortPlace}
 use Rattle.steps.specs.Lines.{outputs_line}
 use Rattle.steps.specs.Outside.{Around}
 use Rattle.steps.specs.Courses.{Next, refuses}
-use Rattle.steps.specs.Stops.{status_of}
 use Rattle.steps.specs.Texts.{reads_machine, reads_design, IsMachineText, IsDesignText}
-use Rattle.steps.specs.Jobs.{IsLawful, IsExcused, Fronts, EndsWell, EndsShort}
+use Rattle.steps.specs.Jobs.{IsLawful, Fronts, EndsWell, EndsShort}
 use Rattle.steps.specs.declared.design_file.DesignFile.TheVariants.{Design}
-use Rattle.steps.specs.declared.refusal.Refusal.{Refusal}
 use Rattle.steps.specs.declared.refusal.Refusal.TheVariants as refused
 use Rattle.steps.proofs.Excused.{rows-well}
 use Rattle.steps.proofs.ShapeLemmas.{same-shape}
-use Rattle.lay.specs.Laying.{NotLaid, IsNoRoom, HasRoom}
+use Rattle.lay.specs.Laying.{IsNoRoom, HasRoom, LacksRoom}
+use Rattle.lay.proofs.Rooms.{AreDecided, never-refused, never-lacks, lay-excused, lay-short}
 use Rattle.tera_go.specs.Go.{go_files, go_job, GoFiles, AreGoTexts, IfList, HasPartsFor, GoRight, GoShort, GoFew, HasOutputs}
 use Rattle.tera_go.proofs.Texts.{small-counts, never-empty, never-alone}
 use Rattle.tera_go.proofs.Stages.{HasMade, HasLaid, Stage, early, listing, unlaid, laid, opening, running, rows_of, stage-of}
 
--- a plan and a want of room exclude each other
-abbrev pub AreDecided : Type 0
-AreDecided = (m : Shape) (d : Defects) (n : Network) (p : Plan) (s : Short) → FitsInOrder m d n p → ¬ IsShortInOrder m d n s
-
--- so do sound parts and a want of room on a fair list
+-- sound parts and a want of room on a fair list exclude each other
 abbrev pub AreSure : Type 0
 AreSure = (m : Shape) (d : Defects) (f : Faults) (n : Network) (s : Short) → IsNetwork n → IsFair m d f → HasSoundParts m f n → ¬ IsShortInOrder m d n s
 
@@ -68,22 +62,15 @@ module _ (decided : AreDecided) (sure : AreSure) (networks : AreNetworks) (named
 
   -- ---- where there is room nothing is short
 
-  -- a network that fits a list isn't short on it
-  never-both : (h : HasMade t name old new) (n k : Network) (p : Plan) (s : Short) → n ≡ k → FitsInOrder h.made.list.shape h.made.list.list n p → IsShortInOrder h.made.list.shape h.made.list.list k s → ⊥
-  never-both h n k p s same fits short =
-      decided h.made.list.shape h.made.list.list k p s (subst (λ (x : Network). FitsInOrder h.made.list.shape h.made.list.list x p) same fits) short
-
-  one-network : (texts : AreGoTexts t) (h : HasMade t name old new) (n k : Network) → IsPlainNetwork texts.draft n → IsPlainNetwork h.draft k → n ≡ k
-  one-network texts h n k first second = first ∙ (ap plain_network (the-draft texts h.draft h.drawn) ∙ sym second)
-
   -- by the sound parts of the machine
   parts-fit : (texts : AreGoTexts t) (h : HasMade t name old new) (place : ShortPlace) → HasPartsFor new.rig.machine.faults texts.shape texts.draft → IsNoRoom h.made.list h.draft place → ⊥
   parts-fit texts h place parts short =
       let n = parts.network in
       let d = h.made.list in
+      let same : short.network ≡ n = sym (parts.plain ∙ (ap plain_network (the-draft texts h.draft h.drawn) ∙ sym short.plain)) in
       let network : IsNetwork n = subst (λ (x : Network). IsNetwork x) (sym parts.plain) (networks texts.draft texts.design.checked) in
       let sound : HasSoundParts h.shape parts.faults n = subst (λ (s : Shape). HasSoundParts s parts.faults n) (the-shape texts h.shape h.read) parts.sound in
-      let on : IsShortInOrder d.shape d.list n place.short = subst (λ (x : Network). IsShortInOrder d.shape d.list x place.short) (sym (one-network texts h n short.network parts.plain short.plain)) short.short in
+      let on : IsShortInOrder d.shape d.list n place.short = subst (λ (x : Network). IsShortInOrder d.shape d.list x place.short) same short.short in
       sure h.shape d.list parts.faults n place.short network (h.list.right.fair parts.faults parts.faults_told) sound (subst (λ (s : Shape). IsShortInOrder s d.list n place.short) h.list.shape on)
 
   has-room : (h : HasMade t name old new) → GoRight t new.rig.machine.faults (text_of h.made.list) → (place : ShortPlace) → IsNoRoom h.made.list h.draft place → ⊥
@@ -93,12 +80,7 @@ module _ (decided : AreDecided) (sure : AreSure) (networks : AreNetworks) (named
       by-room (inr parts) = parts-fit right.texts h place parts short
       by-room (inl room) =
           let fits = room h.made.list (h.list.shape ∙ sym (the-shape right.texts h.shape h.read)) h.list.kept refl in
-          never-both h fits.network short.network fits.plan place.short (one-network right.texts h fits.network short.network fits.plain short.plain) fits.fits short.short
-
-  lay-excused : (h : HasMade t name old new) → GoRight t new.rig.machine.faults (text_of h.made.list) → (refusal : Refusal) → NotLaid h.made.list h.draft refusal → IsExcused refusal old new
-  lay-excused h right (refused.Room place) short = absurd (has-room h right place short)
-  lay-excused h right refused.Memory short = tt
-  lay-excused h right refusal short = absurd short
+          never-refused decided h.made.list h.draft (subst (λ (x : Draft). HasRoom h.made.list x) (the-draft right.texts h.draft h.drawn) fits) place short
 
   -- ---- all is right, and there is room
 
@@ -106,7 +88,7 @@ module _ (decided : AreDecided) (sure : AreSure) (networks : AreNetworks) (named
   go-right text next fronts (early refusal empty is why) = rw is (why (fronts text [] (sym (append-nil text))).texts)
   go-right text next fronts (listing h empty is) = rw is tt
   go-right text next fronts (unlaid h refusal alone is short) =
-      rw is (lay-excused h (fronts (text_of h.made.list) [] (alone ∙ sym (append-nil (text_of h.made.list)))) refusal short)
+      rw is (lay-excused h.made.list h.draft old new (has-room h (fronts (text_of h.made.list) [] (alone ∙ sym (append-nil (text_of h.made.list))))) refusal short)
   go-right text next fronts (laid h refusal alone is why) = rw is why
   go-right text next fronts (opening h alone is) = rw is tt
   go-right text next fronts (running h more is once rows) =
@@ -116,21 +98,16 @@ module _ (decided : AreDecided) (sure : AreSure) (networks : AreNetworks) (named
 
   -- ---- there is no room
 
-  short-lay : (h : HasMade t name old new) (refusal : Refusal) → NotLaid h.made.list h.draft refusal → (status_of refusal ≡ 3) ⊎ IsExcused refusal old new
-  short-lay h (refused.Room place) short = inl refl
-  short-lay h refused.Memory short = inr tt
-  short-lay h refusal short = absurd short
-
   not-laid : (text more : List ℕ) → Fronts (GoShort t) text → (h : HasLaid t name old new) → text ≡ text_of h.has.made.list ++ more → ⊥
   not-laid text more fronts h is =
       let short = fronts (text_of h.has.made.list) more is in
       let lacks = short.room h.has.made.list (h.has.list.shape ∙ sym (the-shape short.texts h.has.shape h.has.read)) h.has.list.kept refl in
-      never-both h.has h.room.network lacks.network h.room.plan lacks.short (sym (one-network short.texts h.has lacks.network h.room.network lacks.plain h.room.plain)) h.room.fits lacks.is_short
+      never-lacks decided h.has.made.list h.has.draft h.room (subst (λ (x : Draft). LacksRoom h.has.made.list x) (the-draft short.texts h.has.draft h.has.drawn) lacks)
 
   go-short : (text : List ℕ) (next : Next) → Fronts (GoShort t) text → Stage t name old new text next → EndsShort old new next
   go-short text next fronts (early refusal empty is why) = rw is (inr (why (fronts text [] (sym (append-nil text))).texts))
   go-short text next fronts (listing h empty is) = rw is tt
-  go-short text next fronts (unlaid h refusal alone is short) = rw is (short-lay h refusal short)
+  go-short text next fronts (unlaid h refusal alone is short) = rw is (lay-short h.made.list h.draft old new refusal short)
   go-short text next fronts (laid h refusal alone is why) = absurd (not-laid text [] fronts h (alone ∙ sym (append-nil (text_of h.has.made.list))))
   go-short text next fronts (opening h alone is) = rw is tt
   go-short text next fronts (running h more is once rows) = absurd (not-laid text (outputs_line ++ more) fronts h is)

@@ -79,10 +79,10 @@ module _ (machine name design vectors : List ℕ) (old new : Around) where
   behind : (line first more rest text : List ℕ) → text ≡ line ++ more → more ≡ first ++ rest → text ≡ line ++ (first ++ rest)
   behind line first more rest text is next = is ∙ ap (λ (m : List ℕ). line ++ m) next
 
-  has : (m : Shape) (draft : Draft) (l : Listed) → (reads_machine t.machine).gives m → new.rig.machine.attached ≡ Some (record { shape = m; name = name }) → (reads_design Design t.design).gives draft → IsListed m old.rig.loads new.rig l → HasMade t name old new
+  abbrev has : (m : Shape) (draft : Draft) (l : Listed) → (reads_machine t.machine).gives m → new.rig.machine.attached ≡ Some (record { shape = m; name = name }) → (reads_design Design t.design).gives draft → IsListed m old.rig.loads new.rig l → HasMade t name old new
   has m draft l read attached drawn list = record { shape = m; draft = draft; made = l; read = read; attached = attached; drawn = drawn; list = list }
 
-  on : (h : HasMade t name old new) (i : ImageValue) → IsImageFor h.made.list h.draft i × HasRoom h.made.list h.draft → HasLaid t name old new
+  abbrev on : (h : HasMade t name old new) (i : ImageValue) → IsImageFor h.made.list h.draft i × HasRoom h.made.list h.draft → HasLaid t name old new
   on h i is = record { has = h; image = i; right = is.0; room = is.1 }
 
   pub stage-of : (text : List ℕ) (next : Next) → go_course machine name design vectors old new text next → Stage t name old new text next
