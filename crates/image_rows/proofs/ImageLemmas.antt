@@ -1,66 +1,76 @@
 -- How the steps of an image's rows follow one another.
-use Rattle.std.proofs.Common.{◌≡◌, ℕ, List, inl, inr}
-use Rattle.std.specs.Prelude.{Result, Err}
-use Rattle.tm_outside.specs.Told.{Told, IsPresent}
-use Rattle.tm_outside.specs.Store.{StoreState}
-use Rattle.tm_outside.specs.Sink.{SinkState, Wrote}
-use Rattle.tm_outside.specs.declared.store.StoreFail.{StoreFail}
-use Rattle.rig.specs.Rig.{RigState, LoadFails}
+use Rattle.std.proofs.Common.{◌≡◌, ℕ, ◌≤◌, List, [], ◌∷◌, refl, sym, ap, ◌∙◌, inl, append-nil, arith}
+use Rattle.std.specs.Prelude.{Result, Ok, Err}
+use Rattle.tm_outside.specs.Counts.{next_count}
+use Rattle.tm_outside.specs.Told.{Told}
+use Rattle.tm_outside.specs.Store.{StoreState, Place}
+use Rattle.tm_outside.specs.Sink.{SinkState}
+use Rattle.std.specs.Prelude.{Option}
+use Rattle.rig.specs.Rig.{RigState, Machine, LoadFails}
 use Rattle.rig.specs.declared.rig.RigFail.{RigFail}
 use Rattle.rig.specs.declared.rig.RigFail.TheVariants.{Failed, Memory}
 use Rattle.config_image.specs.Images.{ImageValue}
-use Rattle.steps.specs.Files.{file_of}
-use Rattle.steps.specs.Lines.{outputs_line}
-use Rattle.steps.specs.Outside.{Around}
-use Rattle.steps.specs.Courses.{Course, Next, after, write, all_rows}
-use Rattle.steps.specs.Stops.{IsWritten, StopWrote, StepStops, WriteStops, stop_of_store, stop_of_rig}
-use Rattle.steps.specs.Texts.{opens, RigCounts}
+use Rattle.steps.specs.Outside.{Outside, outside, around, IsLater, StandsIn}
+use Rattle.steps.specs.Courses.{RowWork, all_rows}
+use Rattle.steps.specs.Stops.{StepStops, IsCounted, stop_of_rig}
+use Rattle.steps.specs.Took.{Took, Follows}
 use Rattle.steps.specs.declared.refusal.Stop.{Stop}
-use Rattle.steps.proofs.StartLemmas.{start-stops}
-use Rattle.steps.proofs.Following.{after-stops, after-gives, write-stops, write-then}
-use Rattle.image_rows.specs.Rows.{image_rows, image_course, loads, IsAtOutputs}
+use Rattle.steps.proofs.Taking.{step-gives}
+use Rattle.image_rows.specs.Rows.{RowsBegin, image_rows, image_course, loaded_course, loads}
+use Rattle.image_rows.specs.Running.{prepares}
+use Rattle.image_rows.specs.declared.image.Running.{Running}
 
-pub load-stops : (fail : RigFail) → StepStops loads (stop_of_rig fail)
-load-stops Failed = tt
-load-stops Memory = tt
+-- ---- the load as a step
 
-pub load-counts : (fail : RigFail) (old new : RigState) → LoadFails fail old new → RigCounts (stop_of_rig fail) old new
-load-counts Failed old new fails = fails
-load-counts Memory old new fails = tt
+module _ (old new : RigState) (machine : new.machine ≡ old.machine) (store : StoreState) (sink : SinkState) where
+  load-later : old.failures ≤ new.failures → IsLater (outside store old sink) (outside store new sink)
+  load-later later = record { contents = refl; texts = ap (λ (m : Machine). m.texts) machine; kind = refl; store = omega arith; rig = later; sink = omega arith }
 
-module _ (i : ImageValue) (vectors : List ℕ) (here : Type 0) (told : Told) (new : Around) where
-  abbrev on_opened : Course
-  on_opened = write outputs_line (IsAtOutputs i vectors new) (all_rows (image_rows i told new.store.current new.rig))
+  pub load-took : (rows : Running) → old.failures ≤ new.failures → new.loads ≡ next_count old.loads → Took [] (prepares old new) (Ok rows) (outside store old sink) (outside store new sink)
+  load-took rows later counted = record {
+    later = load-later later;
+    silent = refl;
+    asked = record { all = sym (append-nil store.asked); some = tt };
+    place = refl;
+    gives = counted;
+    stops = tt;
+    counted = tt;
+  }
 
-  abbrev on_loaded : Course
-  on_loaded = after (opens told) here (λ _. on_opened)
+  load-stops : (fail : RigFail) → new.loads ≡ old.loads → StepStops (prepares old new) (stop_of_rig fail)
+  load-stops Failed same = (tt, inl same)
+  load-stops Memory same = (tt, inl same)
 
-  pub image-load-stops : (stop : Stop) (a : SinkState) → StepStops loads stop → here → StopWrote (image_course i vectors here told new) stop a a
-  image-load-stops stop a stops near = after-stops loads here (λ _. on_loaded) stop a stops near
+  load-counts : (fail : RigFail) → LoadFails fail old new → IsCounted ⊥ (stop_of_rig fail) (outside store old sink) (outside store new sink)
+  load-counts Failed fails = fails
+  load-counts Memory fails = tt
 
-  loaded : {U : Type 0} (result : Result U Stop) (a b : SinkState) → IsWritten on_loaded result a b → IsWritten (image_course i vectors here told new) result a b
-  loaded result a b w = after-gives loads here (λ _. on_loaded) tt result a b tt w
+  pub load-stopped : (fail : RigFail) → old.failures ≤ new.failures → new.loads ≡ old.loads → LoadFails fail old new → Took [] (prepares old new) (Err (stop_of_rig fail)) (outside store old sink) (outside store new sink)
+  load-stopped fail later same fails = record {
+    later = load-later later;
+    silent = refl;
+    asked = record { all = tt; some = refl };
+    place = refl;
+    gives = tt;
+    stops = load-stops fail same;
+    counted = load-counts fail fails;
+  }
 
-  pub image-start-stops : (fail : StoreFail) (a : SinkState) → here → StopWrote (image_course i vectors here told new) (stop_of_store fail) a a
-  image-start-stops fail a near =
-      let e : Result (Unit {0}) Stop = Err (stop_of_store fail) in
-      loaded e a a (after-stops (opens told) here (λ _. on_opened) (stop_of_store fail) a (start-stops fail told) near)
+-- ---- what follows on it
 
-  opened : {U : Type 0} (result : Result U Stop) (a b : SinkState) → IsPresent told → IsWritten on_opened result a b → IsWritten (image_course i vectors here told new) result a b
-  opened result a b present w = loaded result a b (after-gives (opens told) here (λ _. on_opened) tt result a b present w)
+-- the rig is as it was but for its session
+abbrev pub SameRig : RigState → RigState → Type 0
+SameRig old new = (new.machine ≡ old.machine) × (new.loads ≡ old.loads)
 
-  pub image-outputs-stops : (stop : Stop) (a b : SinkState) → IsPresent told → IsAtOutputs i vectors new → WriteStops outputs_line stop a b → StopWrote (image_course i vectors here told new) stop a b
-  image-outputs-stops stop a b present at stops =
-      let e : Result (Unit {0}) Stop = Err stop in
-      opened e a b present (write-stops outputs_line (IsAtOutputs i vectors new) (all_rows (image_rows i told new.store.current new.rig)) stop a b stops at)
+-- the image was loaded
+pub loaded-then : {U : Type 0} (w : RowWork) (b : RowsBegin) (rows : Running) (result : Result U Stop) (old mid new : Outside) → Took [] (prepares old.rig mid.rig) (Ok rows) old mid → b.before ≡ old.rig.loads → mid.rig.machine ≡ old.rig.machine → Follows ⊥ (b.vectors ∷ []) (SameRig mid.rig new.rig) (loaded_course w b (around new)) result mid new → Follows ⊥ (b.vectors ∷ []) (new.rig.machine ≡ old.rig.machine) (image_course w b (around new)) result old new
+loaded-then w b rows result old mid new took before machine rest_is =
+    let same = rest_is.machines in
+    let counted : new.rig.loads ≡ next_count b.before = same.1 ∙ (took.gives ∙ ap next_count (sym before)) in
+    step-gives (loads b.before new.rig) (StandsIn b.files b.begun new.store) (λ _. loaded_course w b (around new)) (prepares old.rig mid.rig) [] (b.vectors ∷ []) _ _ rows tt result old mid new took counted rest_is (same.0 ∙ machine)
 
-  pub image-rows : {U : Type 0} (mid : StoreState) (result : Result U Stop) (a b c : SinkState) → file_of mid ≡ told → IsPresent told → Wrote a.written b.written outputs_line → IsWritten (all_rows (image_rows i (file_of mid) new.store.current new.rig)) result b c → IsWritten (image_course i vectors here told new) result a c
-  image-rows mid result a b c is present first w =
-      let w' : IsWritten (all_rows (image_rows i told new.store.current new.rig)) result b c = rw is at w in
-      opened result a c present (write-then outputs_line (IsAtOutputs i vectors new) (all_rows (image_rows i told new.store.current new.rig)) result a b c first w')
-
--- where the store stands before the line `outputs`, said otherwise
-pub near-text : (i : ImageValue) (vectors : List ℕ) (here here' : Type 0) (told : Told) (new : Around) → (here → here') → (text : List ℕ) (next : Next) → image_course i vectors here told new text next → image_course i vectors here' told new text next
-near-text i vectors here here' told new f text next (inl h) = inl (h.0, h.1, f h.2)
-near-text i vectors here here' told new f text next (inr (u, given, inl h)) = inr (u, given, inl (h.0, h.1, f h.2))
-near-text i vectors here here' told new f text next (inr (u, given, inr h)) = inr (u, given, inr h)
+-- the rows that were followed are those of this image and this file
+pub rows-of : {U : Type 0} (names : List (List ℕ)) (asks : Type 0) (i j : ImageValue) (told told' : Told) (place : Option Place) (rig : RigState) (result : Result U Stop) (old new : Outside) → i ≡ j → told ≡ told' → Follows ⊥ names asks (all_rows (image_rows i told place rig)) result old new → Follows ⊥ names asks (all_rows (image_rows j told' place rig)) result old new
+rows-of names asks i j told told' place rig result old new image file rest_is =
+    let moved : Follows ⊥ names asks (all_rows (image_rows j told place rig)) result old new = rw image at rest_is in
+    rw file at moved

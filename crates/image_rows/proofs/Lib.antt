@@ -1,4 +1,5 @@
 -- What is cited above.
-pub mod ImageLemmas
+pub mod CourseLemmas
 -- For the proofs of this crate alone.
+mod ImageLemmas
 mod RowLemmas

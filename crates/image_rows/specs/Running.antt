@@ -1,6 +1,6 @@
 -- What the steps of a run say.
 use Rattle.std.specs.Prelude.{◌≡◌, ◌<◌, ◌≤◌, Bool, true, false, length, None}
-use Rattle.tm_outside.specs.Counts.{Rose, next_count}
+use Rattle.tm_outside.specs.Counts.{Rose}
 use Rattle.tm_outside.specs.Store.{StoreState, IsFailure}
 use Rattle.hierarchy.specs.Shape.{pins_of}
 use Rattle.rig.specs.Rig.{RigState, Begins, spare_of}
@@ -36,12 +36,9 @@ pub record IsLoaded (rows : Running) (rig : RigState) : Type 0 where
   pub vectors : rows.vectors ≡ new_reading (length rows.image.inputs) most_vector_bytes
   pub begins : Begins rows.image.config most_rows rig
 
--- the image is loaded so, by one load; or it isn't
-abbrev pub prepares : ImageValue → (old new : RigState) → Step Running
-prepares image old new = record {
-  stops = (loads old.loads new).stops;
-  gives = λ rows. (rows.image ≡ image) × IsLoaded rows new × (new.loads ≡ next_count old.loads);
-}
+-- the load, as the body's own step
+abbrev pub prepares : (old new : RigState) → Step Running
+prepares old new = record { stops = (loads old.loads new).stops; gives = λ _. (loads old.loads new).gives tt }
 
 -- a vector was read
 pub record IsRead (old new : Running) (before after : StoreState) : Type 0 where

@@ -53,10 +53,12 @@ fn prepare(alloc: Global, image: Image, rig: &mut Box<dyn Rig>) -> Result<Runnin
     requires { shape_of (rig_state rig.old) ≡ Some image.config.shape }
 
     ensures machine { (rig_state rig.new).machine ≡ (rig_state rig.old).machine }
+    ensures image { IfOk result (λ rows. rows.image ≡ image) }
+    ensures loaded { IfOk result (λ rows. IsLoaded rows (rig_state rig.new)) }
     // Whatever the store and the sink are.
     ensures took { let old = rig_state rig.old in let new = rig_state rig.new in
         (store : StoreState) (sink : SinkState) →
-        Took [] (prepares image old new) result (outside store old sink) (outside store new sink) }
+        Took [] (prepares old new) result (outside store old sink) (outside store new sink) }
 {
     let (inputs, outputs) = widths(&image);
     let vectors = VectorText::new(alloc, inputs)?;

@@ -1,13 +1,46 @@
+use Rattle.std.proofs.Common.{refl, inl}
 use Rattle.std.proofs.lemmas.Result.{err_from_is_err_and}
-use Rattle.image_rows.proofs.ImageLemmas.{load-stops, load-counts}
+use Rattle.steps.specs.Outside.{outside}
+use Rattle.steps.proofs.Taking.{took-nothing}
+use Rattle.image_rows.specs.Running.{prepares}
+use Rattle.image_rows.proofs.ImageLemmas.{load-took, load-stopped}
 use Rattle.image_rows.proofs.image.prepare.Goals as goal
 
-pub returns-in_err-run-clause-refused : goal.returns-in_err-run-clause-refused
-returns-in_err-run-clause-refused g c =
-    let p = err_from_is_err_and c.from_residual-in_err-run.result c.from_residual-in_err-run.ensures.1 in
-    rw (p.1, p.2) (load-stops _)
+pub returns-in_err-vectors-clause-took : goal.returns-in_err-vectors-clause-took
+returns-in_err-vectors-clause-took g c =
+    let p = err_from_is_err_and c.from_residual.result c.from_residual.ensures.1 in
+    let box = c.args.rig.now in
+    let rig = (goal.Rig-dyn g (box.vtable, box.value)).rig_state box.value in
+    λ store sink. rw (p.1, p.2) (took-nothing (prepares rig rig) _ (outside store rig sink) refl (tt, inl refl))
 
-pub returns-in_err-run-clause-counted : goal.returns-in_err-run-clause-counted
-returns-in_err-run-clause-counted g c =
+pub returns-in_err-vector-clause-took : goal.returns-in_err-vector-clause-took
+returns-in_err-vector-clause-took g c =
+    let p = err_from_is_err_and c.from_residual-in_err-vector.result c.from_residual-in_err-vector.ensures.1 in
+    let box = c.args.rig.now in
+    let rig = (goal.Rig-dyn g (box.vtable, box.value)).rig_state box.value in
+    λ store sink. rw (p.1, p.2) (took-nothing (prepares rig rig) _ (outside store rig sink) refl (tt, inl refl))
+
+pub returns-in_err-row-clause-took : goal.returns-in_err-row-clause-took
+returns-in_err-row-clause-took g c =
+    let p = err_from_is_err_and c.from_residual-in_err-row.result c.from_residual-in_err-row.ensures.1 in
+    let box = c.args.rig.now in
+    let rig = (goal.Rig-dyn g (box.vtable, box.value)).rig_state box.value in
+    λ store sink. rw (p.1, p.2) (took-nothing (prepares rig rig) _ (outside store rig sink) refl (tt, inl refl))
+
+pub returns-in_err-line-clause-took : goal.returns-in_err-line-clause-took
+returns-in_err-line-clause-took g c =
+    let p = err_from_is_err_and c.from_residual-in_err-line.result c.from_residual-in_err-line.ensures.1 in
+    let box = c.args.rig.now in
+    let rig = (goal.Rig-dyn g (box.vtable, box.value)).rig_state box.value in
+    λ store sink. rw (p.1, p.2) (took-nothing (prepares rig rig) _ (outside store rig sink) refl (tt, inl refl))
+
+pub returns-in_err-run-clause-took : goal.returns-in_err-run-clause-took
+returns-in_err-run-clause-took g c =
     let p = err_from_is_err_and c.from_residual-in_err-run.result c.from_residual-in_err-run.ensures.1 in
-    rw (p.1, p.2) (load-counts _ _ _ c.in_err-run.ensures.refused)
+    let e = c.in_err-run.ensures in
+    λ store sink. rw (p.1, p.2) (load-stopped _ _ e.machine store sink _ e.later e.not_counted e.refused)
+
+pub returns-clause-took : goal.returns-clause-took
+returns-clause-took g c =
+    let e = c.in_ok-run.ensures in
+    λ store sink. load-took _ _ e.machine store sink _ e.later e.counted
