@@ -20,8 +20,10 @@ use Rattle.listing.specs.Lists.{Listed, IsListed, lists, lists_now}
 use Rattle.listing.proofs.ListedLemmas.{listed-on}
 use Rattle.lay.specs.Laying.{IsImageFor}
 use Rattle.image_rows.specs.Rows.{RowsBegin, image_rows, image_course}
+use Rattle.image_rows.proofs.CourseLemmas.{rows-also}
+use Rattle.tera_go.specs.GoRows.{AreDesignRows}
 use Rattle.tera_go.specs.Go.{GoBegin, go_course, machine_attached, machine_listed, list_written, image_run}
-use Rattle.tera_go.proofs.DesignRows.{course-design}
+use Rattle.tera_go.proofs.DesignRows.{are-design}
 
 -- the machine was read
 pub read-then : {U : Type 0} (machine name design vectors : List ℕ) (begun ended : Around) (m : Shape) (names : List (List ℕ)) (result : Result U Stop) (old mid new : Outside) → Took (machine ∷ []) (reads_machine (begun.store.contents machine)) (Ok m) old mid → mid.rig ≡ old.rig → Follows ⊥ names (MayAsk (record { shape = m; name = name }) mid.rig.machine.asked new.rig.machine.asked) (machine_attached machine name design vectors begun ended m) result mid new → Follows ⊥ (machine ∷ names) (AsksMachine (reads_machine (begun.store.contents machine)).gives name old.rig.machine.asked new.rig.machine.asked) (go_course machine name design vectors begun ended) result old new
@@ -37,6 +39,10 @@ listed-then m draft b names d result old mid new took machine rest_is =
     step-gives (lists m old.rig.loads new.rig) (StandsIn b.files b.begun new.store) (list_written draft b (around new)) (lists_now m old.rig mid.rig) [] names _ _ d made result old mid new took
     (listed-on m old.rig.loads mid.rig new.rig made took.gives rest_is.machines) rest_is (rest_is.machines ∙ machine)
 
+-- no load was counted before the list was begun
+pub loads-then : {U : Type 0} (m : Shape) (draft : Draft) (b : GoBegin) (names : List (List ℕ)) (asks : Type 0) (now before : ℕ) (result : Result U Stop) (mid new : Outside) → now ≡ before → Follows ⊥ names asks (machine_listed m now b (around new) draft) result mid new → Follows ⊥ names asks (machine_listed m before b (around new) draft) result mid new
+loads-then m draft b names asks now before result mid new same is = subst (λ (n : ℕ). Follows ⊥ names asks (machine_listed m n b (around new) draft) result mid new) same is
+
 -- the image is right under the faults that the list covers, so its rows are the design's
 pub design-then : {U : Type 0} (m : Shape) (before : ℕ) (draft : Draft) (b : GoBegin) (names : List (List ℕ)) (d : DefectList) (i : ImageValue) (result : Result U Stop) (old new : Outside) → IsListed m before old.rig (record { list = d; loads = old.rig.loads }) → IsImageFor d draft i → old.store.contents ≡ b.begun.contents → Follows ⊥ names (new.rig.machine ≡ old.rig.machine) (image_course (image_rows i (old.store.contents b.vectors) new.store.current new.rig) (record { image = i; vectors = b.vectors; files = b.files; begun = b.begun; before = old.rig.loads }) (around new)) result old new → Follows ⊥ names (new.rig.machine ≡ old.rig.machine) (image_run draft b (around new) (record { list = d; loads = old.rig.loads }) i) result old new
 design-then m before draft b names d i result old new list laid same is =
@@ -44,7 +50,8 @@ design-then m before draft b names d i result old new list laid same is =
     let told = old.store.contents b.vectors in
     let right : (f : Faults) → new.rig.machine.faults ≡ Some f → IsRightImage f i draft = λ f faults.
       laid.right f (subst (λ (s : Shape). Covers s d.list f) (sym list.shape) (list.right.covers f (sym (ap (λ (x : Machine). x.faults) is.machines) ∙ faults))) in
-    let written = course-map (image_course (image_rows i told new.store.current new.rig) at (around new)) _ (course-design draft i told new.store.current new.rig right at (around new)) result old.sink new.sink is.written in
+    let rows = image_rows i told new.store.current new.rig in
+    let written = course-map (image_course rows at (around new)) _ (rows-also rows (AreDesignRows new.rig draft i) (are-design draft i new.rig right) at (around new)) result old.sink new.sink is.written in
     record { later = is.later; asked = is.asked; machines = is.machines; written = rw same at written; counted = is.counted }
 
 -- the machine that is attached is the list's

@@ -1,5 +1,5 @@
 -- What the command `go` comes to.
-use Rattle.std.proofs.Common.{◌⊎◌, ◌∙◌, ◌≡◌, ℕ, List, [], ◌++◌, length, None, refl, sym, ap, subst, inl, inr, arith, append-nil}
+use Rattle.std.proofs.Common.{◌⊎◌, ◌∙◌, ◌≡◌, ℕ, List, [], ◌++◌, length, None, refl, sym, ap, subst, inl, inr, ◌≤◌, append-nil}
 use Rattle.hierarchy.specs.declared.Shape.{Shape}
 use Rattle.hierarchy.specs.Faults.{Faults}
 use Rattle.hierarchy.specs.Defects.{Defects, IsFair}
@@ -15,22 +15,23 @@ use Rattle.table_map.specs.Plain.{plain_network}
 use Rattle.place.specs.declared.short.Short.{Short}
 use Rattle.place.specs.Plans.{IsShortInOrder}
 use Rattle.sound_room.specs.Enough.{HasSoundParts}
-use Rattle.steps.specs.Files.{says_at, IsNearNext}
+use Rattle.steps.specs.Files.{says_at, vectors_at}
 use Rattle.steps.specs.Faults.{ShortPlace}
-use Rattle.steps.specs.Lines.{outputs_line}
 use Rattle.steps.specs.Outside.{Around}
-use Rattle.steps.specs.Courses.{Next, refuses}
+use Rattle.steps.specs.Courses.{RowWork, Next, refuses}
 use Rattle.steps.specs.Texts.{reads_machine, reads_design, IsMachineText, IsDesignText}
 use Rattle.steps.specs.Jobs.{IsLawful, Fronts, EndsWell, EndsShort}
 use Rattle.steps.specs.declared.design_file.DesignFile.TheVariants.{Design}
 use Rattle.steps.specs.declared.refusal.Refusal.TheVariants as refused
-use Rattle.steps.proofs.Excused.{rows-well}
 use Rattle.steps.proofs.ShapeLemmas.{same-shape}
 use Rattle.lay.specs.Laying.{IsNoRoom, HasRoom, LacksRoom}
 use Rattle.lay.proofs.Rooms.{AreDecided, never-refused, never-lacks, lay-excused, lay-short}
-use Rattle.tera_go.specs.Go.{go_files, go_job, GoFiles, AreGoTexts, IfList, HasPartsFor, GoRight, GoShort, GoFew, HasOutputs}
+use Rattle.image_rows.specs.Rows.{most_rows, RowsBegin}
+use Rattle.image_rows.proofs.CourseLemmas.{image-well, image-few}
+use Rattle.tera_go.specs.GoRows.{design_rows}
+use Rattle.tera_go.specs.Go.{GoBegin, go_files, go_job, GoFiles, AreGoTexts, IfList, HasPartsFor, GoRight, GoShort, GoFew, HasOutputs}
 use Rattle.tera_go.proofs.Texts.{small-counts, never-empty, never-alone}
-use Rattle.tera_go.proofs.Stages.{HasMade, HasLaid, Stage, early, listing, unlaid, laid, opening, running, rows_of, stage-of}
+use Rattle.tera_go.proofs.Stages.{HasMade, HasLaid, Stage, early, listing, unlaid, laid, stage-of}
 
 -- sound parts and a want of room on a fair list exclude each other
 abbrev pub AreSure : Type 0
@@ -60,6 +61,12 @@ module _ (decided : AreDecided) (sure : AreSure) (networks : AreNetworks) (named
   the-width : (texts : AreGoTexts t) (h : HasLaid t name old new) → length h.image.inputs ≡ length texts.draft.inputs
   the-width texts h = h.right.inputs ∙ ap (λ (x : Draft). length x.inputs) (sym (the-draft texts h.has.draft h.has.drawn))
 
+  abbrev run-rows : HasLaid t name old new → GoBegin → RowWork
+  run-rows h b = design_rows h.has.draft h.image (b.begun.contents b.vectors) new.store.current new.rig
+
+  abbrev run-begins : HasLaid t name old new → GoBegin → RowsBegin
+  run-begins h b = record { image = h.image; vectors = b.vectors; files = b.files; begun = b.begun; before = h.has.made.loads }
+
   -- ---- where there is room nothing is short
 
   -- by the sound parts of the machine
@@ -87,14 +94,12 @@ module _ (decided : AreDecided) (sure : AreSure) (networks : AreNetworks) (named
   go-right : (text : List ℕ) (next : Next) → Fronts (GoRight t new.rig.machine.faults) text → Stage t name old new text next → EndsWell old new next
   go-right text next fronts (early refusal empty is why) = rw is (why (fronts text [] (sym (append-nil text))).texts)
   go-right text next fronts (listing h empty is) = rw is tt
-  go-right text next fronts (unlaid h refusal alone is short) =
-      rw is (lay-excused h.made.list h.draft old new (has-room h (fronts (text_of h.made.list) [] (alone ∙ sym (append-nil (text_of h.made.list))))) refusal short)
-  go-right text next fronts (laid h refusal alone is why) = rw is why
-  go-right text next fronts (opening h alone is) = rw is tt
-  go-right text next fronts (running h more is once rows) =
+  go-right text next fronts (unlaid h refusal stands is short) =
+      rw is (lay-excused h.made.list h.draft old new (has-room h (fronts (text_of h.made.list) [] (stands ∙ sym (append-nil (text_of h.made.list))))) refusal short)
+  go-right text next fronts (laid h b more is same at) =
       let texts = (fronts text [] (sym (append-nil text))).texts in
       let none = subst (λ (w : ℕ). (says_at w texts.vectors_file).fault ≡ None) (sym (the-width texts h)) texts.no_fault in
-      rows-well old new (rows_of h) texts.vectors_file (λ _. Unit {0}) texts.vectors_told none more next tt rows
+      image-well (run-rows h b) (run-begins h b) old new texts.vectors_file (same ∙ texts.vectors_told) none more next tt at
 
   -- ---- there is no room
 
@@ -108,9 +113,7 @@ module _ (decided : AreDecided) (sure : AreSure) (networks : AreNetworks) (named
   go-short text next fronts (early refusal empty is why) = rw is (inr (why (fronts text [] (sym (append-nil text))).texts))
   go-short text next fronts (listing h empty is) = rw is tt
   go-short text next fronts (unlaid h refusal alone is short) = rw is (lay-short h.made.list h.draft old new refusal short)
-  go-short text next fronts (laid h refusal alone is why) = absurd (not-laid text [] fronts h (alone ∙ sym (append-nil (text_of h.has.made.list))))
-  go-short text next fronts (opening h alone is) = rw is tt
-  go-short text next fronts (running h more is once rows) = absurd (not-laid text (outputs_line ++ more) fronts h is)
+  go-short text next fronts (laid h b more is same at) = absurd (not-laid text more fronts h is)
 
   -- ---- memory is taken before the line `outputs`
 
@@ -127,16 +130,19 @@ module _ (decided : AreDecided) (sure : AreSure) (networks : AreNetworks) (named
       let same = sym (the-shape texts begun.list.shape begun.shape) ∙ shape in
       never-alone h.shape told begun.list h.made.list same begun.right h.list.shape h.list.kept begun.more text begun.text_is alone
 
+  alone : (h : HasLaid t name old new) (text more : List ℕ) → text ≡ text_of h.has.made.list ++ more → more ≡ [] → text ≡ text_of h.has.made.list
+  alone h text more is empty = is ∙ (ap (λ (m : List ℕ). text_of h.has.made.list ++ m) empty ∙ append-nil (text_of h.has.made.list))
+
   go-few : GoFew t → (text : List ℕ) → HasOutputs (reads_machine t.machine).gives text → Stage t name old new text (refuses refused.Memory) → ⊥
   go-few few text begun (early refusal empty is why) = never-empty (text_of begun.list) begun.more text begun.text_is empty
   go-few few text begun (listing h empty is) = never-empty (text_of begun.list) begun.more text begun.text_is empty
-  go-few few text begun (unlaid h refusal alone is short) = not-begun few.texts h text begun alone
-  go-few few text begun (laid h refusal alone is why) = not-begun few.texts h.has text begun alone
-  go-few few text begun (opening h alone is) = not-begun few.texts h.has text begun alone
-  go-few few text begun (running h more is once rows) =
-      let near : IsNearNext (length h.image.inputs) t.vectors new.store.current (length rows.0.has.rows) = rows.2 in
-      let told = rw (few.texts.vectors_told, the-width few.texts h) at near in
-      absurd (let next = told.0 in let most = rows.1 in let within = few.few in omega (arith, next, most, within))
+  go-few few text begun (unlaid h refusal stands is short) = not-begun few.texts h text begun stands
+  go-few few text begun (laid h b more is same (inl at)) = not-begun few.texts h.has text begun (alone h text more is at.0)
+  go-few few text begun (laid h b more is same (inr (u, once, inl at))) = not-begun few.texts h.has text begun (alone h text more is at.0)
+  go-few few text begun (laid h b more is same (inr (u, once, inr (v, opened, inl at)))) = not-begun few.texts h.has text begun (alone h text more is at.0)
+  go-few few text begun (laid h b more is same (inr (u, once, inr (v, opened, inr (rest, first, at))))) =
+      let width = subst (λ (w : ℕ). length (vectors_at w few.texts.vectors_file) ≤ most_rows) (sym (the-width few.texts h)) few.few in
+      image-few (run-rows h b) (run-begins h b) new few.texts.vectors_file (same ∙ few.texts.vectors_told) (λ count lacks. lacks) width more rest first (inr (u, once, inr (v, opened, inr (rest, first, at))))
 
 pub go-lawful : AreDecided → AreSure → AreNetworks → AreNamed → (machine name design vectors : List ℕ) → IsLawful (go_job machine name design vectors)
 go-lawful decided sure networks named machine name design vectors = record {

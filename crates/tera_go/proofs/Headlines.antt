@@ -1,7 +1,6 @@
 -- What a `go` has done, from its course.
 use Rattle.std.proofs.Common.{◌≡◌, ◌∙◌, ℕ, Bool, List, [], ◌∷◌, ◌++◌, length, take, Option, None, Some, IfSome, refl, sym, ap, subst, inl, inr, append_assoc, append-nil, take_all, le_refl, ◌⊎◌}
 use Rattle.std.specs.Prelude.{Result, Ok, Err, OnOk}
-use Rattle.tm_outside.specs.Counts.{next_count}
 use Rattle.tm_outside.specs.Told.{IfTold}
 use Rattle.tm_outside.specs.Sink.{Wrote}
 use Rattle.tm_outside.specs.declared.sink.SinkFail.TheVariants.{Failed, Memory}
@@ -12,18 +11,19 @@ use Rattle.defect_db.specs.Text.{text_of}
 use Rattle.netlist.specs.declared.draft.Draft.{Draft}
 use Rattle.netlist.specs.Rows.{AreRows}
 use Rattle.steps.specs.Files.{AreAll}
-use Rattle.steps.specs.Lines.{outputs_line}
 use Rattle.steps.specs.Outside.{Outside, around}
-use Rattle.steps.specs.Courses.{Course, Next, ends, refuses, writes, all_rows, HasReadRows}
+use Rattle.steps.specs.Courses.{Course, Next, ends, refuses, writes}
 use Rattle.steps.specs.Ends.{EndWrote, Stands, whole as all_wrote, refused as line_wrote, cut_line, no_line, cut}
 use Rattle.steps.specs.Stops.{Asks, IsWritten, refusal_text}
 use Rattle.steps.specs.Texts.{IsMachineText}
 use Rattle.steps.specs.declared.refusal.Refusal.{Refusal}
 use Rattle.steps.specs.declared.refusal.Stop.{Stop}
 use Rattle.steps.specs.declared.refusal.Stop.TheVariants.{Refused, Sink}
-use Rattle.tera_go.specs.Go.{GoFiles, go_files, go_course}
+use Rattle.image_rows.proofs.CourseLemmas.{HasRun, image-ends}
+use Rattle.tera_go.specs.GoRows.{design_rows}
+use Rattle.tera_go.specs.Go.{GoFiles, GoBegin, go_files, go_course}
 use Rattle.tera_go.specs.Headline.{IsListOfMachine, BeginsWithList, none, part, whole, IsGone, HasRoomLeft}
-use Rattle.tera_go.proofs.Stages.{HasMade, HasLaid, Stage, early, listing, unlaid, laid, opening, running, rows_of, stage-of}
+use Rattle.tera_go.proofs.Stages.{HasMade, HasLaid, Stage, early, listing, unlaid, laid, stage-of}
 
 told-rows : (faults : Option Faults) (draft : Draft) (vectors rows : List (List Bool)) → IfSome faults (λ f. AreRows draft vectors rows) → (f : Faults) → faults ≡ Some f → AreRows draft vectors rows
 told-rows None draft vectors rows are f told = absurd cc
@@ -67,9 +67,7 @@ module _ (machine name design vectors : List ℕ) (old new : Outside) where
   begins text more next (listing h empty is) adds wrote =
       at-list h more (subst (λ (n : Next). Adds n more) is adds) (wrote-as (text ++ more) more (ap (λ (s : List ℕ). s ++ more) empty) wrote)
   begins text more next (unlaid h refusal alone is short) adds wrote = behind-list h text [] more (alone ∙ sym (append-nil (text_of h.made.list))) wrote
-  begins text more next (laid h refusal alone is why) adds wrote = behind-list h.has text [] more (alone ∙ sym (append-nil (text_of h.has.made.list))) wrote
-  begins text more next (opening h alone is) adds wrote = behind-list h.has text [] more (alone ∙ sym (append-nil (text_of h.has.made.list))) wrote
-  begins text more next (running h rest is once rows) adds wrote = behind-list h.has text (outputs_line ++ rest) more is wrote
+  begins text more next (laid h b rest is same at) adds wrote = behind-list h.has text rest more is wrote
 
   begins-at : (text more : List ℕ) (next : Next) → course text next → Adds next more → Wrote old.sink.written new.sink.written (text ++ more) → BeginsWithList machine name old new
   begins-at text more next at adds wrote = begins text more next (stage-of machine name design vectors (around old) (around new) text next at) adds wrote
@@ -100,19 +98,33 @@ module _ (machine name design vectors : List ℕ) (old new : Outside) where
 
   -- ---- all is done
 
-  done-at : (text : List ℕ) → Stage t name (around old) (around new) text ends → (h : HasLaid t name (around old) (around new)) × (more : List ℕ) × (text ≡ text_of h.has.made.list ++ (outputs_line ++ more)) × (new.rig.loads ≡ next_count h.has.made.loads) × all_rows (rows_of h) more ends
+  -- the image was run to its end
+  record HasGone (text : List ℕ) : Type 0 where
+    pub h : HasLaid t name (around old) (around new)
+    pub b : GoBegin
+    pub told : b.begun.contents b.vectors ≡ t.vectors
+    pub rest : List ℕ
+    pub text_is : text ≡ text_of h.has.made.list ++ rest
+    pub run : HasRun (design_rows h.has.draft h.image (b.begun.contents b.vectors) new.store.current new.rig) (record { image = h.image; vectors = b.vectors; files = b.files; begun = b.begun; before = h.has.made.loads }) (around new) rest
+
+  done-at : (text : List ℕ) → Stage t name (around old) (around new) text ends → HasGone text
   done-at text (early refusal empty is why) = absurd (cc)
   done-at text (listing h empty is) = absurd (cc)
   done-at text (unlaid h refusal alone is short) = absurd (cc)
-  done-at text (laid h refusal alone is why) = absurd (cc)
-  done-at text (opening h alone is) = absurd (cc)
-  done-at text (running h more is once rows) = (h, more, is, once, rows)
+  done-at text (laid h b rest is same at) = record {
+    h = h;
+    b = b;
+    told = same;
+    rest = rest;
+    text_is = is;
+    run = image-ends (design_rows h.has.draft h.image (b.begun.contents b.vectors) new.store.current new.rig) (record { image = h.image; vectors = b.vectors; files = b.files; begun = b.begun; before = h.has.made.loads }) (around new) rest at;
+  }
 
   pub gone : (text : List ℕ) → new.store.asked ≡ old.store.asked ++ machine ∷ design ∷ vectors ∷ [] → Wrote old.sink.written new.sink.written text → course text ends → IsGone machine name design vectors old new
   gone text asked wrote at =
       let done = done-at text (stage-of machine name design vectors (around old) (around new) text ends at) in
-      let h = done.0 in
-      let rows : HasReadRows (rows_of h) done.1 = done.4.0 in
+      let h = done.h in
+      let rows = done.run.rows in
       let d = h.has.made.list in
       record {
         shape = h.has.shape;
@@ -126,9 +138,9 @@ module _ (machine name design vectors : List ℕ) (old new : Outside) where
         asked_in_order = record { asked = asked; machine_is = h.has.read; attached = h.has.attached };
         written_whole = record {
           is_list = h.has.list.kept;
-          are_all = subst (λ (w : ℕ). AreAll w (old.store.contents vectors) rows.has.vectors) h.right.inputs done.4.1;
+          are_all = subst (λ (w : ℕ). AreAll w (old.store.contents vectors) rows.has.vectors) h.right.inputs (rw done.told at done.run.all);
           count = rows.has.are.read.count;
-          written = wrote-as text _ (done.2 ∙ ap (λ (s : List ℕ). text_of d ++ (outputs_line ++ s)) rows.has.text_is) wrote;
+          written = wrote-as text _ (done.text_is ∙ ap (λ (s : List ℕ). text_of d ++ s) done.run.text_is) wrote;
         };
         covers_every_fault = h.has.list.right.covers;
         uses_nothing_listed = record { is_image = h.right.image; shape = h.right.shape; config = rows.session.config; free = h.right.free };
@@ -137,21 +149,21 @@ module _ (machine name design vectors : List ℕ) (old new : Outside) where
         exactly_the_outputs = told-rows new.rig.machine.faults h.has.draft rows.has.vectors rows.has.rows rows.has.are.netlist;
         fair = h.has.list.right.fair;
         few = h.has.list.few;
-        loaded_once = done.3;
+        loaded_once = done.run.loaded;
       }
 
   pub room-left : (text : List ℕ) → Wrote old.sink.written new.sink.written text → course text ends → HasRoomLeft machine design old new
   room-left text wrote at =
       let done = done-at text (stage-of machine name design vectors (around old) (around new) text ends at) in
-      let h = done.0 in
+      let h = done.h in
       record {
         draft = h.has.draft;
         list = h.has.made.list;
-        rest = outputs_line ++ done.1;
+        rest = done.rest;
         machine_is = subst (λ (s : Shape). IfTold (old.store.contents machine) (λ bytes. IsMachineText bytes s)) (sym h.has.list.shape) h.has.read;
         design_is = h.has.drawn;
         is_list = h.has.list.kept;
-        written = wrote-as text _ done.2 wrote;
+        written = wrote-as text _ done.text_is wrote;
         room = h.room;
       }
 

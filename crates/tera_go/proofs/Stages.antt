@@ -1,24 +1,20 @@
 -- Where the course of `go` stands, and what is known there.
-use Rattle.std.proofs.Common.{◌≡◌, ℕ, List, [], ◌++◌, Some, refl, inl, inr, ◌∙◌, append-nil, ap}
-use Rattle.tm_outside.specs.Counts.{next_count}
+use Rattle.std.proofs.Common.{◌≡◌, ℕ, List, [], ◌∷◌, ◌++◌, Some, refl, inl, inr, ◌∙◌, append-nil, ap}
 use Rattle.hierarchy.specs.declared.Shape.{Shape}
 use Rattle.defect_db.specs.Text.{text_of}
 use Rattle.netlist.specs.declared.draft.Draft.{Draft}
 use Rattle.config_image.specs.Images.{ImageValue}
 use Rattle.rig.specs.Rig.{Asked}
-use Rattle.steps.specs.Lines.{outputs_line}
 use Rattle.steps.specs.Outside.{Around}
-use Rattle.steps.specs.Courses.{Next, Step, StopsAt, RowWork, all_rows, ends, refuses, writes}
-use Rattle.steps.specs.Texts.{reads_machine, reads_design, attaches, opens, NoMachine, NoDesign}
+use Rattle.steps.specs.Courses.{Next, Step, StopsAt, ends, refuses, writes}
+use Rattle.steps.specs.Texts.{reads_machine, reads_design, attaches, NoMachine, NoDesign}
 use Rattle.steps.specs.Jobs.{IsExcused}
 use Rattle.steps.specs.declared.design_file.DesignFile.TheVariants.{Design}
 use Rattle.steps.specs.declared.refusal.Refusal.{Refusal}
-use Rattle.steps.proofs.Excused.{machine-excused, attach-excused, design-excused, rig-excused, open-excused}
+use Rattle.steps.proofs.Excused.{machine-excused, attach-excused, design-excused, rig-excused}
 use Rattle.listing.specs.Lists.{Listed, IsListed, lists}
 use Rattle.lay.specs.Laying.{lays, NotLaid, IsImageFor, HasRoom}
-use Rattle.image_rows.specs.Rows.{loads}
-use Rattle.tera_go.specs.GoRows.{design_rows}
-use Rattle.tera_go.specs.Go.{GoFiles, AreGoTexts, go_files, go_course}
+use Rattle.tera_go.specs.Go.{GoFiles, GoBegin, AreGoTexts, go_files, go_course, image_run}
 
 -- the list was made of the machine of the text, and the design of the text was read
 pub record HasMade (t : GoFiles) (name : List ℕ) (old new : Around) : Type 0 where
@@ -37,10 +33,6 @@ pub record HasLaid (t : GoFiles) (name : List ℕ) (old new : Around) : Type 0 w
   pub right : IsImageFor has.made.list has.draft image
   pub room : HasRoom has.made.list has.draft
 
--- the rows behind the line `outputs`
-abbrev pub rows_of : {t : GoFiles} {name : List ℕ} {old new : Around} → HasLaid t name old new → RowWork
-rows_of {t} {name} {old} {new} h = design_rows h.has.draft h.image t.vectors new.store.current new.rig
-
 pub data Stage (t : GoFiles) (name : List ℕ) (old new : Around) (text : List ℕ) (next : Next) : Type 0 where
   -- before the list
   early : (refusal : Refusal) → text ≡ [] → next ≡ refuses refusal → (AreGoTexts t → IsExcused refusal old new) → Stage t name old new text next
@@ -48,12 +40,8 @@ pub data Stage (t : GoFiles) (name : List ℕ) (old new : Around) (text : List �
   listing : (h : HasMade t name old new) → text ≡ [] → next ≡ writes (text_of h.made.list) → Stage t name old new text next
   -- behind it, with no image
   unlaid : (h : HasMade t name old new) (refusal : Refusal) → text ≡ text_of h.made.list → next ≡ refuses refusal → NotLaid h.made.list h.draft refusal → Stage t name old new text next
-  -- with one
-  laid : (h : HasLaid t name old new) (refusal : Refusal) → text ≡ text_of h.has.made.list → next ≡ refuses refusal → IsExcused refusal old new → Stage t name old new text next
-  -- at the line `outputs`
-  opening : (h : HasLaid t name old new) → text ≡ text_of h.has.made.list → next ≡ writes outputs_line → Stage t name old new text next
-  -- behind it
-  running : (h : HasLaid t name old new) (more : List ℕ) → text ≡ text_of h.has.made.list ++ (outputs_line ++ more) → new.rig.loads ≡ next_count h.has.made.loads → all_rows (rows_of h) more next → Stage t name old new text next
+  -- with one, and its course
+  laid : (h : HasLaid t name old new) (b : GoBegin) (more : List ℕ) → text ≡ text_of h.has.made.list ++ more → b.begun.contents b.vectors ≡ t.vectors → image_run h.has.draft b new h.has.made h.image more next → Stage t name old new text next
 
 stopped : {T : Type 0} (step : Step T) (next : Next) → StopsAt step next → (refusal : Refusal) × (next ≡ refuses refusal) × step.stops refusal
 stopped step ends stops = absurd stops
@@ -74,10 +62,6 @@ module _ (machine name design vectors : List ℕ) (old new : Around) where
 
   alone : (line more text : List ℕ) → text ≡ line ++ more → more ≡ [] → text ≡ line
   alone line more text is empty = is ∙ (ap (λ (m : List ℕ). line ++ m) empty ∙ append-nil line)
-
-  -- the text behind the list
-  behind : (line first more rest text : List ℕ) → text ≡ line ++ more → more ≡ first ++ rest → text ≡ line ++ (first ++ rest)
-  behind line first more rest text is next = is ∙ ap (λ (m : List ℕ). line ++ m) next
 
   abbrev has : (m : Shape) (draft : Draft) (l : Listed) → (reads_machine t.machine).gives m → new.rig.machine.attached ≡ Some (record { shape = m; name = name }) → (reads_design Design t.design).gives draft → IsListed m old.rig.loads new.rig l → HasMade t name old new
   has m draft l read attached drawn list = record { shape = m; draft = draft; made = l; read = read; attached = attached; drawn = drawn; list = list }
@@ -104,13 +88,5 @@ module _ (machine name design vectors : List ℕ) (old new : Around) where
   stage-of text next (inr (m, read, inr (u, attached, inr (draft, drawn, inr (l, list, inr (more, is, inl h)))))) =
       let s = stopped (lays l.list draft) next h.1 in
       unlaid (has m draft l read attached drawn list) s.0 (alone (text_of l.list) more text is h.0) s.1 s.2
-  stage-of text next (inr (m, read, inr (u, attached, inr (draft, drawn, inr (l, list, inr (more, is, inr (i, right, inl h))))))) =
-      let s = stopped (loads l.loads new.rig) next h.1 in
-      laid (on (has m draft l read attached drawn list) i right) s.0 (alone (text_of l.list) more text is h.0) s.1 (rig-excused old new s.0 s.2.0)
-  stage-of text next (inr (m, read, inr (u, attached, inr (draft, drawn, inr (l, list, inr (more, is, inr (i, right, inr (v, once, inl h)))))))) =
-      let s = stopped (opens t.vectors) next h.1 in
-      laid (on (has m draft l read attached drawn list) i right) s.0 (alone (text_of l.list) more text is h.0) s.1 (open-excused old new s.0 s.2)
-  stage-of text next (inr (m, read, inr (u, attached, inr (draft, drawn, inr (l, list, inr (more, is, inr (i, right, inr (v, once, inr (w, opened, inl h))))))))) =
-      opening (on (has m draft l read attached drawn list) i right) (alone (text_of l.list) more text is h.0) h.1
-  stage-of text next (inr (m, read, inr (u, attached, inr (draft, drawn, inr (l, list, inr (more, is, inr (i, right, inr (v, once, inr (w, opened, inr (rest, first, rows)))))))))) =
-      running (on (has m draft l read attached drawn list) i right) rest (behind (text_of l.list) outputs_line more rest text is first) once rows
+  stage-of text next (inr (m, read, inr (u, attached, inr (draft, drawn, inr (l, list, inr (more, is, inr (i, right, at))))))) =
+      laid (on (has m draft l read attached drawn list) i right) (record { begun = old.store; files = design ∷ machine ∷ []; vectors = vectors }) more is refl at

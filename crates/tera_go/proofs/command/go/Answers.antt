@@ -12,13 +12,13 @@ returns-clause-lawful g c =
 
 pub returns-clause-listed : goal.returns-clause-listed
 returns-clause-listed g c =
-    begins-done c.args.machine.now c.args.name.now c.args.design.now c.args.vectors.now _ _ c.work.result c.work.ensures.written
+    begins-done c.args.machine.now c.args.name.now c.args.design.now c.args.vectors.now _ _ c.work.result c.work.ensures.does.written
 
 pub returns-clause-gone : goal.returns-clause-gone
 returns-clause-gone g c =
-    let e = c.work.ensures in
+    let e = c.work.ensures.does in
     gone-done c.args.machine.now c.args.name.now c.args.design.now c.args.vectors.now _ _ c.work.result e.asked e.written
 
 pub returns-clause-room : goal.returns-clause-room
 returns-clause-room g c =
-    room-done c.args.machine.now c.args.name.now c.args.design.now c.args.vectors.now _ _ c.work.result c.work.ensures.written
+    room-done c.args.machine.now c.args.name.now c.args.design.now c.args.vectors.now _ _ c.work.result c.work.ensures.does.written
