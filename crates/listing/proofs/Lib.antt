@@ -1,2 +1,2 @@
-pub mod ListLemmas
+-- What is cited above.
 pub mod ListedLemmas

@@ -1,12 +1,12 @@
 -- The list as a step.
-use Rattle.std.proofs.Common.{◌≡◌, ℕ, ◌≤◌, [], refl, sym, ap, arith, append-nil}
+use Rattle.std.proofs.Common.{◌≡◌, ℕ, ◌≤◌, List, [], Some, option_map, refl, sym, ap, arith, append-nil}
 use Rattle.std.specs.Prelude.{Ok, Err}
 use Rattle.tm_outside.specs.Counts.{Rose}
 use Rattle.tm_outside.specs.Store.{StoreState}
 use Rattle.tm_outside.specs.Sink.{SinkState}
 use Rattle.hierarchy.specs.declared.Shape.{Shape}
 use Rattle.defect_db.specs.Lists.{DefectList, IsDefectList}
-use Rattle.rig.specs.Rig.{RigState, Machine}
+use Rattle.rig.specs.Rig.{RigState, Machine, Asked, shape_of}
 use Rattle.rig.specs.declared.rig.RigFail.{RigFail}
 use Rattle.rig.specs.declared.rig.RigFail.TheVariants.{Failed, Memory}
 use Rattle.diagnose.specs.Diagnosis.{IsDiagnosis, TakesFewLoads}
@@ -14,6 +14,10 @@ use Rattle.steps.specs.Outside.{outside, IsLater}
 use Rattle.steps.specs.Stops.{IsCounted, StepStops, stop_of_rig}
 use Rattle.steps.specs.Took.{Took}
 use Rattle.listing.specs.Lists.{IsListed, Listed, lists_now}
+
+-- the shape that is attached
+pub attached-shape : (rig : RigState) (m : Shape) (name : List ℕ) → rig.machine.attached ≡ Some (record { shape = m; name = name }) → shape_of rig ≡ Some m
+attached-shape rig m name is = ap (option_map (λ (a : Asked). a.shape)) is
 
 -- a list is one of the machine, and so it stays while the machine stays
 pub listed-on : (m : Shape) (before : ℕ) (mid new : RigState) (l : Listed) → IsListed m before mid l → new.machine ≡ mid.machine → IsListed m before new l

@@ -1,5 +1,5 @@
 -- No text of a list goes on as another list does with the line `outputs` behind it.
-use Rattle.std.proofs.Common.{◌≡◌, ℕ, ◌+◌, ◌<◌, ◌≤◌, slice_index_or, List, [], ◌++◌, length, refl, sym, ap, inr, ◌∙◌, arith, length-append, append-nil}
+use Rattle.std.proofs.Common.{◌≡◌, ℕ, ◌+◌, ◌<◌, ◌≤◌, slice_index_or, List, [], ◌++◌, length, refl, sym, ap, inr, ◌∙◌, arith, length-append}
 use Rattle.hierarchy.specs.declared.Shape.{Shape}
 use Rattle.hierarchy.specs.declared.Counts.{Counts}
 use Rattle.machine_file.specs.Machine.{IsMachine}
@@ -51,7 +51,6 @@ never-empty front more text is empty =
     omega (arith, size, none, some)
 
 -- where a list alone stands there is no such line
-pub never-alone : (m : Shape) → IsTold m → (d e : DefectList) → d.shape ≡ m → IsDefectList d → e.shape ≡ m → IsDefectList e → (more rest text : List ℕ) → text ≡ text_of d ++ (outputs_line ++ more) → text ≡ text_of e ++ rest → rest ≡ [] → ⊥
-never-alone m told d e d_shape d_right e_shape e_right more rest text is alone empty =
-    let whole : text ≡ text_of e = alone ∙ (ap (λ t. text_of e ++ t) empty ∙ append-nil (text_of e)) in
-    nothing-behind m told d e d_shape d_right e_shape e_right (outputs_line ++ more) (outputs-some more) (sym whole ∙ is)
+pub never-alone : (m : Shape) → IsTold m → (d e : DefectList) → d.shape ≡ m → IsDefectList d → e.shape ≡ m → IsDefectList e → (more text : List ℕ) → text ≡ text_of d ++ (outputs_line ++ more) → text ≡ text_of e → ⊥
+never-alone m told d e d_shape d_right e_shape e_right more text is alone =
+    nothing-behind m told d e d_shape d_right e_shape e_right (outputs_line ++ more) (outputs-some more) (sym alone ∙ is)

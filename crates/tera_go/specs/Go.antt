@@ -1,6 +1,7 @@
 -- What the command `go` is.
 use Rattle.std.specs.Prelude.{◌≡◌, ◌⊎◌, ℕ, ◌≤◌, List, [], ◌∷◌, ◌++◌, length, Option, None, Some}
 use Rattle.tm_outside.specs.Told.{Told, holds}
+use Rattle.tm_outside.specs.Store.{StoreState}
 use Rattle.hierarchy.specs.declared.Shape.{Shape}
 use Rattle.hierarchy.specs.Faults.{Faults}
 use Rattle.machine_file.specs.Machine.{IsMachine}
@@ -10,34 +11,68 @@ use Rattle.netlist.specs.declared.draft.Draft.{Draft}
 use Rattle.blif_read.specs.Designs.{IsDesign}
 use Rattle.table_map.specs.declared.network.Network.{Network}
 use Rattle.table_map.specs.Plain.{IsPlainNetwork}
-use Rattle.place.specs.declared.plan.Plan.{Plan}
-use Rattle.place.specs.declared.short.Short.{Short}
-use Rattle.place.specs.Plans.{FitsInOrder, IsShortInOrder}
+use Rattle.config_image.specs.Images.{ImageValue}
 use Rattle.sound_room.specs.Enough.{HasSoundParts}
 use Rattle.tm_text.specs.Size.{most_bytes}
 use Rattle.steps.specs.Files.{says_at, vectors_at}
 use Rattle.steps.specs.Lines.{outputs_line}
-use Rattle.steps.specs.Outside.{Around, StaysNear}
+use Rattle.steps.specs.Outside.{Around, StandsIn}
 use Rattle.steps.specs.Courses.{Course, after, write}
 use Rattle.steps.specs.Texts.{reads_machine, reads_design, attaches, AsksMachine}
 use Rattle.steps.specs.Jobs.{Job}
 use Rattle.steps.specs.declared.design_file.DesignFile.TheVariants.{Design}
-use Rattle.listing.specs.Listing.{diagnoses}
-use Rattle.tera_compile.specs.Compile.{lays}
-use Rattle.image_rows.specs.Rows.{most_rows}
-use Rattle.tera_go.specs.GoRows.{design_course}
+use Rattle.listing.specs.Lists.{Listed, lists}
+use Rattle.lay.specs.Laying.{lays, HasRoom, LacksRoom}
+use Rattle.image_rows.specs.Rows.{most_rows, image_course}
+use Rattle.tera_go.specs.GoRows.{design_rows}
+
+-- where the list is made: the store as the command began, the files that were read since, the last first, and the file of
+-- vectors
+pub record GoBegin : Type 0 where
+  pub begun : StoreState
+  pub files : List (List ℕ)
+  pub vectors : List ℕ
+
+-- where the store stands, and no load follows on those of the list's diagnosis
+abbrev pub HasStayed : GoBegin → Listed → Around → Type 0
+HasStayed b l new = StandsIn b.files b.begun new.store × (new.rig.loads ≡ l.loads)
+
+-- The image is loaded by one load more, and its rows, which are the design's, are written
+abbrev pub image_run : Draft → GoBegin → (new : Around) → Listed → ImageValue → Course
+image_run draft b new l i =
+    image_course (design_rows draft i (b.begun.contents b.vectors) new.store.current new.rig)
+    (record { image = i; vectors = b.vectors; files = b.files; begun = b.begun; before = l.loads }) new
+
+-- The design is laid on what the list leaves free, and the image is run
+abbrev pub design_laid : Draft → GoBegin → (new : Around) → Listed → Course
+design_laid draft b new l = after (lays l.list draft) (HasStayed b l new) (image_run draft b new l)
+
+-- The list is written, and the design is laid
+abbrev pub list_written : Draft → GoBegin → (new : Around) → Listed → Course
+list_written draft b new l = write (text_of l.list) (HasStayed b l new) (design_laid draft b new l)
+
+-- The defects of the machine are listed, whose rig counted so many loads before, and the list is written
+abbrev pub machine_listed : Shape → (before : ℕ) → GoBegin → (new : Around) → Draft → Course
+machine_listed m before b new draft = after (lists m before new.rig) (StandsIn b.files b.begun new.store) (list_written draft b new)
+
+-- The design is read, and the machine is listed
+abbrev pub design_read : (machine design vectors : List ℕ) → Around → Around → Shape → Course
+design_read machine design vectors old new m =
+    after (reads_design Design (old.store.contents design)) (StandsIn (design ∷ machine ∷ []) old.store new.store)
+    (machine_listed m old.rig.loads (record { begun = old.store; files = design ∷ machine ∷ []; vectors = vectors }) new)
+
+-- The machine is attached, and the design is read
+abbrev pub machine_attached : (machine name design vectors : List ℕ) → Around → Around → Shape → Course
+machine_attached machine name design vectors old new m =
+    after (attaches (record { shape = m; name = name }) old.rig new.rig) (StandsIn (machine ∷ []) old.store new.store)
+    (λ _. design_read machine design vectors old new m)
 
 -- The machine is read and attached, and the design is read. The machine's defects are listed and the list is written. The
--- design is laid on what the list leaves free, and its rows are written. One load may follow on the diagnosis
+-- design is laid on what the list leaves free, and its rows are written. One load follows on the diagnosis
 abbrev pub go_course : (machine name design vectors : List ℕ) → Around → Around → Course
 go_course machine name design vectors old new =
-    after (reads_machine (old.store.contents machine)) (StaysNear old.store new.store) (λ m.
-    after (attaches (record { shape = m; name = name }) old.rig new.rig) (StaysNear old.store new.store) (λ _.
-    after (reads_design Design (old.store.contents design)) (StaysNear old.store new.store) (λ draft.
-    after (diagnoses m 1 old.rig new.rig) (StaysNear old.store new.store) (λ d.
-    write (text_of d) (StaysNear old.store new.store) (
-    after (lays d draft) (StaysNear old.store new.store) (λ i.
-    design_course draft i vectors (StaysNear old.store new.store) (old.store.contents vectors) new))))))
+    after (reads_machine (old.store.contents machine)) (StandsIn (machine ∷ []) old.store new.store)
+    (machine_attached machine name design vectors old new)
 
 -- what is told of the files
 pub record GoFiles : Type 0 where
@@ -65,20 +100,6 @@ pub record AreGoTexts (t : GoFiles) : Type 0 where
   pub design_within : length design_file ≤ most_bytes
   pub vectors_told : t.vectors ≡ holds vectors_file
   pub no_fault : (says_at (length draft.inputs) vectors_file).fault ≡ None
-
--- the in-order plan of the design's plain network fits the list
-pub record HasRoom (d : DefectList) (draft : Draft) : Type 0 where
-  pub network : Network
-  pub plan : Plan
-  pub plain : IsPlainNetwork draft network
-  pub fits : FitsInOrder d.shape d.list network plan
-
--- or it is short of something
-pub record LacksRoom (d : DefectList) (draft : Draft) : Type 0 where
-  pub network : Network
-  pub short : Short
-  pub plain : IsPlainNetwork draft network
-  pub is_short : IsShortInOrder d.shape d.list network short
 
 -- the faults of the machine are told, each node is served, and as many parts are sound as the plain network has
 pub record HasPartsFor (told : Option Faults) (m : Shape) (draft : Draft) : Type 0 where

@@ -6,11 +6,8 @@ use Rattle.netlist.specs.declared.draft.Draft.{Draft}
 use Rattle.netlist.specs.Rows.{AreRows}
 use Rattle.config_image.specs.Images.{ImageValue}
 use Rattle.rig.specs.Rig.{RigState}
-use Rattle.steps.specs.Lines.{outputs_line}
-use Rattle.steps.specs.Outside.{Around}
-use Rattle.steps.specs.Courses.{Course, RowWork, after, write, all_rows}
-use Rattle.steps.specs.Texts.{opens}
-use Rattle.image_rows.specs.Rows.{most_rows, AreRowsOf, IsSession, IsAtOutputs, loads}
+use Rattle.steps.specs.Courses.{RowWork}
+use Rattle.image_rows.specs.Rows.{most_rows, AreRowsOf, IsSession}
 
 -- the rows are those of the image; where the faults of the machine are told, they are the netlist's
 pub record AreDesignRows (rig : RigState) (draft : Draft) (i : ImageValue) (vectors rows : List (List Bool)) : Type 0 where
@@ -26,12 +23,3 @@ design_rows draft i told place rig = record {
   session = IsSession rig i;
   lacks = λ count. most_rows ≤ count;
 }
-
--- the image is loaded, the vectors are opened, and the rows are written behind the line `outputs`. Before that line the
--- store stands here
-abbrev pub design_course : Draft → ImageValue → (vectors : List ℕ) → (here : Type 0) → Told → (new : Around) → Course
-design_course draft i vectors here told new =
-    after loads here (λ _.
-    after (opens told) here (λ _.
-    write outputs_line (IsAtOutputs i vectors new)
-    (all_rows (design_rows draft i told new.store.current new.rig))))

@@ -1,5 +1,4 @@
 -- The command that runs a design on a machine of the rig.
 pub mod GoRows
-pub mod Laid
 pub mod Go
 pub mod Headline

@@ -1,54 +1,78 @@
 //! The command that runs a design on a machine of the rig.
-ghost use Rattle.std.specs.Prelude.{◌≡◌, ◌≤◌, ◌∷◌, [], Some, OnOk, IfOk, IfErr};
+ghost use Rattle.std.specs.Prelude.{◌≡◌, ℕ, List, ◌∷◌, [], Some, OnOk};
 ghost use Rattle.tm_outside.specs.Store.{StoreState};
+ghost use Rattle.hierarchy.specs.declared.Shape.{Shape};
 ghost use Rattle.rig.specs.Rig.{shape_of};
-ghost use Rattle.steps.specs.Outside.{outside, around};
-ghost use Rattle.steps.specs.Stops.{Asks, IsWritten, IsCounted};
-ghost use Rattle.steps.specs.Texts.{reads_machine, AsksMachine};
+ghost use Rattle.steps.specs.Outside.{outside, around, StandsIn};
+ghost use Rattle.steps.specs.Took.{Follows};
 ghost use Rattle.steps.specs.Jobs.{Does, IsLawful};
-ghost use Rattle.tera_go.specs.Laid.{IsLaid, HasNoImage};
-ghost use Rattle.tera_go.specs.Go.{go_course, go_job};
-ghost use Rattle.tera_go.specs.Headline.{IsGone};
+ghost use Rattle.listing.specs.Lists.{Listed, IsListed};
+ghost use Rattle.tera_go.specs.Go.{GoBegin, machine_listed, design_laid, go_job};
+ghost use Rattle.tera_go.specs.Headline.{BeginsWithList, IsGone, HasRoomLeft};
 
-use config_image::Image;
+use defect_db::{Defects, defects_text};
 use hierarchy::Shape;
 use image_rows::run_image;
-use listing::list_defects;
+use lay::lay;
+use listing::list_of;
 use netlist::Netlist;
 use place::in_order_plans_are_decided;
 use rig::Rig;
 use sound_room::sound_parts_are_room;
 use std::alloc::Global;
-use steps::{DesignFile, Stop, attach, read_design, read_shape};
+use steps::{DesignFile, Stop, attach, read_design, read_shape, write};
 use table_map::laws::plain_networks_have_the_rows;
-use tera_compile::lay;
 use tm_outside::{Sink, Store};
 
-// Lists the defects of the machine that is attached, writes the list, and lays a design on what it leaves free.
-fn list_and_lay<K: Sink>(
+// Lays a design on what a list leaves free, and runs its image.
+fn lay_and_run<S: Store, K: Sink>(
+    alloc: Global,
+    netlist: &Netlist,
+    list: &Defects,
+    vectors: &str,
+    store: &mut S,
+    rig: &mut Box<dyn Rig>,
+    sink: &mut K,
+) -> Result<(), Stop>
+    requires { shape_of (rig_state rig.old) ≡ Some list.now.shape }
+
+    // Where the list is one of the machine, wherever the store stood as the command began.
+    ensures follows { let old = outside (S.store_state store.old) (rig_state rig.old) (K.sink_state sink.old) in
+        let new = outside (S.store_state store.new) (rig_state rig.new) (K.sink_state sink.new) in
+        let made : Listed = record { list = list.now; loads = old.rig.loads } in
+        (shape : Shape) (before : ℕ) (files : List (List ℕ)) (begun : StoreState) → IsListed shape before old.rig made →
+        StandsIn files begun old.store → old.store.contents ≡ begun.contents →
+        let b : GoBegin = record { begun = begun; files = files; vectors = vectors.now } in
+        Follows ⊥ (vectors.now ∷ []) (new.rig.machine ≡ old.rig.machine) (design_laid netlist.now b (around new) made) result old new }
+{
+    let image = lay(alloc, netlist, list)?;
+    run_image(alloc, image, vectors, store, rig, sink)
+}
+
+// Lists the defects of the machine that is attached, writes the list, and runs a design on what it leaves free.
+fn list_and_run<S: Store, K: Sink>(
     alloc: Global,
     shape: &Shape,
     netlist: &Netlist,
+    vectors: &str,
+    store: &mut S,
     rig: &mut Box<dyn Rig>,
     sink: &mut K,
-) -> Result<Image, Stop>
+) -> Result<(), Stop>
     requires { shape_of (rig_state rig.old) ≡ Some shape.now }
 
-    ensures machine { (rig_state rig.new).machine ≡ (rig_state rig.old).machine }
-    ensures texts { (rig_state rig.new).machine.texts ≡ (rig_state rig.old).machine.texts }
-    ensures rig_later { (rig_state rig.old).failures ≤ (rig_state rig.new).failures }
-    ensures kind { (K.sink_state sink.new).can_lack ≡ (K.sink_state sink.old).can_lack }
-    ensures sink_later { (K.sink_state sink.old).failures ≤ (K.sink_state sink.new).failures }
-    ensures found { IfOk result (IsLaid shape.now netlist.now
-        (rig_state rig.old) (rig_state rig.new) (K.sink_state sink.old) (K.sink_state sink.new)) }
-    ensures refused { IfErr result (λ stop. HasNoImage shape.now netlist.now stop
-        (rig_state rig.old) (rig_state rig.new) (K.sink_state sink.old) (K.sink_state sink.new)) }
-    // Whatever the store is.
-    ensures counted { (store : StoreState) → IfErr result (λ stop. IsCounted ⊥ stop
-        (outside store (rig_state rig.old) (K.sink_state sink.old)) (outside store (rig_state rig.new) (K.sink_state sink.new))) }
+    // Wherever the store stood as the command began.
+    ensures follows { let old = outside (S.store_state store.old) (rig_state rig.old) (K.sink_state sink.old) in
+        let new = outside (S.store_state store.new) (rig_state rig.new) (K.sink_state sink.new) in
+        (files : List (List ℕ)) (begun : StoreState) → StandsIn files begun old.store → old.store.contents ≡ begun.contents →
+        let b : GoBegin = record { begun = begun; files = files; vectors = vectors.now } in
+        Follows ⊥ (vectors.now ∷ []) (new.rig.machine ≡ old.rig.machine)
+        (machine_listed shape.now old.rig.loads b (around new) netlist.now) result old new }
 {
-    let list = list_defects(alloc, shape, rig, sink)?;
-    lay(alloc, netlist, &list)
+    let list = list_of(alloc, shape, rig)?;
+    let text = defects_text(alloc, &list)?;
+    write(sink, &text)?;
+    lay_and_run(alloc, netlist, &list, vectors, store, rig, sink)
 }
 
 // Reads a machine and attaches it, reads a design, writes the list of the machine's defects, and runs the design on what
@@ -63,28 +87,14 @@ fn work<S: Store, K: Sink>(
     rig: &mut Box<dyn Rig>,
     sink: &mut K,
 ) -> Result<(), Stop>
-    ensures contents { (S.store_state store.new).contents ≡ (S.store_state store.old).contents }
-    ensures store_later { (S.store_state store.old).failures ≤ (S.store_state store.new).failures }
-    ensures texts { (rig_state rig.new).machine.texts ≡ (rig_state rig.old).machine.texts }
-    ensures rig_later { (rig_state rig.old).failures ≤ (rig_state rig.new).failures }
-    ensures kind { (K.sink_state sink.new).can_lack ≡ (K.sink_state sink.old).can_lack }
-    ensures sink_later { (K.sink_state sink.old).failures ≤ (K.sink_state sink.new).failures }
-    ensures asked { Asks (machine.now ∷ design.now ∷ vectors.now ∷ []) result (S.store_state store.old) (S.store_state store.new) }
-    ensures machines { let told = (S.store_state store.old).contents machine.now in
-        AsksMachine (reads_machine told).gives name.now (rig_state rig.old).machine.asked (rig_state rig.new).machine.asked }
-
-    ensures written { let old = outside (S.store_state store.old) (rig_state rig.old) (K.sink_state sink.old) in
+    ensures does { let old = outside (S.store_state store.old) (rig_state rig.old) (K.sink_state sink.old) in
         let new = outside (S.store_state store.new) (rig_state rig.new) (K.sink_state sink.new) in
-        IsWritten (go_course machine.now name.now design.now vectors.now (around old) (around new)) result old.sink new.sink }
-    ensures counted { let old = outside (S.store_state store.old) (rig_state rig.old) (K.sink_state sink.old) in
-        let new = outside (S.store_state store.new) (rig_state rig.new) (K.sink_state sink.new) in
-        IfErr result (λ stop. IsCounted ⊥ stop old new) }
+        Does ⊥ (go_job machine.now name.now design.now vectors.now) result old new }
 {
     let shape = read_shape(alloc, store, machine)?;
     attach(rig, &shape, name)?;
     let netlist = read_design(alloc, DesignFile::Design, store, design)?;
-    let image = list_and_lay(alloc, &shape, &netlist, rig, sink)?;
-    run_image(alloc, image, vectors, store, rig, sink)
+    list_and_run(alloc, &shape, &netlist, vectors, store, rig, sink)
 }
 
 /// Reads a machine and attaches it under a name, reads a design, and writes the list of the machine's defects. Then the
@@ -113,9 +123,16 @@ pub fn go<S: Store, K: Sink>(
     ensures does { let old = outside (S.store_state store.old) (rig_state rig.old) (K.sink_state sink.old) in
         let new = outside (S.store_state store.new) (rig_state rig.new) (K.sink_state sink.new) in
         Does ⊥ (go_job machine.now name.now design.now vectors.now) result old new }
+    // The list that stands written covers the machine's faults and is fair to them, whatever the end.
+    ensures listed { let old = outside (S.store_state store.old) (rig_state rig.old) (K.sink_state sink.old) in
+        let new = outside (S.store_state store.new) (rig_state rig.new) (K.sink_state sink.new) in
+        BeginsWithList machine.now name.now old new }
     ensures gone { let old = outside (S.store_state store.old) (rig_state rig.old) (K.sink_state sink.old) in
         let new = outside (S.store_state store.new) (rig_state rig.new) (K.sink_state sink.new) in
         OnOk result (IsGone machine.now name.now design.now vectors.now old new) }
+    ensures room { let old = outside (S.store_state store.old) (rig_state rig.old) (K.sink_state sink.old) in
+        let new = outside (S.store_state store.new) (rig_state rig.new) (K.sink_state sink.new) in
+        OnOk result (HasRoomLeft machine.now design.now old new) }
 {
     in_order_plans_are_decided();
     sound_parts_are_room();

@@ -1,12 +1,6 @@
 use Rattle.std.proofs.Common.{refl}
-use Rattle.listing.proofs.ListLemmas.{list-is}
 use Rattle.listing.proofs.ListedLemmas.{list-took, list-stopped}
 use Rattle.listing.proofs.listing.list_of.Goals as goal
-
-pub returns-in-Ok-clause-found : goal.returns-in-Ok-clause-found
-returns-in-Ok-clause-found g c =
-    let e = c.in-Ok.ensures in
-    list-is _ _ _ _ e.shape c.shape.ensures.kept e.right e.loads e.machine
 
 pub returns-in-Ok-clause-took : goal.returns-in-Ok-clause-took
 returns-in-Ok-clause-took g c =

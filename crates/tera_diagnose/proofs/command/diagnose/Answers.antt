@@ -6,7 +6,7 @@ use Rattle.steps.specs.Courses.{done}
 use Rattle.steps.specs.Texts.{reads_machine, attaches}
 use Rattle.steps.proofs.Taking.{took-lacks, step-stops, attach-gives, line-stops, line-gives, all-done}
 use Rattle.listing.specs.Lists.{Listed, lists, lists_now}
-use Rattle.listing.proofs.ListLemmas.{attached-shape}
+use Rattle.listing.proofs.ListedLemmas.{attached-shape}
 use Rattle.tera_diagnose.specs.Diagnose.{machine_attached, machine_listed, list_written}
 use Rattle.tera_diagnose.proofs.Following.{near, asked_for, read-then, listed-then}
 use Rattle.tera_diagnose.proofs.DiagnoseLaws.{diagnose-lawful}
