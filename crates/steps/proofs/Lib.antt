@@ -10,6 +10,7 @@ pub mod StartLemmas
 pub mod Excused
 pub mod Counting
 pub mod Taking
+pub mod Reading
 pub mod JobLemmas
 -- For the proofs of this crate alone.
 mod TextLemmas

@@ -1,5 +1,4 @@
 -- What is cited above.
 pub mod Headlines
 -- For the proofs of this crate alone.
-mod Reading
 mod CompileLaws

@@ -2,11 +2,10 @@ use Rattle.std.proofs.Common.{[], refl}
 use Rattle.std.proofs.lemmas.Result.{err_from_is_err_and}
 use Rattle.config_image.specs.Images.{image_bytes}
 use Rattle.steps.specs.Outside.{outside, StandsIn}
-use Rattle.steps.specs.Courses.{done}
 use Rattle.steps.proofs.Taking.{took-lacks, step-stops, step-gives}
+use Rattle.steps.proofs.Reading.{line-last}
 use Rattle.lay.specs.Laying.{lays}
 use Rattle.tera_compile.specs.Compile.{image_written}
-use Rattle.tera_compile.proofs.Reading.{line-last}
 use Rattle.tera_compile.proofs.command.lay_and_write.Goals as goal
 
 pub returns-in_err-image : goal.returns-in_err-image

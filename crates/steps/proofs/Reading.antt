@@ -24,19 +24,18 @@ module _ {T : Type 0} (step : Told → Step T) (name : List ℕ) (files : List (
   same-told : (result : Result T Stop) (old new : Outside) → HasRead files begun old.store → Took (name ∷ []) (step (old.store.contents name)) result old new → Took (name ∷ []) (step (begun.contents name)) result old new
   same-told result old new read took = subst (λ (contents : List ℕ → Told). Took (name ∷ []) (step (contents name)) result old new) read.contents took
 
+  stands-read : (result : Result T Stop) (old new : Outside) → HasRead files begun old.store → Took (name ∷ []) (step (old.store.contents name)) result old new → StandsIn (name ∷ files) begun new.store
+  stands-read result old new read took = stands-then files (name ∷ []) begun old.store new.store read.place took.place
+
   -- one more was read
-  pub more-read : (result : Result T Stop) (old new : Outside) → HasRead files begun old.store → Took (name ∷ []) (step (old.store.contents name)) result old new → HasRead (name ∷ files) begun new.store
-  more-read result old new read took = record {
-    contents = took.later.contents ∙ read.contents;
-    place = stands-then files (name ∷ []) begun old.store new.store read.place took.place;
-  }
+  pub more-read : (x : T) (old new : Outside) → HasRead files begun old.store → Took (name ∷ []) (step (old.store.contents name)) (Ok x) old new → HasRead (name ∷ files) begun new.store
+  more-read x old new read took = record { contents = took.later.contents ∙ read.contents; place = stands-read (Ok x) old new read took }
 
   -- it isn't right
   pub file-stops : {U : Type 0} (rest : T → Course) (more : List (List ℕ)) (asks : Type 0) (stop : Stop) (result : Result U Stop) (old new : Outside) → result ≡ Err stop → HasRead files begun old.store → Took (name ∷ []) (step (old.store.contents name)) (Err stop) old new → asks → Follows ⊥ (name ∷ more) asks (after (step (begun.contents name)) (StandsIn (name ∷ files) begun new.store) rest) result old new
   file-stops rest more asks stop result old new is read took asked =
       let same = same-told (Err stop) old new read took in
-      let place = (more-read (Err stop) old new read took).place in
-      step-stops (step (begun.contents name)) (StandsIn (name ∷ files) begun new.store) rest (step (begun.contents name)) (name ∷ []) more asks stop result old new is same same.stops place asked
+      step-stops (step (begun.contents name)) (StandsIn (name ∷ files) begun new.store) rest (step (begun.contents name)) (name ∷ []) more asks stop result old new is same same.stops (stands-read (Err stop) old new read took) asked
 
   -- or it is, and the rest is followed
   pub file-gives : {U : Type 0} (rest : T → Course) (ended : StoreState) (more : List (List ℕ)) (asks then_asks : Type 0) (x : T) (result : Result U Stop) (old mid new : Outside) → HasRead files begun old.store → Took (name ∷ []) (step (old.store.contents name)) (Ok x) old mid → Follows ⊥ more then_asks (rest x) result mid new → asks → Follows ⊥ (name ∷ more) asks (after (step (begun.contents name)) (StandsIn (name ∷ files) begun ended) rest) result old new
