@@ -1,5 +1,5 @@
 -- The rows of an image that was made for a design.
-use Rattle.std.specs.Prelude.{ℕ, ◌≤◌, Bool, List, length, Option, IfSome}
+use Rattle.std.specs.Prelude.{◌≤◌, Bool, List, length, Option, IfSome}
 use Rattle.tm_outside.specs.Told.{Told}
 use Rattle.tm_outside.specs.Store.{Place}
 use Rattle.netlist.specs.declared.draft.Draft.{Draft}

@@ -55,7 +55,8 @@ pub record IsAskedInOrder (machine name design vectors : List ℕ) (shape : Shap
   pub attached : new.rig.machine.attached ≡ Some (record { shape = shape; name = name })
 
 -- the text of one list, the line `outputs` and a row for each vector are written, and the vectors were read to their end
-pub record IsWrittenWhole (vectors : List ℕ) (list : DefectList) (width : ℕ) (all_vectors rows : List (List Bool)) (old new : Outside) : Type 0 where
+pub record IsWrittenWhole (vectors : List ℕ) (list : DefectList) (width : ℕ) (all_vectors rows : List (List Bool))
+    (old new : Outside) : Type 0 where
   pub is_list : IsDefectList list
   pub are_all : AreAll width (old.store.contents vectors) all_vectors
   pub count : length rows ≡ length all_vectors
