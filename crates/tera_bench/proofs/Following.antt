@@ -1,6 +1,7 @@
 -- How the steps of `bench` follow one another.
-use Rattle.std.proofs.Common.{◌≡◌, ◌∙◌, ℕ, ◌-◌, List, [], refl, ap, inl, append-nil, sym}
+use Rattle.std.proofs.Common.{◌≡◌, ◌∙◌, ℕ, ◌-◌, false, List, [], None, refl, ap, inl, append-nil, sym}
 use Rattle.std.specs.Prelude.{Result, Ok, Err}
+use Rattle.tm_outside.specs.Told.{untold}
 use Rattle.tm_outside.specs.Store.{StoreState}
 use Rattle.tm_outside.specs.Sink.{SinkState}
 use Rattle.hierarchy.specs.declared.Shape.{Shape}
@@ -23,7 +24,20 @@ use Rattle.lay.specs.Laying.{lays}
 use Rattle.tera_bench.specs.Bench.{makes_shape, makes_design, runs, bench_machine, bench_summary, generated_name}
 use Rattle.tera_bench.specs.Bench.{ones_written, image_run, design_laid, machine_listed, design_made, machine_attached, bench_course}
 
--- something was made of nothing that is outside
+-- an outside to ask with for what doesn't depend on it
+abbrev pub nothing : Outside
+nothing = record {
+  store = record { contents = λ _. untold; asked = []; current = None; failures = 0 };
+  rig = record {
+    machine = record { asked = []; attached = None; faults = None; texts = λ _. None; refused = record { times = 0; last = None } };
+    session = None;
+    loads = 0;
+    failures = 0;
+  };
+  sink = record { written = None; failures = 0; can_lack = false };
+}
+
+-- something was made, with nothing outside
 pub took-made : {T : Type 0} (step : Step T) (x : T) (o : Outside) → step.gives x → Took [] step (Ok x) o o
 took-made step x o gives = record {
   later = later-same o;
