@@ -6,8 +6,8 @@ use Rattle.tera_bench.proofs.Following.{nothing, lay-stopped, run-stopped, summe
 use Rattle.tera_bench.proofs.Headlines.{summary-is}
 use Rattle.tera_bench.proofs.command.run_on.Goals as goal
 
-pub returns-in_err-image-clause-follows : goal.returns-in_err-image-clause-follows
-returns-in_err-image-clause-follows g c = λ store.
+pub returns-in_err-image : goal.returns-in_err-image
+returns-in_err-image g c = λ store.
     let p = err_from_is_err_and c.from_residual.result c.from_residual.ensures.1 in
     rw (p.1, p.2) (lay-stopped c.args.n c.args.netlist.now c.args.list.now c.args.begun (store ≡ store) refl _ _ _ refl (c.in_err-image.ensures.took _))
 
@@ -20,14 +20,14 @@ run_work-requires g c =
       two = laid.outputs ∙ ap (λ (d : Draft). length d.outputs) c.requires.netlist;
     }
 
-pub returns-in_err-ones-clause-follows : goal.returns-in_err-ones-clause-follows
-returns-in_err-ones-clause-follows g c = λ store.
+pub returns-in_err-ones : goal.returns-in_err-ones
+returns-in_err-ones g c = λ store.
     let p = err_from_is_err_and c.from_residual-in_err-ones.result c.from_residual-in_err-ones.ensures.1 in
     let e = c.in_err-ones.ensures in
     rw (p.1, p.2) (run-stopped c.args.n c.args.netlist.now c.args.list.now c.args.begun (store ≡ store) refl _ _ _ (c.in_ok-image.ensures.took _) e.machine _ _ refl (e.took store _))
 
-pub returns-clause-follows : goal.returns-clause-follows
-returns-clause-follows g c = λ store.
+pub returns : goal.returns
+returns g c = λ store.
     let a = g.K.Sink.sink_state c.args.sink.now in
     let laws = c.generated_faults_leave_room.ensures in
     let e = c.in_ok-ones.ensures in

@@ -5,13 +5,13 @@ use Rattle.listing.proofs.ListLemmas.{attached-shape}
 use Rattle.tera_bench.proofs.Following.{nothing, name-stopped, attach-stopped, design-stopped, list-stopped, listed-then}
 use Rattle.tera_bench.proofs.command.work.Goals as goal
 
-pub returns-in_err-name-clause-follows : goal.returns-in_err-name-clause-follows
-returns-in_err-name-clause-follows g c = λ store.
+pub returns-in_err-name : goal.returns-in_err-name
+returns-in_err-name g c = λ store.
     let p = err_from_is_err_and c.from_residual.result c.from_residual.ensures.1 in
     rw (p.1, p.2) (name-stopped c.args.n _ _ refl)
 
-pub returns-in_err-attach-clause-follows : goal.returns-in_err-attach-clause-follows
-returns-in_err-attach-clause-follows g c = λ store.
+pub returns-in_err-attach : goal.returns-in_err-attach
+returns-in_err-attach g c = λ store.
     let p = err_from_is_err_and c.from_residual-in_err-attach.result c.from_residual-in_err-attach.ensures.1 in
     let a = g.K.Sink.sink_state c.args.sink.now in
     let e = c.in_err-attach.ensures in
@@ -19,8 +19,8 @@ returns-in_err-attach-clause-follows g c = λ store.
     let may = rw (c.as_str.ensures.value, c.in_ok-name.ensures) at e.asked in
     rw (p.1, p.2) (attach-stopped c.args.n _ c.bench_shape-shape.result c.bench_shape-shape.ensures _ _ _ refl took may (refl, e.loads))
 
-pub returns-in_err-netlist-clause-follows : goal.returns-in_err-netlist-clause-follows
-returns-in_err-netlist-clause-follows g c = λ store.
+pub returns-in_err-netlist : goal.returns-in_err-netlist
+returns-in_err-netlist g c = λ store.
     let p = err_from_is_err_and c.from_residual-in_err-netlist.result c.from_residual-in_err-netlist.ensures.1 in
     let a = g.K.Sink.sink_state c.args.sink.now in
     let e = c.in_ok-attach.ensures in
@@ -31,8 +31,8 @@ returns-in_err-netlist-clause-follows g c = λ store.
 pub list_of-requires : goal.list_of-requires
 list_of-requires g c = attached-shape _ c.bench_shape-shape.result _ (c.in_ok-attach.ensures.took nothing.store nothing.sink).gives
 
-pub returns-in_err-list-clause-follows : goal.returns-in_err-list-clause-follows
-returns-in_err-list-clause-follows g c = λ store.
+pub returns-in_err-list : goal.returns-in_err-list
+returns-in_err-list g c = λ store.
     let p = err_from_is_err_and c.from_residual-in_err-list.result c.from_residual-in_err-list.ensures.1 in
     let a = g.K.Sink.sink_state c.args.sink.now in
     let e = c.in_ok-attach.ensures in
@@ -50,8 +50,8 @@ run_on-requires g c =
       netlist = c.in_ok-netlist.ensures.netlist;
     }
 
-pub returns-clause-follows : goal.returns-clause-follows
-returns-clause-follows g c = λ store.
+pub returns : goal.returns
+returns g c = λ store.
     let a = g.K.Sink.sink_state c.args.sink.now in
     let e = c.in_ok-attach.ensures in
     let took = rw (c.as_str.ensures.value, c.in_ok-name.ensures) at e.took store a in

@@ -1,4 +1,4 @@
-use Rattle.std.proofs.Common.{◌∙◌, ap, length}
+use Rattle.std.proofs.Common.{◌∙◌, ap, length, arith}
 use Rattle.std.proofs.lemmas.Result.{err_from_is_err_and}
 use Rattle.loader.specs.Pins.{Rows}
 use Rattle.tera_bench.proofs.RunLemmas.{running-start, running-more, running-width, run-done, load-stopped, row-stopped}
@@ -34,7 +34,7 @@ pub returns-in_err-ones-clause-took : goal.returns-in_err-ones-clause-took
 returns-in_err-ones-clause-took g c = λ store sink.
     let p = err_from_is_err_and c.from_residual-in_err-ones.result c.from_residual-in_err-ones.ensures.1 in
     let e = c.in_err-ones.ensures in
-    rw (p.1, p.2) (row-stopped c.args.n c.args.image.now _ _ store sink _ _ c.rows.k c.rows.ones c.rows.within c.rows.invariant.0 e.machine e.later e.loads e.refused)
+    rw (p.1, p.2) (row-stopped c.args.n c.args.image.now _ _ store sink _ _ c.rows.k c.rows.ones (omega (arith, c.rows-test.true)) c.rows.invariant.0 e.machine e.later e.loads e.refused)
 
 pub returns-clause-took : goal.returns-clause-took
-returns-clause-took g c = λ store sink. run-done c.args.n c.args.image.now _ _ store sink c.rows.k c.rows.ones c.rows.done c.rows.invariant.0
+returns-clause-took g c = λ store sink. run-done c.args.n c.args.image.now _ _ store sink c.rows.k c.rows.ones (omega (arith, c.rows-test.false, c.rows.auto.k-end)) c.rows.invariant.0
