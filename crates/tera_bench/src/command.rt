@@ -51,7 +51,7 @@ fn run_on<K: Sink>(
     requires netlist { netlist.now ≡ bench_draft }
 
     // Whatever the store is: it isn't touched.
-    ensures follows { (store : StoreState) →
+    ensures { (store : StoreState) →
         let old = outside store (rig_state rig.old) (K.sink_state sink.old) in
         let new = outside store (rig_state rig.new) (K.sink_state sink.new) in
         Follows ⊥ [] (new.rig.machine ≡ old.rig.machine)
@@ -67,7 +67,7 @@ fn run_on<K: Sink>(
 // Attaches the machine, lists its defects, and runs the design on what the list leaves free.
 fn work<K: Sink>(alloc: Global, n: u32, rig: &mut Box<dyn Rig>, sink: &mut K) -> Result<(), Stop>
     // Whatever the store is: it isn't touched.
-    ensures follows { (store : StoreState) →
+    ensures { (store : StoreState) →
         let old = outside store (rig_state rig.old) (K.sink_state sink.old) in
         let new = outside store (rig_state rig.new) (K.sink_state sink.new) in
         Follows ⊥ [] (AsksMachine (λ m. m.counts ≡ work.bench_counts) (generated_name n) old.rig.machine.asked new.rig.machine.asked)
