@@ -1,122 +1,130 @@
 -- How the steps of `bench` follow one another.
-use Rattle.std.proofs.Common.{◌≡◌, ℕ, ◌-◌, List, length, Some, sym, ap, ◌∙◌}
-use Rattle.std.specs.Prelude.{Result, Ok, Err, OnOk, IfErr}
-use Rattle.tm_outside.specs.Sink.{SinkState, Wrote}
+use Rattle.std.proofs.Common.{◌≡◌, ◌∙◌, ℕ, ◌-◌, false, List, [], None, refl, ap, inl, append-nil, sym}
+use Rattle.std.specs.Prelude.{Result, Ok, Err}
+use Rattle.tm_outside.specs.Told.{untold}
+use Rattle.tm_outside.specs.Store.{StoreState}
+use Rattle.tm_outside.specs.Sink.{SinkState}
 use Rattle.hierarchy.specs.declared.Shape.{Shape}
 use Rattle.defect_db.specs.Lists.{DefectList}
 use Rattle.netlist.specs.declared.draft.Draft.{Draft}
-use Rattle.table_map.specs.Plain.{plain_network}
-use Rattle.place.specs.Plans.{nets_in}
-use Rattle.blif_read.specs.Designs.{IsDesign}
 use Rattle.config_image.specs.Images.{ImageValue}
-use Rattle.rig.specs.Rig.{RigState, Asked, shape_of}
+use Rattle.rig.specs.Rig.{RigState}
 use Rattle.bench_gen.specs.Work as work
-use Rattle.steps.specs.Outside.{Outside, Around}
-use Rattle.steps.specs.Courses.{Course, after, write, done}
-use Rattle.steps.specs.Stops.{IsWritten, StopWrote, StepStops, WriteStops, IsCounted}
-use Rattle.steps.specs.Texts.{attaches}
-use Rattle.steps.specs.declared.refusal.Refusal.TheVariants as refused
+use Rattle.steps.specs.Outside.{Outside, outside, around}
+use Rattle.steps.specs.Courses.{Step, write, done}
+use Rattle.steps.specs.Took.{Took, Puts, Follows}
+use Rattle.steps.specs.Texts.{attaches, MayAsk, AsksMachine}
+use Rattle.steps.specs.declared.refusal.Refusal.TheVariants.{Memory}
 use Rattle.steps.specs.declared.refusal.Stop.{Stop}
-use Rattle.steps.specs.declared.refusal.Stop.TheVariants.{Refused, Sink}
-use Rattle.steps.proofs.Following.{after-stops, after-gives, write-stops, write-then, done-now}
-use Rattle.listing.specs.Listing.{IsListOf, diagnoses}
-use Rattle.tera_compile.specs.Compile.{lays, IsImageFor}
-use Rattle.tera_bench.specs.Summary.{summary_text}
-use Rattle.tera_bench.specs.Bench.{IsBenchRun, makes_shape, makes_design, runs, bench_course, generated_name, laid_course}
+use Rattle.steps.specs.declared.refusal.Stop.TheVariants.{Refused}
+use Rattle.steps.proofs.Taking.{later-same, took-nothing, step-stops, step-gives, attach-gives, line-stops, line-gives, all-done, asks-machine}
+use Rattle.listing.specs.Lists.{Listed, lists, lists_now}
+use Rattle.listing.proofs.ListedLemmas.{listed-on}
+use Rattle.lay.specs.Laying.{lays}
+use Rattle.tera_bench.specs.Bench.{makes_shape, makes_design, runs, bench_machine, bench_summary, generated_name}
+use Rattle.tera_bench.specs.Bench.{ones_written, image_run, design_laid, machine_listed, design_made, machine_attached, bench_course}
 
--- why a design isn't made
-pub design-counted : (stop : Stop) (old new : Outside) → StepStops makes_design stop → IsCounted ⊥ stop old new
-design-counted (Refused refused.Memory) old new stops = tt
-design-counted (Refused refusal) old new stops = absurd stops
-design-counted (Sink fail) old new stops = absurd stops
+-- an outside to ask with for what doesn't depend on it
+abbrev pub nothing : Outside
+nothing = record {
+  store = record { contents = λ _. untold; asked = []; current = None; failures = 0 };
+  rig = record {
+    machine = record { asked = []; attached = None; faults = None; texts = λ _. None; refused = record { times = 0; last = None } };
+    session = None;
+    loads = 0;
+    failures = 0;
+  };
+  sink = record { written = None; failures = 0; can_lack = false };
+}
 
--- the shape that is attached is the image's
-pub shape-laid : (rig : RigState) (d : DefectList) (draft : Draft) (i : ImageValue) → shape_of rig ≡ Some d.shape → IsImageFor d draft i → shape_of rig ≡ Some i.config.shape
-shape-laid rig d draft i is laid = is ∙ ap (λ (m : Shape). Some m) (sym laid.shape)
+-- something was made, with nothing outside
+pub took-made : {T : Type 0} (step : Step T) (x : T) (o : Outside) → step.gives x → Took [] step (Ok x) o o
+took-made step x o gives = record {
+  later = later-same o;
+  silent = refl;
+  asked = record { all = sym (append-nil o.store.asked); some = tt };
+  place = refl;
+  gives = gives;
+  stops = tt;
+  counted = tt;
+}
+
+-- the last line is written, or it isn't
+last-line : (line : List ℕ) (here : Type 0) → here → (store : StoreState) (rig : RigState) (a b : SinkState) (result : Result (Unit {0}) Stop) → Puts line result a b → Follows ⊥ [] (Unit {0}) (write line here (done here)) result (outside store rig a) (outside store rig b)
+last-line line here near store rig a b (Ok u) puts = line-gives line here (done here) store rig a b [] _ _ u _ (outside store rig b) puts (all-done here u (outside store rig b) near) tt
+last-line line here near store rig a b (Err stop) puts = line-stops line here (done here) store rig a b [] _ stop _ refl puts near tt
 
 -- ---- behind the list
 
-module _ (n : ℕ) (draft : Draft) (d : DefectList) (before : ℕ) (here : Type 0) (near : here) (rig : RigState) where
-  abbrev text : ℕ → List ℕ
-  text ones = summary_text n (length (plain_network draft).tables) (nets_in (plain_network draft)) ones (rig.loads - before)
+module _ (n : ℕ) (draft : Draft) (d : DefectList) (begun : ℕ) (here : Type 0) (near : here) where
+  abbrev made : RigState → Listed
+  made rig = record { list = d; loads = rig.loads }
 
-  abbrev on_ones : ℕ → Course
-  on_ones ones = write (text ones) here (done here)
+  abbrev free : RigState → RigState → Type 0
+  free old new = here × (new.loads ≡ old.loads)
 
-  abbrev on_image : ImageValue → Course
-  on_image i = after (runs n i rig) here on_ones
+  pub lay-stopped : {U : Type 0} (stop : Stop) (result : Result U Stop) (o : Outside) → result ≡ Err stop → Took [] (lays d draft) (Err stop) o o → Follows ⊥ [] (o.rig.machine ≡ o.rig.machine) (design_laid n draft begun here o.rig (made o.rig)) result o o
+  lay-stopped stop result o is took =
+      step-stops (lays d draft) (free o.rig o.rig) (image_run n draft (made o.rig) begun here o.rig) (lays d draft) [] [] _ stop result o o is took took.stops (near, refl) refl
 
-  pub lay-stopped : (stop : Stop) (a : SinkState) → StepStops (lays d draft) stop → StopWrote (laid_course n draft d before here rig) stop a a
-  lay-stopped stop a stops = after-stops (lays d draft) here on_image stop a stops near
+  module _ (i : ImageValue) (old mid : Outside) (laid : Took [] (lays d draft) (Ok i) old old) (machine : mid.rig.machine ≡ old.rig.machine) where
+    pub run-stopped : {U : Type 0} (stop : Stop) (result : Result U Stop) → result ≡ Err stop → Took [] (runs n i old.rig.loads mid.rig) (Err stop) old mid → Follows ⊥ [] (mid.rig.machine ≡ old.rig.machine) (design_laid n draft begun here mid.rig (made old.rig)) result old mid
+    run-stopped stop result is took =
+        step-gives (lays d draft) (free old.rig mid.rig) (image_run n draft (made old.rig) begun here mid.rig) (lays d draft) [] [] _ _ i i result old old mid laid laid.gives
+        (step-stops (runs n i old.rig.loads mid.rig) here (ones_written n draft begun here mid.rig) (runs n i old.rig.loads mid.rig) [] [] (mid.rig.machine ≡ old.rig.machine) stop result old mid is took took.stops near machine) machine
 
-  pub run-stopped : (i : ImageValue) (stop : Stop) (a : SinkState) → IsImageFor d draft i → StepStops (runs n i rig) stop → StopWrote (laid_course n draft d before here rig) stop a a
-  run-stopped i stop a laid stops =
-      let e : Result (Unit {0}) Stop = Err stop in
-      after-gives (lays d draft) here on_image i e a a laid (after-stops (runs n i rig) here on_ones stop a stops near)
-
-  -- the summary is written, or it isn't
-  written : (ones : ℕ) (result : Result (Unit {0}) Stop) (a b : SinkState) → OnOk result (Wrote a.written b.written (text ones)) → IfErr result (λ stop. WriteStops (text ones) stop a b) → IsWritten (on_ones ones) result a b
-  written ones (Ok u) a b wrote stops = write-then (text ones) here (done here) (Ok u) a b b wrote (done-now here b near)
-  written ones (Err stop) a b wrote stops = write-stops (text ones) here (done here) stop a b stops near
-
-  pub summed : (i : ImageValue) (ones : ℕ) (result : Result (Unit {0}) Stop) (a b : SinkState) → IsImageFor d draft i → IsBenchRun n i rig ones → OnOk result (Wrote a.written b.written (text ones)) → IfErr result (λ stop. WriteStops (text ones) stop a b) → IsWritten (laid_course n draft d before here rig) result a b
-  summed i ones result a b laid run wrote stops =
-      after-gives (lays d draft) here on_image i result a b laid
-      (after-gives (runs n i rig) here on_ones ones result a b run (written ones result a b wrote stops))
+    pub summed : (ones : ℕ) (result : Result (Unit {0}) Stop) (b : SinkState) → Took [] (runs n i old.rig.loads mid.rig) (Ok ones) old mid → Puts (bench_summary n draft ones (mid.rig.loads - begun)) result mid.sink b → Follows ⊥ [] (mid.rig.machine ≡ old.rig.machine) (design_laid n draft begun here mid.rig (made old.rig)) result old (outside mid.store mid.rig b)
+    summed ones result b took puts =
+        step-gives (lays d draft) (free old.rig mid.rig) (image_run n draft (made old.rig) begun here mid.rig) (lays d draft) [] [] _ _ i i result old old (outside mid.store mid.rig b) laid laid.gives
+        (step-gives (runs n i old.rig.loads mid.rig) here (ones_written n draft begun here mid.rig) (runs n i old.rig.loads mid.rig) [] [] (mid.rig.machine ≡ old.rig.machine) (Unit {0}) ones ones result old mid (outside mid.store mid.rig b) took took.gives
+        (last-line (bench_summary n draft ones (mid.rig.loads - begun)) here near mid.store mid.rig mid.sink b result puts) machine) machine
 
 -- ---- up to the list
 
-module _ (n : ℕ) (old new : Around) (near : new.store ≡ old.store) where
-  abbrev here : Type 0
-  here = new.store ≡ old.store
+module _ (n : ℕ) (old : Outside) where
+  abbrev asks : Outside → Type 0
+  asks new = AsksMachine (λ m. m.counts ≡ work.bench_counts) (generated_name n) old.rig.machine.asked new.rig.machine.asked
 
-  abbrev untouched : Type 0
-  untouched = (new.store ≡ old.store) × (new.rig ≡ old.rig)
-
-  abbrev asked_for : Shape → Asked
-  asked_for m = record { shape = m; name = generated_name n }
-
-  abbrev on_list : Draft → DefectList → Course
-  on_list draft d = laid_course n draft d old.rig.loads here new.rig
-
-  abbrev on_draft : Shape → Draft → Course
-  on_draft m draft = after (diagnoses m 1 old.rig new.rig) here (on_list draft)
-
-  abbrev on_attached : Shape → Course
-  on_attached m = after makes_design here (on_draft m)
-
-  abbrev on_shape : Shape → Course
-  on_shape m = after (attaches (asked_for m) old.rig new.rig) here (λ _. on_attached m)
+  abbrev here : Outside → Type 0
+  here new = (new.store ≡ old.store) × (new.rig.loads ≡ old.rig.loads)
 
   -- memory was wanting for the name
-  pub name-stops : (a : SinkState) → new.rig ≡ old.rig → StopWrote (bench_course n old new) (Refused refused.Memory) a a
-  name-stops a same = after-stops makes_shape untouched on_shape (Refused refused.Memory) a tt (near, same)
+  pub name-stopped : {U : Type 0} (result : Result U Stop) → result ≡ Err (Refused Memory) → Follows ⊥ [] (asks old) (bench_course n (around old) (around old)) result old old
+  name-stopped result is =
+      step-stops makes_shape ((old.store ≡ old.store) × (old.rig ≡ old.rig)) (machine_attached n (around old) (around old)) makes_shape [] [] (asks old) (Refused Memory) result old old is
+      (took-nothing makes_shape (Err (Refused Memory)) old refl tt) tt (refl, refl) (inl refl)
 
-  pub attach-stopped : (m : Shape) (stop : Stop) (a : SinkState) → m.counts ≡ work.bench_counts → StepStops (attaches (asked_for m) old.rig new.rig) stop → StopWrote (bench_course n old new) stop a a
-  attach-stopped m stop a is stops =
-      let e : Result (Unit {0}) Stop = Err stop in
-      after-gives makes_shape untouched on_shape m e a a is
-      (after-stops (attaches (asked_for m) old.rig new.rig) here (λ _. on_attached m) stop a stops near)
+  module _ (m : Shape) (counts : m.counts ≡ work.bench_counts) where
+    shape-then : {U : Type 0} (result : Result U Stop) (new : Outside) → Follows ⊥ [] (MayAsk (bench_machine n m) old.rig.machine.asked new.rig.machine.asked) (machine_attached n (around old) (around new) m) result old new → Follows ⊥ [] (asks new) (bench_course n (around old) (around new)) result old new
+    shape-then result new rest_is =
+        step-gives makes_shape ((new.store ≡ old.store) × (new.rig ≡ old.rig)) (machine_attached n (around old) (around new)) makes_shape [] [] (asks new) _ m m result old old new
+        (took-made makes_shape m old counts) counts rest_is (asks-machine (λ s. s.counts ≡ work.bench_counts) (generated_name n) m _ _ counts rest_is.machines)
 
-  attached : {U : Type 0} (m : Shape) (result : Result U Stop) (a b : SinkState) → m.counts ≡ work.bench_counts → new.rig.machine.attached ≡ Some (asked_for m) → IsWritten (on_attached m) result a b → IsWritten (bench_course n old new) result a b
-  attached m result a b is named w =
-      after-gives makes_shape untouched on_shape m result a b is
-      (after-gives (attaches (asked_for m) old.rig new.rig) here (λ _. on_attached m) tt result a b named w)
+    pub attach-stopped : {U : Type 0} (stop : Stop) (result : Result U Stop) (new : Outside) → result ≡ Err stop → Took [] (attaches (bench_machine n m) old.rig new.rig) (Err stop) old new → MayAsk (bench_machine n m) old.rig.machine.asked new.rig.machine.asked → here new → Follows ⊥ [] (asks new) (bench_course n (around old) (around new)) result old new
+    attach-stopped stop result new is took may at =
+        shape-then result new (step-stops (attaches (bench_machine n m) old.rig new.rig) (here new) (λ _. design_made n (around old) (around new) m) (attaches (bench_machine n m) old.rig new.rig) [] [] _ stop result old new is took took.stops at may)
 
-  pub design-stopped : (m : Shape) (stop : Stop) (a : SinkState) → m.counts ≡ work.bench_counts → new.rig.machine.attached ≡ Some (asked_for m) → StepStops makes_design stop → StopWrote (bench_course n old new) stop a a
-  design-stopped m stop a is named stops =
-      let e : Result (Unit {0}) Stop = Err stop in
-      attached m e a a is named (after-stops makes_design here (on_draft m) stop a stops near)
+    module _ (mid : Outside) (took : Took [] (attaches (bench_machine n m) old.rig mid.rig) (Ok tt) old mid) (may : MayAsk (bench_machine n m) old.rig.machine.asked mid.rig.machine.asked) (at : here mid) where
+      attached : {U : Type 0} (result : Result U Stop) (new : Outside) → Follows ⊥ [] (new.rig.machine ≡ mid.rig.machine) (design_made n (around old) (around new) m) result mid new → Follows ⊥ [] (asks new) (bench_course n (around old) (around new)) result old new
+      attached result new rest_is =
+          shape-then result new (attach-gives (bench_machine n m) (here new) (λ _. design_made n (around old) (around new) m) [] old.rig result old mid new took may rest_is)
 
-  drawn : {U : Type 0} (m : Shape) (draft : Draft) (result : Result U Stop) (a b : SinkState) → m.counts ≡ work.bench_counts → new.rig.machine.attached ≡ Some (asked_for m) → IsDesign work.bench_design draft → IsWritten (on_draft m draft) result a b → IsWritten (bench_course n old new) result a b
-  drawn m draft result a b is named design w = attached m result a b is named (after-gives makes_design here (on_draft m) draft result a b design w)
+      pub design-stopped : {U : Type 0} (stop : Stop) (result : Result U Stop) → result ≡ Err stop → Took [] makes_design (Err stop) mid mid → Follows ⊥ [] (asks mid) (bench_course n (around old) (around mid)) result old mid
+      design-stopped stop result is lacks =
+          attached result mid (step-stops makes_design (here mid) (machine_listed n (around old) (around mid) m) makes_design [] [] _ stop result mid mid is lacks lacks.stops at refl)
 
-  pub list-stopped : (m : Shape) (draft : Draft) (stop : Stop) (mid now : RigState) (a : SinkState) → m.counts ≡ work.bench_counts → new.rig.machine.attached ≡ Some (asked_for m) → IsDesign work.bench_design draft → StepStops (diagnoses m 0 mid now) stop → StopWrote (bench_course n old new) stop a a
-  list-stopped m draft (Refused refusal) mid now a is named design stops =
-      let e : Result (Unit {0}) Stop = Err (Refused refusal) in
-      drawn m draft e a a is named design (after-stops (diagnoses m 1 old.rig new.rig) here (on_list draft) (Refused refusal) a stops near)
-  list-stopped m draft (Sink fail) mid now a is named design stops = absurd stops
+      module _ (draft : Draft) (design : Took [] makes_design (Ok draft) mid mid) where
+        designed : {U : Type 0} (result : Result U Stop) (new : Outside) → new.rig.machine ≡ mid.rig.machine → Follows ⊥ [] (new.rig.machine ≡ mid.rig.machine) (machine_listed n (around old) (around new) m draft) result mid new → Follows ⊥ [] (asks new) (bench_course n (around old) (around new)) result old new
+        designed result new machine rest_is =
+            attached result new (step-gives makes_design (here new) (machine_listed n (around old) (around new) m) makes_design [] [] _ _ draft draft result mid mid new design design.gives rest_is machine)
 
-  pub listed : {U : Type 0} (m : Shape) (draft : Draft) (d : DefectList) (result : Result U Stop) (a b : SinkState) → m.counts ≡ work.bench_counts → new.rig.machine.attached ≡ Some (asked_for m) → IsDesign work.bench_design draft → IsListOf m 1 old.rig new.rig d → IsWritten (laid_course n draft d old.rig.loads here new.rig) result a b → IsWritten (bench_course n old new) result a b
-  listed m draft d result a b is named design list w =
-      drawn m draft result a b is named design (after-gives (diagnoses m 1 old.rig new.rig) here (on_list draft) d result a b list w)
+        pub list-stopped : {U : Type 0} (stop : Stop) (result : Result U Stop) (new : Outside) → result ≡ Err stop → Took [] (lists_now m mid.rig new.rig) (Err stop) mid new → new.rig.machine ≡ mid.rig.machine → new.store ≡ old.store → Follows ⊥ [] (asks new) (bench_course n (around old) (around new)) result old new
+        list-stopped stop result new is listed machine near =
+            designed result new machine (step-stops (lists m old.rig.loads new.rig) (new.store ≡ old.store) (design_laid n draft old.rig.loads (new.store ≡ old.store) new.rig) (lists_now m mid.rig new.rig) [] [] _ stop result mid new is listed listed.stops near machine)
+
+        pub listed-then : {U : Type 0} (d : DefectList) (result : Result U Stop) (now new : Outside) → Took [] (lists_now m mid.rig now.rig) (Ok d) mid now → now.rig.machine ≡ mid.rig.machine → Follows ⊥ [] (new.rig.machine ≡ now.rig.machine) (design_laid n draft old.rig.loads (new.store ≡ old.store) new.rig (record { list = d; loads = now.rig.loads })) result now new → Follows ⊥ [] (asks new) (bench_course n (around old) (around new)) result old new
+        listed-then d result now new listed machine rest_is =
+            let list : Listed = record { list = d; loads = now.rig.loads } in
+            let is = rw at.1 at listed.gives in
+            designed result new (rest_is.machines ∙ machine) (step-gives (lists m old.rig.loads new.rig) (new.store ≡ old.store) (design_laid n draft old.rig.loads (new.store ≡ old.store) new.rig) (lists_now m mid.rig now.rig) [] [] _ _ d list result mid now new listed
+            (listed-on m old.rig.loads now.rig new.rig list is rest_is.machines) rest_is (rest_is.machines ∙ machine))

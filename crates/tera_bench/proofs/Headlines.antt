@@ -24,10 +24,10 @@ use Rattle.steps.specs.Outside.{Outside, around}
 use Rattle.steps.specs.Courses.{ends}
 use Rattle.steps.specs.Stops.{IsWritten}
 use Rattle.steps.specs.declared.refusal.Stop.{Stop}
-use Rattle.listing.specs.Listing.{IsListOf}
-use Rattle.tera_compile.specs.Compile.{IsImageFor}
+use Rattle.listing.specs.Lists.{Listed, IsListed}
+use Rattle.lay.specs.Laying.{IsImageFor}
 use Rattle.tera_bench.specs.Summary.{summary_text}
-use Rattle.tera_bench.specs.Bench.{IsBenchRun, bench_course, bench_vector, bench_vectors, generated_name}
+use Rattle.tera_bench.specs.Bench.{IsBenchRun, bench_course, bench_machine, bench_summary, bench_vector, bench_vectors}
 use Rattle.tera_bench.specs.Headline.{IsBenched}
 use Rattle.tera_bench.proofs.BenchLaws.{IsOnly}
 
@@ -44,55 +44,59 @@ told-run faults config drives readings told f g is_f is_g =
     let at : IfSome (Some f) (λ (x : Faults). IfSome config (λ y. IsRun x y drives readings)) = subst (λ (o : Option Faults). IfSome o (λ (x : Faults). IfSome config (λ y. IsRun x y drives readings))) is_f told in
     subst (λ (o : Option Configuration). IfSome o (λ y. IsRun f y drives readings)) is_g at
 
-module _ (only : IsOnly) (tables : length (plain_network bench_draft).tables ≡ 17) (nets : nets_in (plain_network bench_draft) ≡ 18) (n : ℕ) (old new : Outside) where
-  abbrev loads : ℕ
-  loads = new.rig.loads - old.rig.loads
-
-  summary-is : (draft : Draft) (ones : ℕ) → draft ≡ bench_draft → summary_text n (length (plain_network draft).tables) (nets_in (plain_network draft)) ones loads ≡ summary_text n 17 18 ones loads
-  summary-is draft ones is =
-      ap (λ (d : Draft). summary_text n (length (plain_network d).tables) (nets_in (plain_network d)) ones loads) is
+module _ (tables : length (plain_network bench_draft).tables ≡ 17) (nets : nets_in (plain_network bench_draft) ≡ 18) (n : ℕ) where
+  -- the numbers of the design's plain network
+  pub summary-is : (draft : Draft) (ones loads : ℕ) → draft ≡ bench_draft → bench_summary n draft ones loads ≡ summary_text n 17 18 ones loads
+  summary-is draft ones loads is =
+      ap (λ (x : Draft). bench_summary n x ones loads) is
       ∙ (ap (λ t. summary_text n t (nets_in (plain_network bench_draft)) ones loads) tables ∙ ap (λ k. summary_text n 17 k ones loads) nets)
 
-  is-right : (m : Shape) (draft : Draft) (d : DefectList) (i : ImageValue) → IsListOf m 1 old.rig new.rig d → IsImageFor d draft i → (f : Faults) → new.rig.machine.faults ≡ Some f → IsRightImage f i draft
-  is-right m draft d i list laid f told = laid.right f (subst (λ (s : Shape). Covers s d.list f) (sym list.shape) (list.right.covers f told))
+  module _ (only : IsOnly) (old new : Outside) where
+    -- the image is right under the machine's faults, which the list covers
+    is-right : (m : Shape) (draft : Draft) (l : Listed) (i : ImageValue) → IsListed m old.rig.loads new.rig l → IsImageFor l.list draft i → (f : Faults) → new.rig.machine.faults ≡ Some f → IsRightImage f i draft
+    is-right m draft l i listed laid f told = laid.right f (subst (λ (s : Shape). Covers s l.list.list f) (sym listed.shape) (listed.right.covers f told))
 
-  is-benched : (m : Shape) (draft : Draft) (d : DefectList) (i : ImageValue) (ones : ℕ) (text : List ℕ) → Wrote old.sink.written new.sink.written text → m.counts ≡ work.bench_counts → new.rig.machine.attached ≡ Some (record { shape = m; name = generated_name n }) → IsDesign work.bench_design draft → IsListOf m 1 old.rig new.rig d → IsImageFor d draft i → IsBenchRun n i new.rig ones → text ≡ summary_text n (length (plain_network draft).tables) (nets_in (plain_network draft)) ones loads → IsBenched n old new
-  is-benched m draft d i ones text wrote counts attached design list laid run text-is =
-      let is = only draft design in
-      let one : length i.inputs ≡ 1 = laid.inputs ∙ ap (λ (x : Draft). length x.inputs) is in
-      record {
-        shape = m;
-        counts = counts;
-        attached = attached;
-        draft = draft;
-        design = design;
-        image = i;
-        is_image = laid.image;
-        image_shape = laid.shape ∙ list.shape;
-        one_input = one;
-        two_outputs = laid.outputs ∙ ap (λ (x : Draft). length x.outputs) is;
-        config = run.config;
-        drives = run.drives;
-        ones = ones;
-        ones_are = run.ones_are;
-        written = subst (λ t. Wrote old.sink.written new.sink.written t) (text-is ∙ summary-is draft ones is) wrote;
-        right = is-right m draft d i list laid;
-        rows = λ f told. is-right m draft d i list laid f told (bench_vectors n) (readings_of (cycles_of new.rig)) (vectors-wide n (length i.inputs) one)
-            (subst (λ ds. IsRun f i.config ds (readings_of (cycles_of new.rig))) run.drives (told-run new.rig.machine.faults (config_of new.rig) (drives_of (cycles_of new.rig)) (readings_of (cycles_of new.rig)) run.told f i.config told run.config));
-      }
+    is-benched : (m : Shape) (draft : Draft) (l : Listed) (i : ImageValue) (ones : ℕ) (text : List ℕ) → Wrote old.sink.written new.sink.written text → m.counts ≡ work.bench_counts → new.rig.machine.attached ≡ Some (bench_machine n m) → IsDesign work.bench_design draft → IsListed m old.rig.loads new.rig l → IsImageFor l.list draft i → IsBenchRun n i l.loads new.rig ones → text ≡ bench_summary n draft ones (new.rig.loads - old.rig.loads) → IsBenched n old new
+    is-benched m draft l i ones text wrote counts attached design listed laid run text_is =
+        let is = only draft design in
+        let one : length i.inputs ≡ 1 = laid.inputs ∙ ap (λ (x : Draft). length x.inputs) is in
+        record {
+          shape = m;
+          counts = counts;
+          attached = attached;
+          made = l;
+          is_listed = listed;
+          loads = run.loads;
+          draft = draft;
+          design = design;
+          image = i;
+          is_image = laid.image;
+          image_shape = laid.shape ∙ listed.shape;
+          one_input = one;
+          two_outputs = laid.outputs ∙ ap (λ (x : Draft). length x.outputs) is;
+          config = run.config;
+          drives = run.drives;
+          ones = ones;
+          ones_are = run.ones_are;
+          written = subst (λ t. Wrote old.sink.written new.sink.written t) (text_is ∙ summary-is draft ones (new.rig.loads - old.rig.loads) is) wrote;
+          right = is-right m draft l i listed laid;
+          rows = λ f told. is-right m draft l i listed laid f told (bench_vectors n) (readings_of (cycles_of new.rig)) (vectors-wide n (length i.inputs) one)
+              (subst (λ ds. IsRun f i.config ds (readings_of (cycles_of new.rig))) run.drives (told-run new.rig.machine.faults (config_of new.rig) (drives_of (cycles_of new.rig)) (readings_of (cycles_of new.rig)) run.told f i.config told run.config));
+        }
 
-  pub benched : (text : List ℕ) → Wrote old.sink.written new.sink.written text → bench_course n (around old) (around new) text ends → IsBenched n old new
-  benched text wrote (inl h) = absurd h.1
-  benched text wrote (inr (m, counts, inl h)) = absurd h.1
-  benched text wrote (inr (m, counts, inr (u, attached, inl h))) = absurd h.1
-  benched text wrote (inr (m, counts, inr (u, attached, inr (draft, design, inl h)))) = absurd h.1
-  benched text wrote (inr (m, counts, inr (u, attached, inr (draft, design, inr (d, list, inl h))))) = absurd h.1
-  benched text wrote (inr (m, counts, inr (u, attached, inr (draft, design, inr (d, list, inr (i, laid, inl h)))))) = absurd h.1
-  benched text wrote (inr (m, counts, inr (u, attached, inr (draft, design, inr (d, list, inr (i, laid, inr (ones, run, inl h))))))) = let line = h.1 in absurd (cc)
-  benched text wrote (inr (m, counts, inr (u, attached, inr (draft, design, inr (d, list, inr (i, laid, inr (ones, run, inr (more, is, h)))))))) =
-      is-benched m draft d i ones text wrote counts attached design list laid run (is ∙ (ap (λ t. summary_text n (length (plain_network draft).tables) (nets_in (plain_network draft)) ones loads ++ t) h.0 ∙ append-nil _))
+    pub benched : (text : List ℕ) → Wrote old.sink.written new.sink.written text → bench_course n (around old) (around new) text ends → IsBenched n old new
+    benched text wrote (inl h) = absurd h.1
+    benched text wrote (inr (m, counts, inl h)) = absurd h.1
+    benched text wrote (inr (m, counts, inr (u, attached, inl h))) = absurd h.1
+    benched text wrote (inr (m, counts, inr (u, attached, inr (draft, design, inl h)))) = absurd h.1
+    benched text wrote (inr (m, counts, inr (u, attached, inr (draft, design, inr (l, listed, inl h))))) = absurd h.1
+    benched text wrote (inr (m, counts, inr (u, attached, inr (draft, design, inr (l, listed, inr (i, laid, inl h)))))) = absurd h.1
+    benched text wrote (inr (m, counts, inr (u, attached, inr (draft, design, inr (l, listed, inr (i, laid, inr (ones, run, inl h))))))) = let line = h.1 in absurd (cc)
+    benched text wrote (inr (m, counts, inr (u, attached, inr (draft, design, inr (l, listed, inr (i, laid, inr (ones, run, inr (more, is, h)))))))) =
+        is-benched m draft l i ones text wrote counts attached design listed laid.0 run
+        (is ∙ (ap (λ t. bench_summary n draft ones (new.rig.loads - old.rig.loads) ++ t) h.0 ∙ append-nil _))
 
-  -- at the end of a body that did it
-  pub benched-done : {U : Type 0} (result : Result U Stop) → IsWritten (bench_course n (around old) (around new)) result old.sink new.sink → OnOk result (IsBenched n old new)
-  benched-done (Ok u) w = benched w.0 w.2 w.1
-  benched-done (Err stop) w = tt
+    -- at the end of a body that did it
+    pub benched-done : {U : Type 0} (result : Result U Stop) → IsWritten (bench_course n (around old) (around new)) result old.sink new.sink → OnOk result (IsBenched n old new)
+    benched-done (Ok u) w = benched w.0 w.2 w.1
+    benched-done (Err stop) w = tt

@@ -2,29 +2,27 @@
 use Rattle.std.specs.Prelude.{◌≡◌, ℕ, ◌-◌, ◌%◌, ◌==◌, ◌≤◌, Bool, if◌then◌else◌, List, [], ◌∷◌, map, length, sum_by, Option, Some}
 use Rattle.std.specs.List.{range_with_len}
 use Rattle.std.specs.Fmt.{decimal}
+use Rattle.tm_outside.specs.Counts.{next_count}
 use Rattle.hierarchy.specs.declared.Shape.{Shape}
 use Rattle.hierarchy.specs.Faults.{Faults}
-use Rattle.defect_db.specs.Lists.{DefectList}
 use Rattle.netlist.specs.declared.draft.Draft.{Draft}
 use Rattle.blif_read.specs.Designs.{IsDesign}
 use Rattle.table_map.specs.Plain.{plain_network}
 use Rattle.place.specs.Plans.{nets_in}
 use Rattle.config_image.specs.Images.{ImageValue, drive_of, image_row}
-use Rattle.rig.specs.Rig.{RigState, IsTold, config_of, cycles_of, drives_of, readings_of}
+use Rattle.rig.specs.Rig.{RigState, Asked, IsTold, config_of, cycles_of, drives_of, readings_of}
 use Rattle.loader.specs.Pins.{Rows}
 use Rattle.loader.specs.Run.{RunsRow}
 use Rattle.bench_gen.specs.Work as work
 use Rattle.bench_gen.specs.Faults.{AreBenchFaults}
 use Rattle.steps.specs.Outside.{Around}
 use Rattle.steps.specs.Courses.{Course, Step, after, write, done}
-use Rattle.steps.specs.Texts.{attaches, AsksMachine}
+use Rattle.steps.specs.Texts.{attaches, AsksMachine, LoadsOnce}
 use Rattle.steps.specs.Jobs.{Job}
 use Rattle.steps.specs.declared.refusal.Refusal.{Refusal}
 use Rattle.steps.specs.declared.refusal.Refusal.TheVariants as refused
-use Rattle.steps.specs.declared.refusal.Stop.{Stop}
-use Rattle.steps.specs.declared.refusal.Stop.TheVariants.{Refused}
-use Rattle.listing.specs.Listing.{diagnoses}
-use Rattle.tera_compile.specs.Compile.{lays}
+use Rattle.listing.specs.Lists.{Listed, lists}
+use Rattle.lay.specs.Laying.{lays}
 use Rattle.tera_bench.specs.Summary.{summary_text}
 
 -- how many vectors there are
@@ -69,15 +67,20 @@ makes_shape = record { stops = OnlyMemory; gives = λ m. m.counts ≡ work.bench
 abbrev pub makes_design : Step Draft
 makes_design = record { stops = OnlyMemory; gives = IsDesign work.bench_design }
 
+-- the machine of a shape, under the name of the number
+abbrev pub bench_machine : ℕ → Shape → Asked
+bench_machine n m = record { shape = m; name = generated_name n }
+
 -- ---- the rows
 
 -- The rig's session is the image's: it has a cycle for each of the vectors, which it drove on the input pin, and these are the
--- ones that it read at the two output pins
-pub record IsBenchRun (n : ℕ) (i : ImageValue) (rig : RigState) (ones : ℕ) : Type 0 where
+-- ones that it read at the two output pins. It took one load more than so many before
+pub record IsBenchRun (n : ℕ) (i : ImageValue) (before : ℕ) (rig : RigState) (ones : ℕ) : Type 0 where
   pub config : config_of rig ≡ Some i.config
   pub drives : drives_of (cycles_of rig) ≡ map (drive_of i) (bench_vectors n)
   pub ones_are : ones ≡ ones_of (map (image_row i) (readings_of (cycles_of rig)))
   pub told : IsTold rig
+  pub loads : rig.loads ≡ next_count before
 
 -- one row was read, which has so many ones
 pub record RunsOnes (r : Rows) (vector : List Bool) (old new : RigState) (ones : ℕ) : Type 0 where
@@ -86,39 +89,53 @@ pub record RunsOnes (r : Rows) (vector : List Bool) (old new : RigState) (ones :
   pub ones_are : ones ≡ ones_in row
   pub few : ones ≤ 2
 
-abbrev pub NotRun : Refusal → Type 0
-NotRun refused.Rig = Unit {0}
-NotRun refused.Memory = Unit {0}
-NotRun refusal = ⊥
+-- the rig fails at the load or after it; want of memory comes before the load alone, where room for all the vectors is asked for
+abbrev pub NotRun : (before : ℕ) → RigState → Refusal → Type 0
+NotRun before rig refused.Rig = LoadsOnce before rig.loads
+NotRun before rig refused.Memory = rig.loads ≡ before
+NotRun before rig refusal = ⊥
 
--- want of memory comes before the load alone: the rig is asked for room for all the vectors
-abbrev pub LacksAtLoad : Stop → (old new : RigState) → Type 0
-LacksAtLoad (Refused refused.Memory) old new = new.loads ≡ old.loads
-LacksAtLoad stop old new = Unit {0}
-
-abbrev pub runs : (n : ℕ) → ImageValue → RigState → Step ℕ
-runs n i rig = record { stops = NotRun; gives = IsBenchRun n i rig }
+abbrev pub runs : (n : ℕ) → ImageValue → (before : ℕ) → RigState → Step ℕ
+runs n i before rig = record { stops = NotRun before rig; gives = IsBenchRun n i before rig }
 
 -- ---- the command
 
--- The design is laid on what a list leaves free and loaded, the vectors are driven, and the summary is written, with the loads
--- that were made since there were so many
-abbrev pub laid_course : (n : ℕ) → Draft → DefectList → (before : ℕ) → (here : Type 0) → RigState → Course
-laid_course n draft d before here rig =
-    after (lays d draft) here (λ i.
-    after (runs n i rig) here (λ ones.
-    write (summary_text n (length (plain_network draft).tables) (nets_in (plain_network draft)) ones (rig.loads - before)) here
-    (done here)))
+-- the summary has the numbers of the design's plain network
+abbrev pub bench_summary : (n : ℕ) → Draft → (ones loads : ℕ) → List ℕ
+bench_summary n draft ones loads = summary_text n (length (plain_network draft).tables) (nets_in (plain_network draft)) ones loads
+
+-- The summary is written, with the loads that were made since the command began
+abbrev pub ones_written : (n : ℕ) → Draft → (begun : ℕ) → (here : Type 0) → RigState → (ones : ℕ) → Course
+ones_written n draft begun here rig ones = write (bench_summary n draft ones (rig.loads - begun)) here (done here)
+
+-- The image is loaded and the vectors are driven
+abbrev pub image_run : (n : ℕ) → Draft → Listed → (begun : ℕ) → (here : Type 0) → RigState → ImageValue → Course
+image_run n draft l begun here rig i = after (runs n i l.loads rig) here (ones_written n draft begun here rig)
+
+-- The design is laid on what the list leaves free, and run. No load is made before that
+abbrev pub design_laid : (n : ℕ) → Draft → (begun : ℕ) → (here : Type 0) → RigState → Listed → Course
+design_laid n draft begun here rig l = after (lays l.list draft) (here × (rig.loads ≡ l.loads)) (image_run n draft l begun here rig)
+
+-- The defects of the machine are listed
+abbrev pub machine_listed : (n : ℕ) → Around → Around → Shape → Draft → Course
+machine_listed n old new m draft =
+    after (lists m old.rig.loads new.rig) (new.store ≡ old.store) (design_laid n draft old.rig.loads (new.store ≡ old.store) new.rig)
+
+-- The design is made
+abbrev pub design_made : (n : ℕ) → Around → Around → Shape → Course
+design_made n old new m =
+    after makes_design ((new.store ≡ old.store) × (new.rig.loads ≡ old.rig.loads)) (machine_listed n old new m)
+
+-- The machine is attached
+abbrev pub machine_attached : (n : ℕ) → Around → Around → Shape → Course
+machine_attached n old new m =
+    after (attaches (bench_machine n m) old.rig new.rig) ((new.store ≡ old.store) × (new.rig.loads ≡ old.rig.loads))
+    (λ _. design_made n old new m)
 
 -- The machine of the generator's counts is attached under the name of the number, and its defects are listed. Then the design is
 -- run on what the list leaves free
 abbrev pub bench_course : (n : ℕ) → Around → Around → Course
-bench_course n old new =
-    after makes_shape ((new.store ≡ old.store) × (new.rig ≡ old.rig)) (λ m.
-    after (attaches (record { shape = m; name = generated_name n }) old.rig new.rig) (new.store ≡ old.store) (λ _.
-    after makes_design (new.store ≡ old.store) (λ draft.
-    after (diagnoses m 1 old.rig new.rig) (new.store ≡ old.store) (λ d.
-    laid_course n draft d old.rig.loads (new.store ≡ old.store) new.rig))))
+bench_course n old new = after makes_shape ((new.store ≡ old.store) × (new.rig ≡ old.rig)) (machine_attached n old new)
 
 -- the rig tells the faults that the number makes
 pub record BenchRight (n : ℕ) (told : Option Faults) : Type 0 where

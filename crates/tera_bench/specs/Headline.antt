@@ -1,5 +1,6 @@
 -- What a `bench` that is done has done.
 use Rattle.std.specs.Prelude.{◌≡◌, ℕ, ◌-◌, map, length, Some}
+use Rattle.tm_outside.specs.Counts.{next_count}
 use Rattle.tm_outside.specs.Sink.{Wrote}
 use Rattle.hierarchy.specs.declared.Shape.{Shape}
 use Rattle.hierarchy.specs.Faults.{Faults}
@@ -11,15 +12,20 @@ use Rattle.crossbar_route.specs.RightImages.{IsRightImage}
 use Rattle.rig.specs.Rig.{config_of, cycles_of, drives_of, readings_of}
 use Rattle.bench_gen.specs.Work as work
 use Rattle.steps.specs.Outside.{Outside}
+use Rattle.listing.specs.Lists.{Listed, IsListed}
 use Rattle.tera_bench.specs.Summary.{summary_text}
-use Rattle.tera_bench.specs.Bench.{generated_name, bench_vectors, ones_of}
+use Rattle.tera_bench.specs.Bench.{bench_machine, bench_vectors, ones_of}
 
 -- Of the rig's one session: its configuration, with one input pin and two output pins, is `image`
 pub record IsBenched (n : ℕ) (old new : Outside) : Type 0 where
   -- a machine of the generator's counts is attached under the name of the number
   pub shape : Shape
   pub counts : shape.counts ≡ work.bench_counts
-  pub attached : new.rig.machine.attached ≡ Some (record { shape = shape; name = generated_name n })
+  pub attached : new.rig.machine.attached ≡ Some (bench_machine n shape)
+  -- its defects are listed; where its faults are told, the list is a diagnosis of them. One load was made after those of the list
+  pub made : Listed
+  pub is_listed : IsListed shape old.rig.loads new.rig made
+  pub loads : new.rig.loads ≡ next_count made.loads
   pub draft : Draft
   pub design : IsDesign work.bench_design draft
   -- the session's configuration is that of an image with a pin for each input and output of the design

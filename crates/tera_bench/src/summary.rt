@@ -1,38 +1,40 @@
 //! The summary.
-ghost use Rattle.std.specs.Prelude.{◌≡◌, ◌++◌, OnOk, IfOk};
+ghost use Rattle.std.specs.Prelude.{◌≡◌, ◌≤◌, ◌+◌, ◌++◌, length};
+ghost use Rattle.arrayvec.specs.ArrayString.{array_string_len};
 ghost use Rattle.tera_bench.specs.Summary.{number_line, summary_text};
 
-use std::alloc::{AllocError, Global};
-use tm_text::put_number;
+use arrayvec::ArrayString;
+use itoa::Buffer;
+
+/// How many tables the plain network of the design has.
+const TABLES: u64 = 17;
+
+/// How many nets it has.
+const NETS: u64 = 18;
 
 // Adds a line of a word and a number.
-fn put_line(text: &mut Vec<u8>, word: &[u8], n: u64) -> Result<(), AllocError>
-    ensures { OnOk result (text.new.items ≡ text.old.items ++ number_line word.now n) }
+fn put_line(text: &mut ArrayString<192>, word: &str, n: u64)
+    requires room { array_string_len text.old + length word.now + 21 ≤ 192 }
+    ensures line { text.new.bytes ≡ text.old.bytes ++ number_line word.now n }
+    ensures short { array_string_len text.new ≤ array_string_len text.old + length word.now + 21 }
 {
-    text.extend_from_slice(word)?;
-    put_number(text, n)?;
-    text.push(b'\n')?;
-    Ok(())
+    let mut digits = Buffer::new();
+    text.push_str(word);
+    text.push_str(digits.format(n));
+    text.push_str("\n");
 }
 
-/// The bytes of the summary.
-pub fn summary(
-    alloc: Global,
-    n: u32,
-    tables: u64,
-    nets: u64,
-    ones: u64,
-    loads: u64,
-) -> Result<Vec<u8>, AllocError>
-    ensures { IfOk result (λ text. text.items ≡ summary_text n tables nets ones loads) }
+/// The summary. Takes no memory.
+pub fn summary(n: u32, ones: u32, loads: u64) -> ArrayString<192>
+    ensures { result.bytes ≡ summary_text n 17 18 ones loads }
 {
-    let mut text = Vec::new(alloc);
-    put_line(&mut text, b"bench ", n as u64)?;
-    text.extend_from_slice(b"shape 2 2 4 8 24 24 24 32 32 32 32 28\n")?;
-    put_line(&mut text, b"tables ", tables)?;
-    put_line(&mut text, b"nets ", nets)?;
-    text.extend_from_slice(b"rows 64\n")?;
-    put_line(&mut text, b"ones ", ones)?;
-    put_line(&mut text, b"loads ", loads)?;
-    Ok(text)
+    let mut text = ArrayString::new();
+    put_line(&mut text, "bench ", n as u64);
+    text.push_str("shape 2 2 4 8 24 24 24 32 32 32 32 28\n");
+    put_line(&mut text, "tables ", TABLES);
+    put_line(&mut text, "nets ", NETS);
+    text.push_str("rows 64\n");
+    put_line(&mut text, "ones ", ones as u64);
+    put_line(&mut text, "loads ", loads);
+    text
 }

@@ -1,12 +1,13 @@
 //! The machine, the design and the rows of generated work.
-ghost use Rattle.std.specs.Prelude.{◌≡◌, ◌≤◌, Some, IfOk, IfErr, length};
+ghost use Rattle.std.specs.Prelude.{◌≡◌, ◌≤◌, [], Some, IfOk, IfErr, length};
+ghost use Rattle.tm_outside.specs.Store.{StoreState};
+ghost use Rattle.tm_outside.specs.Sink.{SinkState};
 ghost use Rattle.rig.specs.Rig.{shape_of, width_of, CycleFails};
-ghost use Rattle.blif_read.specs.Designs.{IsDesign};
 ghost use Rattle.bench_gen.specs.Work as work;
 ghost use Rattle.bench_laws.specs.Design.{bench_draft};
-ghost use Rattle.steps.specs.Stops.{StepStops};
-ghost use Rattle.steps.specs.Texts.{LoadsOnce, RigCounts};
-ghost use Rattle.tera_bench.specs.Bench.{IsBenchRun, LacksAtLoad, RunsOnes, bench_vector, makes_design, ones_in, runs};
+ghost use Rattle.steps.specs.Outside.{Outside, outside};
+ghost use Rattle.steps.specs.Took.{Took};
+ghost use Rattle.tera_bench.specs.Bench.{RunsOnes, bench_vector, makes_design, ones_in, runs};
 
 use bench_gen::{bench_counts, bench_design, bench_vector};
 use blif_read::read_blif;
@@ -33,9 +34,9 @@ pub fn bench_shape() -> Shape
 
 /// The design. Nothing but memory can be wanting for its text.
 pub fn bench_netlist(alloc: Global) -> Result<Netlist, Stop>
-    ensures found { IfOk result (IsDesign work.bench_design) }
     ensures netlist { IfOk result (λ n. n ≡ bench_draft) }
-    ensures refused { IfErr result (StepStops makes_design) }
+    // Whatever is around it.
+    ensures took { (o : Outside) → Took [] makes_design result o o }
 {
     bench_laws::the_bench_design_is_a_design();
     let text = bench_design(alloc)?;
@@ -83,12 +84,10 @@ pub fn run_work(alloc: Global, image: &Image, n: u32, rig: &mut Box<dyn Rig>) ->
     requires two { length image.now.outputs ≡ 2 }
 
     ensures machine { (rig_state rig.new).machine ≡ (rig_state rig.old).machine }
-    ensures later { (rig_state rig.old).failures ≤ (rig_state rig.new).failures }
-    ensures loads { LoadsOnce (rig_state rig.old).loads (rig_state rig.new).loads }
-    ensures found { IfOk result (λ ones. IsBenchRun n image.now (rig_state rig.new) ones) }
-    ensures refused { IfErr result (StepStops (runs n image.now (rig_state rig.new))) }
-    ensures counted { IfErr result (λ stop. RigCounts stop (rig_state rig.old) (rig_state rig.new)) }
-    ensures lacks { IfErr result (λ stop. LacksAtLoad stop (rig_state rig.old) (rig_state rig.new)) }
+    // Whatever the store and the sink are.
+    ensures took { (store : StoreState) (sink : SinkState) →
+        Took [] (runs n image.now (rig_state rig.old).loads (rig_state rig.new)) result
+        (outside store (rig_state rig.old) sink) (outside store (rig_state rig.new) sink) }
 {
     let mut run = begin(alloc, rig, image, ROWS)?;
     let mut ones = 0u32;
