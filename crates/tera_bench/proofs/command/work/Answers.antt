@@ -1,7 +1,7 @@
 use Rattle.std.proofs.Common.{◌∙◌, Some, refl, sym, ap}
 use Rattle.std.proofs.lemmas.Result.{err_from_is_err_and}
 use Rattle.rig.specs.Rig.{Machine}
-use Rattle.listing.proofs.ListLemmas.{attached-shape}
+use Rattle.listing.proofs.ListedLemmas.{attached-shape}
 use Rattle.tera_bench.proofs.Following.{nothing, name-stopped, attach-stopped, design-stopped, list-stopped, listed-then}
 use Rattle.tera_bench.proofs.command.work.Goals as goal
 
