@@ -112,21 +112,17 @@ first_of ms (l ∷ front) n m pairs way rest h = by l.part h (first_of ms front 
     by (CoverPart out ins rows off) h later = later h
     by (LatchPart from out init control) h later = later h
 
-left_after : (front lines : List (Line Signal)) → is_left front ≡ false → is_left (front ++ lines) ≡ is_left lines
+pub left_after : (front lines : List (Line Signal)) → is_left front ≡ false → is_left (front ++ lines) ≡ is_left lines
 left_after [] lines h = refl
 left_after (l ∷ front) lines h =
     let both = neither (is_use l.part) (is_left front) h in
     ap (λ b. b || is_left (front ++ lines)) both.0 ∙ left_after front lines both.1
 
-none_in : (p : PlacedPart) → is_use (part_of p) ≡ false
+pub none_in : (p : PlacedPart) → is_use (part_of p) ≡ false
 none_in (placed.Input s) = refl
 none_in (placed.Output s) = refl
 none_in (placed.Cover out ins cover) = refl
 none_in (placed.Latch from out init control) = refl
-
-pub none_placed : (ps : List Placed) → is_left (map placed_line ps) ≡ false
-none_placed [] = refl
-none_placed (p ∷ ps) = ap (λ b. b || is_left (map placed_line ps)) (none_in p.part) ∙ none_placed ps
 
 kept_after : (ms : List Model) (k : ℕ) (front back : List (Line Signal)) → is_left front ≡ false → after ms k ≡ front ++ back → (j : ℕ) → (rest : List (Line Signal)) × (after ms (j + k) ≡ front ++ rest)
 unfolding after

@@ -1,5 +1,5 @@
 -- A list of defects, what it leaves free, and when it covers the faults of a machine and is fair to them.
-use Rattle.std.specs.Prelude.{◌≡◌, ℕ, ◌<◌, false, None}
+use Rattle.std.specs.Prelude.{◌≡◌, ℕ, ◌<◌, true, false, None}
 use Rattle.std.specs.Ordering.{nat_cmp}
 use Rattle.std.specs.FinSet as set
 use Rattle.hierarchy.specs.declared.Shape.{Shape}
