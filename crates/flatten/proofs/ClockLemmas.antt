@@ -208,10 +208,14 @@ module _ (cs : List Clocked) (d : Clock) where
       let m = h.0 in
       let lm = h.1.0 in (
         m,
-        (omega (arith, lm, longer), ap (same_control c.control) (old_control m lm ∙ sym (ap (λ (x : Clocked). x.control) h.2)) ∙ turned (same_control c.control (clocked_in f).control) refl, λ k lt p. elim (cases_eq k n) [
-          | inl e ↦ absurd (let no : true ≡ false = sym (control_same c.control) ∙ sym (ap (same_control c.control) (ap (control_in more) e ∙ new_control)) ∙ p in cc)
-          | inr other ↦ let lk = below k lt other in elim (h.1.2 k lk tt) [ inl e ↦ inl e | inr b ↦ inr (before_to n (number_in cs) M old_number m k lm lk b) ]
-        ]),
+        (
+          omega (arith, lm, longer),
+          ap (same_control c.control) (old_control m lm ∙ sym (ap (λ (x : Clocked). x.control) h.2)) ∙ turned (same_control c.control (clocked_in f).control) refl,
+          λ k lt p. elim (cases_eq k n) [
+            | inl e ↦ absurd (let no : true ≡ false = sym (control_same c.control) ∙ sym (ap (same_control c.control) (ap (control_in more) e ∙ new_control)) ∙ p in cc)
+            | inr other ↦ let lk = below k lt other in elim (h.1.2 k lk tt) [ inl e ↦ inl e | inr b ↦ inr (before_to n (number_in cs) M old_number m k lm lk b) ]
+          ],
+        ),
         ap (λ (x : Clocked). x.number) h.2 ∙ sym (old_number m lm),
       )
     where

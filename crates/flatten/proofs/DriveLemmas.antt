@@ -1,6 +1,6 @@
 -- The words that drive, with a word more.
 use Rattle.std.proofs.Common.{◌≡◌, ℕ, zero, suc, ◌+◌, ◌<◌, ◌≤◌, ◌==◌, ◌&&◌, ◌||◌, nat_lt, cond, eqb, Bool, true, false, List, [], ◌∷◌, ◌++◌, Option, None, Some, length, length-append, get_or, refl, sym, ap, subst, ◌∙◌, arith, inl, inr, ◌⊎◌, set}
-use Rattle.std.specs.Prelude.{option_map, is_some}
+use Rattle.std.specs.Prelude.{option_map}
 use Rattle.std.proofs.lemmas.Bool.{cases_eq, cases_lt, ltb-true, ltb-false, lt-ltb, eqb-true, eq-eqb}
 use Rattle.std.proofs.lemmas.List.{get_or_append_left, get_or-set_same, get_or-set_other}
 use Rattle.std.proofs.Math.Seq.{get_or-append_seam}
@@ -11,7 +11,7 @@ use Rattle.netlist.specs.Checks.{IsDoubledIn}
 use Rattle.netlist.proofs.OrderLemmas.{not_itself, first_more, first_all}
 use Rattle.flatten.specs.declared.drives.Driver.{Driver}
 use Rattle.flatten.specs.declared.drives.Drives.{Drives}
-use Rattle.netlist.specs.Words.{place_at, AreFirstWords, nearer, sooner}
+use Rattle.netlist.specs.Words.{place_at, AreFirstWords}
 use Rattle.flatten.specs.Drives.{IsFirstWord, first_at, AreDrives, places_of, is_nearer, nearest, first_with, doubled_with}
 use Rattle.flatten.proofs.TestLemmas.{neither, or_cases, and_true}
 use Rattle.flatten.proofs.FirstLemmas.{Comes, comes_comes, before_to, before_from, first_to}
@@ -84,14 +84,22 @@ module _ (line : ℕ → ℕ) where
     first_of_two (Some a) (Some b) at_a at_b ha hb = by (is_nearer b a) refl
       where
         by : (t : Bool) → is_nearer b a ≡ t → IsFirst line count D (place_in (cond t (Some b) (Some a)))
-        by true e = (hb.0, of_b b.place hb.0 hb.1, λ k lt d. elim (from k lt d) [
-          | inl x ↦ comes_comes line b.place a.place k (inr (nearer_is b a at_b at_a e)) (ha.2 k lt x)
-          | inr y ↦ hb.2 k lt y
-        ])
-        by false e = (ha.0, of_a a.place ha.0 ha.1, λ k lt d. elim (from k lt d) [
-          | inl x ↦ ha.2 k lt x
-          | inr y ↦ comes_comes line a.place b.place k (not_nearer b a at_b at_a e) (hb.2 k lt y)
-        ])
+        by true e = (
+          hb.0,
+          of_b b.place hb.0 hb.1,
+          λ k lt d. elim (from k lt d) [
+            | inl x ↦ comes_comes line b.place a.place k (inr (nearer_is b a at_b at_a e)) (ha.2 k lt x)
+            | inr y ↦ hb.2 k lt y
+          ],
+        )
+        by false e = (
+          ha.0,
+          of_a a.place ha.0 ha.1,
+          λ k lt d. elim (from k lt d) [
+            | inl x ↦ ha.2 k lt x
+            | inr y ↦ comes_comes line a.place b.place k (not_nearer b a at_b at_a e) (hb.2 k lt y)
+          ],
+        )
 
 -- ---- a word more
 
@@ -372,16 +380,3 @@ table_is words d count h s lt =
     by : (f : Option Driver) → IsFirstWord words (λ k. signal_at words k ≡ s) f → IsFirst (line_at words) (length words) (λ k. signal_at words k ≡ s) (option_map (λ (d : Driver). d.place) f)
     by None h = h
     by (Some f) h = h.0
-
-driven_same : (firsts : List (Option Driver)) (s : ℕ) → is_some (place_at (places_of firsts) s) ≡ is_some (first_at firsts s)
-driven_same firsts s = ap is_some (place_at_is firsts s) ∙ by (first_at firsts s)
-  where
-    by : (f : Option Driver) → is_some (option_map (λ (d : Driver). d.place) f) ≡ is_some f
-    by None = refl
-    by (Some f) = refl
-
-pub sooner_driven : (firsts : List (Option Driver)) (found : Option PortDef) (w : PortDef) → is_some (first_at firsts w.signal) ≡ true → found ≡ sooner (places_of firsts) found w
-sooner_driven firsts found w h = sym (ap (λ b. cond b found (nearer found w)) (driven_same firsts w.signal ∙ h))
-
-pub sooner_free : (firsts : List (Option Driver)) (found : Option PortDef) (w : PortDef) → is_some (first_at firsts w.signal) ≡ false → nearer found w ≡ sooner (places_of firsts) found w
-sooner_free firsts found w h = sym (ap (λ b. cond b found (nearer found w)) (driven_same firsts w.signal ∙ h))

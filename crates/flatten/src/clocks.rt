@@ -118,13 +118,7 @@ fn nearer_line(other: Option<u64>, line: u64) -> u64
 {
     match other {
         None => line,
-        Some(other) => {
-            if line < other {
-                line
-            } else {
-                other
-            }
-        }
+        Some(other) => { if line < other { line } else { other } }
     }
 }
 

@@ -49,11 +49,7 @@ fn make_room(firsts: &mut Vec<Option<Driver>>, signal: u32) -> Result<(), AllocE
 }
 
 /// Sets the first word of a signal.
-fn set_first(
-    firsts: &mut Vec<Option<Driver>>,
-    signal: u32,
-    first: Driver,
-) -> Result<(), AllocError>
+fn set_first(firsts: &mut Vec<Option<Driver>>, signal: u32, first: Driver) -> Result<(), AllocError>
     ensures { OnOk result ((s : ℕ) → first_at firsts.new.items s ≡ (if s == signal then Some first else first_at firsts.old.items s)) }
 {
     make_room(firsts, signal)?;
@@ -64,8 +60,7 @@ fn set_first(
 fn is_nearer(one: &Driver, other: &Driver) -> bool
     ensures { result ≡ is_nearer one.now other.now }
 {
-    one.word.line < other.word.line
-        || (one.word.line == other.word.line && one.place < other.place)
+    one.word.line < other.word.line || (one.word.line == other.word.line && one.place < other.place)
 }
 
 /// The one that comes first.

@@ -39,11 +39,11 @@ returns-in_err-put_line-clause-refused c way =
     let none : is_use (line_in o).part ≡ false = c.in_default.ensures in
     let T = through (place_of f.given way) f.names.now in
     rw (p.1, p.2) (λ names before h.
-        let now = c.lines.invariant way names before h in
-        refused_line c.in_err-put_line.field-0.0 now.0 (T (line_in o)) (before ++ left_in way f) (left_from way f (c.lines.k + 1) f.uses) now.1.none_left
-        (plain_through (place_of f.given way) f.names.now (line_in o) none)
-        (sym now.2 ∙ ap (λ xs. now.0 ++ xs) (next_plain way f c.lines.k o lt c.index.ensures none))
-        (c.in_err-put_line.ensures.refused way names now.0 now.1))
+    let now = c.lines.invariant way names before h in
+    refused_line c.in_err-put_line.field-0.0 now.0 (T (line_in o)) (before ++ left_in way f) (left_from way f (c.lines.k + 1) f.uses) now.1.none_left
+    (plain_through (place_of f.given way) f.names.now (line_in o) none)
+    (sym now.2 ∙ ap (λ xs. now.0 ++ xs) (next_plain way f c.lines.k o lt c.index.ensures none))
+    (c.in_err-put_line.ensures.refused way names now.0 now.1))
 
 pub lines-preserved : goal.lines-preserved
 lines-preserved c way names before h =
@@ -56,6 +56,6 @@ lines-preserved c way names before h =
       now.0 ++ T (line_in o) ∷ [],
       c.in_ok-put_line.ensures.ok way names now.0 now.1,
       append_assoc now.0 (T (line_in o) ∷ []) (left_from way f (c.lines.k + 1) f.uses)
-      ∙ ap (λ xs. now.0 ++ xs) (sym (next_plain way f c.lines.k o lt c.index.ensures none))
-      ∙ now.2,
+          ∙ ap (λ xs. now.0 ++ xs) (sym (next_plain way f c.lines.k o lt c.index.ensures none))
+          ∙ now.2,
     )

@@ -35,7 +35,7 @@ get-requires c =
     let w = c.in-Some.word in
     let placed : map placed_line c.deref-2.result.now ≡ lines = ap (map placed_line) c.deref-2.ensures.value ∙ c.requires.held in
     let a = undriven_word (drives_in lines) (reads_in lines) (places_of s.drives.firsts.items) (length (signals_of lines)) (table_is (drives_in lines) s.drives (length (signals_of lines)) h.drives) (reads_below lines) w
-        (sym c.in-Some.is ∙ c.first_undriven.ensures ∙ (λ i. fold (sooner (places_of (c.deref.ensures.value i))) None (flat_map (read_on (h.signals i)) (placed i)))) in
+    (sym c.in-Some.is ∙ c.first_undriven.ensures ∙ (λ i. fold (sooner (places_of (c.deref.ensures.value i))) None (flat_map (read_on (h.signals i)) (placed i)))) in
     let below : signal_at (reads_in lines) a.0 < length (signals_of lines) = reads_below lines a.0 (word 0 0) a.1.0 in
     omega (arith, below, ap (λ (x : PortDef). x.signal) a.2, ap length c.requires.names, length-map (signals_of lines) (printed ms))
 
@@ -48,7 +48,7 @@ returns-in_ok-name-clause-refused c =
     let w = c.in-Some.word in
     let placed : map placed_line c.deref-2.result.now ≡ lines = ap (map placed_line) c.deref-2.ensures.value ∙ c.requires.held in
     let a = undriven_word (drives_in lines) (reads_in lines) (places_of s.drives.firsts.items) (length (signals_of lines)) (table_is (drives_in lines) s.drives (length (signals_of lines)) h.drives) (reads_below lines) w
-        (sym c.in-Some.is ∙ c.first_undriven.ensures ∙ (λ i. fold (sooner (places_of (c.deref.ensures.value i))) None (flat_map (read_on (h.signals i)) (placed i)))) in
+    (sym c.in-Some.is ∙ c.first_undriven.ensures ∙ (λ i. fold (sooner (places_of (c.deref.ensures.value i))) None (flat_map (read_on (h.signals i)) (placed i)))) in
     read_fault ms lines w.line c.in_ok-name.name a.0 c.requires.clean c.requires.undoubled a.1 (ap (λ (x : PortDef). x.line) a.2)
     (c.in_ok-name.ensures ∙ ap (λ ns. get_or ns w.signal []) c.requires.names ∙ ap (λ (x : PortDef). name_in ms lines x.signal) a.2)
 
@@ -61,5 +61,5 @@ returns-in_ok-name-clause-only c driven =
     let w = c.in-Some.word in
     let placed : map placed_line c.deref-2.result.now ≡ lines = ap (map placed_line) c.deref-2.ensures.value ∙ c.requires.held in
     let a = undriven_word (drives_in lines) (reads_in lines) (places_of s.drives.firsts.items) (length (signals_of lines)) (table_is (drives_in lines) s.drives (length (signals_of lines)) h.drives) (reads_below lines) w
-        (sym c.in-Some.is ∙ c.first_undriven.ensures ∙ (λ i. fold (sooner (places_of (c.deref.ensures.value i))) None (flat_map (read_on (h.signals i)) (placed i)))) in
+    (sym c.in-Some.is ∙ c.first_undriven.ensures ∙ (λ i. fold (sooner (places_of (c.deref.ensures.value i))) None (flat_map (read_on (h.signals i)) (placed i)))) in
     absurd (driven a.0 a.1.0 a.1.1)

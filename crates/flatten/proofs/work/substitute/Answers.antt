@@ -90,7 +90,7 @@ work-preserved c =
         put.0,
         put.1,
         rw (c.in_ok-push-5.ensures.items, c.in_ok-push-4.ensures.items) (replaced_more ms k old.0 pops f now placed c.in-Some-2.found u.0 u.1 none u.3 u.4 (record f { next = c.in-Some-2.found.next; uses = f.uses + 1 }) next refl c.in_ok-next.ensures.given u.2
-          (subst (λ xs. (w : List ℕ) → left_in w next ≡ without_ports (lines_at (model_named xs c.in-Some-2.found.model.now) (place_of c.in-Some-2.found.given w))) models c.in_ok-next.ensures.lines)),
+            (subst (λ xs. (w : List ℕ) → left_in w next ≡ without_ports (lines_at (model_named xs c.in-Some-2.found.model.now) (place_of c.in-Some-2.found.given w))) models c.in_ok-next.ensures.lines)),
       );
       frames = rw (c.in_ok-push-5.ensures.items, c.in_ok-push-4.ensures.items) (
           let all = frames_more k pops olds.0 in
