@@ -4,7 +4,7 @@ use Rattle.std.specs.Option.{option_or}
 use Rattle.std.specs.Str.{bytes_eq}
 use Rattle.std.proofs.Math.Seq.{drop-cons, get_or-append_seam}
 use Rattle.std.proofs.lemmas.Bool.{cases_lt}
-use Rattle.std.proofs.lemmas.List.{map_push, take_more, append-nil, drop-map, get_or_append_left}
+use Rattle.std.proofs.lemmas.List.{length-map, map_push, take_more, append-nil, drop-map, get_or_append_left}
 use Rattle.flatten.specs.declared.model.Signal.{Signal}
 use Rattle.flatten.specs.declared.model.PairDef.{PairDef}
 use Rattle.flatten.specs.declared.model.Model.{Model}
@@ -79,6 +79,16 @@ module _ (way : List ℕ) (f : Frame) (k : ℕ) (o : Ordered) (lt : k < length f
   next_use m ps e =
       ap (λ ls. map T (with_places f.uses ls)) cut
       ∙ ap (λ p. T (record { number = o.number; part = with_place f.uses p }) ∷ map T (with_places (next_place f.uses p) (drop (k + 1) (map line_in f.lines.items)))) e
+
+drop_past : {A : Type 0} (xs : List A) (k : ℕ) → length xs ≤ k → drop k xs ≡ []
+drop_past [] zero h = refl
+drop_past [] (suc k) h = refl
+drop_past (x ∷ xs) zero h = absurd (let no : ⊥ = omega arith in no)
+drop_past (x ∷ xs) (suc k) h = drop_past xs k (omega arith)
+
+-- behind the last line nothing is left
+pub nothing_left : (way : List ℕ) (f : Frame) (k : ℕ) → length f.lines.items ≤ k → left_from way f k f.uses ≡ []
+nothing_left way f k le = ap (λ ls. map (through (place_of f.given way) f.names.now) (with_places f.uses ls)) (drop_past (map line_in f.lines.items) k (omega (arith, le, length-map f.lines.items line_in)))
 
 -- ---- the first line that uses a model
 

@@ -1,11 +1,12 @@
-use Rattle.std.proofs.Common.{◌≡◌, ◌<◌, ◌∙◌, ap, refl, sym, map, arith, ◌++◌, ◌∷◌, [], ◌+◌, length, append_assoc, false}
+use Rattle.std.proofs.Common.{◌≡◌, ◌<◌, ◌≤◌, ◌∙◌, ap, refl, sym, map, arith, ◌++◌, ◌∷◌, [], ◌+◌, length, append_assoc, false}
+use Rattle.std.proofs.lemmas.List.{append-nil}
 use Rattle.std.proofs.lemmas.Result.{err_from_is_err_and}
 use Rattle.flatten.specs.Given.{place_of}
 use Rattle.flatten.specs.Lines.{is_use, pair_of, UsePart}
 use Rattle.flatten.specs.Ordered.{line_in}
 use Rattle.flatten.specs.Frames.{left_from, left_in}
 use Rattle.flatten.specs.Substitution.{becomes, pair_through, through}
-use Rattle.flatten.proofs.WorkLemmas.{next_plain, next_use, plain_through, refused_line}
+use Rattle.flatten.proofs.WorkLemmas.{nothing_left, next_plain, next_use, plain_through, refused_line}
 use Rattle.flatten.proofs.frames.place_lines.Goals as goal
 
 pub lines-init : goal.lines-init
@@ -59,3 +60,10 @@ lines-preserved c way names before h =
           ∙ ap (λ xs. now.0 ++ xs) (sym (next_plain way f c.lines.k o lt c.index.ensures none))
           ∙ now.2,
     )
+
+pub returns-clause-ok : goal.returns-clause-ok
+returns-clause-ok c way names before h =
+    let f = c.args.frame.now in
+    let now = c.lines.invariant way names before h in
+    let le : length f.lines.items ≤ c.lines.k = omega arith in
+    (now.0, now.1, sym now.2 ∙ ap (λ xs. now.0 ++ xs) (nothing_left way f c.lines.k le) ∙ append-nil now.0)

@@ -30,8 +30,8 @@ get-requires c =
     let below : signal_at words c.in-Some.driver.place < length (signals_of lines) = drives_below lines c.in-Some.driver.place (word 0 0) a.0.0 in
     omega (arith, below, ap (λ (x : PortDef). x.signal) a.1, ap length c.requires.names, length-map (signals_of lines) (printed ms))
 
-pub returns-in_ok-name-clause-refused : goal.returns-in_ok-name-clause-refused
-returns-in_ok-name-clause-refused c =
+pub returns-clause-refused : goal.returns-clause-refused
+returns-clause-refused c =
     let ms = c.args.models.now in
     let lines = lines_of ms c.args.found.now in
     let words = drives_in lines in
@@ -40,8 +40,8 @@ returns-in_ok-name-clause-refused c =
     word_fault ms lines d.word.line c.in_ok-name.name d.place c.requires.clean a.0 (ap (λ (x : PortDef). x.line) a.1)
     (c.in_ok-name.ensures ∙ ap (λ ns. get_or ns d.word.signal []) c.requires.names ∙ ap (λ (x : PortDef). name_in ms lines x.signal) a.1)
 
-pub returns-in_ok-name-clause-only : goal.returns-in_ok-name-clause-only
-returns-in_ok-name-clause-only c undoubled =
+pub returns-clause-only : goal.returns-clause-only
+returns-clause-only c undoubled =
     let words = drives_in (lines_of c.args.models.now c.args.found.now) in
     let a : IsFirstWord words (IsDoubledIn words) (Some c.in-Some.driver) = subst (IsFirstWord words (IsDoubledIn words)) c.in-Some.is c.requires.kept.sink.drives.doubled in
     absurd (undoubled c.in-Some.driver.place a.0.0 a.0.1)

@@ -39,8 +39,8 @@ get-requires c =
     let below : signal_at (reads_in lines) a.0 < length (signals_of lines) = reads_below lines a.0 (word 0 0) a.1.0 in
     omega (arith, below, ap (λ (x : PortDef). x.signal) a.2, ap length c.requires.names, length-map (signals_of lines) (printed ms))
 
-pub returns-in_ok-name-clause-refused : goal.returns-in_ok-name-clause-refused
-returns-in_ok-name-clause-refused c =
+pub returns-clause-refused : goal.returns-clause-refused
+returns-clause-refused c =
     let ms = c.args.models.now in
     let s = c.args.found.now.sink in
     let lines = lines_of ms c.args.found.now in
@@ -52,8 +52,8 @@ returns-in_ok-name-clause-refused c =
     read_fault ms lines w.line c.in_ok-name.name a.0 c.requires.clean c.requires.undoubled a.1 (ap (λ (x : PortDef). x.line) a.2)
     (c.in_ok-name.ensures ∙ ap (λ ns. get_or ns w.signal []) c.requires.names ∙ ap (λ (x : PortDef). name_in ms lines x.signal) a.2)
 
-pub returns-in_ok-name-clause-only : goal.returns-in_ok-name-clause-only
-returns-in_ok-name-clause-only c driven =
+pub returns-clause-only : goal.returns-clause-only
+returns-clause-only c driven =
     let ms = c.args.models.now in
     let s = c.args.found.now.sink in
     let lines = lines_of ms c.args.found.now in
