@@ -2,6 +2,7 @@
 pub mod TestLemmas
 pub mod NameLemmas
 pub mod SubstitutionLemmas
+mod FirstLemmas
 mod OrderLemmas
 mod SignalsLemmas
 mod UseLemmas
@@ -16,5 +17,7 @@ mod ReadLemmas
 mod KnownLemmas
 mod FitLemmas
 mod CountLemmas
+mod DriveLemmas
+mod SinkLemmas
 mod WordLemmas
 mod MadeLemmas

@@ -1,5 +1,5 @@
 -- The netlist that is read, and refusals.
-use Rattle.std.proofs.Common.{◌≡◌, ℕ, ◌≤◌, true, false, List, [], Some, None, Result, Ok, Err, length, refl, sym, ap, ◌∙◌, subst, arith, nat_lt}
+use Rattle.std.proofs.Common.{◌≡◌, ℕ, ◌+◌, ◌≤◌, true, false, List, [], Some, None, Result, Ok, Err, length, refl, sym, ap, ◌∙◌, subst, arith, nat_lt}
 use Rattle.std.specs.Prelude.{IfOk, IfErr, MatchResult, slice_index_or}
 use Rattle.std.proofs.lemmas.Bool.{le-ltb}
 use Rattle.netlist.specs.declared.draft.Cover.{Cover}
@@ -17,30 +17,29 @@ use Rattle.flatten.specs.declared.work.Substituted.{Substituted}
 use Rattle.flatten.specs.Lines.{Line, HaveRightRows}
 use Rattle.flatten.specs.Substitution.{first_model}
 use Rattle.flatten.specs.Signals.{signals_of, size_of, is_over}
-use Rattle.flatten.specs.Sinks.{lines_in}
 use Rattle.flatten.specs.Netlists.{Clocked, controls_of, AreOneControl, IsWithin, IsReadFrom, IsNetlistOf}
 use Rattle.flatten.specs.Words.{drives_in, reads_in, covers_in, IsFirstDoubled, IsFirstUndriven}
 use Rattle.flatten.specs.Readings.{IsReading}
 use Rattle.flatten.specs.Clocks.{IsControlAnswer}
 use Rattle.flatten.specs.Faults.{name_in, IsClean, IsTooMuch, IsModelsFault, IsRefusalOfModels}
-use Rattle.flatten.specs.Origins.{IsSubstitution}
+use Rattle.flatten.specs.Origins.{IsSubstitution, replaced_in, lines_of}
 use Rattle.flatten.proofs.SubstitutionLemmas.{one_design, one_netlist}
 use Rattle.flatten.proofs.CountLemmas.{swapped, none_doubled, none_undriven, drives_as_many, reads_as_many}
 use Rattle.flatten.proofs.WordLemmas.{once_none, driven_none}
 use Rattle.flatten.proofs.MadeLemmas.{well_made}
 
-not_over : (lines : List (Line Signal)) (signals : List Signal) (size : ℕ) → signals ≡ signals_of lines → size ≡ size_of lines → length signals ≤ 65535 → size ≤ 16777216 → is_over lines ≡ false
-not_over lines signals size s z few little =
+not_over : (lines : List (Line Signal)) (signals : List Signal) (room : ℕ) → signals ≡ signals_of lines → room + size_of lines ≡ 16777216 → length signals ≤ 65535 → is_over lines ≡ false
+not_over lines signals room s z few =
     let a : nat_lt 65535 (length (signals_of lines)) ≡ false = le-ltb 65535 (length (signals_of lines)) (omega (arith, few, ap length s)) in
-    let b : nat_lt 16777216 (size_of lines) ≡ false = le-ltb 16777216 (size_of lines) (omega (arith, little, z)) in
+    let b : nat_lt 16777216 (size_of lines) ≡ false = le-ltb 16777216 (size_of lines) (omega (arith, z)) in
     rw (a, b) refl
 
-pub within_is : (ms : List Model) (s : Substituted) → IsSubstitution ms s → length s.sink.signals ≤ 65535 → IsWithin ms (lines_in s.sink)
+pub within_is : (ms : List Model) (s : Substituted) → IsSubstitution ms s → length s.sink.signals ≤ 65535 → IsWithin ms (lines_of ms s)
 within_is ms s h le = record {
-  replaced = h.replaced;
+  replaced = replaced_in s;
   most = h.most;
   substituted = h.substituted;
-  within = not_over (lines_in s.sink) s.sink.signals s.sink.size h.sink.signals h.sink.size le h.sink.within;
+  within = not_over (lines_of ms s) s.sink.signals s.sink.room h.sink.signals h.sink.room le;
 }
 
 pub not_limit : (ms : List Model) (d : Draft) → IsNetlistOf ms d → IsTooMuch ms → ⊥

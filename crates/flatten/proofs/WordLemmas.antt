@@ -1,4 +1,4 @@
--- Which word of the substituted design is wrong.
+-- Words that nothing drives.
 use Rattle.std.proofs.Common.{◌≡◌, ℕ, ◌<◌, true, not, List, Option, None, Some, refl, sym, ap, subst, ◌∙◌, arith, inl, inr, length, fold}
 use Rattle.std.specs.Prelude.{is_some}
 use Rattle.std.specs.List.{All}
@@ -12,33 +12,8 @@ use Rattle.netlist.specs.Checks.{IsChecked, IsDoubledIn}
 use Rattle.netlist.specs.Words.{place_at, AreFirstWords, sooner}
 use Rattle.netlist.proofs.OrderLemmas.{not_itself, first_same}
 use Rattle.netlist.proofs.WordLemmas.{IsFree, place, place_first, at_place, fold_place}
-use Rattle.flatten.specs.declared.model.Signal.{Signal}
-use Rattle.flatten.specs.declared.words.Wrong.{Wrong}
-use Rattle.flatten.specs.Lines.{Line}
-use Rattle.flatten.specs.Signals.{signals_of}
-use Rattle.flatten.specs.Words.{drives_in, IsUndrivenIn, IsFirstDoubled}
-use Rattle.flatten.specs.Wrongs.{IsWordAnswer}
+use Rattle.flatten.specs.Words.{IsUndrivenIn}
 use Rattle.flatten.proofs.CountLemmas.{NoneDoubled, NoneUndriven}
-use Rattle.flatten.proofs.MadeLemmas.{drives_below}
-
-pub doubled_is : (lines : List (Line Signal)) (words : List PortDef) (found : Option ℕ) → words ≡ drives_in lines → IsFirst (line_at words) (length words) (IsDoubledIn words) found → IsFirstDoubled lines found
-doubled_is lines words found e h =
-    let P : List PortDef → Type 0 = λ ws. IsFirst (line_at ws) (length ws) (IsDoubledIn ws) found in
-    subst P e h
-
-pub answer_of : (ls lines : List (Line Signal)) (o p : Option Wrong) → ls ≡ lines → o ≡ p → IsWordAnswer ls o → IsWordAnswer lines p
-answer_of ls lines o p same is h = subst (λ x. IsWordAnswer x p) same (subst (IsWordAnswer ls) is h)
-
-pub below_at : (lines : List (Line Signal)) (words : List PortDef) (n : ℕ) → words ≡ drives_in lines → n ≡ length (signals_of lines) → (k : ℕ) → k < length words → signal_at words k < n
-below_at lines words n e same k lk =
-    let lt : k < length (drives_in lines) = omega (arith, ap length e) in
-    let below : signal_at (drives_in lines) k < length (signals_of lines) = drives_below lines k (word 0 0) lt in
-    omega (arith, same, ap (λ ws. signal_at ws k) e)
-
-pub table_is : (lines : List (Line Signal)) (words : List PortDef) (firsts : List (Option ℕ)) (n : ℕ) → words ≡ drives_in lines → n ≡ length (signals_of lines) → AreFirstWords words (length words) n firsts → AreFirstWords (drives_in lines) (length (drives_in lines)) (length (signals_of lines)) firsts
-table_is lines words firsts n e same h =
-    let P : List PortDef → Type 0 = λ ws. AreFirstWords ws (length ws) (length (signals_of lines)) firsts in
-    subst P e (subst (λ m. AreFirstWords words (length words) m firsts) same h)
 
 -- ---- words that nothing drives
 

@@ -4,7 +4,7 @@ use Rattle.std.specs.Option.{option_or}
 use Rattle.std.specs.Str.{bytes_eq}
 use Rattle.std.proofs.Math.Seq.{drop-cons, get_or-append_seam}
 use Rattle.std.proofs.lemmas.Bool.{cases_lt}
-use Rattle.std.proofs.lemmas.List.{map_push, take_more, append-nil, drop-map, get_or_append_left}
+use Rattle.std.proofs.lemmas.List.{length-map, map_push, take_more, append-nil, drop-map, get_or_append_left}
 use Rattle.flatten.specs.declared.model.Signal.{Signal}
 use Rattle.flatten.specs.declared.model.PairDef.{PairDef}
 use Rattle.flatten.specs.declared.model.Model.{Model}
@@ -80,6 +80,16 @@ module _ (way : List ℕ) (f : Frame) (k : ℕ) (o : Ordered) (lt : k < length f
       ap (λ ls. map T (with_places f.uses ls)) cut
       ∙ ap (λ p. T (record { number = o.number; part = with_place f.uses p }) ∷ map T (with_places (next_place f.uses p) (drop (k + 1) (map line_in f.lines.items)))) e
 
+drop_past : {A : Type 0} (xs : List A) (k : ℕ) → length xs ≤ k → drop k xs ≡ []
+drop_past [] zero h = refl
+drop_past [] (suc k) h = refl
+drop_past (x ∷ xs) zero h = absurd (let no : ⊥ = omega arith in no)
+drop_past (x ∷ xs) (suc k) h = drop_past xs k (omega arith)
+
+-- behind the last line nothing is left
+pub nothing_left : (way : List ℕ) (f : Frame) (k : ℕ) → length f.lines.items ≤ k → left_from way f k f.uses ≡ []
+nothing_left way f k le = ap (λ ls. map (through (place_of f.given way) f.names.now) (with_places f.uses ls)) (drop_past (map line_in f.lines.items) k (omega (arith, le, length-map f.lines.items line_in)))
+
 -- ---- the first line that uses a model
 
 passed : (ms : List Model) (k : ℕ) (l : Line Signal) (front now later to : List (Line Signal)) → is_left (l ∷ front) ≡ false → (is_left front ≡ false → later ≡ to) → replace ms k l l.part now later ≡ l ∷ to
@@ -112,21 +122,17 @@ first_of ms (l ∷ front) n m pairs way rest h = by l.part h (first_of ms front 
     by (CoverPart out ins rows off) h later = later h
     by (LatchPart from out init control) h later = later h
 
-left_after : (front lines : List (Line Signal)) → is_left front ≡ false → is_left (front ++ lines) ≡ is_left lines
+pub left_after : (front lines : List (Line Signal)) → is_left front ≡ false → is_left (front ++ lines) ≡ is_left lines
 left_after [] lines h = refl
 left_after (l ∷ front) lines h =
     let both = neither (is_use l.part) (is_left front) h in
     ap (λ b. b || is_left (front ++ lines)) both.0 ∙ left_after front lines both.1
 
-none_in : (p : PlacedPart) → is_use (part_of p) ≡ false
+pub none_in : (p : PlacedPart) → is_use (part_of p) ≡ false
 none_in (placed.Input s) = refl
 none_in (placed.Output s) = refl
 none_in (placed.Cover out ins cover) = refl
 none_in (placed.Latch from out init control) = refl
-
-pub none_placed : (ps : List Placed) → is_left (map placed_line ps) ≡ false
-none_placed [] = refl
-none_placed (p ∷ ps) = ap (λ b. b || is_left (map placed_line ps)) (none_in p.part) ∙ none_placed ps
 
 kept_after : (ms : List Model) (k : ℕ) (front back : List (Line Signal)) → is_left front ≡ false → after ms k ≡ front ++ back → (j : ℕ) → (rest : List (Line Signal)) × (after ms (j + k) ≡ front ++ rest)
 unfolding after

@@ -4,6 +4,7 @@ use Rattle.flatten.specs.declared.model.Model.{Model}
 use Rattle.flatten.specs.declared.model.Signal.{Signal}
 use Rattle.flatten.specs.declared.frames.Frame.{Frame}
 use Rattle.flatten.specs.declared.frames.Found.{Found}
+use Rattle.flatten.specs.declared.sink.Sink.{Sink}
 use Rattle.flatten.specs.declared.refusal.Refusal.{Refusal}
 use Rattle.flatten.specs.declared.refusal.Refusal.TheVariants.{Memory, Limit}
 use Rattle.flatten.specs.Lines.{Pair, UsePart, Line, with_places}
@@ -12,6 +13,7 @@ use Rattle.flatten.specs.Given.{looked_up, place_of}
 use Rattle.flatten.specs.Signals.{is_over}
 use Rattle.flatten.specs.Substitution.{given, through, is_left}
 use Rattle.flatten.specs.Netlists.{origin_of}
+use Rattle.flatten.specs.Sinks.{IsSink}
 
 -- the way to the model that replaced a line
 abbrev pub way_to : List Model → ℕ → List ℕ
@@ -51,3 +53,10 @@ IsPlaced way k f before after (Some u) =
 abbrev pub IsOverIn : List (Line Signal) → Refusal → Type 0
 IsOverIn lines Memory = Unit {0}
 IsOverIn lines Limit = (front : List (Line Signal)) × (back : List (Line Signal)) × (lines ≡ front ++ back) × (is_left front ≡ false) × (is_over front ≡ true)
+
+-- whatever lines there were, those up to the next use are put behind them
+abbrev pub ArePlaced : List ℕ → ℕ → Frame → Sink → Sink → Option Found → Type 0
+ArePlaced way k f old new u = (names : List (List ℕ)) (before : List (Line Signal)) → IsSink names before old → (after : List (Line Signal)) × IsSink names after new × IsPlaced way k f before after u
+
+abbrev pub AreOverIn : List ℕ → Frame → Sink → Refusal → Type 0
+AreOverIn way f old e = (names : List (List ℕ)) (before : List (Line Signal)) → IsSink names before old → IsOverIn (before ++ left_in way f) e

@@ -13,6 +13,7 @@ pub mod Ordered
 pub mod Given
 pub mod Placed
 pub mod Refusals
+pub mod Drives
 pub mod Sinks
 pub mod Lists
 pub mod NameSets
@@ -21,5 +22,4 @@ pub mod Links
 pub mod Frames
 pub mod Origins
 pub mod Clocks
-pub mod Wrongs
 pub mod Readings

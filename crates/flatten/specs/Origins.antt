@@ -1,18 +1,19 @@
 -- What is kept of the replaced lines.
-use Rattle.std.specs.Prelude.{ℕ, zero, suc, ◌≡◌, ◌<◌, ◌≤◌, ◌+◌, List, [], ◌∷◌, ◌++◌, Some, length, slice_index_or}
+use Rattle.std.specs.Prelude.{ℕ, zero, suc, ◌≡◌, ◌<◌, ◌≤◌, ◌+◌, ◌-◌, List, [], ◌∷◌, ◌++◌, Some, length, slice_index_or}
 use Rattle.std.specs.Fmt.{decimal}
 use Rattle.netlist.specs.declared.shared.Shared.{Shared}
 use Rattle.flatten.specs.declared.model.Model.{Model}
 use Rattle.flatten.specs.declared.model.Signal.{Signal}
+use Rattle.flatten.specs.Lines.{Line}
 use Rattle.flatten.specs.declared.refusal.Refusal.{Refusal}
 use Rattle.flatten.specs.declared.refusal.Refusal.TheVariants.{Memory, Limit}
 use Rattle.flatten.specs.declared.work.Origin.{Origin}
 use Rattle.flatten.specs.declared.work.Substituted.{Substituted}
-use Rattle.flatten.specs.Substitution.{first_model, IsSubstituted}
+use Rattle.flatten.specs.Substitution.{first_model, after, IsSubstituted}
 use Rattle.flatten.specs.Netlists.{origin_of, printed_way}
 use Rattle.flatten.specs.Faults.{IsTooMuch}
 use Rattle.flatten.specs.Frames.{way_to}
-use Rattle.flatten.specs.Sinks.{IsSink, lines_in}
+use Rattle.flatten.specs.Sinks.{IsSink}
 
 -- the names of the model that replaced line k; its way is that of the replaced line in whose model line k stood, and its place there
 abbrev pub IsOrigin : List Model → ℕ → Origin → Type 0
@@ -39,12 +40,18 @@ AreWays models n texts = (k : ℕ) → k < n → slice_index_or texts k [] ≡ p
 abbrev pub shared_as : List Model → Signal → Shared
 shared_as models s = record { beginning = Some s.used; end = slice_index_or (origin_of models s.used).model.names s.own [] }
 
+-- how many lines were replaced, and the lines that stand then
+abbrev pub replaced_in : Substituted → ℕ
+replaced_in s = length s.origins.items - 1
+
+abbrev pub lines_of : List Model → Substituted → List (Line Signal)
+lines_of models s = after models (replaced_in s)
+
 pub record IsSubstitution (models : List Model) (s : Substituted) : Type 0 where
-  pub sink : IsSink s.sink
-  pub replaced : ℕ
-  pub most : replaced ≤ 65535
-  pub substituted : IsSubstituted models replaced (lines_in s.sink)
-  pub count : length s.origins.items ≡ replaced + 1
+  pub sink : IsSink (first_model models).names (lines_of models s) s.sink
+  pub most : replaced_in s ≤ 65535
+  pub substituted : IsSubstituted models (replaced_in s) (lines_of models s)
+  pub count : length s.origins.items ≡ replaced_in s + 1
   pub origins : AreOrigins models s.origins.items
 
 -- no substituted design is within the limits. Want of memory says nothing

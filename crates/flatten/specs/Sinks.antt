@@ -1,16 +1,32 @@
--- The lines so far.
-use Rattle.std.specs.Prelude.{◌≡◌, ◌≤◌, List, map}
+-- What is known of the lines so far.
+use Rattle.std.specs.Prelude.{ℕ, ◌≡◌, ◌+◌, false, List, [], ◌∷◌, ◌++◌, None, map}
+use Rattle.std.specs.List.{flat_map}
 use Rattle.flatten.specs.declared.model.Signal.{Signal}
+use Rattle.flatten.specs.declared.refusal.Refusal.{Refusal}
 use Rattle.flatten.specs.declared.sink.Sink.{Sink}
 use Rattle.flatten.specs.Lines.{Line}
+use Rattle.flatten.specs.Netlists.{control_on}
 use Rattle.flatten.specs.Placed.{placed_line}
 use Rattle.flatten.specs.Signals.{signals_of, size_of}
+use Rattle.flatten.specs.Substitution.{is_left}
+use Rattle.flatten.specs.Words.{drives_in}
+use Rattle.flatten.specs.Clocks.{AreClocks}
+use Rattle.flatten.specs.Drives.{AreDrives}
+use Rattle.flatten.specs.Refusals.{IsOver}
 
-abbrev pub lines_in : Sink → List (Line Signal)
-lines_in s = map placed_line s.placed.items
+-- of these lines, where names are those of the first model; they are held while no signal is driven twice
+pub record IsSink (names : List (List ℕ)) (lines : List (Line Signal)) (s : Sink) : Type 0 where
+  pub signals : s.signals ≡ signals_of lines
+  pub room : s.room + size_of lines ≡ 16777216
+  pub none_left : is_left lines ≡ false
+  pub drives : AreDrives (drives_in lines) s.drives
+  pub clocks : AreClocks names (flat_map (control_on names) lines) s.clocks
+  pub held : s.drives.doubled ≡ None → map placed_line s.placed.items ≡ lines
 
--- the signals and the size are those of the lines
-pub record IsSink (s : Sink) : Type 0 where
-  pub signals : s.signals ≡ signals_of (lines_in s)
-  pub size : s.size ≡ size_of (lines_in s)
-  pub within : s.size ≤ 16777216
+-- whatever lines there were, this one is put behind them
+abbrev pub IsPut : Sink → Line Signal → Sink → Type 0
+IsPut old l new = (names : List (List ℕ)) (lines : List (Line Signal)) → IsSink names lines old → IsSink names (lines ++ l ∷ []) new
+
+-- with this line they are beyond a limit
+abbrev pub IsOverWith : Sink → Line Signal → Refusal → Type 0
+IsOverWith old l e = (names : List (List ℕ)) (lines : List (Line Signal)) → IsSink names lines old → IsOver (lines ++ l ∷ []) e

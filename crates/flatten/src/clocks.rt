@@ -1,18 +1,16 @@
-//! The first latch with another control.
+//! The first latch with another control, found while latches come.
 
-ghost use Rattle.std.specs.Prelude.{◌≡◌, ◌<◌, ◌++◌, ℕ, List, Some, None, IfOk, OnOk, map, length, false, not, if◌then◌else◌};
-ghost use Rattle.std.specs.List.{flat_map};
-ghost use Rattle.std.specs.Option.{ForSome, option_or};
+ghost use Rattle.std.specs.Prelude.{◌≡◌, ◌++◌, ◌∷◌, [], ℕ, List, Some, None, IfOk, OnOk, IfErr, option_map, if◌then◌else◌};
+ghost use Rattle.std.specs.Option.{option_or, option_to_list};
 ghost use Rattle.std.specs.Str.{bytes_eq};
-ghost use Rattle.netlist.specs.Orders.{IsFirst, is_sooner};
-ghost use Rattle.flatten.specs.Netlists.{control_is, control_on};
+ghost use Rattle.flatten.specs.declared.refusal.Refusal.TheVariants.{Memory};
+ghost use Rattle.flatten.specs.Netlists.{Clocked, control_is, control_on};
 ghost use Rattle.flatten.specs.Placed.{control_of, placed_line};
-ghost use Rattle.flatten.specs.Clocks.{same_control, clocked_in, number_in, control_in, place_in, at_name, IsControlAnswer};
+ghost use Rattle.flatten.specs.Clocks.{same_control, clocked_in, place_in, at_name, AreFirstClocks, AreClocks, nearer_line, other_with, earlier_clock};
 
 use crate::model::Signal;
 use crate::placed::{Control, Placed, PlacedPart};
 use crate::refusal::Refusal;
-use crate::uses::chosen;
 use netlist::Name;
 use std::alloc::{AllocError, Global};
 use std::collections::HashMap;
@@ -22,6 +20,14 @@ use std::collections::HashMap;
 pub struct Clock<'a> {
     pub number: u64,
     pub control: Control<'a>,
+}
+
+/// The controls so far: that of the first latch that has one, and the line of the first latch that has another.
+#[derive(Drop)]
+pub struct Clocks<'a> {
+    pub places: Places<'a>,
+    pub first: Option<Clock<'a>>,
+    pub other: Option<u64>,
 }
 
 /// Where names stand first.
@@ -53,13 +59,10 @@ fn places_of<'a>(alloc: Global, names: &'a [Name]) -> Result<Places<'a>, AllocEr
 }
 
 /// A control: a name is one with the signal of that name.
-fn resolved<'a>(
-    places: &Places<'_>,
-    names: &[Name],
-    control: Control<'a>,
-) -> Result<Control<'a>, Refusal>
-    requires { (w : List ℕ) → at_name places.now w ≡ place_in names.now w }
-    ensures { IfOk result (λ r. control_of r ≡ control_is names.now (control_of control.entry)) }
+fn resolved<'a>(places: &Places<'_>, control: Control<'a>) -> Result<Control<'a>, Refusal>
+    ensures refused { IfErr result (λ e. e ≡ Memory) }
+    ensures ok { (names : List (List ℕ)) → ((w : List ℕ) → at_name places.now w ≡ place_in names w) →
+        IfOk result (λ r. control_of r ≡ control_is names (control_of control.entry)) }
 {
     let Control::Named(word) = control else {
         return Ok(control);
@@ -76,15 +79,11 @@ fn resolved<'a>(
     }))
 }
 
-/// Adds the control of a line.
-fn add_clock<'a>(
-    clocks: &mut Vec<Clock<'a>>,
-    places: &Places<'_>,
-    names: &[Name],
-    line: &Placed<'a>,
-) -> Result<(), Refusal>
-    requires { (w : List ℕ) → at_name places.now w ≡ place_in names.now w }
-    ensures { OnOk result (map clocked_in clocks.new.items ≡ map clocked_in clocks.old.items ++ control_on names.now (placed_line line.now)) }
+/// The control of a line, if it has one.
+fn clock_of<'a>(places: &Places<'_>, line: &Placed<'a>) -> Result<Option<Clock<'a>>, Refusal>
+    ensures refused { IfErr result (λ e. e ≡ Memory) }
+    ensures ok { (names : List (List ℕ)) → ((w : List ℕ) → at_name places.now w ≡ place_in names w) →
+        IfOk result (λ c. option_to_list (option_map clocked_in c) ≡ control_on names (placed_line line.now)) }
 {
     match &line.part {
         PlacedPart::Latch {
@@ -93,31 +92,14 @@ fn add_clock<'a>(
             init: _,
             control: Some(control),
         } => {
-            let control = resolved(places, names, *control)?;
-            clocks.push(Clock {
+            let control = resolved(places, *control)?;
+            Ok(Some(Clock {
                 number: line.number,
                 control,
-            })?;
-            Ok(())
+            }))
         }
-        _ => Ok(()),
+        _ => Ok(None),
     }
-}
-
-/// The controls of the latches that have one.
-fn clocks_of<'a>(
-    alloc: Global,
-    names: &[Name],
-    placed: &[Placed<'a>],
-) -> Result<Vec<Clock<'a>>, Refusal>
-    ensures { IfOk result (λ v. map clocked_in v.items ≡ flat_map (control_on names.now) (map placed_line placed.now)) }
-{
-    let places = places_of(alloc, names)?;
-    let mut clocks = Vec::new(alloc);
-    'placed: for line in placed {
-        add_clock(&mut clocks, &places, names, line)?;
-    }
-    Ok(clocks)
 }
 
 fn is_same(one: Control<'_>, other: Control<'_>) -> bool
@@ -130,63 +112,75 @@ fn is_same(one: Control<'_>, other: Control<'_>) -> bool
     }
 }
 
-/// Whether the line at the place has a lower number than the one that was found.
-fn is_sooner(clocks: &[Clock<'_>], place: usize, found: Option<usize>) -> bool
-    requires room { place < length clocks.now }
-    requires known { ForSome found (λ j. j < length clocks.now) }
-    ensures { result ≡ is_sooner (number_in (map clocked_in clocks.now)) place found }
+/// The lower of two line numbers, of which the first may be wanting.
+fn nearer_line(other: Option<u64>, line: u64) -> u64
+    ensures { result ≡ nearer_line other line }
 {
-    match found {
-        None => true,
-        Some(j) => clocks[place].number < clocks[j].number,
+    match other {
+        None => line,
+        Some(other) => { if line < other { line } else { other } }
     }
 }
 
-/// The first line that has a control.
-fn first_clock(clocks: &[Clock<'_>]) -> Option<usize>
-    ensures { IsFirst (number_in (map clocked_in clocks.now)) (length clocks.now) (λ k. Unit {0}) result }
+/// The line of the first control that is another than the first, with a control more.
+fn other_with(first: &Clock<'_>, other: Option<u64>, clock: &Clock<'_>) -> Option<u64>
+    ensures { result ≡ other_with (clocked_in first.now) other (clocked_in clock.now) }
 {
-    let mut found: Option<usize> = None;
-    'clocks: for place in 0..clocks.len() {
-        let sooner = is_sooner(clocks, place, found);
-        found = chosen(true, sooner, place, found);
+    if is_same(first.control, clock.control) {
+        return other;
     }
-    found
-}
-
-fn has_other(clock: &Clock<'_>, control: Control<'_>) -> bool
-    ensures { result ≡ not (same_control (control_of control.entry) (clocked_in clock.now).control) }
-{
-    !is_same(control, clock.control)
-}
-
-/// The first line that has another control than this.
-fn first_other(clocks: &[Clock<'_>], control: Control<'_>) -> Option<usize>
-    ensures { IsFirst (number_in (map clocked_in clocks.now)) (length clocks.now) (λ k. same_control (control_of control.entry) (control_in (map clocked_in clocks.now) k) ≡ false) result }
-{
-    let mut found: Option<usize> = None;
-    'clocks: for place in 0..clocks.len() {
-        let other = has_other(&clocks[place], control);
-        let sooner = is_sooner(clocks, place, found);
-        found = chosen(other, sooner, place, found);
+    if clock.number < first.number {
+        return Some(first.number);
     }
-    found
+    Some(nearer_line(other, clock.number))
 }
 
-/// The number of the first line that has another control than an earlier one; names are those of the first model.
-pub fn other_control(
-    alloc: Global,
-    names: &[Name],
-    placed: &[Placed<'_>],
-) -> Result<Option<u64>, Refusal>
-    ensures { IfOk result (IsControlAnswer (flat_map (control_on names.now) (map placed_line placed.now))) }
+/// Of two controls the one on the lower line, or else the first.
+fn earlier_clock<'a>(first: Clock<'a>, clock: Clock<'a>) -> Clock<'a>
+    ensures { result ≡ earlier_clock first.entry clock.entry }
 {
-    let clocks = clocks_of(alloc, names, placed)?;
-    let Some(first) = first_clock(&clocks) else {
-        return Ok(None);
-    };
-    match first_other(&clocks, clocks[first].control) {
-        Some(place) => Ok(Some(clocks[place].number)),
-        None => Ok(None),
+    if clock.number < first.number {
+        clock
+    } else {
+        first
+    }
+}
+
+/// With a control more.
+fn add_clock<'a>(first: &mut Option<Clock<'a>>, other: &mut Option<u64>, clock: Clock<'a>)
+    ensures { (controls : List Clocked) → AreFirstClocks controls first.old other.old → AreFirstClocks (controls ++ clocked_in clock.entry ∷ []) first.new other.new }
+{
+    match *first {
+        None => *first = Some(clock),
+        Some(known) => {
+            *other = other_with(&known, *other, &clock);
+            *first = Some(earlier_clock(known, clock));
+        }
+    }
+}
+
+impl<'a> Clocks<'a> {
+    /// No controls yet. Names are those of the first model.
+    pub fn new(alloc: Global, names: &'a [Name]) -> Result<Self, AllocError>
+        ensures { IfOk result (AreClocks names.now []) }
+    {
+        Ok(Clocks {
+            places: places_of(alloc, names)?,
+            first: None,
+            other: None,
+        })
+    }
+
+    /// The control of a line more, if it has one.
+    pub fn put(&mut self, line: &Placed<'a>) -> Result<(), Refusal>
+        ensures refused { IfErr result (λ e. e ≡ Memory) }
+        ensures ok { OnOk result ((names : List (List ℕ)) (controls : List Clocked) → AreClocks names controls self.old →
+            AreClocks names (controls ++ control_on names (placed_line line.now)) self.new) }
+    {
+        let Some(clock) = clock_of(&self.places, line)? else {
+            return Ok(());
+        };
+        add_clock(&mut self.first, &mut self.other, clock);
+        Ok(())
     }
 }

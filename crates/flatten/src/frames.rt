@@ -4,11 +4,10 @@ ghost use Rattle.std.specs.Prelude.{◌≡◌, ℕ, List, [], ◌∷◌, ◌++�
 ghost use Rattle.flatten.specs.Given.{looked_up, place_of};
 ghost use Rattle.flatten.specs.Lines.{UsePart, is_use, pair_of};
 ghost use Rattle.flatten.specs.Ordered.{line_in, part_in};
-ghost use Rattle.flatten.specs.Refusals.{IsOver};
-ghost use Rattle.flatten.specs.Sinks.{IsSink, lines_in};
+ghost use Rattle.flatten.specs.Sinks.{IsPut, IsOverWith};
 ghost use Rattle.flatten.specs.Substitution.{becomes, pair_through, given, through, first_model, model_named, at_first, lines_at, without_ports};
 ghost use Rattle.flatten.specs.UseLines.{IsCatalog};
-ghost use Rattle.flatten.specs.Frames.{left_in, IsPlaced, IsOverIn};
+ghost use Rattle.flatten.specs.Frames.{left_in, ArePlaced, AreOverIn};
 
 use crate::catalog::Catalog;
 use crate::given::Given;
@@ -145,14 +144,12 @@ fn put_line<'a>(
     line: &Ordered<'a>,
     sink: &mut Sink<'a>,
 ) -> Result<(), Refusal>
-    requires sink { IsSink sink.old }
-    requires part { is_use (line_in line.now).part ≡ false }
-    ensures sink { OnOk result (IsSink sink.new) }
-    ensures ok { (way : List ℕ) → OnOk result (lines_in sink.new ≡ lines_in sink.old ++ through (place_of frame.now.given way) frame.now.names.now (line_in line.now) ∷ []) }
-    ensures refused { (way : List ℕ) → IfErr result (IsOver (lines_in sink.old ++ through (place_of frame.now.given way) frame.now.names.now (line_in line.now) ∷ [])) }
+    requires { is_use (line_in line.now).part ≡ false }
+    ensures ok { (way : List ℕ) → OnOk result (IsPut sink.old (through (place_of frame.now.given way) frame.now.names.now (line_in line.now)) sink.new) }
+    ensures refused { (way : List ℕ) → IfErr result (IsOverWith sink.old (through (place_of frame.now.given way) frame.now.names.now (line_in line.now))) }
 {
     match place(alloc, &frame.given, frame.names, line)? {
-        Some(placed) => sink.put(placed),
+        Some(placed) => sink.put(alloc, placed),
         None => Ok(()),
     }
 }
@@ -164,10 +161,8 @@ pub fn place_lines<'a>(
     used: u32,
     sink: &mut Sink<'a>,
 ) -> Result<Option<Found<'a>>, Refusal>
-    requires { IsSink sink.old }
-    ensures sink { OnOk result (IsSink sink.new) }
-    ensures ok { (way : List ℕ) → IfOk result (λ u. IsPlaced way used frame.now (lines_in sink.old) (lines_in sink.new) u) }
-    ensures refused { (way : List ℕ) → IfErr result (IsOverIn (lines_in sink.old ++ left_in way frame.now)) }
+    ensures ok { (way : List ℕ) → IfOk result (λ u. ArePlaced way used frame.now sink.old sink.new u) }
+    ensures refused { (way : List ℕ) → IfErr result (AreOverIn way frame.now sink.old) }
 {
     'lines: for k in frame.next..frame.lines.len() {
         let line = frame.lines[k];

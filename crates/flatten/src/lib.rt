@@ -6,6 +6,7 @@
 mod catalog;
 mod clocks;
 mod design;
+mod drives;
 mod formals;
 mod frames;
 mod given;

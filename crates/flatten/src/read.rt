@@ -8,22 +8,19 @@ ghost use Rattle.netlist.specs.Drafts.{IsWellMade};
 ghost use Rattle.flatten.specs.Faults.{IsClean, IsRefusalOfModels};
 ghost use Rattle.flatten.specs.Lines.{HaveRightRows};
 ghost use Rattle.flatten.specs.Netlists.{printed, controls_of, AreOneControl, IsWithin, IsReadFrom, IsNetlistOf};
-ghost use Rattle.flatten.specs.Origins.{IsSubstitution};
+ghost use Rattle.flatten.specs.Origins.{IsSubstitution, lines_of};
 ghost use Rattle.flatten.specs.Placed.{placed_line};
 ghost use Rattle.flatten.specs.Readings.{IsReading};
 ghost use Rattle.flatten.specs.Signals.{signals_of};
-ghost use Rattle.flatten.specs.Sinks.{lines_in};
 ghost use Rattle.flatten.specs.Substitution.{first_model};
 ghost use Rattle.flatten.specs.Uses.{KeepsRules};
 ghost use Rattle.flatten.specs.Words.{IsFirstDoubled, IsFirstUndriven};
 
-use crate::clocks::other_control;
 use crate::lists::lists_of;
 use crate::model::{Model, Signal};
-use crate::placed::Placed;
 use crate::printed::printed_names;
 use crate::refusal::Refusal;
-use crate::words::{Wrong, wrong_word};
+use crate::words::first_undriven;
 use crate::work::{Substituted, substitute};
 use netlist::{DesignFault, DesignKind, Draft, Name, Names};
 use std::alloc::{AllocError, Global};
@@ -57,20 +54,20 @@ fn within_limits(alloc: Global, models: &[Model]) -> Result<Substituted<'_>, Des
 }
 
 /// That all controls are one; else the first latch with another.
-fn check_controls(alloc: Global, models: &[Model], placed: &[Placed<'_>]) -> Result<(), DesignFault>
+fn check_controls(models: &[Model], found: &Substituted<'_>) -> Result<(), DesignFault>
     requires rules { KeepsRules models.now }
-    requires within { IsWithin models.now (map placed_line placed.now) }
-    ensures ok { OnOk result (AreOneControl (controls_of models.now (map placed_line placed.now))) }
+    requires kept { IsSubstitution models.now found.now }
+    requires within { IsWithin models.now (lines_of models.now found.now) }
+    ensures ok { OnOk result (AreOneControl (controls_of models.now (lines_of models.now found.now))) }
     ensures refused { IfErr result (IsRefusalOfModels models.now) }
-    ensures only { AreOneControl (controls_of models.now (map placed_line placed.now)) → IfErr result (λ e. e ≡ Memory) }
+    ensures only { AreOneControl (controls_of models.now (lines_of models.now found.now)) → IfErr result (λ e. e ≡ Memory) }
 {
-    match other_control(alloc, first_names(models), placed) {
-        Ok(None) => Ok(()),
-        Ok(Some(line)) => Err(DesignFault::At {
+    match found.sink.clocks.other {
+        None => Ok(()),
+        Some(line) => Err(DesignFault::At {
             line,
             kind: DesignKind::Control,
         }),
-        Err(_) => Err(DesignFault::Memory),
     }
 }
 
@@ -83,49 +80,62 @@ fn names_of(
 ) -> Result<Names, AllocError>
     requires kept { IsSubstitution models.now found.now }
     requires signals { signals.now ≡ found.now.sink.signals }
-    ensures { IfOk result (λ names. names ≡ map (printed models.now) (signals_of (lines_in found.now.sink))) }
+    ensures { IfOk result (λ names. names ≡ map (printed models.now) (signals_of (lines_of models.now found.now))) }
 {
     let names = printed_names(alloc, &found.origins, first_names(models), signals)?;
     Ok(names)
 }
 
-/// That no signal is driven twice and each that is read is driven; else the first word where it isn't so.
-fn check_words(
+/// That no signal is driven twice; else the first word that drives one again.
+fn check_drives(
     alloc: Global,
     models: &[Model],
     found: &Substituted<'_>,
     names: &Names,
 ) -> Result<(), DesignFault>
-    requires rows { HaveRightRows models.now }
     requires kept { IsSubstitution models.now found.now }
-    requires names { names.now ≡ map (printed models.now) (signals_of (lines_in found.now.sink)) }
-    requires clean { IsClean models.now (lines_in found.now.sink) }
-    ensures undoubled { OnOk result (IsFirstDoubled (lines_in found.now.sink) None) }
-    ensures driven { OnOk result (IsFirstUndriven (lines_in found.now.sink) None) }
+    requires names { names.now ≡ map (printed models.now) (signals_of (lines_of models.now found.now)) }
+    requires clean { IsClean models.now (lines_of models.now found.now) }
+    ensures undoubled { OnOk result (IsFirstDoubled (lines_of models.now found.now) None) }
+    ensures held { OnOk result (map placed_line found.now.sink.placed.items ≡ lines_of models.now found.now) }
     ensures refused { IfErr result (IsRefusalOfModels models.now) }
-    ensures only { let lines = lines_in found.now.sink in
-        IsFirstDoubled lines None → IsFirstUndriven lines None → IfErr result (λ e. e ≡ Memory) }
+    ensures only { IsFirstDoubled (lines_of models.now found.now) None → IfErr result (λ e. e ≡ Memory) }
 {
-    match wrong_word(alloc, &found.sink.signals, &found.sink.placed) {
-        Ok(None) => Ok(()),
-        Ok(Some(Wrong::Doubled(word))) => {
-            let name = names.get(alloc, word.signal as usize)?;
-            let kind = DesignKind::Doubled { name };
-            Err(DesignFault::At {
-                line: word.line,
-                kind,
-            })
-        }
-        Ok(Some(Wrong::Undriven(word))) => {
-            let name = names.get(alloc, word.signal as usize)?;
-            let kind = DesignKind::Undriven { name };
-            Err(DesignFault::At {
-                line: word.line,
-                kind,
-            })
-        }
-        Err(_) => Err(DesignFault::Memory),
-    }
+    let Some(driver) = found.sink.drives.doubled else {
+        return Ok(());
+    };
+    let name = names.get(alloc, driver.word.signal as usize)?;
+    Err(DesignFault::At {
+        line: driver.word.line,
+        kind: DesignKind::Doubled { name },
+    })
+}
+
+/// That each signal that is read is driven; else the first word that reads another.
+fn check_reads(
+    alloc: Global,
+    models: &[Model],
+    found: &Substituted<'_>,
+    names: &Names,
+) -> Result<(), DesignFault>
+    requires kept { IsSubstitution models.now found.now }
+    requires names { names.now ≡ map (printed models.now) (signals_of (lines_of models.now found.now)) }
+    requires clean { IsClean models.now (lines_of models.now found.now) }
+    requires undoubled { IsFirstDoubled (lines_of models.now found.now) None }
+    requires held { map placed_line found.now.sink.placed.items ≡ lines_of models.now found.now }
+    ensures driven { OnOk result (IsFirstUndriven (lines_of models.now found.now) None) }
+    ensures refused { IfErr result (IsRefusalOfModels models.now) }
+    ensures only { IsFirstUndriven (lines_of models.now found.now) None → IfErr result (λ e. e ≡ Memory) }
+{
+    let sink = &found.sink;
+    let Some(word) = first_undriven(&sink.drives.firsts, &sink.signals, &sink.placed) else {
+        return Ok(());
+    };
+    let name = names.get(alloc, word.signal as usize)?;
+    Err(DesignFault::At {
+        line: word.line,
+        kind: DesignKind::Undriven { name },
+    })
 }
 
 /// The netlist that the lines spell, over their signals.
@@ -136,8 +146,9 @@ fn draft_of(
     names: Names,
 ) -> Result<Draft, DesignFault>
     requires kept { IsSubstitution models.now found.now }
-    requires names { names ≡ map (printed models.now) (signals_of (lines_in found.now.sink)) }
-    ensures ok { IfOk result (IsReadFrom models.now (lines_in found.now.sink)) }
+    requires held { map placed_line found.now.sink.placed.items ≡ lines_of models.now found.now }
+    requires names { names ≡ map (printed models.now) (signals_of (lines_of models.now found.now)) }
+    ensures ok { IfOk result (IsReadFrom models.now (lines_of models.now found.now)) }
     ensures refused { IfErr result (λ e. e ≡ Memory) }
 {
     let lists = lists_of(alloc, &found.sink.signals, &found.sink.placed)?;
@@ -162,8 +173,9 @@ pub fn read(alloc: Global, models: &[Model]) -> Result<Draft, DesignFault>
 {
     let found = within_limits(alloc, models)?;
     let signals = found.sink.signals.as_slice();
-    check_controls(alloc, models, &found.sink.placed)?;
+    check_controls(models, &found)?;
     let names = names_of(alloc, models, &found, signals)?;
-    check_words(alloc, models, &found, &names)?;
+    check_drives(alloc, models, &found, &names)?;
+    check_reads(alloc, models, &found, &names)?;
     draft_of(alloc, models, &found, names)
 }

@@ -1,26 +1,35 @@
 //! The substituted design as far as it has come, within the limits.
 
-ghost use Rattle.std.specs.Prelude.{◌≡◌, ◌+◌, ◌<◌, ◌≤◌, ◌++◌, ◌∷◌, [], IfErr, OnOk, MatchOption, sum_by};
+ghost use Rattle.std.specs.Prelude.{◌≡◌, ◌+◌, ◌<◌, ◌≤◌, ◌++◌, ◌∷◌, [], None, IfOk, IfErr, OnOk, MatchOption, sum_by};
 ghost use Rattle.flatten.specs.Placed.{part_of, placed_line};
-ghost use Rattle.flatten.specs.Refusals.{IsPast, IsOver};
+ghost use Rattle.flatten.specs.Refusals.{IsPast};
 ghost use Rattle.flatten.specs.Signals.{with_signals, words_in, row_size, size_in};
-ghost use Rattle.flatten.specs.Sinks.{IsSink, lines_in};
+ghost use Rattle.flatten.specs.Sinks.{IsSink, IsPut, IsOverWith};
 
+use crate::clocks::Clocks;
+use crate::drives::{Driver, Drives};
 use crate::placed::{Placed, PlacedPart};
 use crate::refusal::Refusal;
 use crate::signals::Signals;
-use netlist::Cube;
-use std::alloc::Global;
+use crate::words::put_drive;
+use netlist::{Cube, Name};
+use std::alloc::{AllocError, Global};
 
 /// The most characters of rows.
 pub const MOST_CHARACTERS: usize = 16_777_216;
 
-/// The lines so far, their signals, and the characters of their rows.
+/// What is known of the lines so far: their signals, the room for characters of rows, which words drive, and which
+/// controls the latches have.
+///
+/// The lines themselves are held while no signal is driven twice; then at most as many drive as there are signals. Of
+/// a design in which one is driven twice nothing else is wanted, and it may have many more lines than memory holds.
 #[derive(Drop)]
 pub struct Sink<'a> {
     pub placed: Vec<Placed<'a>>,
     pub signals: Signals,
-    pub size: usize,
+    pub room: usize,
+    pub drives: Drives,
+    pub clocks: Clocks<'a>,
 }
 
 /// The characters of rows, if there is room for so many.
@@ -74,31 +83,50 @@ fn add_words(signals: &mut Signals, part: &PlacedPart<'_>) -> Result<(), Refusal
     }
 }
 
+/// Holds a line more, or none where a signal is driven twice.
+fn hold<'a>(
+    alloc: Global,
+    placed: &mut Vec<Placed<'a>>,
+    doubled: Option<Driver>,
+    line: Placed<'a>,
+) -> Result<(), AllocError>
+    ensures { doubled ≡ None → OnOk result (placed.new.items ≡ placed.old.items ++ line.entry ∷ []) }
+{
+    if doubled.is_some() {
+        *placed = Vec::new(alloc);
+        return Ok(());
+    }
+    placed.push(line)?;
+    Ok(())
+}
+
 impl<'a> Sink<'a> {
-    pub fn new(alloc: Global) -> Self
-        ensures sink { IsSink result }
-        ensures none { lines_in result ≡ [] }
+    /// No lines yet. Names are those of the first model.
+    pub fn new(alloc: Global, names: &'a [Name]) -> Result<Self, AllocError>
+        ensures { IfOk result (IsSink names.now []) }
     {
-        Sink {
+        Ok(Sink {
             placed: Vec::new(alloc),
             signals: Signals::new(alloc),
-            size: 0,
-        }
+            room: MOST_CHARACTERS,
+            drives: Drives::new(alloc),
+            clocks: Clocks::new(alloc, names)?,
+        })
     }
 
     /// Adds a line.
-    pub fn put(&mut self, line: Placed<'a>) -> Result<(), Refusal>
-        requires { IsSink self.old }
-        ensures sink { OnOk result (IsSink self.new) }
-        ensures ok { OnOk result (lines_in self.new ≡ lines_in self.old ++ placed_line line.entry ∷ []) }
-        ensures refused { IfErr result (IsOver (lines_in self.old ++ placed_line line.entry ∷ [])) }
+    pub fn put(&mut self, alloc: Global, line: Placed<'a>) -> Result<(), Refusal>
+        ensures ok { OnOk result (IsPut self.old (placed_line line.entry) self.new) }
+        ensures refused { IfErr result (IsOverWith self.old (placed_line line.entry)) }
     {
-        let Some(size) = size_within(&line.part, MOST_CHARACTERS - self.size) else {
+        let Some(size) = size_within(&line.part, self.room) else {
             return Err(Refusal::Limit);
         };
         add_words(&mut self.signals, &line.part)?;
-        self.size += size;
-        self.placed.push(line)?;
+        self.room -= size;
+        put_drive(&mut self.drives, &self.signals, &line)?;
+        self.clocks.put(&line)?;
+        hold(alloc, &mut self.placed, self.drives.doubled, line)?;
         Ok(())
     }
 }

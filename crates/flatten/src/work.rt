@@ -37,7 +37,7 @@ pub fn substitute<'a>(alloc: Global, models: &'a [Model]) -> Result<Substituted<
 {
     let catalog = Catalog::new(alloc, models)?;
     let first = first_frame(alloc, models)?;
-    let mut sink = Sink::new(alloc);
+    let mut sink = Sink::new(alloc, first.names)?;
     let mut origins = Vec::new(alloc);
     origins.push(Origin {
         names: first.names,

@@ -1,10 +1,11 @@
 use Rattle.std.proofs.Common.{◌≡◌, ◌++◌, ℕ, List}
+use Rattle.flatten.specs.declared.model.Signal.{Signal}
+use Rattle.flatten.specs.Lines.{Line}
 use Rattle.flatten.specs.Frames.{left_from, left_in}
-use Rattle.flatten.specs.Sinks.{IsSink, lines_in}
+use Rattle.flatten.specs.Sinks.{IsSink}
 use Rattle.flatten.proofs.frames.place_lines.Given as goal
 
 abbrev pub invariant-lines : goal.invariant-lines
-invariant-lines l = record {
-  sink : IsSink l.sink;
-  is : (way : List ℕ) → lines_in l.sink ++ left_from way l.frame l.k l.frame.uses ≡ lines_in l.fn.sink ++ left_in way l.frame;
-}
+invariant-lines l =
+    (way : List ℕ) (names : List (List ℕ)) (before : List (Line Signal)) → IsSink names before l.fn.sink
+    → (now : List (Line Signal)) × IsSink names now l.sink × (now ++ left_from way l.frame l.k l.frame.uses ≡ before ++ left_in way l.frame)

@@ -1,13 +1,28 @@
-use Rattle.std.proofs.Common.{map, subst, Some}
-use Rattle.std.specs.List.{flat_map}
-use Rattle.flatten.specs.Placed.{placed_line}
-use Rattle.flatten.specs.Netlists.{control_on}
+use Rattle.std.proofs.Common.{None, Some, subst}
+use Rattle.flatten.specs.Netlists.{controls_of}
 use Rattle.flatten.specs.Clocks.{IsControlAnswer}
+use Rattle.flatten.specs.Origins.{lines_of}
+use Rattle.flatten.proofs.ClockLemmas.{answer_is}
+use Rattle.flatten.proofs.ReadLemmas.{not_other}
 use Rattle.flatten.proofs.read.check_controls.Goals as goal
 
-pub returns-in-Ok-Some-clause-refused : goal.returns-in-Ok-Some-clause-refused
-returns-in-Ok-Some-clause-refused c =
-    let lines = map placed_line c.args.placed.now in
-    let h : IsControlAnswer (flat_map (control_on c.first_names.result.now) lines) (Some c.in-Ok-Some.line) = subst (IsControlAnswer (flat_map (control_on c.first_names.result.now) lines)) c.in-Ok-Some.field-0-is c.in-Ok-Some.ensures in
-    let is = subst (λ ns. IsControlAnswer (flat_map (control_on ns) lines) (Some c.in-Ok-Some.line)) c.first_names.ensures h in
-    (c.requires.rules, (lines, c.requires.within, is))
+pub returns-in-None-clause-ok : goal.returns-in-None-clause-ok
+returns-in-None-clause-ok c =
+    let s = c.args.found.now in
+    let controls = controls_of c.args.models.now (lines_of c.args.models.now s) in
+    subst (IsControlAnswer controls) c.in-None.is (answer_is controls s.sink.clocks.first s.sink.clocks.other c.requires.kept.sink.clocks.firsts)
+
+pub returns-in-Some-clause-refused : goal.returns-in-Some-clause-refused
+returns-in-Some-clause-refused c =
+    let s = c.args.found.now in
+    let lines = lines_of c.args.models.now s in
+    let controls = controls_of c.args.models.now lines in
+    let answer : IsControlAnswer controls (Some c.in-Some.line) = subst (IsControlAnswer controls) c.in-Some.is (answer_is controls s.sink.clocks.first s.sink.clocks.other c.requires.kept.sink.clocks.firsts) in
+    (c.requires.rules, (lines, c.requires.within, answer))
+
+pub returns-in-Some-clause-only : goal.returns-in-Some-clause-only
+returns-in-Some-clause-only c one =
+    let s = c.args.found.now in
+    let controls = controls_of c.args.models.now (lines_of c.args.models.now s) in
+    let answer : IsControlAnswer controls (Some c.in-Some.line) = subst (IsControlAnswer controls) c.in-Some.is (answer_is controls s.sink.clocks.first s.sink.clocks.other c.requires.kept.sink.clocks.firsts) in
+    absurd (not_other controls c.in-Some.line one answer)

@@ -2,7 +2,7 @@ use Rattle.std.proofs.Common.{◌≡◌, ◌∙◌, ap, map}
 use Rattle.std.specs.List.{flat_map}
 use Rattle.flatten.specs.Placed.{placed_line}
 use Rattle.flatten.specs.Signals.{signals_of}
-use Rattle.flatten.specs.Sinks.{lines_in}
+use Rattle.flatten.specs.Origins.{lines_of}
 use Rattle.flatten.specs.Netlists.{input_on, output_on, cover_on, latch_on}
 use Rattle.flatten.proofs.read.draft_of.Goals as goal
 
@@ -10,10 +10,10 @@ pub returns-clause-ok : goal.returns-clause-ok
 returns-clause-ok c =
     let s = c.args.found.now in
     let h = c.requires.kept in
-    let lines = lines_in s.sink in
+    let lines = lines_of c.args.models.now s in
     let S : s.sink.signals ≡ signals_of lines = h.sink.signals in
     let lists = c.in_ok-lists.ensures in
-    let placed : map placed_line c.deref.result.now ≡ lines = ap (map placed_line) c.deref.ensures.value in
+    let placed : map placed_line c.deref.result.now ≡ lines = ap (map placed_line) c.deref.ensures.value ∙ c.requires.held in
     record {
       names = c.requires.names;
       inputs = c.new.ensures ∙ lists.inputs ∙ (λ i. flat_map (input_on (S i)) (placed i));

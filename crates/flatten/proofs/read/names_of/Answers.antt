@@ -1,7 +1,6 @@
 use Rattle.std.proofs.Common.{◌∙◌, ap, sym, subst, map}
-use Rattle.flatten.specs.Sinks.{lines_in}
 use Rattle.flatten.specs.Netlists.{printed}
-use Rattle.flatten.specs.Origins.{AreAllOrigins}
+use Rattle.flatten.specs.Origins.{AreAllOrigins, replaced_in, lines_of}
 use Rattle.flatten.proofs.PrintLemmas.{all_origins}
 use Rattle.flatten.proofs.read.names_of.Goals as goal
 
@@ -10,5 +9,5 @@ returns c =
     let ms = c.args.models.now in
     let s = c.args.found.now in
     let h = c.requires.kept in
-    let all = all_origins ms s.origins.items h.replaced (lines_in s.sink) h.count h.origins h.substituted in
+    let all = all_origins ms s.origins.items (replaced_in s) (lines_of ms s) h.count h.origins h.substituted in
     c.in_ok-names.ensures ms (subst (AreAllOrigins ms) (sym c.deref.ensures.value) all) c.first_names.ensures ∙ ap (map (printed ms)) (c.requires.signals ∙ h.sink.signals)

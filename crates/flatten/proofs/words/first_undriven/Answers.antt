@@ -3,13 +3,14 @@ use Rattle.std.proofs.lemmas.List.{take_all}
 use Rattle.std.proofs.lemmas.List.Folds.{flat_map-map}
 use Rattle.netlist.specs.Words.{sooner}
 use Rattle.netlist.proofs.WordLemmas.{fold-flat_map}
+use Rattle.flatten.specs.Drives.{places_of}
 use Rattle.flatten.specs.Placed.{placed_line}
 use Rattle.flatten.specs.Words.{read_on}
 use Rattle.flatten.proofs.words.first_undriven.Goals as goal
 
 pub returns : goal.returns
 returns c =
-    let F = sooner c.args.firsts.now in
+    let F = sooner (places_of c.args.firsts.now) in
     let R = read_on c.args.signals.now in
     let ps = c.args.placed.now in
     c.placed.invariant

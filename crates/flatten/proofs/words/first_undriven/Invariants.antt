@@ -1,9 +1,10 @@
 use Rattle.std.proofs.Common.{◌≡◌, None, take}
 use Rattle.std.specs.Prelude.{fold}
 use Rattle.netlist.specs.Words.{sooner}
+use Rattle.flatten.specs.Drives.{places_of}
 use Rattle.flatten.specs.Placed.{placed_line}
 use Rattle.flatten.specs.Words.{read_on}
 use Rattle.flatten.proofs.words.first_undriven.Given as goal
 
 abbrev pub invariant-placed : goal.invariant-placed
-invariant-placed l = l.best ≡ fold (λ b p. fold (sooner l.firsts) b (read_on l.signals (placed_line p))) None (take l.k l.placed)
+invariant-placed l = l.best ≡ fold (λ b p. fold (sooner (places_of l.firsts)) b (read_on l.signals (placed_line p))) None (take l.k l.placed)
