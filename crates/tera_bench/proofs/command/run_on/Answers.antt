@@ -31,6 +31,6 @@ returns g c = λ store.
     let a = g.K.Sink.sink_state c.args.sink.now in
     let laws = c.generated_faults_leave_room.ensures in
     let e = c.in_ok-ones.ensures in
-    let puts = rw (c.as_bytes.ensures, c.summary-text.ensures, c.saturating_sub.ensures, c.loads_of.ensures) at c.write.ensures.puts in
+    let puts = rw (c.as_bytes.ensures.value, c.deref.ensures.0, c.summary-text.ensures, c.saturating_sub.ensures, c.loads_of.ensures) at c.write.ensures.puts in
     summed c.args.n c.args.netlist.now c.args.list.now c.args.begun (store ≡ store) refl _ _ _ (c.in_ok-image.ensures.took _) e.machine _ _ _ (e.took store a)
     (rw (summary-is laws.tables laws.nets c.args.n c.args.netlist.now c.in_ok-ones.ones _ c.requires.netlist) puts)
