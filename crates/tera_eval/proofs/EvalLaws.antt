@@ -1,10 +1,10 @@
--- What the command `eval` comes to, and how its steps follow one another.
-use Rattle.std.proofs.Common.{◌≡◌, ℕ, List, [], ◌++◌, length, None, refl, subst, inl, inr}
+-- What the command `eval` comes to.
+use Rattle.std.proofs.Common.{◌≡◌, ℕ, List, [], ◌∷◌, ◌++◌, length, None, refl, subst, inl, inr}
 use Rattle.tm_outside.specs.Told.{IfTold}
 use Rattle.netlist.specs.declared.draft.Draft.{Draft}
 use Rattle.steps.specs.Files.{says_at}
 use Rattle.steps.specs.Lines.{outputs_line}
-use Rattle.steps.specs.Outside.{Around, StaysNear}
+use Rattle.steps.specs.Outside.{Around, StandsIn}
 use Rattle.steps.specs.Courses.{refuses}
 use Rattle.steps.specs.Texts.{reads_design, opens, IsDesignText}
 use Rattle.steps.specs.Jobs.{IsLawful, Leads, Fronts, EndsWell}
@@ -13,9 +13,12 @@ use Rattle.steps.specs.declared.refusal.Refusal.TheVariants.{Memory}
 use Rattle.steps.specs.declared.design_file.DesignFile.TheVariants.{Design}
 use Rattle.steps.proofs.Leading.{after-leads, write-leads}
 use Rattle.steps.proofs.Excused.{design-excused, open-excused, rows-well}
-use Rattle.tera_eval.specs.Eval.{eval_rows, eval_course, eval_job, EvalRight}
+use Rattle.tera_eval.specs.Eval.{eval_rows, IsAtFirst, design_evaluated, eval_course, eval_job, EvalRight}
 
 module _ (design vectors : List ℕ) (old new : Around) where
+  abbrev any : List ℕ → Type 0
+  any text = Unit {0}
+
   abbrev text_is : List ℕ → Type 0
   text_is = Fronts (λ front. EvalRight (old.store.contents design) (old.store.contents vectors))
 
@@ -26,9 +29,6 @@ module _ (design vectors : List ℕ) (old new : Around) where
       let same : right.draft ≡ draft = only.only right.draft right.is_design in
       subst (λ d. (says_at (length d.inputs) right.vectors_file).fault ≡ None) same right.no_fault
 
-  right-of : text_is [] → EvalRight (old.store.contents design) (old.store.contents vectors)
-  right-of is = is [] [] refl
-
   design-well : (right : EvalRight (old.store.contents design) (old.store.contents vectors)) → (refusal : Refusal) → (reads_design Design (old.store.contents design)).stops refusal → EndsWell old new (refuses refusal)
   design-well right refusal stops =
       design-excused old new Design right.design_file right.draft right.is_design right.within refusal (rw right.design_told at stops)
@@ -36,12 +36,12 @@ module _ (design vectors : List ℕ) (old new : Around) where
   eval-right : Leads text_is (eval_course design vectors old.store new.store) (EndsWell old new)
   eval-right text next is at =
       let right = is [] text refl in
-      after-leads (reads_design Design (old.store.contents design)) (StaysNear old.store new.store) _ (λ _. Unit {0}) (EndsWell old new)
+      after-leads (reads_design Design (old.store.contents design)) (StandsIn (design ∷ []) old.store new.store) (design_evaluated vectors (design ∷ []) old.store new.store) any (EndsWell old new)
       (λ _ refusal stops. design-well right refusal stops)
-      (λ draft gives. after-leads (opens (old.store.contents vectors)) (StaysNear old.store new.store) _ (λ _. Unit {0}) (EndsWell old new)
+      (λ draft gives. after-leads (opens (old.store.contents vectors)) (StandsIn (vectors ∷ design ∷ []) old.store new.store) _ any (EndsWell old new)
       (λ _ refusal stops. open-excused old new refusal stops)
-      (λ _ _. write-leads outputs_line _ _ (λ _. Unit {0}) (EndsWell old new) tt
-      (rows-well old new (eval_rows draft (old.store.contents vectors) new.store.current) right.vectors_file (λ _. Unit {0}) right.vectors_told (same-fault right draft gives))))
+      (λ _ _. write-leads outputs_line (IsAtFirst vectors new.store) _ any (EndsWell old new) tt
+      (rows-well old new (eval_rows draft (old.store.contents vectors) new.store.current) right.vectors_file any right.vectors_told (same-fault right draft gives))))
       text next tt at
 
   eval-few : (text : List ℕ) → (more : List ℕ) × (text ≡ outputs_line ++ more) → eval_course design vectors old.store new.store text (refuses Memory) → ⊥

@@ -8,7 +8,7 @@ use Rattle.blif_read.specs.Designs.{IsDesign}
 use Rattle.tm_text.specs.Size.{most_bytes}
 use Rattle.steps.specs.Files.{says_at}
 use Rattle.steps.specs.Lines.{outputs_line}
-use Rattle.steps.specs.Outside.{StaysNear}
+use Rattle.steps.specs.Outside.{StandsIn}
 use Rattle.steps.specs.Courses.{Course, RowWork, after, write, all_rows}
 use Rattle.steps.specs.Texts.{reads_design, opens}
 use Rattle.steps.specs.Jobs.{Job}
@@ -25,13 +25,23 @@ eval_rows draft told place = record {
   lacks = λ count. ⊥;
 }
 
--- the design is read, the vectors are opened, the line `outputs` is written before the first of them is read, and then the rows
+-- no vector was read yet
+abbrev pub IsAtFirst : (vectors : List ℕ) → StoreState → Type 0
+IsAtFirst vectors store = store.current ≡ Some (record { name = vectors; at = 0 })
+
+-- the vectors are opened, the line `outputs` is written before the first of them is read, and then the rows. These files were
+-- read before, the last first
+abbrev pub design_evaluated : (vectors : List ℕ) → (files : List (List ℕ)) → StoreState → StoreState → Draft → Course
+design_evaluated vectors files old new draft =
+    after (opens (old.contents vectors)) (StandsIn (vectors ∷ files) old new) (λ _.
+    write outputs_line (IsAtFirst vectors new)
+    (all_rows (eval_rows draft (old.contents vectors) new.current)))
+
+-- the design is read and evaluated
 abbrev pub eval_course : (design vectors : List ℕ) → StoreState → StoreState → Course
 eval_course design vectors old new =
-    after (reads_design Design (old.contents design)) (StaysNear old new) (λ draft.
-    after (opens (old.contents vectors)) (StaysNear old new) (λ _.
-    write outputs_line (new.current ≡ Some (record { name = vectors; at = 0 }))
-    (all_rows (eval_rows draft (old.contents vectors) new.current))))
+    after (reads_design Design (old.contents design)) (StandsIn (design ∷ []) old new)
+    (design_evaluated vectors (design ∷ []) old new)
 
 -- both texts are told and right
 pub record EvalRight (design vectors : Told) : Type 0 where

@@ -3,8 +3,7 @@ use Rattle.std.specs.Prelude.{◌≡◌, ◌<◌, ◌≤◌, Bool, true, false, 
 use Rattle.tm_outside.specs.Store.{StoreState}
 use Rattle.netlist.specs.declared.draft.Draft.{Draft}
 use Rattle.netlist_eval.specs.Evals.{first_eval, IsStep}
-use Rattle.vector_text.specs.declared.vectors.VectorsFail.{VectorsFail}
-use Rattle.vector_text.specs.Readings.{new_reading, NextGives, NextFails, HasMoved, StopsWithin}
+use Rattle.vector_text.specs.Readings.{new_reading, NextGives, HasMoved}
 use Rattle.tera_eval.specs.declared.evaluation.Evaluation.{Evaluation}
 use Rattle.steps.specs.Files.{most_vector_bytes, most_ahead}
 
@@ -22,6 +21,12 @@ pub record IsReady (draft : Draft) (rows : Evaluation) : Type 0 where
   pub vectors : rows.vectors ≡ new_reading (length draft.inputs) most_vector_bytes
   pub sized : IsSized rows
 
+-- the store stays in its file, or its count rose
+pub record StaysOpen (before after : StoreState) : Type 0 where
+  pub contents : after.contents ≡ before.contents
+  pub later : before.failures ≤ after.failures
+  pub asked : after.asked ≡ before.asked
+
 -- a vector was read, and its row made
 pub record TakesRow (old new : Evaluation) (before after : StoreState) : Type 0 where
   pub next : NextGives true new.vector.items old.vectors new.vectors before after
@@ -34,8 +39,3 @@ pub record TakesRow (old new : Evaluation) (before after : StoreState) : Type 0 
 abbrev pub RowGives : Bool → Evaluation → Evaluation → StoreState → StoreState → Type 0
 RowGives true old new before after = TakesRow old new before after
 RowGives false old new before after = NextGives false new.vector.items old.vectors new.vectors before after
-
--- why no row is made
-pub record RowFails (fail : VectorsFail) (old : Evaluation) (before after : StoreState) : Type 0 where
-  pub fails : NextFails fail old.vectors before after
-  pub stops : StopsWithin fail before after

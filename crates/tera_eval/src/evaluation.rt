@@ -1,21 +1,21 @@
 //! The command that writes the rows of a design.
-ghost use Rattle.std.specs.Prelude.{◌≡◌, ◌≤◌, ◌∷◌, [], OnOk, IfOk, IfErr, IsSome};
-ghost use Rattle.tm_outside.specs.Sink.{Wrote};
+ghost use Rattle.std.specs.Prelude.{◌≡◌, ◌∷◌, [], ℕ, List, OnOk, IfOk, IfErr, IsSome};
+ghost use Rattle.tm_outside.specs.Store.{StoreState};
 ghost use Rattle.rig.specs.Rig.{RigState};
 ghost use Rattle.vector_text.specs.Rows.{row_line};
-ghost use Rattle.steps.specs.Outside.{outside};
+ghost use Rattle.vector_text.specs.Readings.{NextFails};
+ghost use Rattle.steps.specs.Outside.{outside, StandsIn};
 ghost use Rattle.steps.specs.Files.{IsBegun, file_of};
 ghost use Rattle.steps.specs.Courses.{all_rows};
-ghost use Rattle.steps.specs.Stops.{Asks, IsWritten, WriteStops};
-ghost use Rattle.steps.specs.Texts.{FlowCounts};
+ghost use Rattle.steps.specs.Took.{Puts, Follows};
 ghost use Rattle.steps.specs.Jobs.{Does, IsLawful};
-ghost use Rattle.tera_eval.specs.Eval.{eval_rows, eval_course, eval_job};
-ghost use Rattle.tera_eval.specs.Evaluations.{IsReady, IsSized, RowGives, RowFails};
+ghost use Rattle.tera_eval.specs.Eval.{eval_rows, design_evaluated, eval_job};
+ghost use Rattle.tera_eval.specs.Evaluations.{IsReady, IsSized, StaysOpen, RowGives};
 
 use netlist::Netlist;
 use netlist_eval::Eval;
 use std::alloc::{AllocError, Global};
-use steps::{DesignFile, Stop, read_design, write};
+use steps::{DesignFile, Stop, open_vectors, read_design, write};
 use tm_outside::{Sink, Store};
 use vector_text::{RowText, VectorText, VectorsFail};
 
@@ -51,15 +51,13 @@ fn prepare(alloc: Global, netlist: &Netlist) -> Result<Evaluation<'_>, AllocErro
 
 // Reads the next vector and makes its row. False is the end of the file.
 fn next_row<S: Store>(rows: &mut Evaluation, store: &mut S) -> Result<bool, VectorsFail>
-    requires open { IsSome (S.store_state store.old).current }
+    requires begun { IsSome (S.store_state store.old).current }
     requires sized { IsSized rows.old }
 
-    ensures contents { (S.store_state store.new).contents ≡ (S.store_state store.old).contents }
-    ensures later { (S.store_state store.old).failures ≤ (S.store_state store.new).failures }
-    ensures asked { (S.store_state store.new).asked ≡ (S.store_state store.old).asked }
+    ensures stays { StaysOpen (S.store_state store.old) (S.store_state store.new) }
     ensures sized { OnOk result (IsSized rows.new) }
     ensures gives { IfOk result (λ more. RowGives more rows.old rows.new (S.store_state store.old) (S.store_state store.new)) }
-    ensures refused { IfErr result (λ e. RowFails e rows.old (S.store_state store.old) (S.store_state store.new)) }
+    ensures refused { IfErr result (λ e. NextFails e rows.old.vectors (S.store_state store.old) (S.store_state store.new)) }
 {
     if !rows.vectors.next(store, &mut rows.vector)? {
         return Ok(false);
@@ -73,10 +71,7 @@ fn next_row<S: Store>(rows: &mut Evaluation, store: &mut S) -> Result<bool, Vect
 fn write_row<K: Sink>(rows: &mut Evaluation, sink: &mut K) -> Result<(), Stop>
     requires { IsSized rows.old }
     ensures same { rows.new ≡ rows.old }
-    ensures kind { (K.sink_state sink.new).can_lack ≡ (K.sink_state sink.old).can_lack }
-    ensures later { (K.sink_state sink.old).failures ≤ (K.sink_state sink.new).failures }
-    ensures wrote { OnOk result (Wrote (K.sink_state sink.old).written (K.sink_state sink.new).written (row_line rows.old.row.items)) }
-    ensures refused { IfErr result (λ stop. WriteStops (row_line rows.old.row.items) stop (K.sink_state sink.old) (K.sink_state sink.new)) }
+    ensures puts { Puts (row_line rows.old.row.items) result (K.sink_state sink.old) (K.sink_state sink.new) }
 {
     write(sink, rows.line.line(&rows.row))
 }
@@ -87,20 +82,14 @@ fn write_rows<S: Store, K: Sink>(
     store: &mut S,
     sink: &mut K,
 ) -> Result<(), Stop>
-    requires open { IsBegun (S.store_state store.old) }
+    requires begun { IsBegun (S.store_state store.old) }
     requires ready { IsReady rows.old.eval.netlist rows.old }
 
-    ensures contents { (S.store_state store.new).contents ≡ (S.store_state store.old).contents }
-    ensures store_later { (S.store_state store.old).failures ≤ (S.store_state store.new).failures }
-    ensures asked { (S.store_state store.new).asked ≡ (S.store_state store.old).asked }
-    ensures kind { (K.sink_state sink.new).can_lack ≡ (K.sink_state sink.old).can_lack }
-    ensures sink_later { (K.sink_state sink.old).failures ≤ (K.sink_state sink.new).failures }
-
-    ensures written { let old = S.store_state store.old in let new = S.store_state store.new in
-        let work = eval_rows rows.old.eval.netlist (file_of old) new.current in
-        IsWritten (all_rows work) result (K.sink_state sink.old) (K.sink_state sink.new) }
-    ensures counted { let old = S.store_state store.old in let new = S.store_state store.new in
-        IfErr result (λ stop. FlowCounts stop old new (K.sink_state sink.old) (K.sink_state sink.new)) }
+    // Whatever the rig is.
+    ensures { (rig : RigState) →
+        let old = outside (S.store_state store.old) rig (K.sink_state sink.old) in
+        let new = outside (S.store_state store.new) rig (K.sink_state sink.new) in
+        Follows ⊥ [] (Unit {0}) (all_rows (eval_rows rows.old.eval.netlist (file_of old.store) new.store.current)) result old new }
 {
     'file: while next_row(rows, store)? {
         write_row(rows, sink)?;
@@ -108,31 +97,25 @@ fn write_rows<S: Store, K: Sink>(
     Ok(())
 }
 
-// Reads a design and vectors, and writes the line `outputs` and a row for each vector.
+// Takes all memory for the rows of a netlist, opens the vectors, and writes the line `outputs` and a row for each vector.
 fn evaluate<S: Store, K: Sink>(
     alloc: Global,
-    design: &str,
+    netlist: &Netlist,
     vectors: &str,
     store: &mut S,
     sink: &mut K,
 ) -> Result<(), Stop>
-    ensures contents { (S.store_state store.new).contents ≡ (S.store_state store.old).contents }
-    ensures store_later { (S.store_state store.old).failures ≤ (S.store_state store.new).failures }
-    ensures kind { (K.sink_state sink.new).can_lack ≡ (K.sink_state sink.old).can_lack }
-    ensures sink_later { (K.sink_state sink.old).failures ≤ (K.sink_state sink.new).failures }
-    ensures asked { Asks (design.now ∷ vectors.now ∷ []) result (S.store_state store.old) (S.store_state store.new) }
-
-    ensures written { let old = S.store_state store.old in let new = S.store_state store.new in
-        IsWritten (eval_course design.now vectors.now old new) result (K.sink_state sink.old) (K.sink_state sink.new) }
-    ensures counted { let old = S.store_state store.old in let new = S.store_state store.new in
-        IfErr result (λ stop. FlowCounts stop old new (K.sink_state sink.old) (K.sink_state sink.new)) }
+    // Whatever the rig is, and whatever files were read before.
+    ensures { (begun : StoreState) (files : List (List ℕ)) (rig : RigState) →
+        let old = outside (S.store_state store.old) rig (K.sink_state sink.old) in
+        let new = outside (S.store_state store.new) rig (K.sink_state sink.new) in
+        old.store.contents ≡ begun.contents → StandsIn files begun old.store →
+        Follows ⊥ (vectors.now ∷ []) (Unit {0}) (design_evaluated vectors.now files begun new.store netlist.now) result old new }
 {
-    let netlist = read_design(alloc, DesignFile::Design, store, design)?;
-    let mut rows = prepare(alloc, &netlist)?;
-    store.start(vectors)?;
+    let mut rows = prepare(alloc, netlist)?;
+    open_vectors(store, vectors)?;
     write(sink, b"outputs\n")?;
-    write_rows(&mut rows, store, sink)?;
-    Ok(())
+    write_rows(&mut rows, store, sink)
 }
 
 /// Reads a design and vectors, and writes the line `outputs` and a row for each vector.
@@ -155,5 +138,6 @@ pub fn eval<S: Store, K: Sink>(
     ensures does { (rig : RigState) → Does ⊥ (eval_job design.now vectors.now) result
         (outside (S.store_state store.old) rig (K.sink_state sink.old)) (outside (S.store_state store.new) rig (K.sink_state sink.new)) }
 {
-    evaluate(alloc, design, vectors, store, sink)
+    let netlist = read_design(alloc, DesignFile::Design, store, design)?;
+    evaluate(alloc, &netlist, vectors, store, sink)
 }

@@ -1,69 +1,71 @@
-use Rattle.std.proofs.Common.{◌∙◌, ◌∷◌, [], arith}
+use Rattle.std.proofs.Common.{◌∙◌, [], ◌∷◌, refl, inl}
 use Rattle.std.proofs.lemmas.Result.{err_from_is_err_and}
-use Rattle.tera_eval.proofs.Following.{design-stops, memory-stops, start-stops, outputs-stops, rows-stop, rows-done, start-counts}
-use Rattle.steps.proofs.WriteLemmas.{asks-both}
-use Rattle.steps.proofs.Counting.{store-flow, flow-flow, write-flow}
+use Rattle.steps.specs.Lines.{outputs_line}
+use Rattle.steps.specs.Outside.{outside}
+use Rattle.steps.specs.Texts.{opens}
+use Rattle.steps.proofs.StartLemmas.{begun-file}
+use Rattle.steps.proofs.Taking.{took-nothing, stands-then, step-stops, step-gives, line-stops, line-gives}
+use Rattle.tera_eval.proofs.Following.{told, near, first, rows, lines, some_rig}
 use Rattle.tera_eval.proofs.evaluation.evaluate.Goals as goal
 
-pub returns-in_err-netlist-clause-written : goal.returns-in_err-netlist-clause-written
-returns-in_err-netlist-clause-written g c =
+pub returns-in_err-rows : goal.returns-in_err-rows
+returns-in_err-rows g c =
     let p = err_from_is_err_and c.from_residual.result c.from_residual.ensures.1 in
-    let e = c.in_err-netlist.ensures in
-    rw (p.1, p.2) (design-stops c.args.design.now c.args.vectors.now (g.S.Store.store_state c.args.store.now) (g.S.Store.store_state c.read_design.new.store) _ (g.K.Sink.sink_state c.args.sink.now) e.refused e.place)
+    let s0 = g.S.Store.store_state c.args.store.now in
+    let vectors = c.args.vectors.now in
+    let draft = c.args.netlist.now in
+    λ begun files rig same stands.
+    let o = outside s0 rig (g.K.Sink.sink_state c.args.sink.now) in
+    let opening = opens (told vectors files begun s0 draft) in
+    rw (p.1, p.2) (step-stops opening (near vectors files begun s0 draft) (lines vectors files begun s0 draft) opening [] (vectors ∷ []) (Unit {0}) _ _ o o refl (took-nothing opening _ o refl tt) tt (inl stands) tt)
 
-pub returns-in_err-netlist-clause-counted : goal.returns-in_err-netlist-clause-counted
-returns-in_err-netlist-clause-counted g c =
-    let p = err_from_is_err_and c.from_residual.result c.from_residual.ensures.1 in
-    rw (p.1, p.2) (store-flow _ _ (g.S.Store.store_state c.args.store.now) _ _ (omega arith) c.in_err-netlist.ensures.counted)
+pub returns-in_err-open_vectors : goal.returns-in_err-open_vectors
+returns-in_err-open_vectors g c =
+    let p = err_from_is_err_and c.from_residual-in_err-open_vectors.result c.from_residual-in_err-open_vectors.ensures.1 in
+    let s0 = g.S.Store.store_state c.args.store.now in
+    let s1 = g.S.Store.store_state c.open_vectors.new.store in
+    let a = g.K.Sink.sink_state c.args.sink.now in
+    let vectors = c.args.vectors.now in
+    let draft = c.args.netlist.now in
+    λ begun files rig same stands.
+    let took = c.in_err-open_vectors.ensures.took rig a in
+    let at = stands-then files (vectors ∷ []) begun s0 s1 stands took.place in
+    rw (p.1, p.2) (step-stops (opens (told vectors files begun s1 draft)) (near vectors files begun s1 draft) (lines vectors files begun s1 draft) (opens (s0.contents vectors)) (vectors ∷ []) [] (Unit {0}) _ _ (outside s0 rig a) (outside s1 rig a) refl took took.stops at tt)
 
-pub returns-in_err-rows-clause-written : goal.returns-in_err-rows-clause-written
-returns-in_err-rows-clause-written g c =
-    let p = err_from_is_err_and c.from_residual-in_err-rows.result c.from_residual-in_err-rows.ensures.1 in
-    let e = c.in_ok-netlist.ensures in
-    rw (p.1, p.2) (memory-stops c.args.design.now c.args.vectors.now (g.S.Store.store_state c.args.store.now) (g.S.Store.store_state c.read_design.new.store) (g.K.Sink.sink_state c.args.sink.now) c.in_ok-netlist.netlist e.found e.place)
-
-pub returns-in_err-start-clause-written : goal.returns-in_err-start-clause-written
-returns-in_err-start-clause-written g c =
-    let p = err_from_is_err_and c.from_residual-in_err-start.result c.from_residual-in_err-start.ensures.1 in
-    let e = c.in_ok-netlist.ensures in
-    rw (p.1, p.2) (start-stops c.args.design.now c.args.vectors.now (g.S.Store.store_state c.args.store.now) (g.S.Store.store_state c.read_design.new.store) (g.S.Store.store_state c.start.new.self) (g.K.Sink.sink_state c.args.sink.now) c.in_ok-netlist.netlist e.found e.place _ c.in_err-start.ensures.refused)
-
-pub returns-in_err-start-clause-counted : goal.returns-in_err-start-clause-counted
-returns-in_err-start-clause-counted g c =
-    let p = err_from_is_err_and c.from_residual-in_err-start.result c.from_residual-in_err-start.ensures.1 in
-    rw (p.1, p.2) (start-counts _ c.args.vectors.now _ (g.S.Store.store_state c.read_design.new.store) _ _ c.in_ok-netlist.ensures.later c.in_err-start.ensures.refused)
-
-pub returns-in_err-write-clause-written : goal.returns-in_err-write-clause-written
-returns-in_err-write-clause-written g c =
+pub returns-in_err-write : goal.returns-in_err-write
+returns-in_err-write g c =
     let p = err_from_is_err_and c.from_residual-in_err-write.result c.from_residual-in_err-write.ensures.1 in
-    rw (p.1, p.2) (outputs-stops c.args.design.now c.args.vectors.now (g.S.Store.store_state c.args.store.now) (g.S.Store.store_state c.start.new.self) (g.K.Sink.sink_state c.args.sink.now) (g.K.Sink.sink_state c.write.new.sink) c.in_ok-netlist.netlist c.in_ok-netlist.ensures.found (rw (← c.in_ok-netlist.ensures.contents) c.in_ok-start.ensures.present) c.in_ok-start.ensures.opened _ c.in_err-write.ensures.refused)
+    let s0 = g.S.Store.store_state c.args.store.now in
+    let s1 = g.S.Store.store_state c.open_vectors.new.store in
+    let a = g.K.Sink.sink_state c.args.sink.now in
+    let b = g.K.Sink.sink_state c.write.new.sink in
+    let vectors = c.args.vectors.now in
+    let draft = c.args.netlist.now in
+    λ begun files rig same stands.
+    let took = c.in_ok-open_vectors.ensures.took rig a in
+    let present = rw same at took.gives in
+    rw (p.1, p.2) (step-gives (opens (told vectors files begun s1 draft)) (near vectors files begun s1 draft) (lines vectors files begun s1 draft) (opens (s0.contents vectors)) (vectors ∷ []) [] (Unit {0}) (Unit {0}) tt tt _ (outside s0 rig a) (outside s1 rig a) (outside s1 rig b) took present
+    (line-stops outputs_line (first vectors files begun s1 draft) (rows vectors files begun s1 draft) s1 rig a b [] (Unit {0}) _ _ refl c.in_err-write.ensures.puts c.in_ok-open_vectors.ensures.begun tt) tt)
 
-pub returns-in_err-write-clause-counted : goal.returns-in_err-write-clause-counted
-returns-in_err-write-clause-counted g c =
-    let p = err_from_is_err_and c.from_residual-in_err-write.result c.from_residual-in_err-write.ensures.1 in
-    rw (p.1, p.2) (write-flow _ _ _ _ _ _ c.in_err-write.ensures.refused)
+pub write_rows-requires-clause-begun : goal.write_rows-requires-clause-begun
+write_rows-requires-clause-begun g c =
+    let took = c.in_ok-open_vectors.ensures.took some_rig (g.K.Sink.sink_state c.args.sink.now) in
+    (c.args.vectors.now, c.in_ok-open_vectors.ensures.begun, rw took.later.contents took.gives)
 
-pub returns-in_err-write_rows-clause-written : goal.returns-in_err-write_rows-clause-written
-returns-in_err-write_rows-clause-written g c =
-    let p = err_from_is_err_and c.from_residual-in_err-write_rows.result c.from_residual-in_err-write_rows.ensures.1 in
-    let mid = g.S.Store.store_state c.start.new.self in
-    let contents = c.in_ok-start.ensures.contents ∙ c.in_ok-netlist.ensures.contents in
-    let written = rw (c.in_ok-rows.ensures.eval) at c.in_err-write_rows.ensures.written in
-    rw (p.1, p.2) (rows-stop c.args.design.now c.args.vectors.now (g.S.Store.store_state c.args.store.now) mid (g.S.Store.store_state c.write_rows.new.store) (g.K.Sink.sink_state c.args.sink.now) (g.K.Sink.sink_state c.write.new.sink) (g.K.Sink.sink_state c.write_rows.new.sink) c.in_ok-netlist.netlist _ c.in_ok-netlist.ensures.found (rw (← c.in_ok-netlist.ensures.contents) c.in_ok-start.ensures.present) contents c.in_ok-start.ensures.opened c.in_ok-write.ensures.wrote written)
-
-pub returns-in_err-write_rows-clause-counted : goal.returns-in_err-write_rows-clause-counted
-returns-in_err-write_rows-clause-counted g c =
-    let p = err_from_is_err_and c.from_residual-in_err-write_rows.result c.from_residual-in_err-write_rows.ensures.1 in
-    rw (p.1, p.2) (flow-flow _ (g.S.Store.store_state c.args.store.now) (g.S.Store.store_state c.start.new.self) _ (g.K.Sink.sink_state c.args.sink.now) (g.K.Sink.sink_state c.write.new.sink) _ (omega (arith, c.in_ok-netlist.ensures.later, c.in_ok-start.ensures.later)) c.in_ok-write.ensures.later c.in_ok-write.ensures.kind c.in_err-write_rows.ensures.counted)
-
-pub returns-clause-written : goal.returns-clause-written
-returns-clause-written g c =
-    let mid = g.S.Store.store_state c.start.new.self in
-    let contents = c.in_ok-start.ensures.contents ∙ c.in_ok-netlist.ensures.contents in
-    let written = rw (c.in_ok-rows.ensures.eval) at c.in_ok-write_rows.ensures.written in
-    rows-done c.args.design.now c.args.vectors.now (g.S.Store.store_state c.args.store.now) mid (g.S.Store.store_state c.write_rows.new.store) (g.K.Sink.sink_state c.args.sink.now) (g.K.Sink.sink_state c.write.new.sink) (g.K.Sink.sink_state c.write_rows.new.sink) c.in_ok-netlist.netlist c.in_ok-netlist.ensures.found (rw (← c.in_ok-netlist.ensures.contents) c.in_ok-start.ensures.present) contents c.in_ok-start.ensures.opened c.in_ok-write.ensures.wrote written
-
-pub returns-in_err-write_rows-clause-asked : goal.returns-in_err-write_rows-clause-asked
-returns-in_err-write_rows-clause-asked g c =
-    let p = err_from_is_err_and c.from_residual-in_err-write_rows.result c.from_residual-in_err-write_rows.ensures.1 in
-    asks-both (c.args.design.now ∷ []) (c.args.vectors.now ∷ []) c.from_residual-in_err-write_rows.result p.0 (g.S.Store.store_state c.args.store.now) (g.S.Store.store_state c.read_design.new.store) (g.S.Store.store_state c.write_rows.new.store) p.1 c.in_ok-netlist.ensures.asked.all (c.in_err-write_rows.ensures.asked ∙ c.in_ok-start.ensures.asked)
+pub returns : goal.returns
+returns g c =
+    let s0 = g.S.Store.store_state c.args.store.now in
+    let s1 = g.S.Store.store_state c.open_vectors.new.store in
+    let s2 = g.S.Store.store_state c.write_rows.new.store in
+    let a = g.K.Sink.sink_state c.args.sink.now in
+    let b = g.K.Sink.sink_state c.write.new.sink in
+    let vectors = c.args.vectors.now in
+    let draft = c.args.netlist.now in
+    λ begun files rig same stands.
+    let new = outside s2 rig (g.K.Sink.sink_state c.write_rows.new.sink) in
+    let took = c.in_ok-open_vectors.ensures.took rig a in
+    let present = rw same at took.gives in
+    let file = begun-file s1 begun.contents vectors (took.later.contents ∙ same) c.in_ok-open_vectors.ensures.begun in
+    let last = rw (c.in_ok-rows.ensures.eval, file) at (c.write_rows.ensures rig) in
+    step-gives (opens (told vectors files begun s2 draft)) (near vectors files begun s2 draft) (lines vectors files begun s2 draft) (opens (s0.contents vectors)) (vectors ∷ []) [] (Unit {0}) (Unit {0}) tt tt c.write_rows.result (outside s0 rig a) (outside s1 rig a) new took present
+    (line-gives outputs_line (first vectors files begun s2 draft) (rows vectors files begun s2 draft) s1 rig a b [] (Unit {0}) (Unit {0}) tt c.write_rows.result new c.in_ok-write.ensures.puts last tt) tt
