@@ -1,5 +1,5 @@
 -- How the steps of `bench` follow one another.
-use Rattle.std.proofs.Common.{◌≡◌, ◌∙◌, ℕ, ◌-◌, false, List, [], None, refl, ap, inl, append-nil, sym}
+use Rattle.std.proofs.Common.{◌≡◌, ◌∙◌, ℕ, ◌-◌, false, List, [], None, refl, inl, append-nil, sym}
 use Rattle.std.specs.Prelude.{Result, Ok, Err}
 use Rattle.tm_outside.specs.Told.{untold}
 use Rattle.tm_outside.specs.Store.{StoreState}

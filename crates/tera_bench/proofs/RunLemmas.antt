@@ -22,7 +22,7 @@ use Rattle.steps.specs.Outside.{Outside, outside, IsLater}
 use Rattle.steps.specs.Stops.{StepStops, IsCounted, stop_of_rig}
 use Rattle.steps.specs.Took.{Took}
 use Rattle.steps.specs.declared.refusal.Stop.{Stop}
-use Rattle.tera_bench.specs.Bench.{IsBenchRun, RunsOnes, bench_rows, bench_vector, first_vectors, ones_in, ones_of, runs}
+use Rattle.tera_bench.specs.Bench.{RunsOnes, bench_rows, bench_vector, first_vectors, ones_in, ones_of, runs}
 
 abbrev pub pins_in : ImageValue → Rows
 pins_in i = record { pins = pins_of i.config.shape; inputs = i.inputs; outputs = i.outputs }
