@@ -1,19 +1,19 @@
 //! The top call.
-ghost use Rattle.std.specs.Prelude.{◌≡◌, ◌∷◌, [], ◌++◌, ℕ, List, Some, None, map, string_bytes, codes};
-ghost use Rattle.steps.specs.Outside.{outside, around, IsLater};
-ghost use Rattle.steps.specs.Stops.{AsksSome};
-ghost use Rattle.steps.specs.Jobs.{Does, IsLawful};
-ghost use Rattle.steps.specs.Ends.{EndWrote, Ended};
-ghost use Rattle.tera_top.specs.Words.{request_of, request_view, job_of, job_for};
-ghost use Rattle.tera_top.specs.Words.{bench as asks_bench};
+ghost use Rattle.std.specs.Prelude.{◌≡◌, ◌∷◌, [], ◌<◌, ◌^◌, ℕ, List, map, string_bytes, codes};
+ghost use Rattle.std.specs.Fmt.{decimal};
+ghost use Rattle.tm_outside.specs.Store.{StoreState};
+ghost use Rattle.steps.specs.Outside.{outside};
+ghost use Rattle.steps.specs.Ends.{Ended};
+ghost use Rattle.tera_top.specs.Words.{HasNoJob, DoesAsked, job_of, of_number, number_of, commands, asked_in, asked_by};
 ghost use Rattle.tera_eval.specs.Headline.{IsEvaled};
 ghost use Rattle.tera_compile.specs.Headline.{IsCompiled};
 ghost use Rattle.tera_run.specs.Headline.{IsRan};
 ghost use Rattle.tera_diagnose.specs.Headline.{IsDiagnosed};
-ghost use Rattle.tera_go.specs.Headline.{IsGone};
+ghost use Rattle.tera_go.specs.Headline.{BeginsWithList, IsGone, HasRoomLeft};
 ghost use Rattle.tera_bench.specs.Headline.{IsBenched};
+ghost use Rattle.tera_bench.specs.Bench.{bench_job};
 
-use crate::task::{Task, task_of};
+use crate::words::{begins, number_of, some_begins_dashed, word};
 use rig::Rig;
 use std::alloc::Global;
 use steps::{Refusal, Stop, finish};
@@ -25,44 +25,63 @@ use tera_go::go;
 use tera_run::run;
 use tm_outside::{Sink, Store};
 
-// Does a task.
-fn work_on<S: Store, K: Sink>(
+// Does the work of the number that a word is.
+fn bench_word<K: Sink>(
     alloc: Global,
-    task: Task,
+    word: &str,
+    rig: &mut Box<dyn Rig>,
+    sink: &mut K,
+) -> Result<(), Stop>
+    // Whatever the store is.
+    ensures { (store : StoreState) →
+        let old = outside store (rig_state rig.old) (K.sink_state sink.old) in
+        let new = outside store (rig_state rig.new) (K.sink_state sink.new) in
+        DoesAsked (of_number bench_job (number_of word.now)) result old new }
+{
+    match number_of(word) {
+        Some(n) => bench(alloc, n, rig, sink),
+        None => Err(Stop::Refused(Refusal::Words)),
+    }
+}
+
+// Does what words ask for by the table of commands: a line of it is an `if` here.
+fn work_in<S: Store, K: Sink>(
+    alloc: Global,
+    words: &[String],
     store: &mut S,
     rig: &mut Box<dyn Rig>,
     sink: &mut K,
 ) -> Result<(), Stop>
-    ensures lawful { IsLawful (job_of (request_view task.entry)) }
-    ensures does { let old = outside (S.store_state store.old) (rig_state rig.old) (K.sink_state sink.old) in
+    ensures { let old = outside (S.store_state store.old) (rig_state rig.old) (K.sink_state sink.old) in
         let new = outside (S.store_state store.new) (rig_state rig.new) (K.sink_state sink.new) in
-        Does ⊥ (job_of (request_view task.entry)) result old new }
+        DoesAsked (asked_in commands (map string_bytes words.now)) result old new }
 {
-    match task {
-        Task::Eval { design, vectors } => eval(alloc, design, vectors, store, sink),
-        Task::Compile {
-            machine,
-            defects,
-            design,
-        } => compile(alloc, machine, defects, design, store, sink),
-        Task::Run {
-            machine,
-            name,
-            image,
-            vectors,
-        } => run(alloc, machine, name, image, vectors, store, rig, sink),
-        Task::Diagnose { machine, name } => diagnose(alloc, machine, name, store, rig, sink),
-        Task::Go {
-            machine,
-            name,
-            design,
-            vectors,
-        } => go(alloc, machine, name, design, vectors, store, rig, sink),
-        Task::Bench { n } => bench(alloc, n, rig, sink),
+    let first = word(words, 1);
+    let second = word(words, 2);
+    let third = word(words, 3);
+    let fourth = word(words, 4);
+    if begins(words, 3, "eval") {
+        return eval(alloc, first, second, store, sink);
     }
+    if begins(words, 4, "compile") {
+        return compile(alloc, first, second, third, store, sink);
+    }
+    if begins(words, 5, "run") {
+        return run(alloc, first, second, third, fourth, store, rig, sink);
+    }
+    if begins(words, 3, "diagnose") {
+        return diagnose(alloc, first, second, store, rig, sink);
+    }
+    if begins(words, 5, "go") {
+        return go(alloc, first, second, third, fourth, store, rig, sink);
+    }
+    if begins(words, 2, "bench") {
+        return bench_word(alloc, first, rig, sink);
+    }
+    Err(Stop::Refused(Refusal::Words))
 }
 
-// Does what the words ask.
+// Does what the words ask for.
 fn work<S: Store, K: Sink>(
     alloc: Global,
     words: &[String],
@@ -70,16 +89,14 @@ fn work<S: Store, K: Sink>(
     rig: &mut Box<dyn Rig>,
     sink: &mut K,
 ) -> Result<(), Stop>
-    ensures lawful { IsLawful (job_for (request_of (map string_bytes words.now))) }
-    ensures does { let request = request_of (map string_bytes words.now) in
-        let old = outside (S.store_state store.old) (rig_state rig.old) (K.sink_state sink.old) in
+    ensures { let old = outside (S.store_state store.old) (rig_state rig.old) (K.sink_state sink.old) in
         let new = outside (S.store_state store.new) (rig_state rig.new) (K.sink_state sink.new) in
-        Does (request ≡ None) (job_for request) result old new }
+        DoesAsked (asked_by (map string_bytes words.now)) result old new }
 {
-    match task_of(words) {
-        Some(task) => work_on(alloc, task, store, rig, sink),
-        None => Err(Stop::Refused(Refusal::Words)),
+    if some_begins_dashed(words) {
+        return Err(Stop::Refused(Refusal::Words));
     }
+    work_in(alloc, words, store, rig, sink)
 }
 
 // The same, to the status.
@@ -90,21 +107,10 @@ fn end<S: Store, K: Sink>(
     rig: &mut Box<dyn Rig>,
     sink: &mut K,
 ) -> u8
-    ensures lawful { IsLawful (job_for (request_of (map string_bytes words.now))) }
-    ensures later { let old = outside (S.store_state store.old) (rig_state rig.old) (K.sink_state sink.old) in
-        let new = outside (S.store_state store.new) (rig_state rig.new) (K.sink_state sink.new) in
-        IsLater old new }
-    ensures asked { let job = job_for (request_of (map string_bytes words.now)) in
-        AsksSome job.files (S.store_state store.old).asked (S.store_state store.new).asked }
-    ensures asked_all { result ≡ 0 →
-        (S.store_state store.new).asked ≡ (S.store_state store.old).asked ++ (job_for (request_of (map string_bytes words.now))).files }
-    ensures machines { let old = outside (S.store_state store.old) (rig_state rig.old) (K.sink_state sink.old) in
-        let new = outside (S.store_state store.new) (rig_state rig.new) (K.sink_state sink.new) in
-        (job_for (request_of (map string_bytes words.now))).asks (around old) (around new) }
-    ensures written { let request = request_of (map string_bytes words.now) in
+    ensures { let asked = asked_by (map string_bytes words.now) in
         let old = outside (S.store_state store.old) (rig_state rig.old) (K.sink_state sink.old) in
         let new = outside (S.store_state store.new) (rig_state rig.new) (K.sink_state sink.new) in
-        EndWrote (request ≡ None) ((job_for request).course (around old) (around new)) old new result }
+        Ended (HasNoJob asked) (job_of asked) old new result }
 {
     match work(alloc, words, store, rig, sink) {
         Ok(()) => 0,
@@ -132,16 +138,26 @@ pub fn teramac<S: Store, K: Sink>(
     sink: &mut K,
 ) -> u8
     // What was asked, what was written, what stays, and the cause of the status.
-    ensures ends { let request = request_of (map string_bytes words.now) in
+    ensures ends { let asked = asked_by (map string_bytes words.now) in
         let old = outside (S.store_state store.old) (rig_state rig.old) (K.sink_state sink.old) in
         let new = outside (S.store_state store.new) (rig_state rig.new) (K.sink_state sink.new) in
-        Ended (request ≡ None) (job_for request) old new result }
+        Ended (HasNoJob asked) (job_of asked) old new result }
 
+    // What a `go` wrote begins with a list that covers every fault and is fair, so far as it goes.
+    ensures listed { let old = outside (S.store_state store.old) (rig_state rig.old) (K.sink_state sink.old) in
+        let new = outside (S.store_state store.new) (rig_state rig.new) (K.sink_state sink.new) in
+        (machine name design vectors : List ℕ) → map string_bytes words.now ≡ codes "go" ∷ machine ∷ name ∷ design ∷ vectors ∷ [] →
+        BeginsWithList machine name old new }
     // A `go` at status 0 listed every fault, loaded an image that uses nothing listed, and wrote the rows of the design.
     ensures gone { let old = outside (S.store_state store.old) (rig_state rig.old) (K.sink_state sink.old) in
         let new = outside (S.store_state store.new) (rig_state rig.new) (K.sink_state sink.new) in
         (machine name design vectors : List ℕ) → map string_bytes words.now ≡ codes "go" ∷ machine ∷ name ∷ design ∷ vectors ∷ [] →
         result ≡ 0 → IsGone machine name design vectors old new }
+    // And the plain network of the design fits, in order, on the list.
+    ensures room { let old = outside (S.store_state store.old) (rig_state rig.old) (K.sink_state sink.old) in
+        let new = outside (S.store_state store.new) (rig_state rig.new) (K.sink_state sink.new) in
+        (machine name design vectors : List ℕ) → map string_bytes words.now ≡ codes "go" ∷ machine ∷ name ∷ design ∷ vectors ∷ [] →
+        result ≡ 0 → HasRoomLeft machine design old new }
     // An `eval` at status 0 wrote the rows of the design.
     ensures evaled { let old = outside (S.store_state store.old) (rig_state rig.old) (K.sink_state sink.old) in
         let new = outside (S.store_state store.new) (rig_state rig.new) (K.sink_state sink.new) in
@@ -166,7 +182,7 @@ pub fn teramac<S: Store, K: Sink>(
     // its summary.
     ensures benched { let old = outside (S.store_state store.old) (rig_state rig.old) (K.sink_state sink.old) in
         let new = outside (S.store_state store.new) (rig_state rig.new) (K.sink_state sink.new) in
-        (n : ℕ) → request_of (map string_bytes words.now) ≡ Some (asks_bench n) → result ≡ 0 → IsBenched n old new }
+        (n : ℕ) → n < 2 ^ 32 → map string_bytes words.now ≡ codes "bench" ∷ decimal n ∷ [] → result ≡ 0 → IsBenched n old new }
 {
     bench_laws::the_bench_design_is_a_design();
     bench_laws::generated_faults_leave_room();

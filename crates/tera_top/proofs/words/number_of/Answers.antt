@@ -1,6 +1,6 @@
 use Rattle.std.proofs.Common.{◌∙◌, sym, arith}
 use Rattle.tera_top.proofs.WordLemmas.{some_number, no_number}
-use Rattle.tera_top.proofs.task.number_of.Goals as goal
+use Rattle.tera_top.proofs.words.number_of.Goals as goal
 
 pub returns-in-Some : goal.returns-in-Some
 returns-in-Some c = some_number c.args.word.now c.in-Some.n (sym c.as_bytes.ensures.value ∙ c.in-Some.ensures.some.0) (let le = c.in-Some.ensures.some.1 in let m = c.from.ensures in omega (arith, le, m))

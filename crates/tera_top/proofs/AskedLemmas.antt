@@ -1,0 +1,77 @@
+-- What words ask for, done to the end of the program.
+use Rattle.std.proofs.Common.{◌≡◌, ◌∙◌, ◌⊎◌, ℕ, ◌≤◌, IsTrue, refl, sym, inl, inr, arith}
+use Rattle.std.specs.Prelude.{Result, Ok, Err}
+use Rattle.tm_outside.specs.Counts.{Rose}
+use Rattle.tm_outside.specs.Sink.{SinkState}
+use Rattle.tm_outside.specs.declared.sink.SinkFail.TheVariants.{Failed as SinkFailed, Memory as SinkMemory}
+use Rattle.steps.specs.Outside.{Outside, outside, around}
+use Rattle.steps.specs.Stops.{status_of}
+use Rattle.steps.specs.Jobs.{Job, IsLawful, Does}
+use Rattle.steps.specs.Ends.{EndWrote, Ended, Finishes, Refuses}
+use Rattle.steps.specs.declared.refusal.Refusal.{Refusal}
+use Rattle.steps.specs.declared.refusal.Refusal.TheVariants.{Words, Machine, Faults, Defects, Image, Design, Vectors, Room, Rig, Store, Memory}
+use Rattle.steps.specs.declared.refusal.Stop.{Stop}
+use Rattle.steps.specs.declared.refusal.Stop.TheVariants.{Refused, Sink}
+use Rattle.steps.proofs.EndLemmas.{ended}
+use Rattle.steps.proofs.JobLemmas.{wrong-lawful, does-wrong, does-asked, ends-done, ends-stopped, end-wrong}
+use Rattle.tera_top.specs.Words.{Asked, no_job, a_job, HasNoJob, job_of, DoesAsked}
+
+-- wrong words are refused at once
+pub does-none : (o : Outside) → DoesAsked {T = Unit {0}} no_job (Err (Refused Words)) o o
+does-none o = record { lawful = wrong-lawful; does = does-wrong (Unit {0}) (Err (Refused Words)) o refl tt }
+
+-- a job is done as a command does it
+pub does-job : {T : Type 0} (job : Job) (result : Result T Stop) (old new : Outside) → IsLawful job → Does ⊥ job result old new → DoesAsked (a_job job) result old new
+does-job job result old new lawful does = record { lawful = lawful; does = does }
+
+-- ---- the end of the program
+
+-- a refusal has a status of its own
+pub refused-some : (refusal : Refusal) → status_of refusal ≡ 0 → ⊥
+refused-some Words is = absurd cc
+refused-some (Machine line kind) is = absurd cc
+refused-some (Faults line kind) is = absurd cc
+refused-some (Defects line kind) is = absurd cc
+refused-some (Image line kind) is = absurd cc
+refused-some (Design place) is = absurd cc
+refused-some (Vectors line kind) is = absurd cc
+refused-some (Room place) is = absurd cc
+refused-some Rig is = absurd cc
+refused-some Store is = absurd cc
+refused-some Memory is = absurd cc
+
+refuses-some : (refusal : Refusal) (old new : SinkState) (status : ℕ) → Refuses refusal old new status → status ≡ 0 → ⊥
+refuses-some refusal old new status (inl h) zero = refused-some refusal (sym h.0 ∙ zero)
+refuses-some refusal old new status (inr (inl h)) zero = let is = h.0 in absurd (let no : ⊥ = omega (arith, is, zero) in no)
+refuses-some refusal old new status (inr (inr h)) zero = let is = h.0 in absurd (let no : ⊥ = omega (arith, is, zero) in no)
+
+finishes-some : (stop : Stop) (old new : SinkState) (status : ℕ) → Finishes stop old new status → status ≡ 0 → ⊥
+finishes-some (Refused refusal) old new status fin zero = refuses-some refusal old new status fin zero
+finishes-some (Sink SinkFailed) old new status fin zero = let is = fin.0 in absurd (let no : ⊥ = omega (arith, is, zero) in no)
+finishes-some (Sink SinkMemory) old new status fin zero = refuses-some Memory old new status fin zero
+
+-- wrong words are refused, unless the sink fails
+wrong-only : (asked : Asked) (old new : Outside) (status : ℕ) → EndWrote (HasNoJob asked) ((job_of asked).course (around old) (around new)) old new status → HasNoJob asked → (status ≡ 2) ⊎ (((status ≡ 5) × Rose old.sink.failures new.sink.failures) ⊎ ((status ≡ 6) × IsTrue old.sink.can_lack))
+wrong-only no_job old new status written why = end-wrong (Unit {0}) old new status written
+wrong-only (a_job job) old new status written why = absurd why
+
+pub ends-well : {T : Type 0} (asked : Asked) (x : T) (result : Result T Stop) (old new : Outside) → result ≡ Ok x → DoesAsked asked result old new → Ended (HasNoJob asked) (job_of asked) old new 0
+ends-well asked x result old new is d =
+    let asks = rw is at d.does.asked in
+    let written = ends-done (HasNoJob asked) (job_of asked) old new (rw is at d.does.written) in
+    ended (HasNoJob asked) (job_of asked) d.lawful old new 0 d.does.later (does-asked (HasNoJob asked) (job_of asked) result old new d.does) (λ _. asks.all) d.does.machines written (wrong-only asked old new 0 written)
+
+pub ends-badly : {T : Type 0} (asked : Asked) (stop : Stop) (result : Result T Stop) (old mid : Outside) (sink : SinkState) (status : ℕ) → result ≡ Err stop → DoesAsked asked result old mid → Finishes stop mid.sink sink status → mid.sink.failures ≤ sink.failures → sink.can_lack ≡ mid.sink.can_lack → Ended (HasNoJob asked) (job_of asked) old (outside mid.store mid.rig sink) status
+ends-badly asked stop result old mid sink status is d fin later kind =
+    let new = outside mid.store mid.rig sink in
+    let first = d.does.later in
+    let written = ends-stopped (HasNoJob asked) (job_of asked) stop result old mid new status is refl refl d.does fin in
+    let on = record {
+      contents = first.contents;
+      texts = first.texts;
+      kind = kind ∙ first.kind;
+      store = first.store;
+      rig = first.rig;
+      sink = omega (arith, first.sink, later);
+    } in
+    ended (HasNoJob asked) (job_of asked) d.lawful old new status on (does-asked (HasNoJob asked) (job_of asked) result old mid d.does) (λ zero. absurd (finishes-some stop mid.sink sink status fin zero)) d.does.machines written (wrong-only asked old new status written)

@@ -1,0 +1,131 @@
+-- A program that ended with status 0 has done its job.
+use Rattle.std.proofs.Common.{◌≡◌, ◌⊎◌, ℕ, ◌<◌, ◌^◌, List, [], ◌∷◌, ◌++◌, Bool, true, false, length, take, IsTrue, refl, sym, ap, ◌∙◌, inl, inr, arith, subst, take_all, le_refl}
+use Rattle.std.specs.Prelude.{codes}
+use Rattle.std.specs.Fmt.{decimal}
+use Rattle.std.specs.List.{list_any}
+use Rattle.tm_outside.specs.Counts.{Rose}
+use Rattle.tm_outside.specs.Sink.{Wrote}
+use Rattle.steps.specs.Outside.{Outside, around}
+use Rattle.steps.specs.Courses.{Next, ends}
+use Rattle.steps.specs.Stops.{refusal_text}
+use Rattle.steps.specs.Jobs.{Job, wrong_words}
+use Rattle.steps.specs.Ends.{EndWrote, Ended, Stands, whole, refused, cut_line, no_line, cut}
+use Rattle.steps.specs.declared.refusal.Refusal.{Refusal}
+use Rattle.table_map.specs.Plain.{plain_network}
+use Rattle.place.specs.Plans.{nets_in}
+use Rattle.bench_laws.specs.Design.{bench_draft}
+use Rattle.tera_eval.specs.Eval.{eval_job}
+use Rattle.tera_eval.specs.Headline.{IsEvaled}
+use Rattle.tera_eval.proofs.Headlines.{evaled}
+use Rattle.tera_compile.specs.Compile.{compile_job}
+use Rattle.tera_compile.specs.Headline.{IsCompiled}
+use Rattle.tera_compile.proofs.Headlines.{compiled}
+use Rattle.tera_run.specs.Run.{run_job}
+use Rattle.tera_run.specs.Headline.{IsRan}
+use Rattle.tera_run.proofs.Headlines.{ran}
+use Rattle.tera_diagnose.specs.Diagnose.{diagnose_job}
+use Rattle.tera_diagnose.specs.Headline.{IsDiagnosed}
+use Rattle.tera_diagnose.proofs.Headlines.{diagnosed}
+use Rattle.tera_go.specs.Go.{go_job}
+use Rattle.tera_go.specs.Headline.{IsGone, HasRoomLeft, BeginsWithList, none}
+use Rattle.tera_go.proofs.Headlines.{gone, room-left, begins-end}
+use Rattle.tera_bench.specs.Bench.{bench_job}
+use Rattle.tera_bench.specs.Headline.{IsBenched}
+use Rattle.tera_bench.proofs.BenchLaws.{IsOnly}
+use Rattle.tera_bench.proofs.Headlines.{benched}
+use Rattle.tera_top.specs.Words.{Asked, a_job, HasNoJob, job_of, of_number, number_of, commands, asked_in, asked_by, is_dashed}
+use Rattle.tera_top.proofs.WordLemmas.{some_number}
+use Rattle.tera_top.proofs.AskedLemmas.{refused-some}
+
+end-done : (words : Type 0) (course : List ℕ → Next → Type 0) (old new : Outside) (status : ℕ) → EndWrote words course old new status → status ≡ 0 → (text : List ℕ) × course text ends × Wrote old.sink.written new.sink.written text
+end-done words course old new _ (whole text f w) is = (text, f, w)
+end-done words course old new _ (refused refusal text s w) is = absurd (refused-some refusal is)
+end-done words course old new _ (cut_line refusal text n s r w) is = absurd cc
+end-done words course old new _ (no_line refusal text s l w) is = absurd cc
+end-done words course old new _ (cut text line n p r w) is = absurd cc
+
+-- wrong words: as much of the line of a refusal stands there, and nothing else
+wrong-stands : (words : Type 0) (refusal : Refusal) (text : List ℕ) (old new : Outside) → Stands words (wrong_words.course (around old) (around new)) old new refusal text → text ≡ []
+wrong-stands words refusal text old new (inl stands) = stands.1.0
+wrong-stands words refusal text old new (inr stands) = stands.2.1.0
+
+wrong-begins : (words : Type 0) (machine name : List ℕ) (old new : Outside) (status : ℕ) → EndWrote words (wrong_words.course (around old) (around new)) old new status → BeginsWithList machine name old new
+wrong-begins words machine name old new _ (whole text at wrote) = let is = at.1 in absurd (cc)
+wrong-begins words machine name old new _ (refused refusal text stands wrote) =
+    let line = refusal_text refusal in
+    let empty = wrong-stands words refusal text old new stands in
+    none refusal (length line) (subst (λ t. Wrote old.sink.written new.sink.written t) (ap (λ s. s ++ line) empty ∙ sym (take_all (length line) line (le_refl (length line)))) wrote)
+wrong-begins words machine name old new _ (cut_line refusal text n stands rose wrote) =
+    let empty = wrong-stands words refusal text old new stands in
+    none refusal n (subst (λ t. Wrote old.sink.written new.sink.written t) (ap (λ s. s ++ take n (refusal_text refusal)) empty) wrote)
+wrong-begins words machine name old new _ (no_line refusal text stands lack wrote) =
+    none refusal 0 (subst (λ t. Wrote old.sink.written new.sink.written t) (wrong-stands words refusal text old new stands) wrote)
+wrong-begins words machine name old new _ (cut text line n at rose wrote) = let is = at.1 in absurd (cc)
+
+module _ (words : List (List ℕ)) (old new : Outside) (status : ℕ) (ended : Ended (HasNoJob (asked_by words)) (job_of (asked_by words)) old new status) where
+  -- whatever the status
+  pub go-listed : (machine name design vectors : List ℕ) → words ≡ codes "go" ∷ machine ∷ name ∷ design ∷ vectors ∷ [] → BeginsWithList machine name old new
+  go-listed machine name design vectors is = by_test (list_any is_dashed words) refl
+    where
+      go : asked_in commands words ≡ a_job (go_job machine name design vectors)
+      go = rw is refl
+
+      by_test : (b : Bool) → list_any is_dashed words ≡ b → BeginsWithList machine name old new
+      by_test true e =
+          let wrote = rw e at ended.written in
+          wrong-begins (Unit {0}) machine name old new status wrote
+      by_test false e =
+          let same : asked_by words ≡ a_job (go_job machine name design vectors) = rw e go in
+          let wrote = subst (λ (a : Asked). EndWrote (HasNoJob a) ((job_of a).course (around old) (around new)) old new status) same ended.written in
+          begins-end machine name design vectors old new ⊥ status wrote
+
+  module _ (zero : status ≡ 0) where
+    not-zero : (status ≡ 2) ⊎ (((status ≡ 5) × Rose old.sink.failures new.sink.failures) ⊎ ((status ≡ 6) × IsTrue old.sink.can_lack)) → ⊥
+    not-zero (inl two) = absurd (let h : ⊥ = omega (arith, zero, two) in h)
+    not-zero (inr (inl five)) = let is = five.0 in absurd (let h : ⊥ = omega (arith, zero, is) in h)
+    not-zero (inr (inr six)) = let is = six.0 in absurd (let h : ⊥ = omega (arith, zero, is) in h)
+
+    has-job : HasNoJob (asked_by words) → ⊥
+    has-job none = not-zero (ended.wrong_only none)
+
+    -- what the table says
+    asks : (job : Job) → asked_in commands words ≡ a_job job → asked_by words ≡ a_job job
+    asks job is = by_test (list_any is_dashed words) refl
+      where
+        by_test : (b : Bool) → list_any is_dashed words ≡ b → asked_by words ≡ a_job job
+        by_test true e = absurd (has-job (rw e tt))
+        by_test false e = rw e is
+
+    done-as : (job : Job) → asked_in commands words ≡ a_job job → (text : List ℕ) × job.course (around old) (around new) text ends × Wrote old.sink.written new.sink.written text × (new.store.asked ≡ old.store.asked ++ job.files)
+    done-as job is =
+        let same = asks job is in
+        let w = end-done (HasNoJob (asked_by words)) ((job_of (asked_by words)).course (around old) (around new)) old new status ended.written zero in (
+          w.0,
+          subst (λ (a : Asked). (job_of a).course (around old) (around new) w.0 ends) same w.1,
+          w.2,
+          subst (λ (a : Asked). new.store.asked ≡ old.store.asked ++ (job_of a).files) same (ended.asked_all zero),
+        )
+
+    pub go-gone : (machine name design vectors : List ℕ) → words ≡ codes "go" ∷ machine ∷ name ∷ design ∷ vectors ∷ [] → IsGone machine name design vectors old new
+    go-gone machine name design vectors is = let w = done-as (go_job machine name design vectors) (rw is refl) in gone machine name design vectors old new w.0 w.3 w.2 w.1
+
+    pub go-room : (machine name design vectors : List ℕ) → words ≡ codes "go" ∷ machine ∷ name ∷ design ∷ vectors ∷ [] → HasRoomLeft machine design old new
+    go-room machine name design vectors is = let w = done-as (go_job machine name design vectors) (rw is refl) in room-left machine name design vectors old new w.0 w.2 w.1
+
+    pub eval-evaled : (design vectors : List ℕ) → words ≡ codes "eval" ∷ design ∷ vectors ∷ [] → IsEvaled design vectors old new
+    eval-evaled design vectors is = let w = done-as (eval_job design vectors) (rw is refl) in evaled design vectors old new w.0 w.3 w.2 w.1
+
+    pub compile-compiled : (machine defects design : List ℕ) → words ≡ codes "compile" ∷ machine ∷ defects ∷ design ∷ [] → IsCompiled machine defects design old new
+    compile-compiled machine defects design is = let w = done-as (compile_job machine defects design) (rw is refl) in compiled machine defects design old new w.0 w.3 w.2 w.1
+
+    pub run-ran : (machine name image vectors : List ℕ) → words ≡ codes "run" ∷ machine ∷ name ∷ image ∷ vectors ∷ [] → IsRan machine name image vectors old new
+    run-ran machine name image vectors is = let w = done-as (run_job machine name image vectors) (rw is refl) in ran machine name image vectors old new w.0 w.3 w.2 w.1
+
+    pub diagnose-diagnosed : (machine name : List ℕ) → words ≡ codes "diagnose" ∷ machine ∷ name ∷ [] → IsDiagnosed machine name old new
+    diagnose-diagnosed machine name is = let w = done-as (diagnose_job machine name) (rw is refl) in diagnosed machine name old new w.0 w.3 w.2 w.1
+
+    pub bench-benched : length (plain_network bench_draft).tables ≡ 17 → nets_in (plain_network bench_draft) ≡ 18 → IsOnly → (n : ℕ) → n < 2 ^ 32 → words ≡ codes "bench" ∷ decimal n ∷ [] → IsBenched n old new
+    bench-benched tables nets only n less is =
+        let number = some_number (decimal n) n refl (omega (arith, less)) in
+        let w = done-as (bench_job n) (rw (is, ← number) refl) in
+        benched tables nets n only old new w.0 w.2 w.1
