@@ -86,7 +86,7 @@ module _ (words : List (List ℕ)) (old new : Outside) (status : ℕ) (ended : E
     not-zero (inr (inr six)) = let is = six.0 in absurd (let h : ⊥ = omega (arith, zero, is) in h)
 
     has-job : HasNoJob (asked_by words) → ⊥
-    has-job none = not-zero (ended.wrong_only none)
+    has-job wrong = not-zero (ended.wrong_only wrong)
 
     -- what the table says
     asks : (job : Job) → asked_in commands words ≡ a_job job → asked_by words ≡ a_job job

@@ -1,5 +1,5 @@
 -- The words of the command line, and what they ask for.
-use Rattle.std.specs.Prelude.{ℕ, Bool, false, List, [], ◌∷◌, length, Option, None, Some}
+use Rattle.std.specs.Prelude.{ℕ, Bool, true, false, List, [], ◌∷◌, length, Option, None, Some}
 use Rattle.std.specs.Prelude.{if◌then◌else◌, ◌==◌, ◌&&◌, codes, bytes_eq, slice_index_or, nat_le, Result}
 use Rattle.std.specs.List.{list_any}
 use Rattle.std.specs.Fmt.{decimal}
@@ -74,10 +74,15 @@ commands =
 abbrev pub begins_with : List (List ℕ) → ℕ → List ℕ → Bool
 begins_with words count first = (length words == count) && bytes_eq (word_at words 0) first
 
+-- of two, by a test
+abbrev pub asked_if : Bool → Asked → Asked → Asked
+asked_if true this that = this
+asked_if false this that = that
+
 -- what the words ask for by a table
 abbrev pub asked_in : List Command → List (List ℕ) → Asked
 asked_in [] words = no_job
-asked_in (c ∷ cs) words = if begins_with words c.count c.first then c.asks (word_at words) else asked_in cs words
+asked_in (c ∷ cs) words = asked_if (begins_with words c.count c.first) (c.asks (word_at words)) (asked_in cs words)
 
 -- the word begins with `-`
 abbrev pub is_dashed : List ℕ → Bool
@@ -86,7 +91,7 @@ is_dashed (byte ∷ bytes) = byte == 45
 
 -- words of which one begins with `-` are wrong
 abbrev pub asked_by : List (List ℕ) → Asked
-asked_by words = if list_any is_dashed words then no_job else asked_in commands words
+asked_by words = asked_if (list_any is_dashed words) no_job (asked_in commands words)
 
 -- The job that was asked for was done, to this end, and it is one that leads to no end that it shouldn't; or there was none
 pub record DoesAsked {T : Type 0} (asked : Asked) (result : Result T Stop) (old new : Outside) : Type 0 where
