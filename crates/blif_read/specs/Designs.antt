@@ -20,11 +20,13 @@ pub record IsDesign (bytes : List ℕ) (draft : Draft) : Type 0 where
   pub netlist : IsNetlistOf models draft
   pub checked : IsChecked draft
 
--- the fault that comes first: there are too many bytes; or a line is faulty, or none begins a model; or the models don't make a sound netlist
+-- the fault that comes first: there are too many bytes; or a line is faulty, or none begins a model; or the models don't make a
+-- sound netlist
 pub data IsDesignFault (bytes : List ℕ) (line : ℕ) (kind : DesignKind) : Type 0 where
   TooLong : 16777216 < length bytes → line ≡ 0 → kind ≡ Limit → IsDesignFault bytes line kind
   OnLine : length bytes ≤ 16777216 → reading (logical_lines true bytes) ≡ Err (line, kind) → IsDesignFault bytes line kind
-  InModels : length bytes ≤ 16777216 → (models : List Model) → AreModels bytes models → IsModelsFault models line kind → IsDesignFault bytes line kind
+  InModels : length bytes ≤ 16777216 → (models : List Model) → AreModels bytes models → IsModelsFault models line kind →
+      IsDesignFault bytes line kind
 
 -- what a refusal says of the bytes. Want of memory says nothing
 abbrev pub IsRefusalOfBytes : List ℕ → DesignFault → Type 0

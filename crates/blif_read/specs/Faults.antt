@@ -1,6 +1,7 @@
 -- The fault of a line, by what stands above it, and the first fault of a text.
 use Rattle.netlist.specs.declared.draft.Cover.{Cover}
-use Rattle.std.specs.Prelude.{ℕ, ◌==◌, Bool, true, false, not, ◌&&◌, ◌||◌, nat_lt, nat_le, codes, if◌then◌else◌, List, [], ◌∷◌, ◌++◌, Option, Some, None, Result, Ok, Err, length, map, drop}
+use Rattle.std.specs.Prelude.{ℕ, ◌==◌, Bool, true, false, not, ◌&&◌, ◌||◌, nat_lt, nat_le, codes, if◌then◌else◌, List, [], ◌∷◌, ◌++◌}
+use Rattle.std.specs.Prelude.{Option, Some, None, Result, Ok, Err, length, map, drop}
 use Rattle.std.specs.List.{list_any, list_all}
 use Rattle.std.specs.Option.{option_or}
 use Rattle.std.specs.Str.{bytes_eq}
@@ -12,7 +13,8 @@ use Rattle.blif_read.specs.declared.head.Head.TheVariants as head
 use Rattle.blif_read.specs.Heads.{head_of}
 use Rattle.blif_read.specs.Names.{limit_at}
 use Rattle.blif_read.specs.Seen.{Seen, Above}
-use Rattle.blif_read.specs.Parts.{word, is_pair, actual_of, row_words, is_right_row, is_off, is_init, has_type, has_init, init_word, control_of}
+use Rattle.blif_read.specs.Parts.{word, is_pair, actual_of, row_words, is_right_row, is_off, is_init, has_type, has_init, init_word}
+use Rattle.blif_read.specs.Parts.{control_of}
 use Rattle.blif_read.specs.Grammar.{above_by, models_of, is_some_model, spelled_model}
 use Rattle.flatten.specs.declared.model.Model.{Model}
 
@@ -56,7 +58,9 @@ latch_parts_fault words =
     else None
 
 abbrev pub latch_fault : Option (List ℕ) → List (List ℕ) → List (List ℕ) → Option DesignKind
-latch_fault control names words = option_or (latch_parts_fault words) (if is_other (control_of words) control then Some kind.Control else limit_at names (word 1 words ∷ word 2 words ∷ []))
+latch_fault control names words =
+    option_or (latch_parts_fault words) (if is_other (control_of words) control then Some kind.Control else limit_at names
+    (word 1 words ∷ word 2 words ∷ []))
 
 -- behind the model's name each word is a formal, `=` and an actual
 abbrev pub pairs_fault : List (List ℕ) → Option DesignKind

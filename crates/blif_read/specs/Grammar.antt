@@ -3,7 +3,8 @@ use Rattle.flatten.specs.declared.model.Model.{Model}
 use Rattle.flatten.specs.declared.model.PairDef.{PairDef}
 use Rattle.flatten.specs.declared.model.Piece.{Piece}
 use Rattle.netlist.specs.declared.draft.Cover.{Cover}
-use Rattle.std.specs.Prelude.{option_map, ℕ, ◌-◌, ◌≡◌, Bool, true, false, List, [], ◌∷◌, ◌++◌, Option, Some, None, length, map, take, drop, slice_index}
+use Rattle.std.specs.Prelude.{option_map, ℕ, ◌-◌, ◌≡◌, Bool, true, false, List, [], ◌∷◌, ◌++◌, Option, Some, None, length, map, take, drop}
+use Rattle.std.specs.Prelude.{slice_index}
 use Rattle.std.specs.List.{flat_map}
 use Rattle.std.specs.Option.{option_or, option_to_list}
 use Rattle.tm_text.specs.Lines.{LogicalLine, logical_lines}
@@ -99,7 +100,8 @@ cover_of names head.Names s =
 cover_of names _ s = None
 
 abbrev pub latch_of : List (List ℕ) → LogicalLine → LatchDef
-latch_of names l = record { from = name_number names (word 1 l.words); out = name_number names (word 2 l.words); init = init_of l.words; line = l.number }
+latch_of names l =
+    record { from = name_number names (word 1 l.words); out = name_number names (word 2 l.words); init = init_of l.words; line = l.number }
 
 abbrev pub pair_from : List (List ℕ) → List ℕ → PairDef
 pair_from names w = record { formal = formal_of w; actual = name_number names (actual_of w) }

@@ -8,7 +8,8 @@ use Rattle.blif_read.specs.declared.head.Head.TheVariants as head
 use Rattle.blif_read.specs.Heads.{head_of}
 use Rattle.blif_read.specs.Names.{names_after}
 use Rattle.blif_read.specs.Seen.{Seen, Above}
-use Rattle.blif_read.specs.Parts.{word, is_pair, actual_of, row_words, is_right_row, is_off, is_init, has_type, has_init, init_word, control_of}
+use Rattle.blif_read.specs.Parts.{word, is_pair, actual_of, row_words, is_right_row, is_off, is_init, has_type, has_init, init_word}
+use Rattle.blif_read.specs.Parts.{control_of}
 
 -- words that are signals: none is too long, and with those above there are not too many
 pub record AreSignals (names words : List (List ℕ)) : Type 0 where

@@ -24,11 +24,18 @@ Gives view (Ok x) read = read ≡ Ok (view x)
 Gives view (Err e) read = IsFaultAs e read
 
 abbrev pub start : State
-start = record { seen = record { begun = false; ended = false; names = []; current = None; control = None }; inputs = []; outputs = []; clocks = []; pieces = [] }
+start = record {
+  seen = record { begun = false; ended = false; names = []; current = None; control = None };
+  inputs = [];
+  outputs = [];
+  clocks = [];
+  pieces = [];
+}
 
 -- the model that the state holds, under this name
 abbrev pub model_from : List ℕ → State → Model
-model_from name s = record { name = name; names = s.seen.names; inputs = s.inputs; outputs = s.outputs; clocks = s.clocks; pieces = closed_pieces s }
+model_from name s =
+    record { name = name; names = s.seen.names; inputs = s.inputs; outputs = s.outputs; clocks = s.clocks; pieces = closed_pieces s }
 
 -- ---- the text
 
@@ -50,7 +57,13 @@ abbrev pub last_model : TextState → List Model
 last_model t = if t.this.seen.begun then model_from t.name t.this ∷ [] else []
 
 abbrev pub text_after_head : TextState → Head → ℕ → List (List ℕ) → TextState
-text_after_head t head.Model line words = record { done = t.done ++ last_model t; models = t.models ++ word 1 words ∷ []; name = word 1 words; this = after_head start head.Model line words }
+text_after_head t head.Model line words =
+    record {
+      done = t.done ++ last_model t;
+      models = t.models ++ word 1 words ∷ [];
+      name = word 1 words;
+      this = after_head start head.Model line words;
+    }
 text_after_head t h line words = record t { this = after_head t.this h line words }
 
 abbrev pub text_after : TextState → LogicalLine → TextState

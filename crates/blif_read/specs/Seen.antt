@@ -2,7 +2,8 @@
 use Rattle.std.specs.Prelude.{ℕ, Bool, List, Option}
 use Rattle.netlist.specs.declared.draft.Cover.{Cover}
 
--- of the lines of a model: whether a line stands there, whether the last is `.end`, the names, the cover whose rows go on, and the control of the latches
+-- of the lines of a model: whether a line stands there, whether the last is `.end`, the names, the cover whose rows go on, and
+-- the control of the latches
 pub record Seen : Type 0 where
   pub begun : Bool
   pub ended : Bool

@@ -36,7 +36,8 @@ new_latch names words line =
 
 -- the use of a model
 abbrev pub new_inst : List (List ℕ) → List (List ℕ) → ℕ → Piece
-new_inst names words line = Inst (word 1 words) (pairs_of (map formal_of (drop 2 words)) (numbers names (map actual_of (drop 2 words)))) line
+new_inst names words line =
+    Inst (word 1 words) (pairs_of (map formal_of (drop 2 words)) (numbers names (map actual_of (drop 2 words)))) line
 
 -- the cover whose rows went on has all of them
 abbrev pub closed_pieces : State → List Piece
@@ -47,13 +48,46 @@ closed s = record s { seen = record s.seen { begun = true; current = None }; pie
 
 abbrev pub after_head : State → Head → ℕ → List (List ℕ) → State
 after_head s head.Model line words = closed s
-after_head s head.Inputs line words = record s { seen = record s.seen { begun = true; current = None; names = names_after s.seen.names (drop 1 words) }; pieces = closed_pieces s; inputs = s.inputs ++ port_defs s.seen.names (drop 1 words) line }
-after_head s head.Outputs line words = record s { seen = record s.seen { begun = true; current = None; names = names_after s.seen.names (drop 1 words) }; pieces = closed_pieces s; outputs = s.outputs ++ port_defs s.seen.names (drop 1 words) line }
-after_head s head.Names line words = record s { seen = record s.seen { begun = true; current = Some (new_sum s.seen.names (drop 1 words) line); names = names_after s.seen.names (drop 1 words) }; pieces = closed_pieces s }
-after_head s head.Latch line words = record s { seen = record s.seen { begun = true; current = None; names = names_after s.seen.names (word 1 words ∷ word 2 words ∷ []); control = option_or s.seen.control (control_of words) }; pieces = closed_pieces s ++ Latch (new_latch s.seen.names words line) (control_of words) ∷ [] }
-after_head s head.End line words = record s { seen = record s.seen { begun = true; current = None; ended = true }; pieces = closed_pieces s }
-after_head s head.Clock line words = record s { seen = record s.seen { begun = true; current = None }; pieces = closed_pieces s; clocks = s.clocks ++ drop 1 words }
-after_head s head.Subckt line words = record s { seen = record s.seen { begun = true; current = None; names = names_after s.seen.names (map actual_of (drop 2 words)) }; pieces = closed_pieces s ++ new_inst s.seen.names words line ∷ [] }
+after_head s head.Inputs line words =
+    record s {
+      seen = record s.seen { begun = true; current = None; names = names_after s.seen.names (drop 1 words) };
+      pieces = closed_pieces s;
+      inputs = s.inputs ++ port_defs s.seen.names (drop 1 words) line;
+    }
+after_head s head.Outputs line words =
+    record s {
+      seen = record s.seen { begun = true; current = None; names = names_after s.seen.names (drop 1 words) };
+      pieces = closed_pieces s;
+      outputs = s.outputs ++ port_defs s.seen.names (drop 1 words) line;
+    }
+after_head s head.Names line words =
+    record s {
+      seen = record s.seen {
+        begun = true;
+        current = Some (new_sum s.seen.names (drop 1 words) line);
+        names = names_after s.seen.names (drop 1 words);
+      };
+      pieces = closed_pieces s;
+    }
+after_head s head.Latch line words =
+    record s {
+      seen = record s.seen {
+        begun = true;
+        current = None;
+        names = names_after s.seen.names (word 1 words ∷ word 2 words ∷ []);
+        control = option_or s.seen.control (control_of words);
+      };
+      pieces = closed_pieces s ++ Latch (new_latch s.seen.names words line) (control_of words) ∷ [];
+    }
+after_head s head.End line words =
+    record s { seen = record s.seen { begun = true; current = None; ended = true }; pieces = closed_pieces s }
+after_head s head.Clock line words =
+    record s { seen = record s.seen { begun = true; current = None }; pieces = closed_pieces s; clocks = s.clocks ++ drop 1 words }
+after_head s head.Subckt line words =
+    record s {
+      seen = record s.seen { begun = true; current = None; names = names_after s.seen.names (map actual_of (drop 2 words)) };
+      pieces = closed_pieces s ++ new_inst s.seen.names words line ∷ [];
+    }
 after_head s head.LeftOut line words = s
 after_head s head.Passed line words = s
 after_head s head.Unknown line words = s

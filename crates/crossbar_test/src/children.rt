@@ -1,5 +1,5 @@
 //! A trunk of a node below the root, from the tested crossbar above it.
-ghost use Rattle.std.specs.Prelude.{◌≡◌, ◌≤◌, ◌<◌, ◌+◌, ℕ, true, Some, IfOk, IfSome, OnOk, IsTrue, IsErrOf, is_some, [], ◌∷◌};
+ghost use Rattle.std.specs.Prelude.{◌≡◌, ◌<◌, true, Some, IfOk, IfSome, OnOk, IsErrOf, is_some, [], ◌∷◌};
 ghost use Rattle.tm_outside.specs.Counts.{Rose};
 ghost use Rattle.hierarchy.specs.Shape.{own_ports_of, parent_of, IsLine};
 ghost use Rattle.rig.specs.Rig.{shape_of};

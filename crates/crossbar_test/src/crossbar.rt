@@ -1,5 +1,5 @@
 //! One crossbar: which of its taps, lines and crosspoints are good.
-ghost use Rattle.std.specs.Prelude.{◌≡◌, ◌≤◌, ◌<◌, ◌+◌, ◌*◌, ℕ, Some, length, IfOk, OnOk, IfSome, IsErrOf};
+ghost use Rattle.std.specs.Prelude.{◌≡◌, ◌≤◌, ◌<◌, ◌+◌, ◌*◌, Some, length, IfOk, OnOk, IfSome, IsErrOf};
 ghost use Rattle.tm_outside.specs.Counts.{Rose};
 ghost use Rattle.hierarchy.specs.Shape.{taps_of, lines_of, node_of};
 ghost use Rattle.rig.specs.Rig.{shape_of};

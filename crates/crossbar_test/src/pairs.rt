@@ -1,12 +1,12 @@
 //! Two lines that are good at all taps.
-ghost use Rattle.std.specs.Prelude.{◌≡◌, ◌≢◌, ◌≤◌, ◌<◌, ◌+◌, ◌*◌, ℕ, true, Some, length, IfOk, IfSome, IfNone, OnOk, IsTrue, IsErrOf, is_some};
+ghost use Rattle.std.specs.Prelude.{◌≡◌, ◌≤◌, ◌<◌, ◌+◌, ◌*◌, ℕ, true, Some, length, IfOk, IfSome, IfNone, IsTrue, IsErrOf, is_some};
 ghost use Rattle.tm_outside.specs.Counts.{Rose};
 ghost use Rattle.hierarchy.specs.Shape.{nodes_of, IsLine};
 ghost use Rattle.config_set.specs.Groups.{among};
 ghost use Rattle.rig.specs.Rig.{shape_of};
 ghost use Rattle.evidence.specs.Held.{wire_numbers};
 ghost use Rattle.evidence.specs.Kept.{Advances};
-ghost use Rattle.crossbar_test.specs.Sides.{AreSides, KeepsEnds, IsTied};
+ghost use Rattle.crossbar_test.specs.Sides.{AreSides, IsTied};
 ghost use Rattle.crossbar_test.specs.Ties.{AreLines, AreTaps};
 ghost use Rattle.crossbar_test.specs.Stages.{AreTied, IsOpen, IsAllKept, PairIf, NoPartner, OpenIf};
 

@@ -1,5 +1,5 @@
 //! A trunk of the root: two pins.
-ghost use Rattle.std.specs.Prelude.{◌≡◌, ◌≢◌, ◌≤◌, ◌<◌, ◌+◌, ◌*◌, ℕ, true, Some, IfOk, IfSome, IfNone, OnOk, IsTrue, IsErrOf, is_some};
+ghost use Rattle.std.specs.Prelude.{◌≡◌, ◌≢◌, ◌≤◌, ◌<◌, ◌+◌, ◌*◌, true, Some, IfOk, IfSome, IfNone, OnOk, IsTrue, IsErrOf, is_some};
 ghost use Rattle.tm_outside.specs.Counts.{Rose};
 ghost use Rattle.hierarchy.specs.Shape.{pin_wire, pins_of};
 ghost use Rattle.rig.specs.Rig.{shape_of};

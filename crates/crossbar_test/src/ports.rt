@@ -1,5 +1,5 @@
 //! Two ports that lead a trunk on into a child.
-ghost use Rattle.std.specs.Prelude.{◌≡◌, ◌≤◌, ◌<◌, ◌+◌, ℕ, Some, IfOk, IfSome, IsTrue, IsErrOf, is_some};
+ghost use Rattle.std.specs.Prelude.{◌≡◌, ◌<◌, Some, IfOk, IfSome, IsTrue, IsErrOf, is_some};
 ghost use Rattle.tm_outside.specs.Counts.{Rose};
 ghost use Rattle.hierarchy.specs.Shape.{nodes_of, own_ports_of, parent_of, IsLine, IsPort};
 ghost use Rattle.rig.specs.Rig.{shape_of};

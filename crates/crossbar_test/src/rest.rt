@@ -1,5 +1,5 @@
 //! Lines that aren't tied to both sides.
-ghost use Rattle.std.specs.Prelude.{◌≡◌, ◌≢◌, ◌≤◌, ◌<◌, ◌+◌, ◌*◌, ℕ, true, Some, [], ◌∷◌, length, IfOk, IfSome, IfNone, OnOk, IsTrue, IsErrOf};
+ghost use Rattle.std.specs.Prelude.{◌≡◌, ◌≤◌, ◌<◌, ◌+◌, ◌*◌, ℕ, true, Some, [], ◌∷◌, length, IfOk, IfSome, IfNone, OnOk, IsTrue, IsErrOf};
 ghost use Rattle.tm_outside.specs.Counts.{Rose};
 ghost use Rattle.hierarchy.specs.Shape.{nodes_of, IsTap, IsLine};
 ghost use Rattle.config_set.specs.Groups.{among};

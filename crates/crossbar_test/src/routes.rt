@@ -3,8 +3,7 @@ ghost use Rattle.std.specs.Prelude.{◌≡◌, ◌≤◌, ◌<◌, ◌+◌, ℕ,
 ghost use Rattle.tm_outside.specs.Counts.{Rose};
 ghost use Rattle.config_set.specs.Groups.{among};
 ghost use Rattle.rig.specs.Rig.{shape_of};
-ghost use Rattle.test_configs.specs.Routes.{IsRoute};
-ghost use Rattle.evidence.specs.Kept.{Advances, keeps_cross, keeps_wire, keeps_pair};
+ghost use Rattle.evidence.specs.Kept.{Advances, keeps_wire};
 ghost use Rattle.crossbar_test.specs.Passing.{SwingsIf, ApartIf};
 ghost use Rattle.crossbar_test.specs.Sides.{IsKeptRoute, KeepsPairs};
 

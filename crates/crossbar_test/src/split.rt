@@ -1,5 +1,5 @@
 //! The lines of a crossbar, those that are tied to both sides of a trunk and the rest.
-ghost use Rattle.std.specs.Prelude.{◌≡◌, ◌≤◌, ◌+◌, ◌*◌, ℕ, Some, not, IfOk, OnOk, IsErrOf};
+ghost use Rattle.std.specs.Prelude.{◌≡◌, ◌≤◌, ◌+◌, ◌*◌, Some, not, IfOk, OnOk, IsErrOf};
 ghost use Rattle.tm_outside.specs.Counts.{Rose};
 ghost use Rattle.hierarchy.specs.Shape.{lines_of};
 ghost use Rattle.rig.specs.Rig.{shape_of};

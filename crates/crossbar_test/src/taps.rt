@@ -6,7 +6,7 @@ ghost use Rattle.config_set.specs.Groups.{among};
 ghost use Rattle.rig.specs.Rig.{shape_of};
 ghost use Rattle.evidence.specs.Held.{wire_numbers};
 ghost use Rattle.evidence.specs.Kept.{Advances, keeps_wire};
-ghost use Rattle.crossbar_test.specs.Sides.{AreSides, IsTied, KeepsEnds};
+ghost use Rattle.crossbar_test.specs.Sides.{AreSides, KeepsEnds};
 ghost use Rattle.crossbar_test.specs.Ties.{AreLines};
 ghost use Rattle.crossbar_test.specs.Stages.{AreTied, HungOn, IsHung, TapIf};
 

@@ -1,5 +1,5 @@
 //! A trunk down to a crossbar.
-ghost use Rattle.std.specs.Prelude.{◌≡◌, ℕ, Some, IfOk, IfSome, IfNone, OnOk, IsErrOf, is_some};
+ghost use Rattle.std.specs.Prelude.{◌≡◌, Some, IfOk, IfSome, IfNone, OnOk, IsErrOf, is_some};
 ghost use Rattle.tm_outside.specs.Counts.{Rose};
 ghost use Rattle.hierarchy.specs.Shape.{node_of, parent_of};
 ghost use Rattle.rig.specs.Rig.{shape_of};

@@ -16,7 +16,7 @@ use Rattle.evidence.specs.Kept.{Kept, HoldsFor, IsMore, Advances}
 use Rattle.evidence.specs.Held.{Findings}
 use Rattle.evidence.proofs.Keeping.{held_later, full_later, holds_earlier}
 use Rattle.separate.specs.Separated as apart
-use Rattle.separate.specs.Separated.{IsTaken, IsGood}
+use Rattle.separate.specs.Separated.{IsGood}
 use Rattle.diagnose.specs.declared.spines.Spine.{Spine}
 use Rattle.diagnose.specs.Chosen.{AreFound, AreFull, IsChoice, AreTaken, AreChosen}
 use Rattle.diagnose.specs.Crossbars.{AreBelow, TakesSum}

@@ -24,11 +24,14 @@ pub record HasSpine (spines : List (Option Spine)) (n : ℕ) : Type 0 where
 
 -- The pass at a node, where good wires are free: if the node is served, and the node above it has a spine, a spine was found
 -- and its free lines tried.
-pub record IsSweptNext (told : Option Faults) (k l : Kept) (free : ℕ → Bool) (spines : List (Option Spine)) (n : ℕ) (found : Bool) : Type 0 where
+pub record IsSweptNext (told : Option Faults) (k l : Kept) (free : ℕ → Bool) (spines : List (Option Spine)) (n : ℕ)
+    (found : Bool) : Type 0 where
   pub at : (f : Faults) → told ≡ Some f → HoldsFor k f → ((w : ℕ) → IsGood k.shape f w → free w ≡ true) → IsServed k.shape f n →
-      ((p : ℕ) → parent_of k.shape n ≡ Some p → HasSpine spines p) → (found ≡ true) × ((w : ℕ) → IsLine k.shape n w → free w ≡ true → IsTriedLine l f free w)
+      ((p : ℕ) → parent_of k.shape n ≡ Some p → HasSpine spines p) → (found ≡ true)
+      × ((w : ℕ) → IsLine k.shape n w → free w ≡ true → IsTriedLine l f free w)
 
 -- Where good wires are free, the served nodes below i have spines, and their free lines were tried.
 pub record AreSweptNodes (told : Option Faults) (k l : Kept) (free : ℕ → Bool) (spines : List (Option Spine)) (i : ℕ) : Type 0 where
-  pub at : (f : Faults) → told ≡ Some f → HoldsFor k f → ((w : ℕ) → IsGood k.shape f w → free w ≡ true) → (n : ℕ) → n < i → IsServed k.shape f n →
+  pub at : (f : Faults) → told ≡ Some f → HoldsFor k f → ((w : ℕ) → IsGood k.shape f w → free w ≡ true) → (n : ℕ) → n < i →
+      IsServed k.shape f n →
       HasSpine spines n × ((w : ℕ) → IsLine k.shape n w → free w ≡ true → IsTriedLine l f free w)

@@ -17,7 +17,8 @@ pub record AreSettled (told : Option Faults) (k : Kept) (ts : List Findings) : T
 
 -- where the machine is told to have no faults and each node is served, at most 6 loads for each crosspoint and 26 for each wire
 pub record TakesForAll (told : Option Faults) (m : Shape) (before after : ℕ) : Type 0 where
-  pub at : (f : Faults) → told ≡ Some f → IsFaultless f → ((n : ℕ) → n < nodes_of m → IsServed m f n) → after ≤ before + (6 * crosses_of m + 26 * wires_of m)
+  pub at : (f : Faults) → told ≡ Some f → IsFaultless f → ((n : ℕ) → n < nodes_of m → IsServed m f n) →
+      after ≤ before + (6 * crosses_of m + 26 * wires_of m)
 
 -- where the faults are told, the final pass was whole
 pub record IsSweptIf (told : Option Faults) (k l : Kept) (free : ℕ → Bool) : Type 0 where

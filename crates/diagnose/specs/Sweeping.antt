@@ -117,8 +117,10 @@ pub record IsSweptNode (told : Option Faults) (k l : Kept) (free : ℕ → Bool)
 -- What the whole pass has to leave, from k on, beside wires that are free: where good wires are among these, the free lines of
 -- served nodes were tried, and sound tables of served hextants are kept.
 pub record IsSwept (k l : Kept) (f : Faults) (free : ℕ → Bool) : Type 0 where
-  pub lines : ((w : ℕ) → IsGood k.shape f w → free w ≡ true) → (n w : ℕ) → IsServed k.shape f n → IsLine k.shape n w → free w ≡ true → IsTriedLine l f free w
-  pub tables : ((w : ℕ) → IsGood k.shape f w → free w ≡ true) → (t : ℕ) → t < tables_of k.shape → IsServed k.shape f (hextant_of k.shape t) → IsSoundTable k.shape f t → KeepsTable l t
+  pub lines : ((w : ℕ) → IsGood k.shape f w → free w ≡ true) → (n w : ℕ) → IsServed k.shape f n → IsLine k.shape n w → free w ≡ true →
+      IsTriedLine l f free w
+  pub tables : ((w : ℕ) → IsGood k.shape f w → free w ≡ true) → (t : ℕ) → t < tables_of k.shape →
+      IsServed k.shape f (hextant_of k.shape t) → IsSoundTable k.shape f t → KeepsTable l t
 
 -- the free ports of a node
 pub record AreFreePorts (m : Shape) (free : ℕ → Bool) (n : ℕ) (ws : List ℕ) : Type 0 where

@@ -1,5 +1,5 @@
 //! The final pass at a node.
-ghost use Rattle.std.specs.Prelude.{◌≡◌, ◌≤◌, ◌<◌, ◌+◌, ◌*◌, Some, length, IfOk, OnOk, IfSome, IsErrOf, is_some};
+ghost use Rattle.std.specs.Prelude.{◌≡◌, ◌<◌, Some, length, IfOk, OnOk, IfSome, IsErrOf, is_some};
 ghost use Rattle.tm_bits.specs.Numbers.{has_number};
 ghost use Rattle.tm_outside.specs.Counts.{Rose};
 ghost use Rattle.hierarchy.specs.Shape.{wires_of};

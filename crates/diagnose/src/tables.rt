@@ -1,5 +1,5 @@
 //! The tests of a table's cells and of its register.
-ghost use Rattle.std.specs.Prelude.{All, ◌≡◌, ◌≤◌, ◌<◌, ◌+◌, ◌%◌, ◌==◌, true, false, Some, [], IfOk, OnOk, IsErrOf, IsTrue};
+ghost use Rattle.std.specs.Prelude.{All, ◌≡◌, ◌≤◌, ◌<◌, ◌+◌, ◌%◌, ◌==◌, true, false, Some, [], IfOk, OnOk, IsErrOf};
 ghost use Rattle.tm_outside.specs.Counts.{Rose};
 ghost use Rattle.hierarchy.specs.Shape.{nodes_of, tables_of, hextant_of, table_wire, ends_of, crosses_of, IsLine};
 ghost use Rattle.config_set.specs.Groups.{among};

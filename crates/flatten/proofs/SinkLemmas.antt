@@ -1,5 +1,5 @@
 -- What is known of the lines, with a line more.
-use Rattle.std.proofs.Common.{◌≡◌, ℕ, ◌+◌, ◌<◌, ◌≤◌, ◌||◌, false, List, [], ◌∷◌, ◌++◌, None, length, map, refl, sym, ap, ◌∙◌, subst, arith}
+use Rattle.std.proofs.Common.{◌≡◌, ℕ, ◌+◌, ◌<◌, ◌||◌, false, List, [], ◌∷◌, ◌++◌, None, map, refl, sym, ap, ◌∙◌, subst, arith}
 use Rattle.std.specs.List.{flat_map}
 use Rattle.std.proofs.lemmas.List.{map_push}
 use Rattle.netlist.specs.declared.draft.PortDef.{PortDef}
@@ -12,12 +12,11 @@ use Rattle.flatten.specs.Lines.{Line}
 use Rattle.flatten.specs.Netlists.{Clocked, control_on}
 use Rattle.flatten.specs.Placed.{part_of, placed_line}
 use Rattle.flatten.specs.Signals.{with_signals, words_in, words_on, size_in, signals_of, size_of}
-use Rattle.flatten.specs.Substitution.{is_left}
 use Rattle.flatten.specs.Words.{drive_on, drives_in}
 use Rattle.flatten.specs.Clocks.{AreClocks}
 use Rattle.flatten.specs.Drives.{AreDrives}
 use Rattle.flatten.specs.Refusals.{IsPast}
-use Rattle.flatten.specs.Sinks.{IsSink, IsPut, IsOverWith}
+use Rattle.flatten.specs.Sinks.{IsPut, IsOverWith}
 use Rattle.flatten.proofs.SignalsLemmas.{signals_one, size_one, past_size, past_line}
 use Rattle.flatten.proofs.KnownLemmas.{flat_one, drives_one}
 use Rattle.flatten.proofs.WorkLemmas.{left_after, none_in}

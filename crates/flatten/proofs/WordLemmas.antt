@@ -1,5 +1,5 @@
 -- Words that nothing drives.
-use Rattle.std.proofs.Common.{◌≡◌, ℕ, ◌<◌, true, not, List, Option, None, Some, refl, sym, ap, subst, ◌∙◌, arith, inl, inr, length, fold}
+use Rattle.std.proofs.Common.{◌≡◌, ℕ, ◌<◌, true, not, List, Option, None, Some, refl, sym, ap, ◌∙◌, arith, inl, inr, length, fold}
 use Rattle.std.specs.Prelude.{is_some}
 use Rattle.std.specs.List.{All}
 use Rattle.std.proofs.lemmas.Bool.{cases_lt}
@@ -8,7 +8,7 @@ use Rattle.netlist.specs.declared.draft.Draft.{Draft}
 use Rattle.netlist.specs.declared.draft.PortDef.{PortDef}
 use Rattle.netlist.specs.Orders.{IsBefore, IsFirst}
 use Rattle.netlist.specs.Drafts.{word, word_at, signal_at, line_at, drives_of, reads_of}
-use Rattle.netlist.specs.Checks.{IsChecked, IsDoubledIn}
+use Rattle.netlist.specs.Checks.{IsChecked}
 use Rattle.netlist.specs.Words.{place_at, AreFirstWords, sooner}
 use Rattle.netlist.proofs.OrderLemmas.{not_itself, first_same}
 use Rattle.netlist.proofs.WordLemmas.{IsFree, place, place_first, at_place, fold_place}

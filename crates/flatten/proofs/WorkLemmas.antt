@@ -8,7 +8,6 @@ use Rattle.std.proofs.lemmas.List.{length-map, map_push, take_more, append-nil, 
 use Rattle.flatten.specs.declared.model.Signal.{Signal}
 use Rattle.flatten.specs.declared.model.PairDef.{PairDef}
 use Rattle.flatten.specs.declared.model.Model.{Model}
-use Rattle.flatten.specs.declared.placed.Placed.{Placed}
 use Rattle.flatten.specs.declared.placed.PlacedPart.{PlacedPart}
 use Rattle.flatten.specs.declared.placed.PlacedPart.TheVariants as placed
 use Rattle.flatten.specs.declared.frames.Frame.{Frame}
@@ -20,7 +19,7 @@ use Rattle.flatten.specs.declared.refusal.Refusal.TheVariants.{Memory, Limit}
 use Rattle.flatten.specs.Lines.{Pair, Part, InputPart, OutputPart, CoverPart, LatchPart, UsePart, Line, is_use, pair_of, with_place, next_place, with_places}
 use Rattle.flatten.specs.Ordered.{line_in}
 use Rattle.flatten.specs.Given.{looked_up, place_of}
-use Rattle.flatten.specs.Placed.{part_of, placed_line}
+use Rattle.flatten.specs.Placed.{part_of}
 use Rattle.flatten.specs.Refusals.{IsOver}
 use Rattle.flatten.specs.Signals.{is_over}
 use Rattle.flatten.specs.Substitution.{given, Place, becomes, pair_through, through, part_through, lines_at, at_first, first_model, without_ports, model_named, replace, replace_first, after, is_left, IsSubstituted}

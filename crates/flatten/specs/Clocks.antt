@@ -41,11 +41,13 @@ IsUnlike controls one k = same_control one (control_in controls k) ≡ false
 
 abbrev pub IsFirstUnlike : List Clocked → Control Signal → Option ℕ → Type 0
 IsFirstUnlike controls one None = IsFirst (number_in controls) (length controls) (IsUnlike controls one) None
-IsFirstUnlike controls one (Some line) = (k : ℕ) × IsFirst (number_in controls) (length controls) (IsUnlike controls one) (Some k) × (line ≡ number_in controls k)
+IsFirstUnlike controls one (Some line) =
+    (k : ℕ) × IsFirst (number_in controls) (length controls) (IsUnlike controls one) (Some k) × (line ≡ number_in controls k)
 
 -- the first control
 abbrev pub IsFirstClock : List Clocked → Clocked → Type 0
-IsFirstClock controls f = (k : ℕ) × IsFirst (number_in controls) (length controls) (λ k. Unit {0}) (Some k) × (f ≡ slice_index_or controls k no_control)
+IsFirstClock controls f =
+    (k : ℕ) × IsFirst (number_in controls) (length controls) (λ k. Unit {0}) (Some k) × (f ≡ slice_index_or controls k no_control)
 
 -- and the line of the first that is another
 abbrev pub AreFirstClocks : List Clocked → Option Clock → Option ℕ → Type 0

@@ -1,5 +1,6 @@
 -- The words that drive, as they come: the first of each signal, and the first that has the signal of an earlier one.
-use Rattle.std.specs.Prelude.{ℕ, ◌≡◌, Bool, ◌==◌, ◌&&◌, ◌||◌, nat_lt, List, Option, None, Some, option_map, map, length, slice_index_or, if◌then◌else◌}
+use Rattle.std.specs.Prelude.{ℕ, ◌≡◌, Bool, ◌==◌, ◌&&◌, ◌||◌, nat_lt, List, Option, None, Some, option_map, map, length, slice_index_or}
+use Rattle.std.specs.Prelude.{if◌then◌else◌}
 use Rattle.netlist.specs.declared.draft.PortDef.{PortDef}
 use Rattle.netlist.specs.Orders.{IsFirst}
 use Rattle.netlist.specs.Drafts.{word_at, signal_at, line_at}

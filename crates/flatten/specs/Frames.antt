@@ -52,11 +52,15 @@ IsPlaced way k f before after (Some u) =
 -- a part in front, in which no use is left, is beyond a limit
 abbrev pub IsOverIn : List (Line Signal) → Refusal → Type 0
 IsOverIn lines Memory = Unit {0}
-IsOverIn lines Limit = (front : List (Line Signal)) × (back : List (Line Signal)) × (lines ≡ front ++ back) × (is_left front ≡ false) × (is_over front ≡ true)
+IsOverIn lines Limit =
+    (front : List (Line Signal)) × (back : List (Line Signal)) × (lines ≡ front ++ back) × (is_left front ≡ false) × (is_over front ≡ true)
 
 -- whatever lines there were, those up to the next use are put behind them
 abbrev pub ArePlaced : List ℕ → ℕ → Frame → Sink → Sink → Option Found → Type 0
-ArePlaced way k f old new u = (names : List (List ℕ)) (before : List (Line Signal)) → IsSink names before old → (after : List (Line Signal)) × IsSink names after new × IsPlaced way k f before after u
+ArePlaced way k f old new u =
+    (names : List (List ℕ)) (before : List (Line Signal)) → IsSink names before old → (after : List (Line Signal))
+    × IsSink names after new × IsPlaced way k f before after u
 
 abbrev pub AreOverIn : List ℕ → Frame → Sink → Refusal → Type 0
-AreOverIn way f old e = (names : List (List ℕ)) (before : List (Line Signal)) → IsSink names before old → IsOverIn (before ++ left_in way f) e
+AreOverIn way f old e =
+    (names : List (List ℕ)) (before : List (Line Signal)) → IsSink names before old → IsOverIn (before ++ left_in way f) e

@@ -21,7 +21,9 @@ pub data Control (S : Type 0) : Type 0 where
   GivenControl : S → Control S
   NamedControl : List ℕ → Control S
 
--- what a line says, over signals S: a word of `.inputs` or `.outputs`; a cover with its output, its inputs, its rows and whether they list the off-set; a latch with its input, its output, its initial bit and its control; the use of a model with what is given, and the way to it
+-- what a line says, over signals S: a word of `.inputs` or `.outputs`; a cover with its output, its inputs, its rows and
+-- whether they list the off-set; a latch with its input, its output, its initial bit and its control; the use of a model with
+-- what is given, and the way to it
 pub data Part (S : Type 0) : Type 0 where
   InputPart : S → Part S
   OutputPart : S → Part S

@@ -1,5 +1,6 @@
 -- The netlist that is read from the substituted design.
-use Rattle.std.specs.Prelude.{ℕ, zero, suc, ◌≡◌, ◌<◌, ◌≤◌, false, List, [], ◌∷◌, ◌++◌, map, length, Option, Some, None, if◌then◌else◌, slice_index_or}
+use Rattle.std.specs.Prelude.{ℕ, zero, suc, ◌≡◌, ◌<◌, ◌≤◌, false, List, [], ◌∷◌, ◌++◌, map, length, Option, Some, None, if◌then◌else◌}
+use Rattle.std.specs.Prelude.{slice_index_or}
 use Rattle.std.specs.List.{flat_map, list_any, position_or_len}
 use Rattle.std.specs.Str.{bytes_eq}
 use Rattle.std.specs.Fmt.{decimal}
@@ -46,7 +47,8 @@ printed models s = let origin = origin_of models s.used in printed_way origin.wa
 -- a name that stayed is one with the first model's signal of that name
 abbrev pub control_is : List (List ℕ) → Control Signal → Control Signal
 control_is names (GivenControl s) = GivenControl s
-control_is names (NamedControl w) = if list_any (bytes_eq w) names then GivenControl (record { used = 0; own = position_or_len (bytes_eq w) names }) else NamedControl w
+control_is names (NamedControl w) =
+    if list_any (bytes_eq w) names then GivenControl (record { used = 0; own = position_or_len (bytes_eq w) names }) else NamedControl w
 
 -- the control of a latch, with the number of its line
 pub record Clocked : Type 0 where
@@ -99,14 +101,16 @@ module _ (signals : List Signal) where
   cover_on l = by l.part
     where
       by : Part Signal → List Cover
-      by (CoverPart out ins rows off) = record { out = number_of signals out; ins = map (number_of signals) ins; rows = rows; off = off; line = l.number } ∷ []
+      by (CoverPart out ins rows off) =
+          record { out = number_of signals out; ins = map (number_of signals) ins; rows = rows; off = off; line = l.number } ∷ []
       by _ = []
 
   abbrev pub latch_on : Line Signal → List LatchDef
   latch_on l = by l.part
     where
       by : Part Signal → List LatchDef
-      by (LatchPart from out init control) = record { from = number_of signals from; out = number_of signals out; init = init; line = l.number } ∷ []
+      by (LatchPart from out init control) =
+          record { from = number_of signals from; out = number_of signals out; init = init; line = l.number } ∷ []
       by _ = []
 
 -- the draft is the netlist that these lines spell

@@ -18,14 +18,17 @@ use Rattle.flatten.specs.Sinks.{IsSink}
 -- the names of the model that replaced line k; its way is that of the replaced line in whose model line k stood, and its place there
 abbrev pub IsOrigin : List Model → ℕ → Origin → Type 0
 IsOrigin models zero o = o.names.now ≡ (origin_of models 0).model.names
-IsOrigin models (suc k) o = (o.names.now ≡ (origin_of models (suc k)).model.names) × (o.within ≤ k) × (way_to models (suc k) ≡ way_to models o.within ++ o.place ∷ [])
+IsOrigin models (suc k) o =
+    (o.names.now ≡ (origin_of models (suc k)).model.names) × (o.within ≤ k)
+    × (way_to models (suc k) ≡ way_to models o.within ++ o.place ∷ [])
 
 abbrev pub AreOrigins : List Model → List Origin → Type 0
 AreOrigins models origins = (k : ℕ) (o : Origin) → k < length origins → IsOrigin models k (slice_index_or origins k o)
 
 -- and none comes later
 abbrev pub AreAllOrigins : List Model → List Origin → Type 0
-AreAllOrigins models origins = AreOrigins models origins × ((k : ℕ) → length origins ≤ k → origin_of models k ≡ record { model = first_model models; way = [] })
+AreAllOrigins models origins =
+    AreOrigins models origins × ((k : ℕ) → length origins ≤ k → origin_of models k ≡ record { model = first_model models; way = [] })
 
 -- the last step on the way to what replaced a line, as it is printed
 abbrev pub step_to : ℕ → ℕ → List ℕ

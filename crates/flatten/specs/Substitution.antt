@@ -1,11 +1,13 @@
 -- The substituted design.
-use Rattle.std.specs.Prelude.{ℕ, zero, suc, Bool, false, ◌≡◌, List, [], ◌∷◌, ◌++◌, map, Option, Some, None, option_map, if◌then◌else◌, slice_index_or}
+use Rattle.std.specs.Prelude.{ℕ, zero, suc, Bool, false, ◌≡◌, List, [], ◌∷◌, ◌++◌, map, Option, Some, None, option_map, if◌then◌else◌}
+use Rattle.std.specs.Prelude.{slice_index_or}
 use Rattle.std.specs.List.{list_any}
 use Rattle.std.specs.Option.{option_or, unwrap_or}
 use Rattle.std.specs.Str.{bytes_eq}
 use Rattle.flatten.specs.declared.model.Model.{Model}
 use Rattle.flatten.specs.declared.model.Signal.{Signal}
-use Rattle.flatten.specs.Lines.{Pair, Control, GivenControl, NamedControl, Part, InputPart, OutputPart, CoverPart, LatchPart, UsePart, Line, no_model, lines_of_model, is_port, is_use}
+use Rattle.flatten.specs.Lines.{Pair, Control, GivenControl, NamedControl, Part, InputPart, OutputPart, CoverPart, LatchPart, UsePart, Line}
+use Rattle.flatten.specs.Lines.{no_model, lines_of_model, is_port, is_use}
 
 -- what a name becomes, if it is given
 abbrev pub given : List (Pair Signal) → List ℕ → Option Signal
@@ -64,7 +66,8 @@ model_named (m ∷ models) w = if bytes_eq m.name w then m else model_named mode
 
 -- what stands for line k: a line that uses a model is replaced by the lines of that model
 abbrev pub replace : List Model → ℕ → Line Signal → Part Signal → List (Line Signal) → List (Line Signal) → List (Line Signal)
-replace models k l (UsePart m pairs way) lines later = without_ports (lines_at (model_named models m) (record { used = k; way = way; actuals = given pairs })) ++ lines
+replace models k l (UsePart m pairs way) lines later =
+    without_ports (lines_at (model_named models m) (record { used = k; way = way; actuals = given pairs })) ++ lines
 replace models k l _ lines later = l ∷ later
 
 -- the first line that uses a model is replaced, as line k

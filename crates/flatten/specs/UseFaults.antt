@@ -14,7 +14,8 @@ IsUnknown models k = is_among (map (λ m. m.name) models) (use_at models k).mode
 -- the first formal that is no name of the ports or stands earlier
 abbrev pub first_wrong : List (List ℕ) → List (List ℕ) → List (List ℕ) → Option (List ℕ)
 first_wrong ports earlier [] = None
-first_wrong ports earlier (f ∷ formals) = if not (is_among ports f) || is_among earlier f then Some f else first_wrong ports (f ∷ earlier) formals
+first_wrong ports earlier (f ∷ formals) =
+    if not (is_among ports f) || is_among earlier f then Some f else first_wrong ports (f ∷ earlier) formals
 
 -- the first input that isn't given
 abbrev pub first_missing : List (List ℕ) → List (List ℕ) → Option (List ℕ)

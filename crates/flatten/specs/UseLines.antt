@@ -48,7 +48,8 @@ looked_up c w = get_by (λ k. bytes_eq w k.now) c.known
 -- what is kept at a name: the first model of the name, with its ports
 abbrev pub IsKnown : List Model → List ℕ → Option Known → Type 0
 IsKnown models w None = is_among (names_of models) w ≡ false
-IsKnown models w (Some k) = (is_among (names_of models) w ≡ true) × (k.model.now ≡ model_named models w) × (k.ports ≡ with_names [] (port_names k.model.now))
+IsKnown models w (Some k) =
+    (is_among (names_of models) w ≡ true) × (k.model.now ≡ model_named models w) × (k.ports ≡ with_names [] (port_names k.model.now))
 
 abbrev pub IsCatalog : List Model → Catalog → Type 0
 IsCatalog models c = (w : List ℕ) → IsKnown models w (looked_up c w)

@@ -62,7 +62,8 @@ pub record IsRightlyGiven (m : Model) (pairs : List (Pair ℕ)) : Type 0 where
 -- a model is used by another, directly or through others, or is it
 pub data Reaches (models : List Model) : List ℕ → List ℕ → Type 0 where
   here : {a : List ℕ} → Reaches models a a
-  onward : (k : ℕ) → {b : List ℕ} → k < length (uses_of models) → Reaches models (use_at models k).model b → Reaches models (use_at models k).own b
+  onward : (k : ℕ) → {b : List ℕ} → k < length (uses_of models) → Reaches models (use_at models k).model b →
+      Reaches models (use_at models k).own b
 
 -- through the line its own model is used again
 abbrev pub IsRecursive : List Model → ℕ → Type 0

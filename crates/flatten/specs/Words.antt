@@ -56,7 +56,8 @@ IsFirstDoubled lines found = IsFirst (line_at (drives_in lines)) (length (drives
 
 -- the first word that reads a signal which no word drives, in the same order
 abbrev pub IsFirstUndriven : List (Line Signal) → Option ℕ → Type 0
-IsFirstUndriven lines found = IsFirst (line_at (reads_in lines)) (length (reads_in lines)) (IsUndrivenIn (drives_in lines) (reads_in lines)) found
+IsFirstUndriven lines found =
+    IsFirst (line_at (reads_in lines)) (length (reads_in lines)) (IsUndrivenIn (drives_in lines) (reads_in lines)) found
 
 -- the first cover on a cycle, in the same order
 abbrev pub IsFirstCyclic : List (Line Signal) → Option ℕ → Type 0

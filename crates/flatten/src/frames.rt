@@ -1,6 +1,6 @@
 //! Models that stand for lines.
 
-ghost use Rattle.std.specs.Prelude.{◌≡◌, ℕ, List, [], ◌∷◌, ◌++◌, map, IfOk, OnOk, IfErr, MatchOption, false};
+ghost use Rattle.std.specs.Prelude.{◌≡◌, ℕ, List, [], map, IfOk, OnOk, IfErr, MatchOption, false};
 ghost use Rattle.flatten.specs.Given.{looked_up, place_of};
 ghost use Rattle.flatten.specs.Lines.{UsePart, is_use, pair_of};
 ghost use Rattle.flatten.specs.Ordered.{line_in, part_in};

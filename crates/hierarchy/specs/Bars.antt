@@ -25,7 +25,8 @@ pub record FitsBelow (b : Bar) (most : ℕ) : Type 0 where
 
 -- the wire of the tap at a position
 abbrev pub tap_by : Bar → ℕ → ℕ
-tap_by b a = if nat_lt a b.ports then b.first + a else b.first + b.ports + b.lines + (a - b.ports) / b.each * b.step + (a - b.ports) % b.each
+tap_by b a =
+    if nat_lt a b.ports then b.first + a else b.first + b.ports + b.lines + (a - b.ports) / b.each * b.step + (a - b.ports) % b.each
 
 -- the crossbar of a node, whose wires it gives by their positions
 pub record IsNodeBar (m : Shape) (n : ℕ) (b : Bar) : Type 0 where

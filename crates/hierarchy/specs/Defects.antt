@@ -61,5 +61,6 @@ pub record IsOfUse (m : Shape) (f : Faults) (w : ℕ) : Type 0 where
 pub record IsFair (m : Shape) (d : Defects) (f : Faults) : Type 0 where
   pub wires : (w : ℕ) → w < wires_of m → IsServed m f (node_of m w) → IsSoundWire m f w → IsOfUse m f w → IsFreeWire d w
   pub crosses : (x : ℕ) → x < crosses_of m → IsServed m f (node_of_cross m x) → IsSoundCross m f x → set.contains d.crosses x ≡ false
-  pub whole : (x : ℕ) → x < crosses_of m → IsServed m f (node_of_cross m x) → IsWholeLine m f (ends_of m x).1 → set.contains d.crosses x ≡ false
+  pub whole : (x : ℕ) → x < crosses_of m → IsServed m f (node_of_cross m x) → IsWholeLine m f (ends_of m x).1 →
+      set.contains d.crosses x ≡ false
   pub tables : (t : ℕ) → t < tables_of m → IsServed m f (hextant_of m t) → IsSoundTable m f t → set.contains d.tables t ≡ false

@@ -3,7 +3,9 @@ use Rattle.std.specs.Prelude.{◌≡◌, ◌≢◌, ℕ, suc, ◌<◌, Some, Non
 use Rattle.hierarchy.specs.declared.Shape.{Shape}
 use Rattle.hierarchy.specs.declared.Counts.{Counts}
 use Rattle.hierarchy.specs.Names.{numbered, node_name, table_name, wire_name}
-use Rattle.hierarchy.specs.Shape.{Ends, ends_of, pin_wire, table_wire, wires_of, crosses_of, nodes_of, tables_of, pins_of, node_of, parent_of, IsLine, IsPort, IsAbove, Meaning, Means, IsTap, taps_of, lines_of, ports_of, tap_at, line_at, cross_at, node_of_cross, tap_position, line_position, port_at, hextant_of}
+use Rattle.hierarchy.specs.Shape.{Ends, ends_of, pin_wire, table_wire, wires_of, crosses_of, nodes_of, tables_of, pins_of, node_of}
+use Rattle.hierarchy.specs.Shape.{parent_of, IsLine, IsPort, IsAbove, Meaning, Means, IsTap, taps_of, lines_of, ports_of, tap_at, line_at}
+use Rattle.hierarchy.specs.Shape.{cross_at, node_of_cross, tap_position, line_position, port_at, hextant_of}
 
 -- the numbers of pins are numbers of wires, and all are different
 pub record IsNumbered (m : Shape) : Type 0 where
@@ -11,7 +13,8 @@ pub record IsNumbered (m : Shape) : Type 0 where
   pub pins : (k : ℕ) → k < pins_of m → pin_wire m k < wires_of m
   pub tables : (t k : ℕ) → t < tables_of m → k < 7 → table_wire m t k < wires_of m
   pub pins_apart : (k l : ℕ) → k < pins_of m → l < pins_of m → pin_wire m k ≡ pin_wire m l → k ≡ l
-  pub tables_apart : (t u k l : ℕ) → t < tables_of m → u < tables_of m → k < 7 → l < 7 → table_wire m t k ≡ table_wire m u l → (t ≡ u) × (k ≡ l)
+  pub tables_apart : (t u k l : ℕ) → t < tables_of m → u < tables_of m → k < 7 → l < 7 → table_wire m t k ≡ table_wire m u l → (t ≡ u)
+      × (k ≡ l)
   pub no_pin_is_table : (k t l : ℕ) → k < pins_of m → t < tables_of m → l < 7 → pin_wire m k ≢ table_wire m t l
 
 -- what of the numbering makes a tree of crossbars
@@ -48,7 +51,8 @@ pub record HasCrosses (m : Shape) : Type 0 where
   pub back : (x : ℕ) → x < crosses_of m → cross_at m (node_of_cross m x) (tap_position m x) (line_position m x) ≡ x
   pub within : (n a b : ℕ) → n < nodes_of m → a < taps_of m n → b < lines_of m n → cross_at m n a b < crosses_of m
   pub at_node : (n a b : ℕ) → n < nodes_of m → a < taps_of m n → b < lines_of m n → node_of_cross m (cross_at m n a b) ≡ n
-  pub ends : (n a b : ℕ) → n < nodes_of m → a < taps_of m n → b < lines_of m n → ends_of m (cross_at m n a b) ≡ (tap_at m n a, line_at m n b)
+  pub ends : (n a b : ℕ) → n < nodes_of m → a < taps_of m n → b < lines_of m n →
+      ends_of m (cross_at m n a b) ≡ (tap_at m n a, line_at m n b)
   pub one : (x y : ℕ) → x < crosses_of m → y < crosses_of m → ends_of m x ≡ ends_of m y → x ≡ y
 
 -- each crosspoint has a tap and a line of its node, and a tap and a line of one node have a crosspoint

@@ -4,7 +4,8 @@
 use Rattle.std.specs.Prelude.{◌≡◌, ℕ, zero, suc, ◌+◌, ◌*◌, ◌/◌, ◌%◌, ◌<◌, Option, Some, None, if◌then◌else◌, nat_lt, [], ◌∷◌}
 use Rattle.hierarchy.specs.declared.Shape.{Shape}
 use Rattle.hierarchy.specs.Counts.{levels_from}
-use Rattle.hierarchy.specs.Walk.{Levels, Path, Place, rest, size, start, place_in, above, ports_in, lines_in, wires_in, taps_in, crosses_in, nodes_in, tables_in, trunk, tap_in}
+use Rattle.hierarchy.specs.Walk.{Levels, Path, Place, rest, size, start, place_in, above, ports_in, lines_in, wires_in, taps_in, crosses_in}
+use Rattle.hierarchy.specs.Walk.{nodes_in, tables_in, trunk, tap_in}
 
 unfoldable pub levels_of : Shape → Levels
 levels_of m = levels_from m.counts

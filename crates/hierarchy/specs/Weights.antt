@@ -24,7 +24,8 @@ weights_at w = w.root ∷ w.modules ∷ w.chips ∷ w.hextants ∷ []
 -- the place of a number, and the first number at the end of a way
 abbrev pub place_by : List Weight → ℕ → Place
 place_by [] x = record { path = []; position = x }
-place_by (w ∷ ws) x = if nat_lt x w.own then record { path = []; position = x } else under ((x - w.own) / w.each) (place_by ws ((x - w.own) % w.each))
+place_by (w ∷ ws) x =
+    if nat_lt x w.own then record { path = []; position = x } else under ((x - w.own) / w.each) (place_by ws ((x - w.own) % w.each))
 
 abbrev pub start_by : List Weight → Path → ℕ
 start_by ws [] = 0
@@ -40,7 +41,8 @@ each_by (w ∷ ws) (suc k) = each_by ws k
 -- where a number isn't the node's own, the children have numbers, and it is one of theirs
 pub data IsStep : List Weight → ℕ → Type 0 where
   last : {x : ℕ} → IsStep [] x
-  further : {w : Weight} {ws : List Weight} {x : ℕ} → (w.own ≤ x → 0 < w.each) → (w.own ≤ x → IsStep ws ((x - w.own) % w.each)) → IsStep (w ∷ ws) x
+  further : {w : Weight} {ws : List Weight} {x : ℕ} → (w.own ≤ x → 0 < w.each) → (w.own ≤ x → IsStep ws ((x - w.own) % w.each)) →
+      IsStep (w ∷ ws) x
 
 -- the code's place is this one
 pub record IsSiteOf (s : Site) (q : Place) : Type 0 where

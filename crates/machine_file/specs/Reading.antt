@@ -1,6 +1,7 @@
 -- The reader line by line: the state after the lines above, and what it makes of the next. What a text and its first
 -- fault are stands in Machine and Faults.
-use Rattle.std.specs.Prelude.{ℕ, ◌+◌, ◌==◌, Bool, not, ◌&&◌, nat_lt, codes, if◌then◌else◌, List, [], ◌∷◌, Option, Some, None, Result, Ok, Err, length, map, drop, slice_index, slice_index_or}
+use Rattle.std.specs.Prelude.{ℕ, ◌+◌, ◌==◌, Bool, not, ◌&&◌, nat_lt, codes, if◌then◌else◌, List, [], ◌∷◌, Option, Some, None, Result, Ok}
+use Rattle.std.specs.Prelude.{Err, length, map, drop, slice_index, slice_index_or}
 use Rattle.std.specs.List.{list_all}
 use Rattle.std.specs.Str.{bytes_eq}
 use Rattle.std.specs.Fmt.{decimal}
@@ -21,7 +22,18 @@ pub record State : Type 0 where
   pub counts : Counts
 
 abbrev pub start : State
-start = record { read = 0; counts = record { modules = 0; chips = 0; hextants = 0; tables = 0; ports = 0 ∷ 0 ∷ 0 ∷ []; lines = 0 ∷ 0 ∷ 0 ∷ 0 ∷ []; pins = 0 } }
+start = record {
+  read = 0;
+  counts = record {
+    modules = 0;
+    chips = 0;
+    hextants = 0;
+    tables = 0;
+    ports = 0 ∷ 0 ∷ 0 ∷ [];
+    lines = 0 ∷ 0 ∷ 0 ∷ 0 ∷ [];
+    pins = 0;
+  };
+}
 
 -- ---- the fault of a line
 
@@ -34,7 +46,8 @@ is_count w = bytes_eq w (decimal (value_of w)) && (nat_lt 0 (value_of w) && nat_
 
 -- no count is 0, as is known where the last line stands
 abbrev pub is_full : Counts → Bool
-is_full c = list_all (nat_lt 0) (c.modules ∷ c.chips ∷ c.hextants ∷ c.tables ∷ c.pins ∷ []) && (list_all (nat_lt 0) c.ports && list_all (nat_lt 0) c.lines)
+is_full c = list_all (nat_lt 0) (c.modules ∷ c.chips ∷ c.hextants ∷ c.tables ∷ c.pins ∷ [])
+    && (list_all (nat_lt 0) c.ports && list_all (nat_lt 0) c.lines)
 
 -- tables, wires and crosspoints are within their limits
 abbrev pub is_within : Counts → Bool

@@ -41,9 +41,14 @@ IsFirstCyclic d found = IsFirst (cover_line d.covers) (length d.covers) (IsOnCyc
 -- the fault that comes first: of all kinds by the order of these lines, of one kind by line and place.
 -- The name is the signal's
 abbrev pub IsDesignFault : Draft → ℕ → DesignKind → Type 0
-IsDesignFault d line (Doubled name) = (k : ℕ) × IsFirstDoubled d (Some k) × (line ≡ line_at (drives_of d) k) × (name ≡ name_at d (signal_at (drives_of d) k))
-IsDesignFault d line (Undriven name) = IsFirstDoubled d None × (k : ℕ) × IsFirstUndriven d (Some k) × (line ≡ line_at (reads_of d) k) × (name ≡ name_at d (signal_at (reads_of d) k))
-IsDesignFault d line (Cyclic name) = IsFirstDoubled d None × IsFirstUndriven d None × (k : ℕ) × IsFirstCyclic d (Some k) × (line ≡ cover_line d.covers k) × (name ≡ name_at d (cover_at d.covers k).out)
+IsDesignFault d line (Doubled name) =
+    (k : ℕ) × IsFirstDoubled d (Some k) × (line ≡ line_at (drives_of d) k) × (name ≡ name_at d (signal_at (drives_of d) k))
+IsDesignFault d line (Undriven name) =
+    IsFirstDoubled d None × (k : ℕ) × IsFirstUndriven d (Some k) × (line ≡ line_at (reads_of d) k)
+    × (name ≡ name_at d (signal_at (reads_of d) k))
+IsDesignFault d line (Cyclic name) =
+    IsFirstDoubled d None × IsFirstUndriven d None × (k : ℕ) × IsFirstCyclic d (Some k) × (line ≡ cover_line d.covers k)
+    × (name ≡ name_at d (cover_at d.covers k).out)
 IsDesignFault d line _ = ⊥
 
 -- what a refusal says of the design. Want of memory says nothing

@@ -26,15 +26,18 @@ abbrev pub RowsFrom : Draft → List Bool → List (List Bool) → List (List Bo
 RowsFrom d state [] [] = Unit {0}
 RowsFrom d state [] (row ∷ rows) = ⊥
 RowsFrom d state (vector ∷ vectors) [] = ⊥
-RowsFrom d state (vector ∷ vectors) (row ∷ rows) = (given : ℕ → Bool) × IsRight d state vector given × (row ≡ outputs_in d given) × RowsFrom d (next_state d given) vectors rows
+RowsFrom d state (vector ∷ vectors) (row ∷ rows) =
+    (given : ℕ → Bool) × IsRight d state vector given × (row ≡ outputs_in d given) × RowsFrom d (next_state d given) vectors rows
 
 abbrev pub AreRows : Draft → List (List Bool) → List (List Bool) → Type 0
 AreRows d vectors rows = RowsFrom d (first_state d) vectors rows
 
 -- exactly one valuation is right
 abbrev pub HasOneRight : Draft → List Bool → List Bool → Type 0
-HasOneRight d state vector = (given : ℕ → Bool) × IsRight d state vector given × ((other : ℕ → Bool) → IsRight d state vector other → (s : ℕ) → other s ≡ given s)
+HasOneRight d state vector =
+    (given : ℕ → Bool) × IsRight d state vector given × ((other : ℕ → Bool) → IsRight d state vector other → (s : ℕ) → other s ≡ given s)
 
 -- exactly one list is that of the rows
 abbrev pub HasOneRows : Draft → List (List Bool) → Type 0
-HasOneRows d vectors = (rows : List (List Bool)) × AreRows d vectors rows × ((other : List (List Bool)) → AreRows d vectors other → other ≡ rows)
+HasOneRows d vectors =
+    (rows : List (List Bool)) × AreRows d vectors rows × ((other : List (List Bool)) → AreRows d vectors other → other ≡ rows)

@@ -48,8 +48,10 @@ LeadsTo covers path u = (p : ℕ) → p < length path → Reaches covers (number
 -- what has come of a cover that is read at the place q of the path: all but the spare one are seen or waiting
 pub data IsHandled (states : List State) (groups : List Group) (waiting : List ℕ) (spare q v : ℕ) : Type 0 where
   is_done : (k : ℕ) → state_at states v ≡ Done k → IsHandled states groups waiting spare q v
-  is_open : (p : ℕ) → state_at states v ≡ Open p → ((i : ℕ) → i < length groups → start_at groups i ≤ q → start_at groups i ≤ p) → IsHandled states groups waiting spare q v
-  is_waiting : (w : ℕ) → w < length waiting → number_at waiting w ≡ v → ((i : ℕ) → i < length groups → start_at groups i ≤ q → waits_at groups i ≤ w) → IsHandled states groups waiting spare q v
+  is_open : (p : ℕ) → state_at states v ≡ Open p → ((i : ℕ) → i < length groups → start_at groups i ≤ q → start_at groups i ≤ p) →
+      IsHandled states groups waiting spare q v
+  is_waiting : (w : ℕ) → w < length waiting → number_at waiting w ≡ v →
+      ((i : ℕ) → i < length groups → start_at groups i ≤ q → waits_at groups i ≤ w) → IsHandled states groups waiting spare q v
   is_spare : v ≡ spare → IsHandled states groups waiting spare q v
 
 -- a cover of the path reads the one that waits at w, from the same group
@@ -59,7 +61,8 @@ pub record IsSource (covers : List Cover) (path : List ℕ) (groups : List Group
   pub below : (i : ℕ) → i < length groups → waits_at groups i ≤ w → start_at groups i ≤ q
   pub above : (i : ℕ) → i < length groups → start_at groups i ≤ q → waits_at groups i ≤ w
 
-pub record IsSearch (covers : List Cover) (states : List State) (path : List ℕ) (groups : List Group) (waiting : List ℕ) (count : ℕ) : Type 0 where
+pub record IsSearch (covers : List Cover) (states : List State) (path : List ℕ) (groups : List Group) (waiting : List ℕ)
+    (count : ℕ) : Type 0 where
   pub len : length states ≡ length covers
   pub within : (p : ℕ) → p < length path → number_at path p < length covers
   pub opens : (p : ℕ) → p < length path → state_at states (number_at path p) ≡ Open p
@@ -68,7 +71,8 @@ pub record IsSearch (covers : List Cover) (states : List State) (path : List ℕ
   pub closed : (u v k : ℕ) → state_at states u ≡ Done k → Reads covers u v → (l : ℕ) × (state_at states v ≡ Done l) × (l ≤ k)
   pub together : (u v k : ℕ) → state_at states u ≡ Done k → state_at states v ≡ Done k → Reaches covers u v
   pub along : (p q : ℕ) → p ≤ q → q < length path → Reaches covers (number_at path p) (number_at path q)
-  pub rooted : (q : ℕ) → q < length path → (i : ℕ) × (i < length groups) × (start_at groups i ≤ q) × Reaches covers (number_at path q) (number_at path (start_at groups i))
+  pub rooted : (q : ℕ) → q < length path → (i : ℕ) × (i < length groups) × (start_at groups i ≤ q)
+      × Reaches covers (number_at path q) (number_at path (start_at groups i))
   pub sorted : (i j : ℕ) → i < j → j < length groups → (start_at groups i < start_at groups j) × (waits_at groups i ≤ waits_at groups j)
   pub starts : (i : ℕ) → i < length groups → start_at groups i < length path
   pub waits : (i : ℕ) → i < length groups → waits_at groups i ≤ length waiting
@@ -76,10 +80,12 @@ pub record IsSearch (covers : List Cover) (states : List State) (path : List ℕ
 
 -- each cover that is read from the path is handled
 abbrev pub AreHandled : List Cover → List State → List ℕ → List Group → List ℕ → ℕ → Type 0
-AreHandled covers states path groups waiting spare = (q v : ℕ) → q < length path → Reads covers (number_at path q) v → IsHandled states groups waiting spare q v
+AreHandled covers states path groups waiting spare =
+    (q v : ℕ) → q < length path → Reads covers (number_at path q) v → IsHandled states groups waiting spare q v
 
 -- a cover was put on the path
-pub record IsOpened (covers : List Cover) (c : ℕ) (states states' : List State) (path path' : List ℕ) (groups groups' : List Group) (waiting waiting' : List ℕ) : Type 0 where
+pub record IsOpened (covers : List Cover) (c : ℕ) (states states' : List State) (path path' : List ℕ) (groups groups' : List Group)
+    (waiting waiting' : List ℕ) : Type 0 where
   pub len : length states' ≡ length states
   pub itself : state_at states' c ≡ Open (length path)
   pub other : (u : ℕ) → (u ≡ c → ⊥) → state_at states' u ≡ state_at states u

@@ -26,4 +26,6 @@ IsLast s group = IsLastOf s.groups.items group
 
 -- the cover is read from the last group
 abbrev pub IsReadFromLast : List Cover → Search → ℕ → Type 0
-IsReadFromLast covers s c = (q : ℕ) × (q < length s.path.items) × (start_at s.groups.items (length s.groups.items - 1) ≤ q) × Reads covers (number_at s.path.items q) c
+IsReadFromLast covers s c =
+    (q : ℕ) × (q < length s.path.items) × (start_at s.groups.items (length s.groups.items - 1) ≤ q)
+    × Reads covers (number_at s.path.items q) c

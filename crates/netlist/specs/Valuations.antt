@@ -18,15 +18,18 @@ pub record IsSettled (covers : List Cover) (base given : ℕ → Bool) : Type 0 
 pub record IsOrder (covers : List Cover) (order : List ℕ) : Type 0 where
   pub within : (k : ℕ) → k < length order → number_at order k < length covers
   pub all : (i : ℕ) → i < length covers → (k : ℕ) × (k < length order) × (number_at order k ≡ i)
-  pub once : (j k : ℕ) → j < k → k < length order → (cover_at covers (number_at order j)).out ≡ (cover_at covers (number_at order k)).out → ⊥
+  pub once : (j k : ℕ) → j < k → k < length order →
+      (cover_at covers (number_at order j)).out ≡ (cover_at covers (number_at order k)).out → ⊥
   pub earlier : (k v : ℕ) → k < length order → Reads covers (number_at order k) v → (j : ℕ) × (j < k) × (number_at order j ≡ v)
 
 -- exactly one valuation is so
 abbrev pub HasOneValuation : List Cover → (ℕ → Bool) → Type 0
-HasOneValuation covers base = (given : ℕ → Bool) × IsSettled covers base given × ((other : ℕ → Bool) → IsSettled covers base other → (s : ℕ) → other s ≡ given s)
+HasOneValuation covers base =
+    (given : ℕ → Bool) × IsSettled covers base given × ((other : ℕ → Bool) → IsSettled covers base other → (s : ℕ) → other s ≡ given s)
 
 -- the first m covers of the order have their truths, and the other signals their old bits
 pub record IsSettledTo (covers : List Cover) (order : List ℕ) (m : ℕ) (old new : List Bool) : Type 0 where
   pub len : length new ≡ length old
-  pub truths : (j : ℕ) → j < m → bit_at new (cover_at covers (number_at order j)).out ≡ truth (bit_at new) (cover_at covers (number_at order j))
+  pub truths : (j : ℕ) → j < m → bit_at new (cover_at covers (number_at order j)).out ≡ truth (bit_at new)
+      (cover_at covers (number_at order j))
   pub others : (s : ℕ) → ((j : ℕ) → j < m → (cover_at covers (number_at order j)).out ≡ s → ⊥) → bit_at new s ≡ bit_at old s

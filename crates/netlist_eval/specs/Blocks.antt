@@ -22,4 +22,5 @@ pub record IsBlock (d : Draft) (b : Block) : Type 0 where
 -- the row of a vector at any state, which stays
 abbrev pub IsRowOf : Draft → List Bool → List Bool → Type 0
 IsRowOf d vector row =
-    (state : List Bool) → length state ≡ length d.latches → let at : EvalState = record { netlist = d; state = state } in IsStep at vector row at
+    (state : List Bool) → length state ≡ length d.latches →
+    let at : EvalState = record { netlist = d; state = state } in IsStep at vector row at

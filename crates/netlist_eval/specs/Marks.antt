@@ -33,17 +33,23 @@ pub record HasGiven (r : Readers) (signal : ℕ) (bit : Bool) (marks values mark
 
 -- signals have these bits, where the turns from one on that read them aren't marked
 abbrev pub AreTaken : ℕ → List ℕ → List Bool → List Bool → List Bool → Type 0
-AreTaken first signals bits marks values = (k : ℕ) → k < length signals → bit_at marks (first + k) ≡ false → bit_at values (number_at signals k) ≡ bit_at bits k
+AreTaken first signals bits marks values =
+    (k : ℕ) → k < length signals → bit_at marks (first + k) ≡ false → bit_at values (number_at signals k) ≡ bit_at bits k
 
 -- this stays so, for turns that aren't those of covers
 abbrev pub StillTaken : ℕ → Readers → (marks values marks' values' : List Bool) → Type 0
-StillTaken least r marks values marks' values' = (first : ℕ) (signals : List ℕ) (bits : List Bool) → least ≤ first → first + length signals ≤ 65536 → AreListed r first signals → AreTaken first signals bits marks values → AreTaken first signals bits marks' values'
+StillTaken least r marks values marks' values' =
+    (first : ℕ) (signals : List ℕ) (bits : List Bool) → least ≤ first → first + length signals ≤ 65536 → AreListed r first signals →
+    AreTaken first signals bits marks values → AreTaken first signals bits marks' values'
 
 -- signals that no cover drives
 abbrev pub AreFree : List Cover → List ℕ → List ℕ → Type 0
-AreFree covers order signals = (k i : ℕ) → k < length order → i < length signals → number_at signals i ≡ (cover_at covers (number_at order k)).out → ⊥
+AreFree covers order signals =
+    (k i : ℕ) → k < length order → i < length signals → number_at signals i ≡ (cover_at covers (number_at order k)).out → ⊥
 
 -- where each cover stands among the readers of its inputs and none drives these signals, all that held of covers that weren't
 -- marked holds of those that aren't now
 abbrev pub StillKept : Readers → List ℕ → (marks values marks' values' : List Bool) → Type 0
-StillKept r signals marks values marks' values' = (covers : List Cover) (order : List ℕ) (count : ℕ) → AreReaders covers order count r → AreFree covers order signals → AreKept covers order 0 marks values → AreKept covers order 0 marks' values'
+StillKept r signals marks values marks' values' =
+    (covers : List Cover) (order : List ℕ) (count : ℕ) → AreReaders covers order count r → AreFree covers order signals →
+    AreKept covers order 0 marks values → AreKept covers order 0 marks' values'

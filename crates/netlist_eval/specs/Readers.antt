@@ -16,7 +16,8 @@ ins_at covers order k = (cover_at covers (number_at order k)).ins
 
 -- there is a key for each input of the covers in the first turns
 abbrev pub AreKeys : List Cover → List ℕ → ℕ → List ℕ → Type 0
-AreKeys covers order count keys = (k i : ℕ) → k < count → i < length (ins_at covers order k) → Contains keys (reader_key k (number_at (ins_at covers order k) i))
+AreKeys covers order count keys =
+    (k i : ℕ) → k < count → i < length (ins_at covers order k) → Contains keys (reader_key k (number_at (ins_at covers order k) i))
 
 abbrev pub AreInOrder : List ℕ → Type 0
 AreInOrder keys = (i j : ℕ) → i ≤ j → j < length keys → number_at keys i ≤ number_at keys j

@@ -1,5 +1,6 @@
 -- Covers as tables of 64 cells, looked up by the bits of at most six inputs.
-use Rattle.std.specs.Prelude.{◌≡◌, ℕ, ◌+◌, ◌*◌, ◌/◌, ◌%◌, ◌==◌, ◌<◌, ◌≤◌, List, [], ◌∷◌, Bool, false, Option, None, Some, if◌then◌else◌, not, length, take, slice_index_or}
+use Rattle.std.specs.Prelude.{◌≡◌, ℕ, ◌+◌, ◌*◌, ◌/◌, ◌%◌, ◌==◌, ◌<◌, ◌≤◌, List, [], ◌∷◌, Bool, false, Option, None, Some, if◌then◌else◌}
+use Rattle.std.specs.Prelude.{not, length, take, slice_index_or}
 use Rattle.netlist.specs.declared.draft.Cover.{Cover}
 use Rattle.netlist.specs.Covers.{some_matches, truth, IsCoverOver}
 use Rattle.netlist_eval.specs.declared.tables.Table.{Table}
@@ -16,7 +17,9 @@ address given (s ∷ ss) = (if given s then 1 else 0) + 2 * address given ss
 
 -- the lowest six bits of a number, from place 0 on
 abbrev pub six_bits : ℕ → List Bool
-six_bits n = (n % 2 == 1) ∷ (n / 2 % 2 == 1) ∷ (n / 2 / 2 % 2 == 1) ∷ (n / 2 / 2 / 2 % 2 == 1) ∷ (n / 2 / 2 / 2 / 2 % 2 == 1) ∷ (n / 2 / 2 / 2 / 2 / 2 % 2 == 1) ∷ []
+six_bits n =
+    (n % 2 == 1) ∷ (n / 2 % 2 == 1) ∷ (n / 2 / 2 % 2 == 1) ∷ (n / 2 / 2 / 2 % 2 == 1) ∷ (n / 2 / 2 / 2 / 2 % 2 == 1) ∷
+    (n / 2 / 2 / 2 / 2 / 2 % 2 == 1) ∷ []
 
 -- the cells of a cover, by the bits of its inputs in the lowest places of their number
 pub record AreCells (c : Cover) (cells : List Bool) : Type 0 where

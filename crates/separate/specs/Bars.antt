@@ -4,7 +4,16 @@ use Rattle.evidence.specs.Held.{Findings}
 use Rattle.separate.specs.Tested.{Crossbar}
 
 abbrev pub bar_of : Findings → Crossbar
-bar_of t = record { node = t.node; left = t.left.wires; right = t.right.wires; left_end = t.left.end; right_end = t.right.end; taps = t.taps; lines = t.lines; open_pair = t.open_pair }
+bar_of t = record {
+  node = t.node;
+  left = t.left.wires;
+  right = t.right.wires;
+  left_end = t.left.end;
+  right_end = t.right.end;
+  taps = t.taps;
+  lines = t.lines;
+  open_pair = t.open_pair;
+}
 
 -- one of these findings
 pub record IsBarOf (ts : List Findings) (c : Crossbar) : Type 0 where

@@ -33,10 +33,13 @@ pub record AreTwoRoutes (routes : List Walk) (ws us : List ℕ) : Type 0 where
 -- The two routes to a wire of a crossbar with an open pair: to a tap over both lines of the pair, and to a line from both ends of
 -- the trunk, if their crosspoints are kept.
 pub record HasFirst (k : Kept) (t : Findings) (u : ℕ) (routes : List Walk) : Type 0 where
-  pub tap : (o : ℕ × ℕ) → t.open_pair ≡ Some o → among t.taps u ≡ true → AreTwoRoutes routes (t.left.wires ++ tap_way o.0 t.left.end u) (t.right.wires ++ tap_way o.1 t.right.end u)
-  pub line : (o : ℕ × ℕ) → t.open_pair ≡ Some o → among t.lines u ≡ true → IsMeeting k t.left.end u → IsMeeting k t.right.end u → AreTwoRoutes routes (t.left.wires ++ u ∷ []) (t.right.wires ++ u ∷ [])
+  pub tap : (o : ℕ × ℕ) → t.open_pair ≡ Some o → among t.taps u ≡ true →
+      AreTwoRoutes routes (t.left.wires ++ tap_way o.0 t.left.end u) (t.right.wires ++ tap_way o.1 t.right.end u)
+  pub line : (o : ℕ × ℕ) → t.open_pair ≡ Some o → among t.lines u ≡ true → IsMeeting k t.left.end u → IsMeeting k t.right.end u →
+      AreTwoRoutes routes (t.left.wires ++ u ∷ []) (t.right.wires ++ u ∷ [])
 
 -- Without faults, at most two of these routes are enough, where the findings are full.
 pub record Suffices (k : Kept) (ts : List Findings) (u : ℕ) (routes : List Walk) : Type 0 where
-  pub at : (f : Faults) → IsFaultless f → HoldsFor k f → ((i : ℕ) (t : Findings) → slice_get ts i ≡ Some t → IsFull k f t) → (wanted : List Bool) → AreWanted k ts wanted → has_number wanted u ≡ true →
+  pub at : (f : Faults) → IsFaultless f → HoldsFor k f → ((i : ℕ) (t : Findings) → slice_get ts i ≡ Some t → IsFull k f t) →
+      (wanted : List Bool) → AreWanted k ts wanted → has_number wanted u ≡ true →
       (n : ℕ) × (n ≤ 2) × AreEnough k f wanted u routes n

@@ -1,5 +1,6 @@
 -- Routes that grow beside a route, as far as tests find them apart from it.
-use Rattle.std.specs.Prelude.{◌≡◌, ◌⊎◌, ℕ, ◌<◌, ◌≤◌, Bool, true, false, Option, Some, List, length, slice_get, slice_index, take, drop, ◌+◌, ◌-◌}
+use Rattle.std.specs.Prelude.{◌≡◌, ◌⊎◌, ℕ, ◌<◌, ◌≤◌, Bool, true, false, Option, Some, List, length, slice_get, slice_index, take, drop, ◌+◌}
+use Rattle.std.specs.Prelude.{◌-◌}
 use Rattle.tm_bits.specs.Numbers.{has_number, size_of}
 use Rattle.hierarchy.specs.declared.Shape.{Shape}
 use Rattle.hierarchy.specs.declared.Cross.{Cross}
@@ -39,7 +40,8 @@ pub record Grows (told : Option Faults) (k : Kept) (q : List ℕ) (seen : List B
   pub len : length seen ≡ wires_of k.shape
   pub on_route : (w : ℕ) → among q w ≡ true → has_number seen w ≡ true
   pub routes : (j : ℕ) (r : Walk) → slice_get reached j ≡ Some r → IsGrown k q r
-  pub settled : (f : Faults) → told ≡ Some f → HoldsFor k f → (w : ℕ) → has_number seen w ≡ true → among q w ≡ false → IsSoundWire k.shape f w →
+  pub settled : (f : Faults) → told ≡ Some f → HoldsFor k f → (w : ℕ) → has_number seen w ≡ true → among q w ≡ false →
+      IsSoundWire k.shape f w →
       (j : ℕ) × (r : Walk) × (slice_get reached j ≡ Some r) × (r.end ≡ w)
   pub count : length reached ≤ size_of seen
 
@@ -85,8 +87,11 @@ SeesPins k seen = (j : ℕ) → j < pins_of k.shape → keeps_wire k (pin_wire k
 
 -- the links of the ends of these routes were seen, up to a place
 abbrev pub SeesLinks : Kept → List Bool → List Walk → ℕ → Type 0
-SeesLinks k seen reached n = (i : ℕ) (r : Walk) → i < n → slice_get reached i ≡ Some r → (x : ℕ) → IsLinkOf k r.end x → has_number seen (other_end k.shape x r.end) ≡ true
+SeesLinks k seen reached n =
+    (i : ℕ) (r : Walk) → i < n → slice_get reached i ≡ Some r → (x : ℕ) → IsLinkOf k r.end x →
+    has_number seen (other_end k.shape x r.end) ≡ true
 
 -- where the faults are told, each sound wire that is reached beside the route is kept apart from its wires
 pub record KeepsReached (told : Option Faults) (k now : Kept) (q : List ℕ) : Type 0 where
-  pub at : (f : Faults) → told ≡ Some f → HoldsFor k f → (s : ℕ) → IsReached k.shape f (marks_of k) (among q) s → (w : ℕ) → among q w ≡ true → keeps_pair now w s ≡ true
+  pub at : (f : Faults) → told ≡ Some f → HoldsFor k f → (s : ℕ) → IsReached k.shape f (marks_of k) (among q) s → (w : ℕ) →
+      among q w ≡ true → keeps_pair now w s ≡ true

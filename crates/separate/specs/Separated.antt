@@ -13,7 +13,8 @@ use Rattle.evidence.specs.Held.{Findings, IsHeld, IsFull}
 pub record AreHeld (k : Kept) (ts : List Findings) : Type 0 where
   pub held : (i : ℕ) (t : Findings) → slice_get ts i ≡ Some t → IsHeld k t
   pub differ : (i j : ℕ) (t s : Findings) → slice_get ts i ≡ Some t → slice_get ts j ≡ Some s → t.node ≡ s.node → i ≡ j
-  pub above : (i : ℕ) (t : Findings) (p : ℕ) → slice_get ts i ≡ Some t → parent_of k.shape t.node ≡ Some p → (j : ℕ) × (s : Findings) × (slice_get ts j ≡ Some s) × (s.node ≡ p)
+  pub above : (i : ℕ) (t : Findings) (p : ℕ) → slice_get ts i ≡ Some t → parent_of k.shape t.node ≡ Some p → (j : ℕ) × (s : Findings)
+      × (slice_get ts j ≡ Some s) × (s.node ≡ p)
 
 -- all of these are full, where faults are told
 abbrev pub AreFull : Option Faults → Kept → List Findings → Type 0
@@ -42,7 +43,8 @@ pub record IsTaken (ts : List Findings) (w : ℕ) : Type 0 where
 
 -- Where the faults are told, and what is kept is true of them, a taken wire is kept apart from each other one that is good.
 pub record AreSeparated (told : Option Faults) (k now : Kept) (ts : List Findings) : Type 0 where
-  pub pairs : (f : Faults) → told ≡ Some f → HoldsFor k f → (u s : ℕ) → IsTaken ts u → IsTaken ts s → s ≢ u → IsGood k.shape f s → keeps_pair now u s ≡ true
+  pub pairs : (f : Faults) → told ≡ Some f → HoldsFor k f → (u s : ℕ) → IsTaken ts u → IsTaken ts s → s ≢ u → IsGood k.shape f s →
+      keeps_pair now u s ≡ true
 
 -- without faults, at most two loads for each wire of the machine
 pub record TakesFew (told : Option Faults) (k : Kept) (before after : ℕ) : Type 0 where

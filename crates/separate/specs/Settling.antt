@@ -27,11 +27,13 @@ KeepsAll k wanted u = (s : ℕ) → has_number wanted s ≡ true → s ≢ u →
 
 -- where the faults are told, each of these wires but u that is reached beside the route is kept apart from u
 pub record Settles (told : Option Faults) (k now : Kept) (wanted : List Bool) (u : ℕ) (q : List ℕ) : Type 0 where
-  pub at : (f : Faults) → told ≡ Some f → HoldsFor k f → (s : ℕ) → IsReached k.shape f (marks_of k) (among q) s → has_number wanted s ≡ true → s ≢ u → keeps_pair now u s ≡ true
+  pub at : (f : Faults) → told ≡ Some f → HoldsFor k f → (s : ℕ) → IsReached k.shape f (marks_of k) (among q) s →
+      has_number wanted s ≡ true → s ≢ u → keeps_pair now u s ≡ true
 
 -- where the faults are told, each pair of u that has to be kept is
 pub record IsSettled (told : Option Faults) (k now : Kept) (ts : List Findings) (u : ℕ) : Type 0 where
-  pub at : (f : Faults) → told ≡ Some f → HoldsFor k f → (s : ℕ) → IsWireOf (IsBarOf ts) s → s ≢ u → IsGood k.shape f s → keeps_pair now u s ≡ true
+  pub at : (f : Faults) → told ≡ Some f → HoldsFor k f → (s : ℕ) → IsWireOf (IsBarOf ts) s → s ≢ u → IsGood k.shape f s →
+      keeps_pair now u s ≡ true
 
 -- pairs were gained, and nothing else
 pub record GoesOn (old new : RigState) (k l : Kept) : Type 0 where
@@ -47,7 +49,8 @@ pub record SparesLoads (told : Option Faults) (k : Kept) (wanted : List Bool) (u
 -- Beside the first n of these routes the kept pins are joined, and each of the wires but u is reached beside one of them.
 pub record AreEnough (k : Kept) (f : Faults) (wanted : List Bool) (u : ℕ) (routes : List Walk) (n : ℕ) : Type 0 where
   pub joined : (m : ℕ) (r : Walk) → m < n → slice_get routes m ≡ Some r → HasJoinedPins k r.wires
-  pub all : (s : ℕ) → has_number wanted s ≡ true → s ≢ u → (m : ℕ) × (r : Walk) × (m < n) × (slice_get routes m ≡ Some r) × IsReached k.shape f (marks_of k) (among r.wires) s
+  pub all : (s : ℕ) → has_number wanted s ≡ true → s ≢ u → (m : ℕ) × (r : Walk) × (m < n) × (slice_get routes m ≡ Some r)
+      × IsReached k.shape f (marks_of k) (among r.wires) s
 
 -- The tries of routes take no load where each wire is kept apart from u already, and without faults, where the first n
 -- are enough, no more than n.

@@ -55,8 +55,10 @@ pub record IsSwept (k : Kept) (q : List ℕ) (seen : List Bool) : Type 0 where
 -- over links, beside q, each kept pin of the machine reaches each other
 pub record HasJoinedPins (k : Kept) (q : List ℕ) : Type 0 where
   pub joined : (seen : ℕ → Bool) → ((w x : ℕ) → seen w ≡ true → among q w ≡ false → IsLinkOf k w x → seen (other_end k.shape x w) ≡ true) →
-      (i j : ℕ) → i < pins_of k.shape → j < pins_of k.shape → keeps_wire k (pin_wire k.shape i) ≡ true → keeps_wire k (pin_wire k.shape j) ≡ true →
-      among q (pin_wire k.shape i) ≡ false → seen (pin_wire k.shape i) ≡ true → (among q (pin_wire k.shape j) ≡ true) ⊎ (seen (pin_wire k.shape j) ≡ true)
+      (i j : ℕ) → i < pins_of k.shape → j < pins_of k.shape → keeps_wire k (pin_wire k.shape i) ≡ true →
+      keeps_wire k (pin_wire k.shape j) ≡ true →
+      among q (pin_wire k.shape i) ≡ false → seen (pin_wire k.shape i) ≡ true → (among q (pin_wire k.shape j) ≡ true)
+      ⊎ (seen (pin_wire k.shape j) ≡ true)
 
 -- Without faults, where the kept pins are joined beside q, at most one load was taken.
 pub record TakesOne (told : Option Faults) (k : Kept) (q : List ℕ) (before after : ℕ) : Type 0 where

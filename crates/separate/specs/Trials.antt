@@ -79,17 +79,22 @@ pub record HasWay (routes : List Walk) (o : ℕ × ℕ) (e u : ℕ) (feet : ℕ 
   pub at : (j z : Bool) → HasFoot routes u line ws (tap_way (pick z o) e (pick j feet))
 
 -- all that turn into the side of a trunk at a place, or at each place, from this crossbar
-pub record HasTurnAt (routes : List Walk) (o : ℕ × ℕ) (u : ℕ) (feet : ℕ × ℕ) (line : Bool) (side : Walk) (t : Findings) (p : ℕ × ℕ) (place : ℕ) : Type 0 where
+pub record HasTurnAt (routes : List Walk) (o : ℕ × ℕ) (u : ℕ) (feet : ℕ × ℕ) (line : Bool) (side : Walk) (t : Findings) (p : ℕ × ℕ)
+    (place : ℕ) : Type 0 where
   pub at : (j z : Bool) → HasWay routes o side.end u feet line (turned_way t (pick z p) j side place)
 
-pub record HasTurnPlace (k : Kept) (routes : List Walk) (o : ℕ × ℕ) (u : ℕ) (feet : ℕ × ℕ) (line : Bool) (side : Walk) (t : Findings) (place : ℕ) : Type 0 where
-  pub at : (p : ℕ × ℕ) (r : ℕ) → t.open_pair ≡ Some p → slice_get side.wires place ≡ Some r → among t.taps r ≡ true → node_of k.shape r ≢ t.node → HasTurnAt routes o u feet line side t p place
+pub record HasTurnPlace (k : Kept) (routes : List Walk) (o : ℕ × ℕ) (u : ℕ) (feet : ℕ × ℕ) (line : Bool) (side : Walk) (t : Findings)
+    (place : ℕ) : Type 0 where
+  pub at : (p : ℕ × ℕ) (r : ℕ) → t.open_pair ≡ Some p → slice_get side.wires place ≡ Some r → among t.taps r ≡ true →
+      node_of k.shape r ≢ t.node → HasTurnAt routes o u feet line side t p place
 
-pub record HasTurns (k : Kept) (routes : List Walk) (o : ℕ × ℕ) (u : ℕ) (feet : ℕ × ℕ) (line : Bool) (side : Walk) (t : Findings) : Type 0 where
+pub record HasTurns (k : Kept) (routes : List Walk) (o : ℕ × ℕ) (u : ℕ) (feet : ℕ × ℕ) (line : Bool) (side : Walk)
+    (t : Findings) : Type 0 where
   pub at : (place : ℕ) → place < length side.wires → HasTurnPlace k routes o u feet line side t place
 
 -- from each of these crossbars
-pub record HasOver (k : Kept) (ts : List Findings) (routes : List Walk) (o : ℕ × ℕ) (u : ℕ) (feet : ℕ × ℕ) (line : Bool) (side : Walk) : Type 0 where
+pub record HasOver (k : Kept) (ts : List Findings) (routes : List Walk) (o : ℕ × ℕ) (u : ℕ) (feet : ℕ × ℕ) (line : Bool)
+    (side : Walk) : Type 0 where
   pub at : (i : ℕ) (t : Findings) → slice_get ts i ≡ Some t → HasTurns k routes o u feet line side t
 
 -- over the two sides of the trunk themselves
@@ -97,7 +102,8 @@ pub record HasOwn (routes : List Walk) (t : Findings) (o : ℕ × ℕ) (u : ℕ)
   pub at : (i : Bool) → HasWay routes o (trunk_side t i).end u feet line (trunk_side t i).wires
 
 -- all of a crossbar
-pub record HasBoth (k : Kept) (ts : List Findings) (routes : List Walk) (t : Findings) (o : ℕ × ℕ) (u : ℕ) (feet : ℕ × ℕ) (line : Bool) : Type 0 where
+pub record HasBoth (k : Kept) (ts : List Findings) (routes : List Walk) (t : Findings) (o : ℕ × ℕ) (u : ℕ) (feet : ℕ × ℕ)
+    (line : Bool) : Type 0 where
   pub own : HasOwn routes t o u feet line
   pub over : (i : Bool) → HasOver k ts routes o u feet line (trunk_side t i)
 

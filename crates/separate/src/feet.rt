@@ -1,5 +1,5 @@
 //! All routes to a wire of tested crossbars.
-ghost use Rattle.std.specs.Prelude.{◌≡◌, ◌≢◌, ◌<◌, ◌++◌, ◌∷◌, [], ℕ, Bool, Some, IsTrue, true, false, length, slice_get, IfNone, IfOk, IfSome, OnOk, IsErrOf};
+ghost use Rattle.std.specs.Prelude.{◌≡◌, ◌≢◌, ◌<◌, ◌∷◌, [], ℕ, Some, IsTrue, true, false, slice_get, IfNone, IfOk, IfSome, OnOk, IsErrOf};
 ghost use Rattle.config_set.specs.Groups.{among};
 ghost use Rattle.evidence.specs.Held.{Findings, IsHeld};
 ghost use Rattle.evidence.specs.Kept.{keeps_wire};

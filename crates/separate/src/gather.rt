@@ -1,8 +1,8 @@
 //! Routes to a wire of a crossbar.
-ghost use Rattle.std.specs.Prelude.{◌≡◌, ◌<◌, ◌++◌, ◌∷◌, [], ℕ, Bool, Some, IsTrue, true, false, not, length, slice_get, OnOk, IsErrOf};
+ghost use Rattle.std.specs.Prelude.{◌≡◌, ◌<◌, ◌++◌, ℕ, Some, true, false, not, length, slice_get, OnOk, IsErrOf};
 ghost use Rattle.config_set.specs.Groups.{among};
 ghost use Rattle.hierarchy.specs.Shape.{node_of};
-ghost use Rattle.evidence.specs.Held.{Findings, IsHeld, wire_numbers};
+ghost use Rattle.evidence.specs.Held.{IsHeld, wire_numbers};
 ghost use Rattle.evidence.specs.Kept.{keeps_wire};
 ghost use Rattle.separate.specs.Separated.{AreHeld};
 ghost use Rattle.separate.specs.Growing.{IsKnownRoute};

@@ -1,5 +1,5 @@
 //! What is apart from a route, as far as routes grow beside it.
-ghost use Rattle.std.specs.Prelude.{◌≡◌, ◌⊎◌, IsTrue, ◌++◌, ◌∷◌, [], ◌≤◌, ◌+◌, ◌<◌, ℕ, true, false, Some, length, IfOk, OnOk, IsErrOf, slice_get};
+ghost use Rattle.std.specs.Prelude.{◌≡◌, ◌⊎◌, IsTrue, ◌++◌, ◌∷◌, [], ◌+◌, ◌<◌, ℕ, true, false, Some, length, IfOk, OnOk, IsErrOf, slice_get};
 ghost use Rattle.hierarchy.specs.Shape.{crosses_of, pin_wire, pins_of, wires_of};
 ghost use Rattle.test_configs.specs.Routes.{Walk, IsRoute, HasEnd, Extends, at_pin, other_end};
 ghost use Rattle.tm_outside.specs.Counts.{Rose};

@@ -1,11 +1,9 @@
 //! Links of many reached wires that are tried at once.
-ghost use Rattle.std.specs.Prelude.{◌≡◌, ◌≤◌, ◌<◌, ℕ, true, false, Some, length, slice_get, IfOk, OnOk, IsErrOf};
+ghost use Rattle.std.specs.Prelude.{◌≡◌, ◌≤◌, ◌<◌, true, false, Some, length, slice_get, IfOk, OnOk, IsErrOf};
 ghost use Rattle.hierarchy.specs.Shape.{wires_of, pin_wire};
 ghost use Rattle.tm_outside.specs.Counts.{Rose};
-ghost use Rattle.config_set.specs.Groups.{among};
 ghost use Rattle.rig.specs.Rig.{shape_of};
 ghost use Rattle.evidence.specs.Kept.{Advances};
-ghost use Rattle.test_configs.specs.Routes.{Walk};
 ghost use Rattle.tm_bits.specs.Numbers.{has_number};
 ghost use Rattle.separate.specs.Growing.{AreLinks, AreLinksOf, Grows, IsAside, IsKnownRoute, IsLinkOf};
 ghost use Rattle.separate.specs.Layers.{AreAside, HasGrown};

@@ -1,9 +1,8 @@
 //! A walk out and back that looks at few links.
-ghost use Rattle.std.specs.Prelude.{◌≡◌, ◌⊎◌, ◌<◌, ℕ, true, false, Some, length, slice_get, IfOk, IsTrue, OnOk, IsErrOf};
-ghost use Rattle.config_set.specs.Groups.{among};
+ghost use Rattle.std.specs.Prelude.{◌≡◌, ◌<◌, true, false, Some, length, slice_get, IsTrue, OnOk, IsErrOf};
 ghost use Rattle.evidence.specs.Kept.{keeps_wire};
 ghost use Rattle.hierarchy.specs.Shape.{pin_wire, wires_of};
-ghost use Rattle.test_configs.specs.Routes.{Walk, other_end};
+ghost use Rattle.test_configs.specs.Routes.{Walk};
 ghost use Rattle.tm_bits.specs.Numbers.{has_number};
 ghost use Rattle.separate.specs.Growing.{AreLinks, AreLinksOf, GoesFurther, SeesLinks};
 ghost use Rattle.separate.specs.Touring.{Surveys};

@@ -1,5 +1,5 @@
 //! A walk out and back.
-ghost use Rattle.std.specs.Prelude.{◌≡◌, ◌<◌, ℕ, Bool, List, true, false, Some, length, slice_get, IfOk, OnOk, IsErrOf, IsTrue, ◌≤◌, ◌+◌};
+ghost use Rattle.std.specs.Prelude.{◌≡◌, ◌<◌, ℕ, true, false, Some, length, slice_get, IfOk, OnOk, IsErrOf, IsTrue, ◌≤◌, ◌+◌};
 ghost use Rattle.tm_outside.specs.Counts.{Rose};
 ghost use Rattle.rig.specs.Rig.{shape_of};
 ghost use Rattle.evidence.specs.Kept.{Advances, keeps_wire};

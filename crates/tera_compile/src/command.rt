@@ -1,5 +1,5 @@
 //! The command that makes an image of a design for a machine with defects.
-ghost use Rattle.std.specs.Prelude.{◌≡◌, ℕ, List, []};
+ghost use Rattle.std.specs.Prelude.{ℕ, List, []};
 ghost use Rattle.tm_outside.specs.Store.{StoreState};
 ghost use Rattle.rig.specs.Rig.{RigState};
 ghost use Rattle.steps.specs.Outside.{outside, StandsIn};

@@ -33,7 +33,7 @@ use Rattle.tera_bench.specs.Bench.{bench_job}
 use Rattle.tera_bench.specs.Headline.{IsBenched}
 use Rattle.tera_bench.proofs.BenchLaws.{IsOnly}
 use Rattle.tera_bench.proofs.Headlines.{benched}
-use Rattle.tera_top.specs.Words.{Asked, a_job, HasNoJob, job_of, of_number, number_of, commands, asked_in, asked_by, is_dashed}
+use Rattle.tera_top.specs.Words.{Asked, a_job, HasNoJob, job_of, commands, asked_in, asked_by, is_dashed}
 use Rattle.tera_top.proofs.WordLemmas.{some_number}
 use Rattle.tera_top.proofs.AskedLemmas.{refused-some}
 

@@ -1,5 +1,6 @@
 -- Physical lines, comments, blanks and words.
-use Rattle.std.specs.Prelude.{ℕ, ◌-◌, ◌==◌, Bool, not, ◌&&◌, ◌||◌, nat_lt, if◌then◌else◌, List, [], ◌∷◌, Option, Some, None, filter, length, take, slice_index}
+use Rattle.std.specs.Prelude.{ℕ, ◌-◌, ◌==◌, Bool, not, ◌&&◌, ◌||◌, nat_lt, if◌then◌else◌, List, [], ◌∷◌, Option, Some, None, filter, length}
+use Rattle.std.specs.Prelude.{take, slice_index}
 use Rattle.std.specs.List.{slice_split, onto_first, before_first, list_any, suffix_len}
 
 -- space, tab and carriage return

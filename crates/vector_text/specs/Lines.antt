@@ -3,7 +3,8 @@ use Rattle.std.specs.Prelude.{◌≡◌, ℕ, ◌+◌, ◌<◌, ◌≤◌, List,
 use Rattle.std.specs.List.{list_all}
 use Rattle.vector_text.specs.declared.line.Step.{Step}
 use Rattle.vector_text.specs.declared.line.Step.TheVariants.{Onward, Vector, Fault}
-use Rattle.vector_text.specs.Vectors.{physical_lines, lines_say, put_before, SaidVectors, nothing_said, fault_said, with_vector, bits_of, is_vector_byte, vector_size}
+use Rattle.vector_text.specs.Vectors.{physical_lines, lines_say, put_before, SaidVectors, nothing_said, fault_said, with_vector, bits_of}
+use Rattle.vector_text.specs.Vectors.{is_vector_byte, vector_size}
 use Rattle.vector_text.specs.declared.vectors.VectorKind.TheVariants.{Width}
 
 -- a line of which some bytes were read

@@ -3,7 +3,8 @@ use Rattle.std.specs.Prelude.{◌≡◌, ℕ, ◌+◌, ◌<◌, ◌≤◌, List,
 use Rattle.tm_outside.specs.Store.{StoreState, IsFailure, moved, rest_of}
 use Rattle.vector_text.specs.declared.vectors.VectorsFail.{VectorsFail}
 use Rattle.vector_text.specs.declared.vectors.VectorsFail.TheVariants.{Text, Failed}
-use Rattle.vector_text.specs.Vectors.{physical_lines, put_before, shown, byte_fault, lines_say, SaidVectors, nothing_said, fault_said, with_vector}
+use Rattle.vector_text.specs.Vectors.{physical_lines, put_before, shown, byte_fault, lines_say, SaidVectors, nothing_said, fault_said}
+use Rattle.vector_text.specs.Vectors.{with_vector}
 
 -- a reader between two lines
 pub record VectorReading : Type 0 where

@@ -1,5 +1,6 @@
 -- What a vector file says: its physical lines, the vectors on them, and the first fault.
-use Rattle.std.specs.Prelude.{ℕ, ◌+◌, Bool, true, false, not, ◌&&◌, ◌||◌, ◌==◌, nat_lt, nat_le, max, if◌then◌else◌, List, [], ◌∷◌, ◌++◌, length, map, filter, take_while, Option, None, Some}
+use Rattle.std.specs.Prelude.{ℕ, ◌+◌, Bool, true, false, not, ◌&&◌, ◌||◌, ◌==◌, nat_lt, nat_le, max, if◌then◌else◌, List, [], ◌∷◌, ◌++◌}
+use Rattle.std.specs.Prelude.{length, map, filter, take_while, Option, None, Some}
 use Rattle.std.specs.List.{before_first}
 use Rattle.vector_text.specs.declared.vectors.VectorKind.{VectorKind}
 use Rattle.vector_text.specs.declared.vectors.VectorKind.TheVariants.{Char, Width, Limit}
@@ -46,7 +47,8 @@ unfoldable pub physical_lines : ℕ → ℕ → ℕ → List ℕ → List Physic
 physical_lines limit number at [] = record { number = number; bytes = []; next_at = at; is_cut = false } ∷ []
 physical_lines limit number at (b ∷ bs) =
     if nat_le limit at then record { number = number; bytes = []; next_at = at; is_cut = true } ∷ []
-    else if is_line_feed b then record { number = number; bytes = []; next_at = at + 1; is_cut = false } ∷ physical_lines limit (number + 1) (at + 1) bs
+    else if is_line_feed b then record { number = number; bytes = []; next_at = at + 1; is_cut = false } ∷ physical_lines limit
+    (number + 1) (at + 1) bs
     else put_before (b ∷ []) (physical_lines limit number (at + 1) bs)
 
 -- what is left of a line: no comment and no blanks
@@ -112,7 +114,8 @@ line_says width number next_at None (b ∷ bs) later = with_vector (bits_of widt
 -- what the lines say
 unfoldable pub lines_say : ℕ → List PhysicalLine → SaidVectors
 lines_say width [] = nothing_said
-lines_say width (l ∷ ls) = line_says width l.number l.next_at (line_fault width l.is_cut (shown l.bytes)) (shown l.bytes) (lines_say width ls)
+lines_say width (l ∷ ls) =
+    line_says width l.number l.next_at (line_fault width l.is_cut (shown l.bytes)) (shown l.bytes) (lines_say width ls)
 
 -- what a whole file says to a design with so many inputs, where the reader allows so many bytes
 abbrev pub file_says : ℕ → ℕ → List ℕ → SaidVectors

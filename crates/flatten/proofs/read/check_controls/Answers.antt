@@ -1,4 +1,4 @@
-use Rattle.std.proofs.Common.{None, Some, subst}
+use Rattle.std.proofs.Common.{Some, subst}
 use Rattle.flatten.specs.Netlists.{controls_of}
 use Rattle.flatten.specs.Clocks.{IsControlAnswer}
 use Rattle.flatten.specs.Origins.{lines_of}

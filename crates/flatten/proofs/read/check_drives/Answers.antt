@@ -1,4 +1,4 @@
-use Rattle.std.proofs.Common.{◌≡◌, ◌<◌, ◌∙◌, ap, arith, length, None, Some, [], get_or, subst}
+use Rattle.std.proofs.Common.{◌<◌, ◌∙◌, ap, arith, length, Some, [], get_or, subst}
 use Rattle.std.proofs.lemmas.List.{length-map}
 use Rattle.netlist.specs.declared.draft.PortDef.{PortDef}
 use Rattle.netlist.specs.Drafts.{word, signal_at}

@@ -1,4 +1,4 @@
-use Rattle.std.proofs.Common.{map, string_bytes, refl}
+use Rattle.std.proofs.Common.{map, string_bytes}
 use Rattle.steps.specs.Outside.{outside}
 use Rattle.tera_top.specs.Words.{asked_by}
 use Rattle.tera_top.proofs.AskedLemmas.{ends-well, ends-badly}

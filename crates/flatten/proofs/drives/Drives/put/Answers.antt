@@ -1,4 +1,4 @@
-use Rattle.std.proofs.Common.{◌≡◌, ◌∙◌, ◌+◌, ap, sym, arith, cond, eqb, Some}
+use Rattle.std.proofs.Common.{◌≡◌, ◌∙◌, ap, arith, cond, eqb, Some}
 use Rattle.flatten.specs.declared.drives.Driver.{Driver}
 use Rattle.flatten.specs.Drives.{first_at, nearest, first_with, doubled_with}
 use Rattle.flatten.proofs.DriveLemmas.{drives_more, still_none}

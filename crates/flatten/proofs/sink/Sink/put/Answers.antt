@@ -1,4 +1,4 @@
-use Rattle.std.proofs.Common.{◌≤◌, arith}
+use Rattle.std.proofs.Common.{arith}
 use Rattle.std.proofs.lemmas.Result.{err_from_is_err_and}
 use Rattle.flatten.specs.Placed.{placed_line}
 use Rattle.flatten.proofs.SinkLemmas.{put_is, over_memory}
