@@ -1,0 +1,95 @@
+-- What the tests of tables keep, table by table.
+use Rattle.std.proofs.Common.{◌≡◌, ℕ, zero, suc, ◌+◌, ◌<◌, ◌≤◌, Bool, true, Some, Option, List, [], ◌∷◌, length, get_or, sym, ap, ◌∙◌, subst, arith}
+use Rattle.std.specs.Prelude.{slice_get}
+use Rattle.std.proofs.lemmas.Option.{slice_get_within}
+use native.Mathlib.Decide.{ℕ_discrete}
+use Rattle.tm_bits.specs.Numbers.{has_number}
+use Rattle.hierarchy.specs.declared.Shape.{Shape}
+use Rattle.hierarchy.specs.declared.Table.{Table}
+use Rattle.hierarchy.specs.Shape.{crosses_of, hextant_of, IsLine, IsPort}
+use Rattle.hierarchy.specs.Faults.{Faults}
+use Rattle.hierarchy.specs.Standing.{StandsBy, IsOutside, StandsWithout, IsSeated}
+use Rattle.hierarchy.specs.Tight.{IsRightTable}
+use Rattle.hierarchy.proofs.Seats.{stands_also, seated_also}
+use Rattle.rig.specs.Rig.{RigState}
+use Rattle.evidence.specs.Kept.{Kept, IsMore, Advances}
+use Rattle.growth.specs.Known.{HasWire, IsKeptCrossOf}
+use Rattle.growth.specs.Grown.{AreLinks}
+use Rattle.growth.specs.Grounds.{InSet, AreAllLinks}
+use Rattle.growth.specs.Seating.{IsPlaceAt}
+use Rattle.growth.specs.Tables.{SeatedIsKept, SeatedAreKept}
+use Rattle.growth.specs.declared.field.Field.{Field}
+use Rattle.growth.specs.declared.links.Near.{Near}
+use Rattle.growth.specs.declared.step.Step.{Step}
+use Rattle.growth.proofs.Placing.{seated_place}
+use Rattle.table_test.specs.Seats.{KeepsTable, TableIf, AddsOnlyTableFacts}
+
+-- the links of a field with all crosspoints are those of the machine
+pub links_whole : {m : Shape} {a : Field} {near : List Near} → AreLinks m a near → ((x : ℕ) → x < crosses_of m → has_number a.crosses x ≡ true) → AreAllLinks m near
+links_whole links all = record {
+  right = λ w j link here. let i = links.right w j link here in record { within = i.within; at = i.at };
+  whole = λ w x u b. links.whole w x u (record { within = b.within; has = all x b.within; at = b.at });
+}
+
+pub links_same : {m s : Shape} {near : List Near} → s ≡ m → AreAllLinks m near → AreAllLinks s near
+links_same {near = near} e links = subst (λ m. AreAllLinks m near) (sym e) links
+
+-- what stands without the hextant stands by the known wires outside it
+pub stands_within : (k : Kept) (ss : List Step) (h : ℕ) (set : List Bool) → ((w : ℕ) → HasWire ss w → IsOutside k.shape h w → InSet set w) →
+    (w : ℕ) → StandsWithout k.shape (HasWire ss) (IsKeptCrossOf k) h w → StandsBy k.shape (InSet set) (IsKeptCrossOf k) w
+stands_within k ss h set all w s = stands_also (λ u is. all u is.0 is.1) (λ x a b is at p q. is) s
+
+-- where no place was found, or a pin isn't known, the table isn't seated
+pub no_seat : {k : Kept} {ss without : List Step} {t : ℕ} → ((w : ℕ) → StandsWithout k.shape (HasWire ss) (IsKeptCrossOf k) (hextant_of k.shape t) w → HasWire without w) →
+    ((near line : ℕ) → IsPort k.shape (hextant_of k.shape t) near → HasWire without near → IsLine k.shape (hextant_of k.shape t) line → ¬ IsPlaceAt k ss without t near line) →
+    ¬ IsSeated k.shape (HasWire ss) (IsKeptCrossOf k) t
+no_seat whole none s = none s.near s.line s.near_port (whole s.near s.near_stands) (s.out).0 (seated_place whole s)
+
+-- seated by what was kept before other tables were tested, and after
+pub seated_same : {k l : Kept} {ss : List Step} {t : ℕ} → l.shape ≡ k.shape → AddsOnlyTableFacts k l → IsSeated k.shape (HasWire ss) (IsKeptCrossOf k) t → IsSeated l.shape (HasWire ss) (IsKeptCrossOf l) t
+seated_same {k} {l} {ss} {t} shape only s = subst (λ m. IsSeated m (HasWire ss) (IsKeptCrossOf l) t) (sym shape)
+    (seated_also k.shape (HasWire ss) (HasWire ss) (IsKeptCrossOf k) (IsKeptCrossOf l) (λ w is. is)
+    (λ x a b is at p q. (subst (λ m. x < crosses_of m) (sym shape) is.0, only.crosses x ∙ is.1)) t s)
+
+-- a table that was tested, and one that isn't seated
+pub kept_over : {told : Option Faults} {k l : Kept} {ss : List Step} {t u : ℕ} → u ≡ t → TableIf told k l u → SeatedIsKept told k l ss t
+kept_over {l = l} e table = record { at = λ f is h seated right. subst (KeepsTable l) e (table.at f is h (subst (IsRightTable f) (sym e) right)) }
+
+pub kept_unseated : {told : Option Faults} {k l : Kept} {ss : List Step} {t : ℕ} → ¬ IsSeated k.shape (HasWire ss) (IsKeptCrossOf k) t → SeatedIsKept told k l ss t
+kept_unseated none = record { at = λ f is h seated right. absurd (none seated) }
+
+-- each of the first n tables
+pub record AreTested (told : Option Faults) (k l : Kept) (ss : List Step) (tables : List Table) (n : ℕ) : Type 0 where
+  pub each : (j : ℕ) (t : Table) → j < n → slice_get tables j ≡ Some t → SeatedIsKept told k l ss t.0
+
+pub tested_first : {told : Option Faults} {k : Kept} {ss : List Step} {tables : List Table} → AreTested told k k ss tables 0
+tested_first = record { each = λ j t less here. absurd (let no : ⊥ = omega (arith, less) in no) }
+
+keeps_later : {l n : Kept} {t : ℕ} → IsMore l n → KeepsTable l t → KeepsTable n t
+keeps_later {t = t} more h = record { cells = λ a below. more.cells t a (h.cells a below); register = more.registers t h.register }
+
+pub tested_next : {a b : RigState} {k l n : Kept} {ss : List Step} {tables : List Table} {i : ℕ} {t : Table} → Advances a b k l → AddsOnlyTableFacts k l → IsMore l n → slice_get tables i ≡ Some t →
+    AreTested a.machine.faults k l ss tables i → SeatedIsKept b.machine.faults l n ss t.0 → AreTested a.machine.faults k n ss tables (i + 1)
+tested_next {a} {b} {k} {l} {n} {ss} {tables} {i} {t} adv only more this old new = record { each = λ j u less here. by j u less here (ℕ_discrete j i) }
+  where
+    now : SeatedIsKept a.machine.faults k n ss t.0
+    now = record { at = λ f is h seated right. new.at f (ap (λ m. m.faults) adv.machine ∙ is) (adv.holds f is h) (seated_same (adv.more).shape only seated) right }
+
+    before : (u : ℕ) → SeatedIsKept a.machine.faults k l ss u → SeatedIsKept a.machine.faults k n ss u
+    before u s = record { at = λ f is h seated right. keeps_later more (s.at f is h seated right) }
+
+    some_same : {x y : Table} → Some x ≡ Some y → x ≡ y
+    some_same e = cc
+
+    by : (j : ℕ) (u : Table) → j < i + 1 → slice_get tables j ≡ Some u → Dec (j ≡ i) → SeatedIsKept a.machine.faults k n ss u.0
+    by j u less here (yes e) = subst (λ (v : Table). SeatedIsKept a.machine.faults k n ss v.0) (some_same (sym this ∙ ap (slice_get tables) (sym e) ∙ here)) now
+    by j u less here (no d) = before u.0 (old.each j u (omega (arith, less, d)) here)
+
+pub tested_all : {told : Option Faults} {k l : Kept} {ss : List Step} {tables : List Table} {n : ℕ} → AreTested told k l ss tables n → length tables ≤ n → SeatedAreKept told k l ss tables
+tested_all {tables = tables} {n = n} are le = record { each = λ j t here. are.each j t (let low = slice_get_within tables j t here in omega (arith, low, le)) here }
+
+-- the table at a place
+pub table_at : (tables : List Table) (i : ℕ) (t d : Table) → i < length tables → t ≡ get_or tables i d → slice_get tables i ≡ Some t
+table_at [] i t d below e = absurd (let no : ⊥ = omega (arith, below) in no)
+table_at (u ∷ tables) zero t d below e = ap (λ x. Some x) (sym e)
+table_at (u ∷ tables) (suc i) t d below e = table_at tables i t d (omega (arith, below)) e

@@ -1,0 +1,64 @@
+use Rattle.std.proofs.Common.{◌≡◌, ◌∙◌, refl, sym, ap, subst, inl, arith}
+use Rattle.std.proofs.lemmas.Result.{on_ok_weaker}
+use Rattle.tm_bits.specs.Numbers.{has_number}
+use Rattle.evidence.proofs.KeptLemmas.{more_itself}
+use Rattle.growth.proofs.Leaving.{look_plain, all_later, joins_spent, joins_barred, joins_offered}
+use Rattle.growth.proofs.Looking.{look_within, looked_barred, looked_known, not_earlier}
+use Rattle.growth.proofs.Marking.{spends_none}
+use Rattle.growth.proofs.Places.{before_has}
+use Rattle.growth.proofs.Stages.{grows_itself, tried_none}
+use Rattle.growth.proofs.look.look_over.Goals as goal
+
+pub returns-then-has-clause-grows : goal.returns-then-has-clause-grows
+returns-then-has-clause-grows g c = grows_itself c.requires.known (more_itself c.args.proof.now) refl
+
+pub returns-then-has-clause-tried : goal.returns-then-has-clause-tried
+returns-then-has-clause-tried g c = tried_none refl
+
+pub returns-then-has-clause-looked : goal.returns-then-has-clause-looked
+returns-then-has-clause-looked g c = looked_barred (λ before. c.in_default.ensures.unknown (before_has before)) (sym c.has.ensures ∙ c.if-has.true)
+
+pub returns-then-has-clause-spends : goal.returns-then-has-clause-spends
+returns-then-has-clause-spends g c = spends_none refl refl
+
+pub returns-then-other-place-clause-grows : goal.returns-then-other-place-clause-grows
+returns-then-other-place-clause-grows g c = grows_itself c.requires.known (more_itself c.args.proof.now) refl
+
+pub returns-then-other-place-clause-tried : goal.returns-then-other-place-clause-tried
+returns-then-other-place-clause-tried g c = tried_none refl
+
+pub returns-then-other-place-clause-looked : goal.returns-then-other-place-clause-looked
+returns-then-other-place-clause-looked g c =
+    looked_known (record { place = c.in-Some.other; at = c.in-Some.ensures.known }) (λ before. absurd (not_earlier c.requires.known c.in-Some.ensures.known (omega arith) before))
+
+pub returns-then-other-place-clause-spends : goal.returns-then-other-place-clause-spends
+returns-then-other-place-clause-spends g c = spends_none refl refl
+
+pub look_known-requires-clause-look : goal.look_known-requires-clause-look
+look_known-requires-clause-look g c = look_plain c.requires.known (c.the_numbering_is_sound.ensures.numbered c.args.proof.now.shape) c.requires.links c.requires.look
+
+pub look_known-requires-clause-other : goal.look_known-requires-clause-other
+look_known-requires-clause-other g c = record { place = c.in-Some.other; early = omega arith; at = c.in-Some.ensures.known }
+
+pub look_known-requires-clause-marks : goal.look_known-requires-clause-marks
+look_known-requires-clause-marks g c = c.requires.marks.are
+
+pub returns-clause-grows : goal.returns-clause-grows
+returns-clause-grows g c = grows_itself c.requires.known c.look_known.ensures.advances.more (joins_barred c.look_known.ensures.joins)
+
+pub returns-clause-tried : goal.returns-clause-tried
+returns-clause-tried g c = on_ok_weaker c.look_known.result (λ kept. tried_none (joins_barred c.look_known.ensures.joins)) c.look_known.ensures.kept
+
+pub returns-clause-looked : goal.returns-clause-looked
+returns-clause-looked g c = on_ok_weaker c.look_known.result (λ kept. looked_known (record { place = c.in-Some.other; at = c.in-Some.ensures.known }) (λ before. kept)) c.look_known.ensures.kept
+
+pub returns-clause-marks : goal.returns-clause-marks
+returns-clause-marks g c =
+    let more = c.look_known.ensures.advances.more in
+    on_ok_weaker c.look_known.result (λ marks. all_later more (grows_itself c.requires.known more (joins_barred c.look_known.ensures.joins)) c.requires.marks marks
+    (λ x on. inl (ap (λ bits. has_number bits x) (sym (joins_offered c.look_known.ensures.joins)) ∙ on))) c.look_known.ensures.marks
+
+pub returns-clause-spends : goal.returns-clause-spends
+returns-clause-spends g c =
+    joins_spent c.args.near.now.items c.requires.marks.are (look_within c.requires.known (c.the_numbering_is_sound.ensures.numbered c.args.proof.now.shape) c.requires.links c.requires.look)
+    (c.args.look.link.wire.0, c.args.look.wire.0, c.requires.look.link) c.look_known.ensures.joins

@@ -1,0 +1,145 @@
+//! Trials of wires on two feet, and of pins: what is good is known then.
+ghost use Rattle.std.specs.Prelude.{◌≡◌, ◌<◌, ◌≤◌, ◌+◌, true, false, Some, IfOk, OnOk, OnErr, IsErrOf, slice_set};
+ghost use Rattle.tm_bits.specs.Numbers.{has_number};
+ghost use Rattle.tm_outside.specs.Counts.{Rose};
+ghost use Rattle.hierarchy.specs.Shape.{pins_of, pin_wire, wires_of};
+ghost use Rattle.rig.specs.Rig.{shape_of};
+ghost use Rattle.evidence.specs.Kept.{Advances};
+ghost use Rattle.growth.specs.Grown.{IsLearnt, IsOneMore};
+ghost use Rattle.growth.specs.Trials.{IsTried};
+ghost use Rattle.growth.specs.Known.{IsKnown, HasWire};
+ghost use Rattle.growth.specs.Marked.{AreMarks, IsOfOffer, OffersOnly, Spends, BarsAtMost, HasTried};
+ghost use Rattle.growth.specs.Offers.{IsOffer, IsSecond};
+
+use crate::feet::second_foot;
+use crate::known::Known;
+use crate::marks::Marks;
+use crate::offers::Offer;
+use crate::parts::is_good;
+use crate::step::{Foot, Stand, Step};
+use evidence::Proof;
+use rig::{Rig, RigFail};
+
+// A further wire is known.
+fn learn(known: &mut Known, step: Step) -> Result<(), RigFail>
+    requires wire { step.wire.0 < wires_of known.old.shape }
+    requires new { ¬ HasWire known.old.steps step.wire.0 }
+    ensures learnt { OnOk result (IsLearnt known.old known.new step) }
+    ensures same { OnErr result (known.new ≡ known.old) }
+    ensures memory { IsErrOf result RigFail.Failed → ⊥ }
+{
+    match known.learn(step) {
+        Ok(()) => Ok(()),
+        Err(_) => Err(RigFail::Memory),
+    }
+}
+
+// Tests the wire of an offer that hangs on two kept crosspoints, and bars it. If it is good, it is known then.
+fn try_feet(
+    known: &mut Known,
+    rig: &mut Box<dyn Rig>,
+    proof: &mut Proof,
+    marks: &mut Marks,
+    offer: &Offer,
+    over: Foot,
+) -> Result<(), RigFail>
+    requires attached { shape_of (rig_state rig.old) ≡ Some proof.old.shape }
+    requires known { IsKnown proof.old known.old }
+    requires offer { IsOffer proof.old.shape known.old.steps offer.now }
+    requires marks { AreMarks (rig_state rig.old).machine.faults proof.old known.old.steps marks.old }
+    requires over { IsSecond proof.old offer.now over }
+    requires first { has_number marks.old.barred offer.now.wire.0 ≡ false }
+    ensures known { IsKnown proof.new known.new }
+    ensures more { IsOneMore known.old known.new offer.now.wire.0 }
+    ensures tried { OnOk result (IsTried (rig_state rig.old).machine.faults proof.new known.new.steps offer.now.wire.0) }
+    ensures marks { OnOk result (AreMarks (rig_state rig.old).machine.faults proof.new known.new.steps marks.new) }
+    ensures barred { marks.new ≡ record marks.old { barred = slice_set marks.old.barred offer.now.wire.0 true } }
+    ensures loads { (rig_state rig.new).loads ≤ (rig_state rig.old).loads + 3 }
+    ensures advances { Advances (rig_state rig.old) (rig_state rig.new) proof.old proof.new }
+    ensures cause { IsErrOf result RigFail.Failed → Rose (rig_state rig.old).failures (rig_state rig.new).failures }
+{
+    marks.bar(offer.wire);
+    let Ok((left, right)) = known.ways_over(proof, offer.wire, offer.foot, over) else {
+        return Err(RigFail::Memory);
+    };
+    let good = is_good(known, rig, proof, offer.wire, &left, &right)?;
+    if !good {
+        return Ok(());
+    }
+    let step = Step {
+        wire: offer.wire,
+        stand: Stand::Feet(offer.foot, over),
+    };
+    learn(known, step)
+}
+
+/// Tries the wire of an offer. It is barred then, and known unless it isn't fit; or nothing is barred, and the crosspoint of
+/// the offer and each other one are lost.
+pub(crate) fn try_offer(
+    known: &mut Known,
+    rig: &mut Box<dyn Rig>,
+    proof: &mut Proof,
+    marks: &mut Marks,
+    offer: &Offer,
+) -> Result<(), RigFail>
+    requires attached { shape_of (rig_state rig.old) ≡ Some proof.old.shape }
+    requires known { IsKnown proof.old known.old }
+    requires offer { IsOffer proof.old.shape known.old.steps offer.now }
+    requires marks { AreMarks (rig_state rig.old).machine.faults proof.old known.old.steps marks.old }
+    requires first { has_number marks.old.offered offer.now.foot.cross.0 ≡ false }
+    requires wire { has_number marks.old.barred offer.now.wire.0 ≡ false }
+    ensures known { IsKnown proof.new known.new }
+    ensures more { IsOneMore known.old known.new offer.now.wire.0 }
+    ensures found { OnOk result (HasTried (rig_state rig.old).machine.faults proof.new known.new.steps offer.now marks.old marks.new) }
+    ensures marks { OnOk result (AreMarks (rig_state rig.old).machine.faults proof.new known.new.steps marks.new) }
+    ensures barred { BarsAtMost offer.now.wire.0 marks.old.barred marks.new.barred }
+    ensures offered { OffersOnly offer.now.foot.cross.0 marks.old marks.new }
+    ensures spends { Spends (rig_state rig.old).machine.faults proof.old (IsOfOffer offer.now) marks.old marks.new (rig_state rig.old).loads (rig_state rig.new).loads }
+    ensures advances { Advances (rig_state rig.old) (rig_state rig.new) proof.old proof.new }
+    ensures cause { IsErrOf result RigFail.Failed → Rose (rig_state rig.old).failures (rig_state rig.new).failures }
+{
+    let second = second_foot(known, rig, proof, marks, offer)?;
+    let Some(over) = second else {
+        return Ok(());
+    };
+    try_feet(known, rig, proof, marks, offer, over)
+}
+
+/// Tries a pin of the machine, and bars it. It is known then, unless it isn't fit.
+pub(crate) fn try_pin(
+    known: &mut Known,
+    rig: &mut Box<dyn Rig>,
+    proof: &mut Proof,
+    marks: &mut Marks,
+    pin: u32,
+) -> Result<(), RigFail>
+    requires attached { shape_of (rig_state rig.old) ≡ Some proof.old.shape }
+    requires known { IsKnown proof.old known.old }
+    requires marks { AreMarks (rig_state rig.old).machine.faults proof.old known.old.steps marks.old }
+    requires pin { pin < pins_of proof.old.shape }
+    requires new { ¬ HasWire known.old.steps (pin_wire proof.old.shape pin) }
+    requires first { has_number marks.old.barred (pin_wire proof.old.shape pin) ≡ false }
+    ensures known { IsKnown proof.new known.new }
+    ensures more { IsOneMore known.old known.new (pin_wire proof.old.shape pin) }
+    ensures tried { OnOk result (IsTried (rig_state rig.old).machine.faults proof.new known.new.steps (pin_wire proof.old.shape pin)) }
+    ensures marks { OnOk result (AreMarks (rig_state rig.old).machine.faults proof.new known.new.steps marks.new) }
+    ensures barred { marks.new ≡ record marks.old { barred = slice_set marks.old.barred (pin_wire proof.old.shape pin) true } }
+    ensures loads { (rig_state rig.new).loads ≤ (rig_state rig.old).loads + 3 }
+    ensures advances { Advances (rig_state rig.old) (rig_state rig.new) proof.old proof.new }
+    ensures cause { IsErrOf result RigFail.Failed → Rose (rig_state rig.old).failures (rig_state rig.new).failures }
+{
+    let wire = proof.shape().pin(pin);
+    marks.bar(wire);
+    let Ok((left, right)) = known.ways_at(pin) else {
+        return Err(RigFail::Memory);
+    };
+    let good = is_good(known, rig, proof, wire, &left, &right)?;
+    if !good {
+        return Ok(());
+    }
+    let step = Step {
+        wire,
+        stand: Stand::Pin(pin),
+    };
+    learn(known, step)
+}

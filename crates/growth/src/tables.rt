@@ -1,0 +1,126 @@
+//! The tests of tables over known wires.
+ghost use Rattle.std.specs.Prelude.{◌≡◌, ◌≤◌, ◌<◌, ◌+◌, ◌*◌, ℕ, All, Some, IfOk, IfSome, IfNone, OnOk, IsErrOf, IsTrue, false, length};
+ghost use Rattle.tm_outside.specs.Counts.{Rose};
+ghost use Rattle.hierarchy.specs.Shape.{table_wire, tables_of};
+ghost use Rattle.hierarchy.specs.Standing.{IsSeated};
+ghost use Rattle.rig.specs.Rig.{shape_of};
+ghost use Rattle.evidence.specs.Kept.{Advances};
+ghost use Rattle.table_test.specs.Seats.{AddsOnlyTableFacts, IsSeat};
+ghost use Rattle.growth.specs.Known.{IsKeptCrossOf, IsKnown, HasWire};
+ghost use Rattle.growth.specs.Grounds.{AreAllLinks};
+ghost use Rattle.growth.specs.Tables.{SeatedAreKept, SeatedIsKept};
+
+use crate::field::Field;
+use crate::known::Known;
+use crate::links::{Near, links_of};
+use crate::outside::outside_of;
+use crate::seats::{find_place, seat_of};
+use crate::standing::standing;
+use evidence::Proof;
+use hierarchy::Table;
+use rig::{Rig, RigFail};
+use std::alloc::AllocError;
+use table_test::{Seat, test_table};
+
+// Whether all pins of a table are known.
+fn has_pins(known: &Known, t: Table) -> bool
+    requires { t.0 < tables_of known.now.shape }
+    ensures all { IsTrue result → (j : ℕ) → j < 7 → HasWire known.now.steps (table_wire known.now.shape t.0 j) }
+    ensures misses { result ≡ false → ((j : ℕ) → j < 7 → HasWire known.now.steps (table_wire known.now.shape t.0 j)) → ⊥ }
+{
+    let shape = known.shape();
+    'pins: for j in 0..7 {
+        if !known.has(shape.pin_of(t, j)) {
+            return false;
+        }
+    }
+    true
+}
+
+// The links of all crosspoints of the machine.
+fn all_links(known: &Known) -> Result<Vec<Near>, AllocError>
+    ensures { IfOk result (λ near. AreAllLinks known.now.shape near.items) }
+{
+    let shape = known.shape();
+    let field = Field::whole(known.alloc(), &shape)?;
+    links_of(known.alloc(), &shape, &field)
+}
+
+// Where a table is tested, if it is seated.
+fn seat_for(
+    known: &Known,
+    proof: &Proof,
+    near: &Vec<Near>,
+    t: Table,
+) -> Result<Option<Seat>, AllocError>
+    requires known { IsKnown proof.now known.now }
+    requires links { AreAllLinks proof.now.shape near.now.items }
+    requires table { t.0 < tables_of proof.now.shape }
+    ensures seat { IfOk result (λ found. IfSome found (λ seat. IsSeat proof.now seat × (seat.table.0 ≡ t.0))) }
+    ensures none { IfOk result (λ found. IfNone found (¬ IsSeated proof.now.shape (HasWire known.now.steps) (IsKeptCrossOf proof.now) t.0)) }
+{
+    if !has_pins(known, t) {
+        return Ok(None);
+    }
+    let outside = outside_of(known, known.shape().hextant_of(t))?;
+    let without = standing(known.alloc(), proof, outside, near)?;
+    let Some(place) = find_place(known, &without, proof, t)? else {
+        return Ok(None);
+    };
+    let seat = seat_of(known, &without, proof, t, place)?;
+    Ok(Some(seat))
+}
+
+// Tests a table, if it is seated.
+fn test_seated(
+    rig: &mut Box<dyn Rig>,
+    proof: &mut Proof,
+    known: &Known,
+    near: &Vec<Near>,
+    t: Table,
+) -> Result<(), RigFail>
+    requires attached { shape_of (rig_state rig.old) ≡ Some proof.old.shape }
+    requires known { IsKnown proof.old known.now }
+    requires links { AreAllLinks proof.old.shape near.now.items }
+    requires table { t.0 < tables_of proof.old.shape }
+    ensures table { OnOk result (SeatedIsKept (rig_state rig.old).machine.faults proof.old proof.new known.now.steps t.0) }
+    ensures advances { Advances (rig_state rig.old) (rig_state rig.new) proof.old proof.new }
+    ensures only { AddsOnlyTableFacts proof.old proof.new }
+    ensures loads { (rig_state rig.new).loads ≤ (rig_state rig.old).loads + 130 }
+    ensures cause { IsErrOf result RigFail.Failed → Rose (rig_state rig.old).failures (rig_state rig.new).failures }
+{
+    let Ok(found) = seat_for(known, proof, near, t) else {
+        return Err(RigFail::Memory);
+    };
+    let Some(seat) = found else {
+        return Ok(());
+    };
+    test_table(known.alloc(), rig, proof, &seat)
+}
+
+/// Tests these tables over known wires, with 130 loads for each at most. Where the faults are told and what was kept is
+/// true of them, each of these tables that is seated in the known wires and the kept crosspoints, has no wrong cell and
+/// no stuck register has its 64 cells and its register kept after an Ok. At every end no other facts are new.
+pub fn test_tables(
+    rig: &mut Box<dyn Rig>,
+    proof: &mut Proof,
+    known: &Known,
+    tables: &[Table],
+) -> Result<(), RigFail>
+    requires attached { shape_of (rig_state rig.old) ≡ Some proof.old.shape }
+    requires known { IsKnown proof.old known.now }
+    requires tables { All (λ t. t.0 < tables_of proof.old.shape) tables.now }
+    ensures tables { OnOk result (SeatedAreKept (rig_state rig.old).machine.faults proof.old proof.new known.now.steps tables.now) }
+    ensures advances { Advances (rig_state rig.old) (rig_state rig.new) proof.old proof.new }
+    ensures only { AddsOnlyTableFacts proof.old proof.new }
+    ensures loads { (rig_state rig.new).loads ≤ (rig_state rig.old).loads + 130 * length tables.now }
+    ensures cause { IsErrOf result RigFail.Failed → Rose (rig_state rig.old).failures (rig_state rig.new).failures }
+{
+    let Ok(near) = all_links(known) else {
+        return Err(RigFail::Memory);
+    };
+    'tables: for i in 0..tables.len() {
+        test_seated(rig, proof, known, &near, tables[i])?;
+    }
+    Ok(())
+}

@@ -1,0 +1,3 @@
+mod Tying
+mod Seating
+mod Tested
