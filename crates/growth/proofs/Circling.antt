@@ -1,29 +1,42 @@
 -- Growth from pin to pin.
 use Rattle.std.proofs.Common.{◌≡◌, ◌≢◌, ◌⊎◌, ℕ, ◌+◌, ◌*◌, ◌<◌, ◌≤◌, Bool, true, false, Some, Option, List, length, refl, sym, ap, ◌∙◌, subst, inl, inr, arith}
-use Rattle.std.specs.Prelude.{replicate}
+use Rattle.std.specs.Prelude.{replicate, slice_set}
 use Rattle.std.proofs.lemmas.List.{length-replicate}
 use native.Mathlib.Decide.{ℕ_discrete}
 use Rattle.tm_bits.specs.Numbers.{has_number, size_of}
 use Rattle.hierarchy.specs.declared.Shape.{Shape}
 use Rattle.hierarchy.specs.Faults.{Faults}
 use Rattle.hierarchy.specs.Laws.{IsTree, HasMeetings}
-use Rattle.hierarchy.specs.Shape.{pins_of, crosses_of, pin_wire}
+use Rattle.hierarchy.specs.Shape.{pins_of, wires_of, crosses_of, pin_wire}
 use Rattle.evidence.specs.Kept.{Kept, HoldsFor, IsMore}
 use Rattle.growth.specs.Field.{IsFieldOf, ClosedIf, GrowsIn, TakesFew}
-use Rattle.growth.specs.Grown.{AreLinks, IsGrown}
-use Rattle.growth.specs.Known.{KnownWires, HasWire}
+use Rattle.growth.specs.Grown.{AreLinks, IsGrown, IsOneMore}
+use Rattle.growth.specs.Known.{KnownWires, HasWire, IsKnown}
 use Rattle.growth.specs.Looks.{AreAllMarks, AreOutside, AreTried, Grows, IsLinking}
-use Rattle.growth.specs.Marked.{is_spent, Spends}
+use Rattle.growth.specs.Marked.{is_spent, AreMarks, Spends}
 use Rattle.growth.specs.declared.field.Field.{Field}
 use Rattle.growth.specs.declared.links.Near.{Near}
 use Rattle.growth.specs.declared.marks.Marks.{Marks}
 use Rattle.growth.specs.declared.step.Step.{Step}
-use Rattle.growth.proofs.Counting.{none_has}
+use Rattle.growth.proofs.Counting.{none_has, set_has}
 use Rattle.growth.proofs.Ending.{closed, grows_in}
+use Rattle.growth.proofs.Leaving.{all_later}
 use Rattle.growth.proofs.Marking.{by_three, spends_then}
 use Rattle.growth.proofs.Places.{has_later}
-use Rattle.growth.proofs.Stages.{grows_then, tried_then}
+use Rattle.growth.proofs.Stages.{grows_one, grows_then, tried_then}
 use Rattle.growth.proofs.Taken.{takes_most, takes_few}
+
+-- a pin was tried, and is barred
+module _ {told : Option Faults} {k : Kept} {ss : List Step} {s t : Marks} {w : ℕ} (are : AreMarks told k ss s) (low : w < wires_of k.shape) where
+  pub pin_has : t ≡ record s { barred = slice_set s.barred w true } → has_number t.barred w ≡ true
+  pin_has marks = ap (λ (u : Marks). has_number u.barred w) marks ∙ set_has s.barred w (subst (λ n. w < n) (sym are.barred) low)
+
+  pub pin_grows : {l : Kept} {a b : KnownWires} → has_number s.barred w ≡ false → IsKnown l b → IsOneMore a b w → t ≡ record s { barred = slice_set s.barred w true } → Grows l a b s.barred t.barred
+  pin_grows free is one marks = grows_one is one free (subst (λ n. w < n) (sym are.barred) low) (inr (ap (λ (u : Marks). u.barred) marks))
+
+pub pin_marks : {told : Option Faults} {k l : Kept} {near : List Near} {a b : KnownWires} {s t : Marks} {w : ℕ} → IsMore k l → Grows l a b s.barred t.barred → AreAllMarks told k near a.steps s → AreMarks told l b.steps t →
+    t ≡ record s { barred = slice_set s.barred w true } → AreAllMarks told l near b.steps t
+pin_marks more g all are marks = all_later more g all are (λ x on. inl (ap (λ (u : Marks). has_number u.offered x) (sym marks) ∙ on))
 
 -- what growth has found and spent once the first n pins were tried
 pub record IsGrowing (told : Option Faults) (j k : Kept) (a : Field) (near : List Near) (old known : KnownWires) (now : Marks) (before after n : ℕ) : Type 0 where
@@ -75,6 +88,23 @@ grown_none = record {
   seconds = λ w x y u v links also differ b c. absurd (let e = b.early in let no : ⊥ = omega (arith, e) in no);
 }
 
+-- once known wires were looked at, and no pin was tried
+pub growing_first : {told : Option Faults} {j k : Kept} {a : Field} {near : List Near} {old known : KnownWires} {first now : Marks} {before after : ℕ} → AreOutside a.wires first.barred → AreFirst a first → Grows k old known first.barred now.barred →
+    AreTried told k known.steps first.barred now.barred → (IsGrown told j near old.steps first.barred 0 → IsGrown told k near known.steps now.barred (length known.steps)) → AreAllMarks told k near known.steps now →
+    Spends told j (IsLinking near) first now before after → IsGrowing told j k a near old known now before after 0
+growing_first {first = first} outside are grows tried grown marks spends = record {
+  first = first;
+  outside = outside;
+  len = are.len;
+  unspent = first_unspent are;
+  grows = grows;
+  tried = tried;
+  grown = grown grown_none;
+  pins = λ i less. absurd (let no : ⊥ = omega (arith, less) in no);
+  marks = marks;
+  spends = spends;
+}
+
 pub growing_next : {told : Option Faults} {j k l : Kept} {a : Field} {near : List Near} {old known new : KnownWires} {now next : Marks} {before mid after n : ℕ} → k.shape ≡ j.shape → ((f : Faults) → told ≡ Some f → HoldsFor j f → HoldsFor k f) → IsMore k l →
     IsGrowing told j k a near old known now before mid n → Grows l known new now.barred next.barred → AreTried told l new.steps now.barred next.barred → IsGrown told l near new.steps next.barred (length new.steps) →
     HasWire new.steps (pin_wire k.shape n) ⊎ (has_number next.barred (pin_wire k.shape n) ≡ true) → AreAllMarks told l near new.steps next → Spends told k (IsLinking near) now next mid after →
@@ -105,6 +135,9 @@ pub growing_closed : {told : Option Faults} {j k : Kept} {a : Field} {near : Lis
 growing_closed field tree meetings links le g = closed field tree meetings links g.outside g.tried g.grown (λ i less. g.pins i (omega (arith, less, le)))
 
 -- what holds at every end
+pub grows_nothing : {a : Field} (ss : List Step) → GrowsIn a ss ss
+grows_nothing ss = record { stays = λ w has. has; within = λ w has. inl has }
+
 pub growing_in : {told : Option Faults} {j k l : Kept} {a : Field} {near : List Near} {old known new : KnownWires} {now : Marks} {next : List Bool} {before mid n : ℕ} → IsGrowing told j k a near old known now before mid n →
     Grows l known new now.barred next → GrowsIn a old.steps new.steps
 growing_in g step = grows_in g.outside g.len (grows_then g.grows step)

@@ -120,6 +120,10 @@ offer_links {near} {l = l} look of_look x (inl e) = subst (IsLinking near) (sym 
 offer_links {near} {l = l} {o = o} look of_look x (inr p) =
     subst (IsLinking near) p.so (p.item.wire.0, l.link.wire.0, (of_look.earlier.right p.item (record { place = p.place; here = p.here })).0)
 
+-- the same of faults that are told alike
+pub spends_told : {a b : Option Faults} {k : Kept} {these : ℕ → Type 0} {s t : Marks} {before after : ℕ} → a ≡ b → Spends a k these s t before after → Spends b k these s t before after
+spends_told {k = k} {these = these} {s = s} {t = t} {before = before} {after = after} e p = subst (λ told. Spends told k these s t before after) e p
+
 -- looks over the links of a wire, one after the other
 pub looks_next : {told : Option Faults} {k l : Kept} {near : List Near} {a b : KnownWires} {x y : List Bool} (place w n : ℕ) (link : Foot) → IsMore k l → Grows l a b x y → place ≤ length a.steps → slice_get (list_at near w) n ≡ Some link →
     IsLooked told l near b.steps y place link.cross.0 link.wire.0 → ((i : ℕ) (f : Foot) → i < n → slice_get (list_at near w) i ≡ Some f → IsLooked told k near a.steps x place f.cross.0 f.wire.0) →
