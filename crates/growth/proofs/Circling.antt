@@ -34,9 +34,9 @@ module _ {told : Option Faults} {k : Kept} {ss : List Step} {s t : Marks} {w : �
   pub pin_grows : {l : Kept} {a b : KnownWires} → has_number s.barred w ≡ false → IsKnown l b → IsOneMore a b w → t ≡ record s { barred = slice_set s.barred w true } → Grows l a b s.barred t.barred
   pin_grows free is one marks = grows_one is one free (subst (λ n. w < n) (sym are.barred) low) (inr (ap (λ (u : Marks). u.barred) marks))
 
-pub pin_marks : {told : Option Faults} {k l : Kept} {near : List Near} {a b : KnownWires} {s t : Marks} {w : ℕ} → IsMore k l → Grows l a b s.barred t.barred → AreAllMarks told k near a.steps s → AreMarks told l b.steps t →
+pub pin_marks : {told : Option Faults} {k l : Kept} {near : List Near} {a b : KnownWires} {s t : Marks} (w : ℕ) → IsMore k l → Grows l a b s.barred t.barred → AreAllMarks told k near a.steps s → AreMarks told l b.steps t →
     t ≡ record s { barred = slice_set s.barred w true } → AreAllMarks told l near b.steps t
-pin_marks more g all are marks = all_later more g all are (λ x on. inl (ap (λ (u : Marks). has_number u.offered x) (sym marks) ∙ on))
+pin_marks w more g all are marks = all_later more g all are (λ x on. inl (ap (λ (u : Marks). has_number u.offered x) (sym marks) ∙ on))
 
 -- what growth has found and spent once the first n pins were tried
 pub record IsGrowing (told : Option Faults) (j k : Kept) (a : Field) (near : List Near) (old known : KnownWires) (now : Marks) (before after n : ℕ) : Type 0 where
@@ -80,6 +80,10 @@ first_marks {k = k} {a = a} field first = record {
   where
     as_long : {bits : List Bool} → bits ≡ replicate (length a.crosses) false → length bits ≡ crosses_of k.shape
     as_long e = ap length e ∙ length-replicate (length a.crosses) false ∙ field.crosses
+
+-- the same number of known wires
+pub grown_at : {told : Option Faults} {k : Kept} {near : List Near} {ss : List Step} {barred : List Bool} {m n : ℕ} → m ≡ n → IsGrown told k near ss barred m → IsGrown told k near ss barred n
+grown_at {told} {k} {near} {ss} {barred} same grown = subst (IsGrown told k near ss barred) same grown
 
 -- nothing was looked at so far
 pub grown_none : {told : Option Faults} {k : Kept} {near : List Near} {ss : List Step} {barred : List Bool} → IsGrown told k near ss barred 0

@@ -1,4 +1,4 @@
-use Rattle.std.proofs.Common.{◌≡◌, ◌<◌, ◌∙◌, refl, sym, ap, subst, inl, inr}
+use Rattle.std.proofs.Common.{◌≡◌, ◌<◌, ◌∙◌, true, refl, sym, ap, subst, inl, inr}
 use Rattle.std.specs.Prelude.{slice_set}
 use Rattle.std.proofs.lemmas.Result.{on_ok_weaker}
 use Rattle.hierarchy.specs.declared.Shape.{Shape}
@@ -29,7 +29,7 @@ pub returns-in_default-clause-more : goal.returns-in_default-clause-more
 returns-in_default-clause-more g c = none_more (pin_wire c.args.proof.now.shape c.args.pin) refl
 
 pub returns-in_default-clause-barred : goal.returns-in_default-clause-barred
-returns-in_default-clause-barred g c = subst (λ w. c.bar.new.marks ≡ record c.args.marks.now { barred = slice_set c.args.marks.now.barred w true }) (c.pin-wire.ensures.wire ∙ ap (λ m. pin_wire m c.args.pin) c.shape.ensures) c.bar.ensures
+returns-in_default-clause-barred g c = subst (λ w. c.bar.new.self ≡ record c.args.marks.now { barred = slice_set c.args.marks.now.barred w true }) (c.pin-wire.ensures.wire ∙ ap (λ m. pin_wire m c.args.pin) c.shape.ensures) c.bar.ensures
 
 pub returns-in_err-good-clause-known : goal.returns-in_err-good-clause-known
 returns-in_err-good-clause-known g c = known_later c.is_good.ensures.advances.more c.requires.known
@@ -38,7 +38,7 @@ pub returns-in_err-good-clause-more : goal.returns-in_err-good-clause-more
 returns-in_err-good-clause-more g c = none_more (pin_wire c.args.proof.now.shape c.args.pin) refl
 
 pub returns-in_err-good-clause-barred : goal.returns-in_err-good-clause-barred
-returns-in_err-good-clause-barred g c = subst (λ w. c.bar.new.marks ≡ record c.args.marks.now { barred = slice_set c.args.marks.now.barred w true }) (c.pin-wire.ensures.wire ∙ ap (λ m. pin_wire m c.args.pin) c.shape.ensures) c.bar.ensures
+returns-in_err-good-clause-barred g c = subst (λ w. c.bar.new.self ≡ record c.args.marks.now { barred = slice_set c.args.marks.now.barred w true }) (c.pin-wire.ensures.wire ∙ ap (λ m. pin_wire m c.args.pin) c.shape.ensures) c.bar.ensures
 
 pub returns-then-not-good-clause-known : goal.returns-then-not-good-clause-known
 returns-then-not-good-clause-known g c = known_later c.is_good.ensures.advances.more c.requires.known
@@ -47,10 +47,10 @@ pub returns-then-not-good-clause-more : goal.returns-then-not-good-clause-more
 returns-then-not-good-clause-more g c = none_more (pin_wire c.args.proof.now.shape c.args.pin) refl
 
 pub returns-then-not-good-clause-barred : goal.returns-then-not-good-clause-barred
-returns-then-not-good-clause-barred g c = subst (λ w. c.bar.new.marks ≡ record c.args.marks.now { barred = slice_set c.args.marks.now.barred w true }) (c.pin-wire.ensures.wire ∙ ap (λ m. pin_wire m c.args.pin) c.shape.ensures) c.bar.ensures
+returns-then-not-good-clause-barred g c = subst (λ w. c.bar.new.self ≡ record c.args.marks.now { barred = slice_set c.args.marks.now.barred w true }) (c.pin-wire.ensures.wire ∙ ap (λ m. pin_wire m c.args.pin) c.shape.ensures) c.bar.ensures
 
 pub returns-clause-barred : goal.returns-clause-barred
-returns-clause-barred g c = subst (λ w. c.bar.new.marks ≡ record c.args.marks.now { barred = slice_set c.args.marks.now.barred w true }) (c.pin-wire.ensures.wire ∙ ap (λ m. pin_wire m c.args.pin) c.shape.ensures) c.bar.ensures
+returns-clause-barred g c = subst (λ w. c.bar.new.self ≡ record c.args.marks.now { barred = slice_set c.args.marks.now.barred w true }) (c.pin-wire.ensures.wire ∙ ap (λ m. pin_wire m c.args.pin) c.shape.ensures) c.bar.ensures
 
 pub returns-then-not-good-clause-tried : goal.returns-then-not-good-clause-tried
 returns-then-not-good-clause-tried g c = inr (subst (IsBad _ c.is_good.new.proof c.args.known.now.steps) (c.pin-wire.ensures.wire ∙ ap (λ m. pin_wire m c.args.pin) c.shape.ensures) (c.in_ok-good.ensures.bad c.if-not-good.true))

@@ -1,11 +1,14 @@
-use Rattle.std.proofs.Common.{sym, subst, ◌∙◌, ◌<◌, arith}
+use Rattle.std.proofs.Common.{List, sym, subst, ◌∙◌, ◌<◌, arith}
 use Rattle.hierarchy.specs.declared.Shape.{Shape}
 use Rattle.hierarchy.specs.Shape.{wires_of}
+use Rattle.growth.specs.Looks.{AreEarlierUpTo}
+use Rattle.growth.specs.declared.step.Foot.{Foot}
 use Rattle.growth.proofs.Looking.{earlier_none, earlier_past, earlier_next, earlier_all, link_leads, link_wire}
 use Rattle.growth.proofs.look.earlier_links.Goals as goal
 
 pub links-init : goal.links-init
-links-init c = earlier_none c.args.near.now.items c.args.known.now.steps c.args.look.place c.args.look.link.wire.0
+links-init c = subst (λ (fs : List Foot). AreEarlierUpTo c.args.near.now.items c.args.known.now.steps c.args.look.place c.args.look.link.wire.0 fs 0) (sym c.new-others.ensures.items)
+    (earlier_none c.args.near.now.items c.args.known.now.steps c.args.look.place c.args.look.link.wire.0)
 
 pub links-preserved-in_default : goal.links-preserved-in_default
 links-preserved-in_default c = earlier_past (sym c.link_at.ensures ∙ c.in_default.is) c.links.invariant

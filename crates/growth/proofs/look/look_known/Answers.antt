@@ -1,7 +1,8 @@
-use Rattle.std.proofs.Common.{◌≡◌, ◌∙◌, ◌<◌, refl, sym, subst, inl, inr}
+use Rattle.std.proofs.Common.{◌≡◌, ◌∙◌, ◌<◌, refl, sym, subst, inl, inr, arith}
 use Rattle.std.specs.Prelude.{OnOk}
 use Rattle.std.proofs.lemmas.Result.{on_ok_weaker}
-use Rattle.growth.proofs.Looking.{kept_already}
+use Rattle.growth.specs.Known.{IsBefore}
+use Rattle.growth.proofs.Looking.{kept_already, not_earlier}
 use Rattle.growth.proofs.Settling.{marks_between}
 use Rattle.growth.proofs.look.look_known.Goals as goal
 
@@ -16,6 +17,9 @@ has-requires g c = subst (λ n. c.args.look.link.cross.0 < n) (sym c.requires.ma
 
 pub put_between-requires : goal.put_between-requires
 put_between-requires g c = subst (λ n. c.args.look.link.cross.0 < n) (sym c.requires.marks.between) c.requires.look.within
+
+pub toggle_known-requires-clause-differ : goal.toggle_known-requires-clause-differ
+toggle_known-requires-clause-differ g c = λ same. not_earlier c.requires.known {i = c.args.look.place} {place = c.args.look.place} c.requires.look.at (omega arith) (subst (IsBefore c.args.known.now.steps c.args.look.place) same c.requires.other)
 
 pub returns-clause-marks : goal.returns-clause-marks
 returns-clause-marks g c = on_ok_weaker c.toggle_known.result

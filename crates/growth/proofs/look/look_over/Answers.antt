@@ -1,13 +1,21 @@
-use Rattle.std.proofs.Common.{◌≡◌, ◌∙◌, refl, sym, ap, subst, inl, arith}
+use Rattle.std.proofs.Common.{◌≡◌, ◌∙◌, ◌<◌, refl, sym, ap, subst, inl, arith}
 use Rattle.std.proofs.lemmas.Result.{on_ok_weaker}
 use Rattle.tm_bits.specs.Numbers.{has_number}
+use Rattle.hierarchy.specs.declared.Shape.{Shape}
+use Rattle.hierarchy.specs.Shape.{wires_of}
 use Rattle.evidence.proofs.KeptLemmas.{more_itself}
 use Rattle.growth.proofs.Leaving.{look_plain, all_later, joins_spent, joins_barred, joins_offered}
-use Rattle.growth.proofs.Looking.{look_within, looked_barred, looked_known, not_earlier}
+use Rattle.growth.proofs.Looking.{look_within, look_other, looked_barred, looked_known, not_earlier}
 use Rattle.growth.proofs.Marking.{spends_none}
 use Rattle.growth.proofs.Places.{before_has}
 use Rattle.growth.proofs.Stages.{grows_itself, tried_none}
 use Rattle.growth.proofs.look.look_over.Goals as goal
+
+pub place_of-requires : goal.place_of-requires
+place_of-requires g c = subst (λ (m : Shape). c.args.look.link.wire.0 < wires_of m) (sym c.requires.known.shape) (look_other c.requires.known (c.the_numbering_is_sound.ensures.numbered c.args.proof.now.shape) c.requires.links c.requires.look)
+
+pub has-requires : goal.has-requires
+has-requires g c = subst (λ n. c.args.look.link.wire.0 < n) (sym c.requires.marks.are.barred) (look_other c.requires.known (c.the_numbering_is_sound.ensures.numbered c.args.proof.now.shape) c.requires.links c.requires.look)
 
 pub returns-then-has-clause-grows : goal.returns-then-has-clause-grows
 returns-then-has-clause-grows g c = grows_itself c.requires.known (more_itself c.args.proof.now) refl
@@ -21,18 +29,18 @@ returns-then-has-clause-looked g c = looked_barred (λ before. c.in_default.ensu
 pub returns-then-has-clause-spends : goal.returns-then-has-clause-spends
 returns-then-has-clause-spends g c = spends_none refl refl
 
-pub returns-then-other-place-clause-grows : goal.returns-then-other-place-clause-grows
-returns-then-other-place-clause-grows g c = grows_itself c.requires.known (more_itself c.args.proof.now) refl
+pub returns-then-other-look-clause-grows : goal.returns-then-other-look-clause-grows
+returns-then-other-look-clause-grows g c = grows_itself c.requires.known (more_itself c.args.proof.now) refl
 
-pub returns-then-other-place-clause-tried : goal.returns-then-other-place-clause-tried
-returns-then-other-place-clause-tried g c = tried_none refl
+pub returns-then-other-look-clause-tried : goal.returns-then-other-look-clause-tried
+returns-then-other-look-clause-tried g c = tried_none refl
 
-pub returns-then-other-place-clause-looked : goal.returns-then-other-place-clause-looked
-returns-then-other-place-clause-looked g c =
+pub returns-then-other-look-clause-looked : goal.returns-then-other-look-clause-looked
+returns-then-other-look-clause-looked g c =
     looked_known (record { place = c.in-Some.other; at = c.in-Some.ensures.known }) (λ before. absurd (not_earlier c.requires.known c.in-Some.ensures.known (omega arith) before))
 
-pub returns-then-other-place-clause-spends : goal.returns-then-other-place-clause-spends
-returns-then-other-place-clause-spends g c = spends_none refl refl
+pub returns-then-other-look-clause-spends : goal.returns-then-other-look-clause-spends
+returns-then-other-look-clause-spends g c = spends_none refl refl
 
 pub look_known-requires-clause-look : goal.look_known-requires-clause-look
 look_known-requires-clause-look g c = look_plain c.requires.known (c.the_numbering_is_sound.ensures.numbered c.args.proof.now.shape) c.requires.links c.requires.look

@@ -14,7 +14,7 @@ use Rattle.growth.proofs.Taken.{takes_none, takes_most, takes_few}
 use Rattle.growth.proofs.rounds.grow.Goals as goal
 
 pub links_of-requires : goal.links_of-requires
-links_of-requires g c = subst (λ (m : Shape). IsFieldOf m c.args.field.now) (sym c.shape-shape.ensures) c.requires.field
+links_of-requires g c = record { field = subst (λ (m : Shape). IsFieldOf m c.args.field.now) (sym c.shape-shape.ensures) c.requires.field }
 
 pub returns-in_default-clause-grows : goal.returns-in_default-clause-grows
 returns-in_default-clause-grows g c = grows_nothing c.args.known.now.steps
@@ -63,7 +63,7 @@ grow_pin-requires-clause-marks g c = subst (λ (told : Option Faults). AreAllMar
 
 pub grow_pin-requires-clause-pin : goal.grow_pin-requires-clause-pin
 grow_pin-requires-clause-pin g c = 
-    let end : c.pins-pin-end.result ≡ pins_of c.pins.proof.shape = c.pins-pin-end.ensures ∙ ap pins_of (c.shape-shape.ensures ∙ sym c.pins.invariant.advances.more.shape) in
+    let end : c.pins-pin-end.result ≡ pins_of c.pins.proof.shape = c.pins-pin-end.ensures.pins ∙ ap pins_of (c.shape-shape.ensures ∙ sym c.pins.invariant.advances.more.shape) in
     omega (arith, end)
 
 pub returns-in_err-grow_pin-clause-known : goal.returns-in_err-grow_pin-clause-known
@@ -101,7 +101,7 @@ returns-clause-grows g c = grows_in c.pins.invariant.growing.outside c.pins.inva
 pub returns-clause-closed : goal.returns-clause-closed
 returns-clause-closed g c = 
     let shape = c.pins.invariant.advances.more.shape in
-    let end : c.pins-pin-end.result ≡ pins_of c.pins.proof.shape = c.pins-pin-end.ensures ∙ ap pins_of (c.shape-shape.ensures ∙ sym shape) in
+    let end : c.pins-pin-end.result ≡ pins_of c.pins.proof.shape = c.pins-pin-end.ensures.pins ∙ ap pins_of (c.shape-shape.ensures ∙ sym shape) in
     growing_closed (subst (λ (m : Shape). IsFieldOf m c.args.field.now) (sym shape) c.requires.field) (c.the_numbering_is_sound.ensures.tree c.pins.proof.shape) (c.the_crosspoints_are_sound.ensures.meetings c.pins.proof.shape)
     (subst (λ (m : Shape). AreLinks m c.args.field.now c.in-Ok.near.items) (sym shape) (subst (λ (m : Shape). AreLinks m c.args.field.now c.in-Ok.near.items) c.shape-shape.ensures c.in-Ok.ensures)) (omega (arith, end)) c.pins.invariant.growing
 

@@ -10,7 +10,7 @@ use Rattle.growth.specs.Grown.{AreLinked, IsGrown}
 use Rattle.growth.specs.Known.{HasWire}
 use Rattle.growth.specs.Looks.{AreAllMarks, AreTried, Grows}
 use Rattle.growth.specs.declared.marks.Marks.{Marks}
-use Rattle.growth.proofs.Circling.{pin_grows, pin_marks, pin_has}
+use Rattle.growth.proofs.Circling.{grown_at, pin_grows, pin_marks, pin_has}
 use Rattle.growth.proofs.Leaving.{spends_told}
 use Rattle.growth.proofs.Marking.{spends_none, spends_then, spends_barred}
 use Rattle.growth.proofs.Stages.{grows_itself, grows_then, grown_on, longer, tried_none, tried_one, tried_then}
@@ -74,7 +74,7 @@ pub look_on-requires-clause-marks : goal.look_on-requires-clause-marks
 look_on-requires-clause-marks g c = 
     let grows = pin_grows c.requires.marks.are (subst (λ w. w < wires_of c.args.proof.now.shape) (c.pin-wire.ensures.wire ∙ ap (λ m. pin_wire m c.args.pin) c.shape.ensures) (subst (λ (m : Shape). c.pin-wire.result.0 < wires_of m) c.shape.ensures c.pin-wire.ensures.within)) (ap (has_number c.args.marks.now.barred) (sym (c.pin-wire.ensures.wire ∙ ap (λ m. pin_wire m c.args.pin) c.shape.ensures)) ∙ sym c.has.ensures ∙ c.if-has.false) c.try_pin.ensures.known c.try_pin.ensures.more c.try_pin.ensures.barred in
     subst (λ (told : Option Faults). AreAllMarks told c.try_pin.new.proof c.args.near.now.items c.try_pin.new.known.steps c.try_pin.new.marks) (sym (ap (λ m. m.faults) c.try_pin.ensures.advances.machine))
-    (pin_marks c.try_pin.ensures.advances.more grows c.requires.marks c.in_ok-try_pin.ensures.marks c.try_pin.ensures.barred)
+    (pin_marks (pin_wire c.args.proof.now.shape c.args.pin) c.try_pin.ensures.advances.more grows c.requires.marks c.in_ok-try_pin.ensures.marks c.try_pin.ensures.barred)
 
 pub look_on-requires-clause-from : goal.look_on-requires-clause-from
 look_on-requires-clause-from g c = 
@@ -98,7 +98,7 @@ returns-clause-grown g c =
     on_ok_weaker c.look_on.result (λ on. λ grown.
     subst (λ (told : Option Faults). IsGrown told c.try_pin.new.proof c.args.near.now.items c.try_pin.new.known.steps c.try_pin.new.marks.barred c.len-from.result →
         IsGrown told c.look_on.new.proof c.args.near.now.items c.look_on.new.known.steps c.look_on.new.marks.barred (length c.look_on.new.known.steps)) (ap (λ m. m.faults) c.try_pin.ensures.advances.machine) on
-    (subst (λ n. IsGrown _ c.try_pin.new.proof c.args.near.now.items c.try_pin.new.known.steps c.try_pin.new.marks.barred n) (sym c.len-from.ensures.len)
+    (grown_at (sym c.len-from.ensures.len)
     (grown_on c.try_pin.ensures.advances.more (omega arith) grows grown))) c.look_on.ensures.grown
 
 pub returns-clause-pin : goal.returns-clause-pin

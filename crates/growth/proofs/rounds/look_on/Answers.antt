@@ -6,6 +6,7 @@ use Rattle.evidence.proofs.Keeping.{advances_itself, advances_then}
 use Rattle.evidence.proofs.KeptLemmas.{more_itself}
 use Rattle.growth.specs.Grown.{AreLinked, IsGrown}
 use Rattle.growth.specs.Looks.{AreAllMarks, AreTried}
+use Rattle.growth.proofs.Circling.{grown_at}
 use Rattle.growth.proofs.Leaving.{spends_told}
 use Rattle.growth.proofs.Marking.{spends_none, spends_then}
 use Rattle.growth.proofs.Stages.{grows_itself, grows_then, longer, tried_none, tried_then}
@@ -68,4 +69,4 @@ pub returns-clause-grown : goal.returns-clause-grown
 returns-clause-grown g c =
     let old = c.places.invariant in
     let end : c.places.place ≡ length c.places.known.steps = (let within = old.within in let len = c.len.ensures.len in omega (arith, within, len)) in
-    λ grown. subst (λ n. IsGrown _ c.places.proof c.args.near.now.items c.places.known.steps c.places.marks.barred n) end (old.grown grown)
+    λ grown. grown_at end (old.grown grown)
