@@ -95,8 +95,8 @@ table_at (u ∷ tables) zero t d below e = ap (λ x. Some x) (sym e)
 table_at (u ∷ tables) (suc i) t d below e = table_at tables i t d (omega (arith, below)) e
 
 -- .. is below what all are
-pub table_below : {k l : Kept} → l.shape ≡ k.shape → (tables : List Table) (i : ℕ) (d : Table) → i < length tables → All (λ (t : Table). t.0 < tables_of k.shape) tables → (get_or tables i d).0 < tables_of l.shape
-table_below e tables i d below all = subst (λ (m : Shape). (get_or tables i d).0 < tables_of m) (sym e) (all i d below)
+pub table_below : (k l : Kept) → l.shape ≡ k.shape → (tables : List Table) (i : ℕ) (d : Table) → i < length tables → All (λ (t : Table). t.0 < tables_of k.shape) tables → (get_or tables i d).0 < tables_of l.shape
+table_below k l e tables i d below all = subst (λ (m : Shape). (get_or tables i d).0 < tables_of m) (sym e) (all i d below)
 
 -- no facts are new, and one after the other
 pub only_none : {k : Kept} → AddsOnlyTableFacts k k
@@ -106,14 +106,14 @@ pub only_then : {k l n : Kept} → AddsOnlyTableFacts k l → AddsOnlyTableFacts
 only_then f g = record { crosses = λ x. g.crosses x ∙ f.crosses x; wires = λ w. g.wires w ∙ f.wires w; pairs = λ a b. g.pairs a b ∙ f.pairs a b }
 
 -- the hextant of a table, and what is outside it, by the shape of what is known and by that of the proof
-pub hextant_is : {n m s : Shape} {t h : ℕ} → n ≡ m → s ≡ n → h ≡ hextant_of s t → h ≡ hextant_of m t
-hextant_is {t = t} {h = h} e same node = subst (λ (z : Shape). h ≡ hextant_of z t) (same ∙ e) node
+pub hextant_is : {n m s : Shape} {h : ℕ} (t : ℕ) → n ≡ m → s ≡ n → h ≡ hextant_of s t → h ≡ hextant_of m t
+hextant_is {h = h} t e same node = subst (λ (z : Shape). h ≡ hextant_of z t) (same ∙ e) node
 
-pub outside_on : {n m : Shape} {t h w : ℕ} → n ≡ m → h ≡ hextant_of m t → IsOutside n h w → IsOutside m (hextant_of m t) w
-outside_on {m = m} {h = h} {w = w} e node out = subst (λ i. IsOutside m i w) node (subst (λ (z : Shape). IsOutside z h w) e out)
+pub outside_on : {n m : Shape} {h w : ℕ} (t : ℕ) → n ≡ m → h ≡ hextant_of m t → IsOutside n h w → IsOutside m (hextant_of m t) w
+outside_on {m = m} {h = h} {w = w} t e node out = subst (λ i. IsOutside m i w) node (subst (λ (z : Shape). IsOutside z h w) e out)
 
-pub outside_back : {n m : Shape} {t h w : ℕ} → n ≡ m → h ≡ hextant_of m t → IsOutside m (hextant_of m t) w → IsOutside n h w
-outside_back {n} {m} {h = h} {w = w} e node out = subst (λ (z : Shape). IsOutside z h w) (sym e) (subst (λ i. IsOutside m i w) (sym node) out)
+pub outside_back : {n m : Shape} {h w : ℕ} (t : ℕ) → n ≡ m → h ≡ hextant_of m t → IsOutside m (hextant_of m t) w → IsOutside n h w
+outside_back {n} {m} {h} {w} t e node out = subst (λ (z : Shape). IsOutside z h w) (sym e) (subst (λ i. IsOutside m i w) (sym node) out)
 
-pub without_is : {m : Shape} {ss without : List Step} {h : ℕ} {set : List Bool} → ((w : ℕ) → HasWire without w → InSet set w) → ((w : ℕ) → InSet set w → HasWire ss w) → ((w : ℕ) → InSet set w → IsOutside m h w) → IsWithout m ss without h
-without_is within known outside = record { known = λ w has. known w (within w has); outside = λ w has. outside w (within w has) }
+pub without_is : {m : Shape} {ss without : List Step} {h : ℕ} (set : List Bool) → ((w : ℕ) → HasWire without w → InSet set w) → ((w : ℕ) → InSet set w → HasWire ss w) → ((w : ℕ) → InSet set w → IsOutside m h w) → IsWithout m ss without h
+without_is set within known outside = record { known = λ w has. known w (within w has); outside = λ w has. outside w (within w has) }

@@ -1,5 +1,5 @@
 //! Keeps a wire that isn't known apart from known ones, where a test of all of them at one time fails.
-ghost use Rattle.std.specs.Prelude.{◌≡◌, ◌≤◌, ◌<◌, ◌+◌, ◌×◌, ℕ, true, Some, IfOk, IfSome, IsErrOf, IsTrue, length};
+ghost use Rattle.std.specs.Prelude.{◌≡◌, ◌≤◌, ◌<◌, ◌+◌, ℕ, true, Some, IfOk, IfSome, IsErrOf, IsTrue, length};
 ghost use Rattle.tm_outside.specs.Counts.{Rose};
 ghost use Rattle.hierarchy.specs.Shape.{crosses_of, wires_of};
 ghost use Rattle.rig.specs.Rig.{shape_of};

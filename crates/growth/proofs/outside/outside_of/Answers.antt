@@ -11,7 +11,7 @@ places-init c = record {
 }
 
 pub places-preserved : goal.places-preserved
-places-preserved c = record { len = c.put_outside.ensures.len ∙ c.places.invariant.len; are = outside_next c.put_outside.ensures c.places.invariant.are }
+places-preserved c = record { len = c.put_outside.ensures.puts.len ∙ c.places.invariant.len; are = outside_next c.put_outside.ensures.puts c.places.invariant.are }
 
 pub returns-clause-known : goal.returns-clause-known
 returns-clause-known c = c.places.invariant.are.known

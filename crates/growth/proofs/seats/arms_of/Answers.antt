@@ -21,7 +21,7 @@ inputs-preserved c =
     let k = c.args.proof.now in
     let node : c.hextant_of-hextant.result.0 ≡ hextant_of k.shape c.args.t.0 = subst (λ (m : Shape). c.hextant_of-hextant.result.0 ≡ hextant_of m c.args.t.0) c.shape-shape.ensures c.hextant_of-hextant.ensures.node in
     let pin : c.pin_of.result.0 ≡ table_wire k.shape c.args.t.0 c.inputs.input = subst (λ (m : Shape). c.pin_of.result.0 ≡ table_wire m c.args.t.0 c.inputs.input) c.shape-shape.ensures c.pin_of.ensures.wire in
-    record { arms = arms_next c.inputs.invariant.arms (arm_of node pin c.in-Some.ensures.arm) c.in_ok-push.ensures.items }
+    record { arms = arms_next c.inputs.invariant.arms (arm_of c.args.t.0 c.inputs.input node pin c.in-Some.ensures.arm) c.in_ok-push.ensures.items }
 
 pub returns-clause-arms : goal.returns-clause-arms
 returns-clause-arms c =

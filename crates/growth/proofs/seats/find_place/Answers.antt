@@ -25,7 +25,7 @@ ports-preserved-then-not-has c =
 pub returns-in-Some-clause-place : goal.returns-in-Some-clause-place
 returns-in-Some-clause-place c = record {
   near = c.port-near.result.0;
-  port = port_of c.shape-shape.ensures (c.ports_and_lines_ascend.ensures c.args.proof.now.shape) c.hextant_of-hextant.ensures.node c.hextant_of-hextant.ensures.within (let t = c.ports-test.true in let l = c.ports-k-end.ensures in omega (arith, t, l)) c.port-near.ensures.wire;
+  port = port_of c.args.t.0 c.shape-shape.ensures (c.ports_and_lines_ascend.ensures c.args.proof.now.shape) c.hextant_of-hextant.ensures.node c.hextant_of-hextant.ensures.within (let t = c.ports-test.true in let l = c.ports-k-end.ensures in omega (arith, t, l)) c.port-near.ensures.wire;
   stands = c.has.ensures.known c.if-not-has.false;
   found = rw c.in-Some.is at c.in_ok-place.ensures.place;
 }

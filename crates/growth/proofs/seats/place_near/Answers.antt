@@ -10,12 +10,12 @@ lines-init c = record { none = λ i less. absurd (let no : ⊥ = omega (arith, l
 
 pub place_over-requires-clause-line : goal.place_over-requires-clause-line
 place_over-requires-clause-line c =
-    line_of c.shape-shape.ensures (c.ports_and_lines_ascend.ensures c.args.proof.now.shape) c.hextant_of-hextant.ensures.node c.hextant_of-hextant.ensures.within (let t = c.lines-test.true in let l = c.lines-k-end.ensures.lines in omega (arith, t, l)) c.line-line.ensures.wire
+    line_of c.args.t.0 c.shape-shape.ensures (c.ports_and_lines_ascend.ensures c.args.proof.now.shape) c.hextant_of-hextant.ensures.node c.hextant_of-hextant.ensures.within (let t = c.lines-test.true in let l = c.lines-k-end.ensures.lines in omega (arith, t, l)) c.line-line.ensures.wire
 
 pub returns-in-Some-clause-place : goal.returns-in-Some-clause-place
 returns-in-Some-clause-place c = record {
   line = c.line-line.result.0;
-  is_line = line_of c.shape-shape.ensures (c.ports_and_lines_ascend.ensures c.args.proof.now.shape) c.hextant_of-hextant.ensures.node c.hextant_of-hextant.ensures.within (let t = c.lines-test.true in let l = c.lines-k-end.ensures.lines in omega (arith, t, l)) c.line-line.ensures.wire;
+  is_line = line_of c.args.t.0 c.shape-shape.ensures (c.ports_and_lines_ascend.ensures c.args.proof.now.shape) c.hextant_of-hextant.ensures.node c.hextant_of-hextant.ensures.within (let t = c.lines-test.true in let l = c.lines-k-end.ensures.lines in omega (arith, t, l)) c.line-line.ensures.wire;
   place = rw c.in-Some.is at c.in_ok-place.ensures.place;
 }
 

@@ -28,8 +28,8 @@ returns-clause-place c =
       near_is = refl;
       line_is = refl;
       known = c.has.ensures.known c.if-not-has.false;
-      far = far_of node c.in-Some-find_far.ensures.far.0;
+      far = far_of c.args.t.0 node c.in-Some-find_far.ensures.far.0;
       to_line = c.in-Some-find_far.ensures.far.1;
-      output = meeting_of pin c.in-Some.ensures.meets;
+      output = meeting_of c.args.t.0 pin c.in-Some.ensures.meets;
       arms = rw c.in-Some-2.is at c.in_ok-arms.ensures.arms;
     }

@@ -22,7 +22,7 @@ pub push-requires-clause-cross : goal.push-requires-clause-cross
 push-requires-clause-cross c = subst (λ (m : Shape). c.args.place.to_line.0 < crosses_of m) (sym c.shape.ensures) c.requires.place.found.place.to_line.kept.0
 
 pub push-requires-clause-at : goal.push-requires-clause-at
-push-requires-clause-at c = subst (λ (m : Shape). HasEnd m c.args.place.to_line.0 c.in_ok-near.far.end) (sym c.shape.ensures) (far_end c.in_ok-near.ensures.right_end c.requires.place.found.place.to_line)
+push-requires-clause-at c = subst (λ (m : Shape). HasEnd m c.args.place.to_line.0 c.in_ok-near.far.end) (sym c.shape.ensures) (far_end c.in_ok-near.far c.in_ok-near.ensures.right_end c.requires.place.found.place.to_line)
 
 pub returns : goal.returns
 returns c =

@@ -25,5 +25,5 @@ pins-preserved c =
 
 pub returns-clause-taken : goal.returns-clause-taken
 returns-clause-taken c = λ i less.
-    let end : c.pins-pin-end.result ≡ pins_of c.args.proof.now.shape = c.pins-pin-end.ensures ∙ ap pins_of c.shape.ensures in
+    let end : c.pins-pin-end.result ≡ pins_of c.args.proof.now.shape = c.pins-pin-end.ensures.pins ∙ ap pins_of c.shape.ensures in
     c.pins.invariant.taken i (let t = c.pins-test.false in omega (arith, less, t, end))

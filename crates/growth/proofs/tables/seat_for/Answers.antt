@@ -16,13 +16,13 @@ stand_on-requires-clause-apart c = known_apart c.in_ok-outside.outside c.require
 pub returns-in_default-clause-none : goal.returns-in_default-clause-none
 returns-in_default-clause-none c =
     let k = c.args.proof.now in
-    let h = hextant_is c.requires.known.shape c.shape.ensures c.hextant_of.ensures.node in
-    no_seat (λ w s. c.in_ok-without.ensures.whole w (stands_within k c.args.known.now.steps _ c.in_ok-outside.outside (λ u has out. c.in_ok-outside.ensures.whole u has (outside_back c.requires.known.shape h out)) w s))
+    let h = hextant_is c.args.t.0 c.requires.known.shape c.shape.ensures c.hextant_of.ensures.node in
+    no_seat (λ w s. c.in_ok-without.ensures.whole w (stands_within k c.args.known.now.steps _ c.in_ok-outside.outside (λ u has out. c.in_ok-outside.ensures.whole u has (outside_back c.args.t.0 c.requires.known.shape h out)) w s))
     (rw c.in_default.is at c.in_ok-place.ensures.none)
 
 pub seat_of-requires-clause-outside : goal.seat_of-requires-clause-outside
 seat_of-requires-clause-outside c =
-    without_is c.in_ok-without.ensures.within c.in_ok-outside.ensures.known (λ w is. outside_on c.requires.known.shape (hextant_is c.requires.known.shape c.shape.ensures c.hextant_of.ensures.node) (c.in_ok-outside.ensures.outside w is))
+    without_is c.in_ok-outside.outside c.in_ok-without.ensures.within c.in_ok-outside.ensures.known (λ w is. outside_on c.args.t.0 c.requires.known.shape (hextant_is c.args.t.0 c.requires.known.shape c.shape.ensures c.hextant_of.ensures.node) (c.in_ok-outside.ensures.outside w is))
 
 pub seat_of-requires-clause-pins : goal.seat_of-requires-clause-pins
 seat_of-requires-clause-pins c =

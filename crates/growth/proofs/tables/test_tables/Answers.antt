@@ -23,7 +23,7 @@ pub test_seated-requires-clause-links : goal.test_seated-requires-clause-links
 test_seated-requires-clause-links g c = links_same (c.tables.invariant.advances.more.shape ∙ sym c.requires.known.shape ∙ sym c.shape.ensures) c.in-Ok.ensures
 
 pub test_seated-requires-clause-table : goal.test_seated-requires-clause-table
-test_seated-requires-clause-table g c = table_below c.tables.invariant.advances.more.shape c.args.tables.now c.tables.i (record { 0 = 0 }) c.tables-test.true c.requires.tables
+test_seated-requires-clause-table g c = table_below c.args.proof.now c.tables.proof c.tables.invariant.advances.more.shape c.args.tables.now c.tables.i (record { 0 = 0 }) c.tables-test.true c.requires.tables
 
 pub returns-in_err-test_seated-clause-only : goal.returns-in_err-test_seated-clause-only
 returns-in_err-test_seated-clause-only g c = only_then c.tables.invariant.only c.test_seated.ensures.only
