@@ -1,6 +1,9 @@
 -- A route is tested against walks beside it, whatever these are to lead to.
-use Rattle.std.proofs.Common.{◌≡◌, ◌≢◌, ◌⊎◌, ℕ, ◌+◌, ◌<◌, ◌≤◌, Bool, true, false, Some, None, All, Option, List, [], length, refl, sym, ap, ◌∙◌, subst, inl, inr, arith}
+use Rattle.std.proofs.Common.{◌≡◌, ◌≢◌, ◌⊎◌, ℕ, ◌+◌, ◌<◌, ◌≤◌, Bool, true, false, Some, None, All, Option, List, [], length, refl, sym, ap, ◌∙◌, subst, inl, inr, arith, set, replicate}
 use Rattle.std.proofs.lemmas.Bool.{false≢true}
+use Rattle.std.proofs.lemmas.List.{get_or-set_same, get_or-set_other, get_or-replicate, get_or_past, length-replicate}
+use native.Mathlib.Decide.{dec_lt, ℕ_discrete}
+use Rattle.tm_bits.specs.Numbers.{has_number}
 use Rattle.hierarchy.specs.Shape.{crosses_of, wires_of}
 use Rattle.config_set.specs.Configuration.{Configuration}
 use Rattle.config_set.specs.Groups.{among}
@@ -12,7 +15,7 @@ use Rattle.evidence.specs.Readings.{IsReady, wires_over}
 use Rattle.evidence.proofs.Lists.{or_first, or_third}
 use Rattle.growth.specs.Grounds.{IsFootTo, AreAllLinks}
 use Rattle.growth.specs.Halves.{IsBesideRoute}
-use Rattle.growth.specs.Known.{KnownWires, HasWire}
+use Rattle.growth.specs.Known.{KnownWires, IsAt, HasWire, InSet}
 use Rattle.growth.specs.Offers.{InSome, IsOn}
 use Rattle.growth.specs.Reaches.{IsReached}
 use Rattle.growth.specs.Trials.{IsKeptRoute}
@@ -34,6 +37,34 @@ two_feet n new f g differ = record {
   differ = differ;
   late = λ early. new (record { place = early.place; at = early.at });
 }
+
+-- sets: none is in an empty one, one that was put in, and one that was taken out
+pub none_in : (wires : List Bool) (len : ℕ) → wires ≡ replicate len false → (w : ℕ) → ¬ InSet wires w
+none_in wires len e w is = by (dec_lt w len)
+  where
+    on : has_number (replicate len false) w ≡ true
+    on = ap (λ s. has_number s w) (sym e) ∙ is
+
+    by : Dec (w < len) → ⊥
+    by (yes h) = false≢true (sym (get_or-replicate len w false false h) ∙ on)
+    by (no h) = false≢true (sym (get_or_past (replicate len false) w false (rw length-replicate (omega (arith, h)))) ∙ on)
+
+pub put_known : (ss : List Step) (old new : List Bool) {place v : ℕ} → IsAt ss place v → new ≡ set old v true → ((w : ℕ) → InSet old w → HasWire ss w) → (w : ℕ) → InSet new w → HasWire ss w
+put_known ss old new {place} {v} at put known w is = by (ℕ_discrete w v)
+  where
+    by : Dec (w ≡ v) → HasWire ss w
+    by (yes e) = record { place = place; at = subst (IsAt ss place) (sym e) at }
+    by (no d) = known w (sym (get_or-set_other old v w true false d) ∙ sym (ap (λ s. has_number s w) put) ∙ is)
+
+pub taken_fewer : (old new : List Bool) (v : ℕ) → v < length old → new ≡ set old v false → (w : ℕ) → InSet new w → InSet old w
+taken_fewer old new v within put w is = by (ℕ_discrete w v)
+  where
+    on : InSet (set old v false) w
+    on = sym (ap (λ s. has_number s w) put) ∙ is
+
+    by : Dec (w ≡ v) → InSet old w
+    by (yes e) = absurd (false≢true (sym (get_or-set_same old v false false within) ∙ ap (has_number (set old v false)) (sym e) ∙ on))
+    by (no d) = sym (get_or-set_other old v w false false d) ∙ on
 
 -- a way is a kept route, and stays one
 pub way_kept : {k : Kept} {ss : List Step} {w : ℕ} {q : Walk} → IsWay k ss w q → IsKeptRoute k q

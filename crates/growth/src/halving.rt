@@ -262,9 +262,10 @@ fn take_out(set: &mut BitSet, w: Wire)
     ensures len { length set.new ≡ length set.old }
     ensures fewer { (v : ℕ) → InSet set.new v → InSet set.old v }
 {
-    if w.0 < set.len() {
-        set.remove(w.0);
+    if w.0 >= set.len() {
+        return;
     }
+    set.remove(w.0);
 }
 
 // Takes a part of some wires out.
