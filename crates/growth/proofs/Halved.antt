@@ -1,5 +1,5 @@
 -- A route is tested against walks beside it, whatever these are to lead to.
-use Rattle.std.proofs.Common.{◌≡◌, ◌≢◌, ◌⊎◌, ℕ, ◌+◌, ◌<◌, ◌≤◌, Bool, true, false, Some, None, All, Option, List, [], length, refl, sym, ap, ◌∙◌, subst, inl, inr, arith, set, replicate}
+use Rattle.std.proofs.Common.{◌≡◌, ◌≢◌, ◌⊎◌, ℕ, ◌<◌, Bool, true, false, All, List, length, sym, ap, ◌∙◌, subst, inl, inr, arith, set, replicate}
 use Rattle.std.proofs.lemmas.Bool.{false≢true}
 use Rattle.std.proofs.lemmas.List.{get_or-set_same, get_or-set_other, get_or-replicate, get_or_past, length-replicate}
 use native.Mathlib.Decide.{dec_lt, ℕ_discrete}
@@ -10,7 +10,7 @@ use Rattle.config_set.specs.Groups.{among}
 use Rattle.hierarchy.specs.declared.Shape.{Shape}
 use Rattle.test_configs.specs.Routes.{Walk, IsRoute}
 use Rattle.test_configs.specs.Configs.{IsLoopConfig}
-use Rattle.evidence.specs.Kept.{Kept, IsMore, keeps_cross}
+use Rattle.evidence.specs.Kept.{Kept, IsMore}
 use Rattle.evidence.specs.Readings.{IsReady, wires_over}
 use Rattle.evidence.proofs.Lists.{or_first, or_third}
 use Rattle.growth.specs.Grounds.{IsFootTo, AreAllLinks}

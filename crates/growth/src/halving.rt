@@ -238,7 +238,7 @@ fn halved(
         first: 0,
         last: wires.len(),
     };
-    'halves: for turn in 0..12 {
+    'halves: for turn in 0u32..12 {
         let _ = turn;
         part = halve(known, rig, proof, way, wires, part)?;
     }

@@ -1,4 +1,4 @@
-use Rattle.std.proofs.Common.{◌≡◌, ◌∙◌, ap, length, set}
+use Rattle.std.proofs.Common.{◌∙◌, ap, length}
 use Rattle.std.proofs.lemmas.List.{length-replicate, length-set}
 use Rattle.hierarchy.specs.Shape.{wires_of}
 use Rattle.growth.proofs.Halved.{none_in, put_known}

@@ -1,4 +1,4 @@
-use Rattle.std.proofs.Common.{◌≡◌, ◌<◌, ◌∙◌, ap, length, arith}
+use Rattle.std.proofs.Common.{◌<◌, ◌∙◌, ap, length, arith}
 use Rattle.std.proofs.lemmas.List.{length-set}
 use Rattle.growth.proofs.Halved.{taken_fewer}
 use Rattle.growth.proofs.halving.take_out.Goals as goal

@@ -1,4 +1,4 @@
-use Rattle.std.proofs.Common.{◌≡◌, ◌∙◌, ap, length, arith}
+use Rattle.std.proofs.Common.{◌∙◌, ap, length, arith}
 use Rattle.std.proofs.lemmas.List.{length-replicate}
 use Rattle.hierarchy.specs.Shape.{wires_of}
 use Rattle.growth.proofs.Outsides.{outside_first, outside_next, outside_all}

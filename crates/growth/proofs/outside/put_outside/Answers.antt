@@ -1,6 +1,5 @@
-use Rattle.std.proofs.Common.{◌≡◌, ◌<◌, length, sym, subst, arith}
+use Rattle.std.proofs.Common.{◌<◌, length, subst, arith}
 use Rattle.hierarchy.specs.declared.Shape.{Shape}
-use Rattle.hierarchy.specs.Shape.{wires_of}
 use Rattle.hierarchy.specs.Standing.{IsOutside}
 use Rattle.growth.proofs.Outsides.{puts_none, puts_one}
 use Rattle.growth.proofs.outside.put_outside.Goals as goal

@@ -1,6 +1,6 @@
-use Rattle.std.proofs.Common.{◌≡◌, ◌≤◌, ◌<◌, ◌∙◌, ℕ, sym, ap, subst, arith}
+use Rattle.std.proofs.Common.{◌≡◌, ◌∙◌, ℕ, sym, ap, subst, arith}
 use Rattle.hierarchy.specs.declared.Shape.{Shape}
-use Rattle.hierarchy.specs.Shape.{hextant_of, port_at, own_ports_of, nodes_of, IsLine, IsPort}
+use Rattle.hierarchy.specs.Shape.{hextant_of, port_at, own_ports_of, IsLine}
 use Rattle.growth.specs.Known.{HasWire}
 use Rattle.growth.specs.Seating.{IsPlaceAt}
 use Rattle.growth.proofs.Searching.{one_more, no_port_of, port_of}

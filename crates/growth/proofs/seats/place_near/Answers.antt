@@ -1,8 +1,8 @@
-use Rattle.std.proofs.Common.{◌≡◌, ◌≤◌, ◌<◌, ◌∙◌, ℕ, sym, ap, subst, arith}
+use Rattle.std.proofs.Common.{◌≡◌, ◌∙◌, ap, subst, arith}
 use Rattle.hierarchy.specs.declared.Shape.{Shape}
-use Rattle.hierarchy.specs.Shape.{hextant_of, line_at, lines_of, nodes_of, IsLine}
+use Rattle.hierarchy.specs.Shape.{hextant_of, line_at, lines_of}
 use Rattle.growth.specs.Seating.{IsPlaceAt}
-use Rattle.growth.proofs.Searching.{one_more, no_line_of, line_there, line_of}
+use Rattle.growth.proofs.Searching.{one_more, no_line_of, line_of}
 use Rattle.growth.proofs.seats.place_near.Goals as goal
 
 pub lines-init : goal.lines-init

@@ -1,4 +1,4 @@
-use Rattle.std.proofs.Common.{◌≡◌, ◌∙◌, ℕ, refl, sym, ap, subst}
+use Rattle.std.proofs.Common.{◌≡◌, refl, subst}
 use Rattle.hierarchy.specs.declared.Shape.{Shape}
 use Rattle.hierarchy.specs.Shape.{hextant_of, table_wire}
 use Rattle.growth.proofs.Searching.{no_place_unknown, no_place_output, no_place_far, no_place_arms, far_of, meeting_of}

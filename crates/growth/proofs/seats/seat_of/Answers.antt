@@ -1,6 +1,6 @@
-use Rattle.std.proofs.Common.{◌≡◌, ◌≢◌, ◌<◌, ◌∙◌, refl, ap, sym, subst, inl, arith}
+use Rattle.std.proofs.Common.{◌<◌, ◌∙◌, refl, sym, subst}
 use Rattle.hierarchy.specs.declared.Shape.{Shape}
-use Rattle.hierarchy.specs.Shape.{ends_of, crosses_of}
+use Rattle.hierarchy.specs.Shape.{crosses_of}
 use Rattle.test_configs.specs.Routes.{HasEnd, IsRoute, Extends}
 use Rattle.growth.specs.Known.{HasWire}
 use Rattle.growth.proofs.Placing.{seat_over, far_end}

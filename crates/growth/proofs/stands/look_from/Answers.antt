@@ -1,5 +1,4 @@
-use Rattle.std.proofs.Common.{◌≡◌, ◌<◌, ◌∙◌, ℕ, length, ap, sym, subst, arith}
-use Rattle.growth.specs.Known.{HasWire}
+use Rattle.std.proofs.Common.{◌∙◌, sym, arith}
 use Rattle.growth.proofs.Grounding.{founds_none, founds_then, taken_first, taken_none, taken_more, settled_more}
 use Rattle.growth.proofs.Stood.{has_still_there, link_within}
 use Rattle.growth.proofs.stands.look_from.Goals as goal

@@ -1,4 +1,4 @@
-use Rattle.std.proofs.Common.{◌≡◌, ◌<◌, ◌∙◌, ℕ, length, ap, sym, subst, arith}
+use Rattle.std.proofs.Common.{arith}
 use Rattle.growth.proofs.Grounding.{founds_none, founds_then, settled_none}
 use Rattle.growth.proofs.Stood.{settled_at_all}
 use Rattle.growth.proofs.stands.look_from_all.Goals as goal

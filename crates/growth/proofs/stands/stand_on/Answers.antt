@@ -1,4 +1,4 @@
-use Rattle.std.proofs.Common.{◌≡◌, ◌∙◌, ap}
+use Rattle.std.proofs.Common.{◌∙◌, ap}
 use Rattle.hierarchy.specs.Shape.{wires_of}
 use Rattle.growth.proofs.Grounding.{ground_none, founds_then, stands_all, out_still}
 use Rattle.growth.proofs.Stood.{all_from, no_wire}

@@ -1,8 +1,6 @@
-use Rattle.std.proofs.Common.{◌≡◌, ◌≢◌, ◌<◌, ◌∙◌, Some, None, length, refl, ap, sym, subst, inl, arith, rules}
-use Rattle.hierarchy.specs.Shape.{wires_of}
-use Rattle.growth.specs.Grounds.{foot_at}
+use Rattle.std.proofs.Common.{◌≢◌, ◌<◌, ◌∙◌, length, refl, sym, arith, rules}
 use Rattle.growth.proofs.Grounding.{ground_foot, founds_foot, settled_foot, foot_to}
-use Rattle.growth.proofs.Stood.{stood_ground, stood_founds, stood_out, feet_stand, foot_read}
+use Rattle.growth.proofs.Stood.{stood_ground, stood_founds, feet_stand, foot_read}
 use Rattle.growth.proofs.stands.take_link.Goals as goal
 
 pub returns-in_default-clause-ground : goal.returns-in_default-clause-ground

@@ -1,6 +1,6 @@
-use Rattle.std.proofs.Common.{◌≡◌, ◌<◌, ◌∙◌, ap, sym, subst, refl}
+use Rattle.std.proofs.Common.{◌≡◌, ◌∙◌, sym, subst}
 use Rattle.hierarchy.specs.declared.Shape.{Shape}
-use Rattle.hierarchy.specs.Shape.{pin_wire, pins_of}
+use Rattle.hierarchy.specs.Shape.{pin_wire}
 use Rattle.growth.proofs.Stood.{stood_ground, stood_founds, pin_stands_so}
 use Rattle.growth.proofs.stands.take_pin.Goals as goal
 

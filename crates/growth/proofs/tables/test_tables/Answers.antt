@@ -1,5 +1,4 @@
-use Rattle.std.proofs.Common.{◌≡◌, ◌∙◌, ◌<◌, get_or, length, refl, sym, ap, arith}
-use Rattle.hierarchy.specs.declared.Table.{Table}
+use Rattle.std.proofs.Common.{◌∙◌, get_or, refl, sym, arith}
 use Rattle.evidence.proofs.Keeping.{advances_itself, advances_then}
 use Rattle.growth.proofs.Later.{known_later}
 use Rattle.growth.proofs.Testing.{tested_first, tested_next, tested_all, table_at, links_same, only_none, only_then, table_below}
