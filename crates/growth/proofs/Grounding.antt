@@ -9,11 +9,11 @@ use Rattle.tm_bits.specs.Numbers.{has_number}
 use Rattle.tm_bits.proofs.NumbersLemmas.{size_of-taken}
 use Rattle.hierarchy.specs.Shape.{Ends, in_order, turned, ends_of, pin_wire, pins_of, crosses_of, wires_of}
 use Rattle.evidence.specs.Kept.{Kept, keeps_cross, keeps_pair}
-use Rattle.growth.specs.Known.{KnownWires, IsAt, HasWire, IsFoot, Stands, IsKnown, IsKeptCrossOf}
+use Rattle.growth.specs.Known.{KnownWires, IsAt, HasWire, IsFoot, Stands, IsKnown, IsKeptCrossOf, InSet, AreApart}
 use Rattle.growth.specs.Partings.{IsGood}
 use Rattle.growth.specs.Grown.{list_at, HasLink}
 use Rattle.hierarchy.specs.Standing.{StandsBy, pin_stands, on_two}
-use Rattle.growth.specs.Grounds.{InSet, AreApart, IsBetween, AreAllLinks, foot_at, IsFootTo, IsGround, IsSettled, Founds, AreSettled}
+use Rattle.growth.specs.Grounds.{IsBetween, AreAllLinks, foot_at, IsFootTo, IsGround, IsSettled, Founds, AreSettled}
 use Rattle.growth.specs.declared.links.Near.{Near}
 use Rattle.growth.specs.declared.step.Foot.{Foot}
 use Rattle.growth.specs.declared.step.Stand.TheVariants as stand

@@ -31,3 +31,4 @@ mod Placing
 mod Searching
 mod Testing
 mod Learning
+mod Halved

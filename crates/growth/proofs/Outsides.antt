@@ -4,7 +4,7 @@ use Rattle.std.proofs.lemmas.Bool.{false≢true}
 use Rattle.std.proofs.lemmas.List.{length-set, get_or-set_same, get_or-set_other, get_or-replicate, get_or_past, length-replicate}
 use native.Mathlib.Decide.{dec_lt, ℕ_discrete}
 use Rattle.tm_bits.specs.Numbers.{has_number}
-use Rattle.growth.specs.Known.{KnownWires, IsAt, IsBefore, HasWire, IsKnown}
+use Rattle.growth.specs.Known.{KnownWires, IsAt, HasWire, IsKnown, InSet, AreApart}
 use Rattle.growth.proofs.Places.{at_one, at_within}
 use Rattle.growth.specs.Seating.{PutsOutside}
 use Rattle.hierarchy.specs.declared.Shape.{Shape}
@@ -13,7 +13,6 @@ use Rattle.hierarchy.specs.Laws.{HasMeanings}
 use Rattle.hierarchy.specs.Standing.{IsOutside}
 use Rattle.evidence.specs.Kept.{Kept, keeps_wire, keeps_pair}
 use Rattle.evidence.proofs.Keeping.{pair_turned}
-use Rattle.growth.specs.Grounds.{InSet, AreApart}
 
 -- what a wire of the hextant's lines and of its tables' pins isn't
 abbrev pub IsElsewhere : Shape → ℕ → Meaning → Type 0

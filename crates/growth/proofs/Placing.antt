@@ -9,7 +9,7 @@ use Rattle.hierarchy.specs.Shape.{Ends, in_order, turned, table_wire, tables_of,
 use Rattle.hierarchy.specs.Laws.{IsNumbered, IsTree}
 use Rattle.hierarchy.specs.Standing.{StandsWithout, IsSeated}
 use Rattle.config_set.specs.Groups.{among}
-use Rattle.test_configs.specs.Routes.{Walk, IsRoute, Extends}
+use Rattle.test_configs.specs.Routes.{Walk, IsRoute, HasEnd, Extends}
 use Rattle.test_configs.proofs.Longer.{among_both}
 use Rattle.evidence.specs.Kept.{Kept, keeps_cross, keeps_wire, keeps_pair}
 use Rattle.growth.specs.Known.{KnownWires, HasWire, IsKnown, IsKeptCrossOf}
@@ -192,3 +192,7 @@ seat_over {k} {known} {without} t p {r} {far} {longer} is numbered tree out belo
     let at : Ends (ends_of k.shape p.to_line.0) p.far.0 longer.end = subst (λ a. Ends (ends_of k.shape p.to_line.0) a longer.end) routes.right_end push.at in
     seat_is is out numbered tree t below refl pins p n.is_line place (subst (λ a. AreRoutesTo k without a p.far.0 r far) place.near_is routes) push route
     (end_is (hextant_of k.shape t.0) p.to_line.0 p.far.0 n.line longer.end tree place.far.port n.is_line place.to_line.ends at)
+
+-- the far route ends at the crosspoint to the line
+pub far_end : {k : Kept} {far line x : ℕ} (r : Walk) → r.end ≡ far → IsMeeting k far line x → HasEnd k.shape x r.end
+far_end r end meets = inl (ap (λ p. p.0) meets.ends ∙ sym end)

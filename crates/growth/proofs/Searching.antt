@@ -122,3 +122,31 @@ no_place_far {k} {without = without} {near = near} {line = line} e none p = none
 
 pub no_place_arms : {k : Kept} {ss without : List Step} {t near line : ℕ} → MissesArm k ss t near line → ¬ IsPlaceAt k ss without t near line
 no_place_arms misses p = let arm = p.inputs misses.input misses.within in misses.none arm.0 arm.1
+
+-- an arm to the input at a place, and that there is none
+pub arm_of : {k : Kept} {ss : List Step} {near beside h w : ℕ} {a : Arm} (t j : ℕ) → h ≡ hextant_of k.shape t → w ≡ table_wire k.shape t j → IsArmTo k ss h near w beside a →
+    IsArmTo k ss (hextant_of k.shape t) near (table_wire k.shape t j) beside a
+arm_of {k} {ss} {near} {beside} {w = w} {a = a} t j node pin is = subst (λ v. IsArmTo k ss (hextant_of k.shape t) near v beside a) pin (subst (λ n. IsArmTo k ss n near w beside a) node is)
+
+pub misses_at : {k : Kept} {ss : List Step} {t near beside h w : ℕ} (j : ℕ) → j < 6 → h ≡ hextant_of k.shape t → w ≡ table_wire k.shape t j → ((line : ℕ) → ¬ IsFreeArm k ss h near w beside line) → MissesArm k ss t near beside
+misses_at {k} {ss} {t} {near} {beside} {h} {w} j below node pin none = record {
+  input = j;
+  within = below;
+  none = λ line. subst (λ v. ¬ IsFreeArm k ss (hextant_of k.shape t) near v beside line) pin (subst (λ n. ¬ IsFreeArm k ss n near w beside line) node (none line));
+}
+
+-- what was found by the names that a table's hextant and its output have
+pub far_of : {k : Kept} {without : List Step} {near line far h : ℕ} (t : ℕ) → h ≡ hextant_of k.shape t → IsFarPort k without h near line far → IsFarPort k without (hextant_of k.shape t) near line far
+far_of {k} {without} {near} {line} {far} t node is = subst (λ n. IsFarPort k without n near line far) node is
+
+pub meeting_of : {k : Kept} {line x w : ℕ} (t : ℕ) → w ≡ table_wire k.shape t 6 → IsMeeting k w line x → IsMeeting k (table_wire k.shape t 6) line x
+meeting_of {k} {line} {x} t pin is = subst (λ v. IsMeeting k v line x) pin is
+
+-- a line of a table's hextant by its place, and a port
+pub line_of : {m s : Shape} {h i w : ℕ} (t : ℕ) → s ≡ m → HasSites m → h ≡ hextant_of s t → h < nodes_of s → i < lines_of s h → w ≡ line_at s h i → IsLine m (hextant_of m t) w
+line_of {m} {s} {h} {i} {w} t e law node within low is =
+    subst (λ n. IsLine m n w) (subst (λ (z : Shape). h ≡ hextant_of z t) e node) (line_there h i w law e (subst (λ (z : Shape). h < nodes_of z) e within) low is)
+
+pub port_of : {m s : Shape} {h i w : ℕ} (t : ℕ) → s ≡ m → HasSites m → h ≡ hextant_of s t → h < nodes_of s → i < own_ports_of s h → w ≡ port_at s h i → IsPort m (hextant_of m t) w
+port_of {m} {s} {h} {i} {w} t e law node within low is =
+    subst (λ n. IsPort m n w) (subst (λ (z : Shape). h ≡ hextant_of z t) e node) (port_there h i w law e (subst (λ (z : Shape). h < nodes_of z) e within) low is)

@@ -1,22 +1,22 @@
 -- What the tests of tables keep, table by table.
-use Rattle.std.proofs.Common.{◌≡◌, ℕ, zero, suc, ◌+◌, ◌<◌, ◌≤◌, Bool, true, Some, Option, List, [], ◌∷◌, length, get_or, sym, ap, ◌∙◌, subst, arith}
-use Rattle.std.specs.Prelude.{slice_get}
+use Rattle.std.proofs.Common.{◌≡◌, ℕ, zero, suc, ◌+◌, ◌<◌, ◌≤◌, Bool, true, Some, Option, List, [], ◌∷◌, length, get_or, refl, sym, ap, ◌∙◌, subst, arith}
+use Rattle.std.specs.Prelude.{All, slice_get}
 use Rattle.std.proofs.lemmas.Option.{slice_get_within}
 use native.Mathlib.Decide.{ℕ_discrete}
 use Rattle.tm_bits.specs.Numbers.{has_number}
 use Rattle.hierarchy.specs.declared.Shape.{Shape}
 use Rattle.hierarchy.specs.declared.Table.{Table}
-use Rattle.hierarchy.specs.Shape.{crosses_of, hextant_of, IsLine, IsPort}
+use Rattle.hierarchy.specs.Shape.{crosses_of, tables_of, hextant_of, IsLine, IsPort}
 use Rattle.hierarchy.specs.Faults.{Faults}
 use Rattle.hierarchy.specs.Standing.{StandsBy, IsOutside, StandsWithout, IsSeated}
 use Rattle.hierarchy.specs.Tight.{IsRightTable}
 use Rattle.hierarchy.proofs.Seats.{stands_also, seated_also}
 use Rattle.rig.specs.Rig.{RigState}
 use Rattle.evidence.specs.Kept.{Kept, IsMore, Advances}
-use Rattle.growth.specs.Known.{HasWire, IsKeptCrossOf}
+use Rattle.growth.specs.Known.{HasWire, IsKeptCrossOf, InSet}
 use Rattle.growth.specs.Grown.{AreLinks}
-use Rattle.growth.specs.Grounds.{InSet, AreAllLinks}
-use Rattle.growth.specs.Seating.{IsPlaceAt}
+use Rattle.growth.specs.Grounds.{AreAllLinks}
+use Rattle.growth.specs.Seating.{IsPlaceAt, IsWithout}
 use Rattle.growth.specs.Tables.{SeatedIsKept, SeatedAreKept}
 use Rattle.growth.specs.declared.field.Field.{Field}
 use Rattle.growth.specs.declared.links.Near.{Near}
@@ -93,3 +93,27 @@ pub table_at : (tables : List Table) (i : ℕ) (t d : Table) → i < length tabl
 table_at [] i t d below e = absurd (let no : ⊥ = omega (arith, below) in no)
 table_at (u ∷ tables) zero t d below e = ap (λ x. Some x) (sym e)
 table_at (u ∷ tables) (suc i) t d below e = table_at tables i t d (omega (arith, below)) e
+
+-- .. is below what all are
+pub table_below : (k l : Kept) → l.shape ≡ k.shape → (tables : List Table) (i : ℕ) (d : Table) → i < length tables → All (λ (t : Table). t.0 < tables_of k.shape) tables → (get_or tables i d).0 < tables_of l.shape
+table_below k l e tables i d below all = subst (λ (m : Shape). (get_or tables i d).0 < tables_of m) (sym e) (all i d below)
+
+-- no facts are new, and one after the other
+pub only_none : {k : Kept} → AddsOnlyTableFacts k k
+only_none = record { crosses = λ x. refl; wires = λ w. refl; pairs = λ a b. refl }
+
+pub only_then : {k l n : Kept} → AddsOnlyTableFacts k l → AddsOnlyTableFacts l n → AddsOnlyTableFacts k n
+only_then f g = record { crosses = λ x. g.crosses x ∙ f.crosses x; wires = λ w. g.wires w ∙ f.wires w; pairs = λ a b. g.pairs a b ∙ f.pairs a b }
+
+-- the hextant of a table, and what is outside it, by the shape of what is known and by that of the proof
+pub hextant_is : {n m s : Shape} {h : ℕ} (t : ℕ) → n ≡ m → s ≡ n → h ≡ hextant_of s t → h ≡ hextant_of m t
+hextant_is {h = h} t e same node = subst (λ (z : Shape). h ≡ hextant_of z t) (same ∙ e) node
+
+pub outside_on : {n m : Shape} {h w : ℕ} (t : ℕ) → n ≡ m → h ≡ hextant_of m t → IsOutside n h w → IsOutside m (hextant_of m t) w
+outside_on {m = m} {h = h} {w = w} t e node out = subst (λ i. IsOutside m i w) node (subst (λ (z : Shape). IsOutside z h w) e out)
+
+pub outside_back : {n m : Shape} {h w : ℕ} (t : ℕ) → n ≡ m → h ≡ hextant_of m t → IsOutside m (hextant_of m t) w → IsOutside n h w
+outside_back {n} {m} {h} {w} t e node out = subst (λ (z : Shape). IsOutside z h w) (sym e) (subst (λ i. IsOutside m i w) (sym node) out)
+
+pub without_is : {m : Shape} {ss without : List Step} {h : ℕ} (set : List Bool) → ((w : ℕ) → HasWire without w → InSet set w) → ((w : ℕ) → InSet set w → HasWire ss w) → ((w : ℕ) → InSet set w → IsOutside m h w) → IsWithout m ss without h
+without_is set within known outside = record { known = λ w has. known w (within w has); outside = λ w has. outside w (within w has) }

@@ -4,21 +4,11 @@ use Rattle.tm_bits.specs.Numbers.{has_number, size_of}
 use Rattle.hierarchy.specs.declared.Shape.{Shape}
 use Rattle.hierarchy.specs.Shape.{Ends, ends_of, crosses_of, wires_of}
 use Rattle.evidence.specs.Kept.{Kept, keeps_cross, keeps_wire, keeps_pair}
-use Rattle.growth.specs.Known.{KnownWires, IsAt, IsBefore, HasWire, IsKnown}
+use Rattle.growth.specs.Known.{KnownWires, IsAt, IsBefore, HasWire, IsKnown, InSet}
 use Rattle.growth.specs.Grown.{list_at, HasLink}
 use Rattle.growth.specs.declared.links.Near.{Near}
 use Rattle.growth.specs.declared.step.Foot.{Foot}
 use Rattle.growth.specs.declared.step.Step.{Step}
-
--- these wires
-abbrev pub InSet : List Bool → ℕ → Type 0
-InSet wires w = has_number wires w ≡ true
-
--- they are kept, and each two of them kept apart
-pub record AreApart (k : Kept) (wires : List Bool) : Type 0 where
-  pub len : length wires ≡ wires_of k.shape
-  pub kept : (w : ℕ) → InSet wires w → keeps_wire k w ≡ true
-  pub pairs : (w u : ℕ) → InSet wires w → InSet wires u → u ≢ w → keeps_pair k u w ≡ true
 
 -- the crosspoint leads from the one wire to the other
 pub record IsBetween (m : Shape) (x u w : ℕ) : Type 0 where

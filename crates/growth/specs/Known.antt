@@ -1,8 +1,9 @@
 -- Wires that came to be known, one after the other: each is a pin of the machine, or stands on two crosspoints to wires that
 -- came before it.
-use Rattle.std.specs.Prelude.{◌≡◌, ◌≢◌, ℕ, ◌<◌, true, Some, List, length, slice_get}
+use Rattle.std.specs.Prelude.{◌≡◌, ◌≢◌, ℕ, ◌<◌, Bool, true, Some, List, length, slice_get}
+use Rattle.tm_bits.specs.Numbers.{has_number}
 use Rattle.hierarchy.specs.declared.Shape.{Shape}
-use Rattle.hierarchy.specs.Shape.{Ends, ends_of, pin_wire, pins_of, crosses_of}
+use Rattle.hierarchy.specs.Shape.{Ends, ends_of, pin_wire, pins_of, crosses_of, wires_of}
 use Rattle.evidence.specs.Kept.{Kept, keeps_cross, keeps_wire, keeps_pair}
 use Rattle.growth.specs.declared.step.Foot.{Foot}
 use Rattle.growth.specs.declared.step.Stand.{Stand}
@@ -60,3 +61,13 @@ AreTwo ss i j = (i < length ss) × (j < length ss) × (i ≢ j)
 -- the kept crosspoints of the machine
 abbrev pub IsKeptCrossOf : Kept → ℕ → Type 0
 IsKeptCrossOf k x = (x < crosses_of k.shape) × (keeps_cross k x ≡ true)
+
+-- the wires of a set
+abbrev pub InSet : List Bool → ℕ → Type 0
+InSet wires w = has_number wires w ≡ true
+
+-- they are kept, and each two of them kept apart
+pub record AreApart (k : Kept) (wires : List Bool) : Type 0 where
+  pub len : length wires ≡ wires_of k.shape
+  pub kept : (w : ℕ) → InSet wires w → keeps_wire k w ≡ true
+  pub pairs : (w u : ℕ) → InSet wires w → InSet wires u → u ≢ w → keeps_pair k u w ≡ true

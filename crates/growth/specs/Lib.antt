@@ -16,3 +16,4 @@ pub mod Grown
 pub mod Looks
 pub mod Grounds
 pub mod Seating
+pub mod Halves

@@ -4,8 +4,7 @@ use Rattle.hierarchy.specs.declared.Shape.{Shape}
 use Rattle.hierarchy.specs.Shape.{ends_of, table_wire, hextant_of, IsLine, IsPort}
 use Rattle.hierarchy.specs.Standing.{IsOutside, Meets}
 use Rattle.evidence.specs.Kept.{Kept}
-use Rattle.growth.specs.Known.{KnownWires, IsAt, HasWire, IsKeptCrossOf}
-use Rattle.growth.specs.Grounds.{InSet}
+use Rattle.growth.specs.Known.{KnownWires, IsAt, HasWire, IsKeptCrossOf, InSet}
 use Rattle.growth.specs.declared.seats.Place.{Place}
 use Rattle.growth.specs.declared.step.Step.{Step}
 use Rattle.table_test.specs.declared.seat.Arm.{Arm}

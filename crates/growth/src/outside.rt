@@ -2,8 +2,7 @@
 ghost use Rattle.std.specs.Prelude.{◌≡◌, ◌<◌, ℕ, false, IfOk, IsTrue, length};
 ghost use Rattle.hierarchy.specs.Shape.{wires_of};
 ghost use Rattle.hierarchy.specs.Standing.{IsOutside};
-ghost use Rattle.growth.specs.Known.{HasWire};
-ghost use Rattle.growth.specs.Grounds.{InSet};
+ghost use Rattle.growth.specs.Known.{HasWire, InSet};
 ghost use Rattle.growth.specs.Seating.{PutsOutside};
 
 use crate::known::Known;

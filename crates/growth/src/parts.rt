@@ -87,8 +87,8 @@ fn put_left(
     Ok(())
 }
 
-// The known wires that aren't kept apart from this one.
-fn left_of(known: &Known, proof: &Proof, w: Wire) -> Result<Vec<Wire>, AllocError>
+/// The known wires that aren't kept apart from this one.
+pub(crate) fn left_of(known: &Known, proof: &Proof, w: Wire) -> Result<Vec<Wire>, AllocError>
     requires known { IsKnown proof.now known.now }
     requires wire { w.0 < wires_of proof.now.shape }
     requires new { ¬ HasWire known.now.steps w.0 }

@@ -170,6 +170,7 @@ fn place_over(
     requires table { t.0 < tables_of proof.now.shape }
     requires near { near.0 < wires_of proof.now.shape }
     requires line { IsLine proof.now.shape (hextant_of proof.now.shape t.0) line.0 }
+    requires within { line.0 < wires_of proof.now.shape }
     ensures place { IfOk result (λ found. IfSome found (IsPlace proof.now known.now.steps without.now.steps t.0 near.0 line.0)) }
     ensures none { IfOk result (λ found. IfNone found (¬ IsPlaceAt proof.now known.now.steps without.now.steps t.0 near.0 line.0)) }
 {

@@ -10,12 +10,11 @@ ghost use Rattle.growth.specs.Known.{IsKeptCrossOf, IsKnown, HasWire};
 ghost use Rattle.growth.specs.Grounds.{AreAllLinks};
 ghost use Rattle.growth.specs.Tables.{SeatedAreKept, SeatedIsKept};
 
-use crate::field::Field;
 use crate::known::Known;
-use crate::links::{Near, links_of};
+use crate::links::Near;
 use crate::outside::outside_of;
 use crate::seats::{find_place, seat_of};
-use crate::standing::standing;
+use crate::stands::{all_links, stand_on};
 use evidence::Proof;
 use hierarchy::Table;
 use rig::{Rig, RigFail};
@@ -37,15 +36,6 @@ fn has_pins(known: &Known, t: Table) -> bool
     true
 }
 
-// The links of all crosspoints of the machine.
-fn all_links(known: &Known) -> Result<Vec<Near>, AllocError>
-    ensures { IfOk result (λ near. AreAllLinks known.now.shape near.items) }
-{
-    let shape = known.shape();
-    let field = Field::whole(known.alloc(), &shape)?;
-    links_of(known.alloc(), &shape, &field)
-}
-
 // Where a table is tested, if it is seated.
 fn seat_for(
     known: &Known,
@@ -63,7 +53,7 @@ fn seat_for(
         return Ok(None);
     }
     let outside = outside_of(known, known.shape().hextant_of(t))?;
-    let without = standing(known.alloc(), proof, outside, near)?;
+    let without = stand_on(known.alloc(), proof, outside, near)?;
     let Some(place) = find_place(known, &without, proof, t)? else {
         return Ok(None);
     };
@@ -116,7 +106,7 @@ pub fn test_tables(
     ensures loads { (rig_state rig.new).loads ≤ (rig_state rig.old).loads + 130 * length tables.now }
     ensures cause { IsErrOf result RigFail.Failed → Rose (rig_state rig.old).failures (rig_state rig.new).failures }
 {
-    let Ok(near) = all_links(known) else {
+    let Ok(near) = all_links(known.alloc(), &known.shape()) else {
         return Err(RigFail::Memory);
     };
     'tables: for i in 0..tables.len() {

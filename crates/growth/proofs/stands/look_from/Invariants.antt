@@ -1,7 +1,7 @@
 use Rattle.growth.specs.Grown.{list_at}
 use Rattle.growth.specs.Grounds.{IsGround, Founds}
 use Rattle.growth.proofs.Grounding.{AreTaken}
-use Rattle.growth.proofs.standing.look_from.Given as goal
+use Rattle.growth.proofs.stands.look_from.Given as goal
 
 abbrev pub invariant-links : goal.invariant-links
 invariant-links l = record {

@@ -2,7 +2,7 @@ use Rattle.std.proofs.Common.{◌≡◌, ◌<◌, ℕ, false}
 use Rattle.tm_bits.specs.Numbers.{has_number}
 use Rattle.hierarchy.specs.Shape.{pin_wire}
 use Rattle.growth.specs.Grounds.{IsGround, Founds}
-use Rattle.growth.proofs.standing.take_pins.Given as goal
+use Rattle.growth.proofs.stands.take_pins.Given as goal
 
 abbrev pub invariant-pins : goal.invariant-pins
 invariant-pins l = record {

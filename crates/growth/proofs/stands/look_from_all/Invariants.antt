@@ -1,7 +1,7 @@
 use Rattle.std.proofs.Common.{◌+◌, ◌-◌, ◌*◌, length}
 use Rattle.tm_bits.specs.Numbers.{size_of}
 use Rattle.growth.specs.Grounds.{IsGround, Founds, AreSettled}
-use Rattle.growth.proofs.standing.look_from_all.Given as goal
+use Rattle.growth.proofs.stands.look_from_all.Given as goal
 
 abbrev pub invariant-places : goal.invariant-places
 invariant-places l = record {

@@ -4,14 +4,15 @@ ghost use Rattle.tm_bits.specs.Numbers.{has_number};
 ghost use Rattle.hierarchy.specs.Shape.{pins_of, pin_wire, wires_of};
 ghost use Rattle.hierarchy.specs.Standing.{StandsBy};
 ghost use Rattle.evidence.specs.Kept.{keeps_cross};
-ghost use Rattle.growth.specs.Known.{IsKeptCrossOf, IsKnown, HasWire};
-ghost use Rattle.growth.specs.Grounds.{AreAllLinks, AreApart, AreSettled, Founds, InSet, IsBetween, IsGround, IsSettled};
+ghost use Rattle.growth.specs.Known.{IsKeptCrossOf, IsKnown, HasWire, AreApart, InSet};
+ghost use Rattle.growth.specs.Grounds.{AreAllLinks, AreSettled, Founds, IsBetween, IsGround, IsSettled};
 
+use crate::field::Field;
 use crate::known::Known;
-use crate::links::{Near, link_at, link_count};
+use crate::links::{Near, link_at, link_count, links_of};
 use crate::step::{Foot, Stand, Step};
 use evidence::Proof;
-use hierarchy::{Wire, the_numbering_is_sound};
+use hierarchy::{Shape, Wire, the_numbering_is_sound};
 use std::alloc::{AllocError, Global};
 use tm_bits::BitSet;
 
@@ -162,9 +163,16 @@ fn look_from_all(
     Ok(())
 }
 
-/// Those of some wires that stand by kept crosspoints alone: the pins of the machine, and each with two such crosspoints
-/// to different ones that stand.
-pub(crate) fn standing(
+/// The links of all crosspoints of a machine.
+pub(crate) fn all_links(alloc: Global, shape: &Shape) -> Result<Vec<Near>, AllocError>
+    ensures { IfOk result (λ near. AreAllLinks shape.now near.items) }
+{
+    let field = Field::whole(alloc, shape)?;
+    links_of(alloc, shape, &field)
+}
+
+/// Those of some wires that stand by kept crosspoints alone, over the links of the machine.
+pub(crate) fn stand_on(
     alloc: Global,
     proof: &Proof,
     wires: BitSet,
@@ -183,4 +191,16 @@ pub(crate) fn standing(
     take_pins(&mut known, &mut left, &feet, proof)?;
     look_from_all(&mut known, &mut left, &mut feet, proof, near)?;
     Ok(known)
+}
+
+/// Those of some wires that stand by kept crosspoints alone: the pins of the machine, and each with two such crosspoints to
+/// different ones that stand. The wires are kept, and each two of them kept apart. Wants memory, and makes no load.
+pub fn standing(alloc: Global, proof: &Proof, wires: BitSet) -> Result<Known, AllocError>
+    requires apart { AreApart proof.now wires }
+    ensures known { IfOk result (IsKnown proof.now) }
+    ensures within { IfOk result (λ known. (w : ℕ) → HasWire known.steps w → InSet wires w) }
+    ensures whole { IfOk result (λ known. (w : ℕ) → StandsBy proof.now.shape (InSet wires) (IsKeptCrossOf proof.now) w → HasWire known.steps w) }
+{
+    let near = all_links(alloc, &proof.shape())?;
+    stand_on(alloc, proof, wires, &near)
 }

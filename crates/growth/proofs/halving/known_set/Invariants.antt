@@ -1,0 +1,10 @@
+use Rattle.std.proofs.Common.{◌≡◌, ℕ, length}
+use Rattle.hierarchy.specs.Shape.{wires_of}
+use Rattle.growth.specs.Known.{HasWire, InSet}
+use Rattle.growth.proofs.halving.known_set.Given as goal
+
+abbrev pub invariant-places : goal.invariant-places
+invariant-places l = record {
+  len : length l.set ≡ wires_of l.known.shape;
+  known : (w : ℕ) → InSet l.set w → HasWire l.known.steps w;
+}
