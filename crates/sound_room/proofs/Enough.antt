@@ -1,14 +1,18 @@
 -- Enough free parts are room for the in-order plan.
-use Rattle.std.proofs.Common.{◌≡◌, ℕ, zero, suc, ◌+◌, ◌<◌, ◌≤◌, List, [], ◌∷◌, length, get_or, refl, sym, ap, subst, arith}
+use Rattle.std.proofs.Common.{◌≡◌, ℕ, zero, suc, ◌+◌, ◌<◌, ◌≤◌, false, None, List, [], ◌∷◌, length, get_or, refl, sym, ap, subst, arith}
+use Rattle.std.specs.FinSet as set
 use Rattle.std.specs.List.{All, AllPairs, Contains}
+use Rattle.std.proofs.lemmas.Bool.{false_from_ne_true}
 use Rattle.std.proofs.lemmas.List.{length-map}
 use Rattle.std.proofs.lemmas.List.Elements.{All-weaker, Contains-get_or}
 use Rattle.hierarchy.specs.declared.Shape.{Shape}
-use Rattle.hierarchy.specs.Shape.{nodes_of, tables_of, pins_of, hextant_of, pin_wire, table_wire, IsLine, IsPort}
-use Rattle.hierarchy.specs.Faults.{Faults}
+use Rattle.hierarchy.specs.Shape.{nodes_of, tables_of, pins_of, crosses_of, hextant_of, pin_wire, table_wire, IsLine, IsPort}
+use Rattle.hierarchy.specs.Faults.{Faults, stuck_cross}
 use Rattle.hierarchy.specs.Sound.{IsSoundWire, IsSoundTable, IsWholeLine, IsServed}
 use Rattle.hierarchy.specs.Defects.{Defects, IsFreeWire, IsFreeTable, IsOpenLine}
 use Rattle.hierarchy.specs.Laws.{IsNumbered, IsTree, HasParents}
+use Rattle.hierarchy.specs.Tight.{IsTight}
+use Rattle.hierarchy.specs.Standing.{pin_stands, IsSeated, IsSoundCrossOf, IsStanding, HasStandingParts}
 use Rattle.netlist.proofs.ListLemmas.{few_numbers}
 use Rattle.table_map.specs.declared.network.Network.{Network}
 use Rattle.table_map.specs.declared.source.Source.TheVariants as source
@@ -25,7 +29,7 @@ use Rattle.place.specs.Plans.{IsPlan, IsInOrder, IsTerminal, drives, reads, show
 use Rattle.place.proofs.Counting.{pigeon}
 use Rattle.place.proofs.Fitting.{plan_is}
 use Rattle.place.proofs.PlanNets.{terminal_within, left_all, right_all}
-use Rattle.sound_room.specs.Enough.{AtLeast, IsOpenLineOf, HasEnough, IsSoundTableOf, IsSoundPinOf, IsWholeLineOf, IsSoundPort, HasSoundParts}
+use Rattle.sound_room.specs.Enough.{AtLeast, IsOpenLineOf, HasEnough, IsSoundTableOf, IsSoundPinOf, IsWholeLineOf, IsSoundPort, HasSoundParts, IsStandingTableOf, IsStandingLineOf, IsStandingPort, HasStandingRoom}
 
 -- ---- counts
 
@@ -180,3 +184,52 @@ module _ (m : Shape) (d : Defects) (f : Faults) (n : Network) (parents : HasPare
     lines = λ k within. at-least (IsWholeLineOf m f k) (IsOpenLineOf m d k) (nets_in n) (λ w is. (is.0, lines k w (sound.served k within) is.0 is.1)) (sound.lines k within);
     ports = λ k below within. at-least (IsSoundPort m f k) (IsFreePort m d k) (nets_in n) (λ w is. (is.0, ports k w (sound.served k within) is.0 is.1)) (sound.ports k below within);
   }
+
+-- ---- what a tight list leaves
+
+module _ (m : Shape) (d : Defects) (f : Faults) (n : Network) where
+  abbrev FreesWires : Type 0
+  FreesWires = (w : ℕ) → IsStanding m f w → IsFreeWire d w
+
+  abbrev FreesCrosses : Type 0
+  FreesCrosses = (x : ℕ) → x < crosses_of m → stuck_cross f x ≡ None → set.contains d.crosses x ≡ false
+
+  abbrev FreesTables : Type 0
+  FreesTables = (t : ℕ) → t < tables_of m → IsSoundTable m f t → IsSeated m (IsStanding m f) (IsSoundCrossOf m f) t → IsFreeTable m d t
+
+  pub frees-crosses : IsTight m d f → FreesCrosses
+  frees-crosses tight x within sound = false_from_ne_true (set.contains d.crosses x) (λ on. tight.crosses x within on sound)
+
+  open-line : FreesWires → FreesCrosses → (w : ℕ) → IsWholeLine m f w → IsStanding m f w → IsOpenLine m d w
+  open-line wires crosses w whole stands = record {
+    itself = wires w stands;
+    crosses = λ x within at free. record {
+      itself = crosses x within (whole.crosses x within at);
+      tap = free;
+      line = subst (IsFreeWire d) (sym at) (wires w stands);
+    };
+  }
+
+  pub standing-enough : FreesWires → FreesCrosses → FreesTables → HasStandingRoom m f n → HasEnough m d n
+  standing-enough wires crosses tables room = record {
+    tables = at-least (IsStandingTableOf m f) (IsFreeTableOf m d) (length n.tables) (λ t is. (is.0, tables t is.0 is.1 is.2)) room.tables;
+    pins = at-least (IsSoundPinOf m f) (IsFreePinOf m d) (n.inputs + length n.outputs)
+        (λ k is. (is.0, wires (pin_wire m k) (pin_stands k is.0 is.1))) room.pins;
+    lines = λ k within. at-least (IsStandingLineOf m f k) (IsOpenLineOf m d k) (nets_in n)
+        (λ w is. (is.0, open-line wires crosses w is.1 is.2)) (room.lines k within);
+    ports = λ k below within. at-least (IsStandingPort m f k) (IsFreePort m d k) (nets_in n)
+        (λ w is. (is.0, wires w is.1)) (room.ports k below within);
+  }
+
+-- ---- where each node is served
+
+pub served-room : (m : Shape) (f : Faults) (n : Network) → HasParents m → HasStandingParts m f → HasSoundParts m f n → HasStandingRoom m f n
+served-room m f n parents parts sound = record {
+  tables = at-least (IsSoundTableOf m f) (IsStandingTableOf m f) (length n.tables)
+      (λ t is. (is.0, is.1, parts.tables t is.0 (sound.served (hextant_of m t) (parents.hextant_within t is.0)) is.1)) sound.tables;
+  pins = sound.pins;
+  lines = λ k within. at-least (IsWholeLineOf m f k) (IsStandingLineOf m f k) (nets_in n)
+      (λ w is. (is.0, is.1, parts.whole k w (sound.served k within) is.0 is.1)) (sound.lines k within);
+  ports = λ k below within. at-least (IsSoundPort m f k) (IsStandingPort m f k) (nets_in n)
+      (λ w is. (is.0, parts.ports k w (sound.served k within) is.0 is.1)) (sound.ports k below within);
+}

@@ -6,6 +6,7 @@ use Rattle.hierarchy.specs.Shape.{nodes_of, tables_of, pins_of, pin_wire, IsLine
 use Rattle.hierarchy.specs.Faults.{Faults}
 use Rattle.hierarchy.specs.Sound.{IsSoundWire, IsSoundTable, IsWholeLine, IsServed}
 use Rattle.hierarchy.specs.Defects.{Defects, IsOpenLine}
+use Rattle.hierarchy.specs.Standing.{IsSeated, IsSoundCrossOf, IsStanding}
 use Rattle.table_map.specs.declared.network.Network.{Network}
 use Rattle.place.specs.Plans.{IsFreeTableOf, IsFreePinOf, nets_in}
 use Rattle.place.specs.Room.{IsFreePort}
@@ -48,3 +49,22 @@ pub record HasSoundParts (m : Shape) (f : Faults) (n : Network) : Type 0 where
   pub pins : AtLeast (IsSoundPinOf m f) (n.inputs + length n.outputs)
   pub lines : (k : ℕ) → k < nodes_of m → AtLeast (IsWholeLineOf m f k) (nets_in n)
   pub ports : (k : ℕ) → 0 < k → k < nodes_of m → AtLeast (IsSoundPort m f k) (nets_in n)
+
+-- a sound table that is seated among standing wires
+abbrev pub IsStandingTableOf : Shape → Faults → ℕ → Type 0
+IsStandingTableOf m f t = (t < tables_of m) × IsSoundTable m f t × IsSeated m (IsStanding m f) (IsSoundCrossOf m f) t
+
+abbrev pub IsStandingLineOf : Shape → Faults → ℕ → ℕ → Type 0
+IsStandingLineOf m f n w = IsLine m n w × IsWholeLine m f w × IsStanding m f w
+
+abbrev pub IsStandingPort : Shape → Faults → ℕ → ℕ → Type 0
+IsStandingPort m f n w = IsPort m n w × IsStanding m f w
+
+-- The same of standing parts, whether nodes are served or not: as many sound tables are seated among standing wires as the network
+-- has tables, and as many pins are sound as it has inputs and outputs. At each node as many whole lines stand, and below the root as
+-- many ports stand, as it has nets.
+pub record HasStandingRoom (m : Shape) (f : Faults) (n : Network) : Type 0 where
+  pub tables : AtLeast (IsStandingTableOf m f) (length n.tables)
+  pub pins : AtLeast (IsSoundPinOf m f) (n.inputs + length n.outputs)
+  pub lines : (k : ℕ) → k < nodes_of m → AtLeast (IsStandingLineOf m f k) (nets_in n)
+  pub ports : (k : ℕ) → 0 < k → k < nodes_of m → AtLeast (IsStandingPort m f k) (nets_in n)

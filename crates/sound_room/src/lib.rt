@@ -3,12 +3,13 @@
 
 ghost use Rattle.hierarchy.specs.Defects.{Defects, IsFair};
 ghost use Rattle.hierarchy.specs.Faults.{Faults};
+ghost use Rattle.hierarchy.specs.Tight.{IsTight};
 ghost use Rattle.hierarchy.specs.declared.Shape.{Shape};
 ghost use Rattle.table_map.specs.Networks.{IsNetwork};
 ghost use Rattle.table_map.specs.declared.network.Network.{Network};
 ghost use Rattle.place.specs.Plans.{IsShortInOrder};
 ghost use Rattle.place.specs.declared.short.Short.{Short};
-ghost use Rattle.sound_room.specs.Enough.{HasEnough, HasSoundParts};
+ghost use Rattle.sound_room.specs.Enough.{HasEnough, HasSoundParts, HasStandingRoom};
 
 /// Where as many tables and pins are free as a network has, and at each node as many lines are open and ports free as it has
 /// nets, nothing is short for its in-order plan: a net visits a node and crosses it once at most, and an open line serves each.
@@ -27,5 +28,19 @@ pub fn sound_parts_are_room()
 {
     hierarchy::the_numbering_is_sound();
     hierarchy::fair_lists_leave_sound_parts();
+    enough_free_parts_are_room();
+}
+
+/// A tight list leaves standing parts free. So where they are as many as a network has, there is room for its in-order plan; and
+/// where each node is served, sound parts stand.
+pub fn standing_parts_are_room()
+    ensures enough { (m : Shape) (d : Defects) (f : Faults) (n : Network) → IsTight m d f → HasStandingRoom m f n → HasEnough m d n }
+    ensures room { (m : Shape) (d : Defects) (f : Faults) (n : Network) (s : Short) → IsNetwork n → IsTight m d f →
+        HasStandingRoom m f n → ¬ IsShortInOrder m d n s }
+    ensures served { (m : Shape) (f : Faults) (n : Network) → HasSoundParts m f n → HasStandingRoom m f n }
+{
+    hierarchy::the_numbering_is_sound();
+    hierarchy::tight_lists_are_fair();
+    hierarchy::parts_of_served_nodes_stand();
     enough_free_parts_are_room();
 }
