@@ -1,28 +1,78 @@
--- A list of what isn't kept covers.
-use Rattle.std.proofs.Common.{◌≡◌, ◌≢◌, ◌⊎◌, ℕ, Bool, true, false, refl, inl, inr, arith, nat_eq}
+-- A list of what isn't known or kept covers, and nothing can be taken off it.
+use Rattle.std.proofs.Common.{◌≡◌, ◌≢◌, ◌⊎◌, ◌<◌, ℕ, Bool, true, false, None, refl, sym, ap, ◌∙◌, subst, inl, inr, arith, nat_eq}
+use Rattle.std.specs.FinSet as set
+use Rattle.std.proofs.lemmas.Bool.{false≢true}
 use Rattle.std.proofs.lemmas.Bool.Decides.{nat_tests}
-use Rattle.hierarchy.specs.Faults.{Faults}
+use Rattle.hierarchy.specs.Shape.{Ends, in_order, turned, ends_of, pin_wire, wires_of, crosses_of, tables_of}
+use Rattle.hierarchy.specs.Laws.{IsNumbered}
+use Rattle.hierarchy.specs.Faults.{Faults, stuck_cross}
 use Rattle.hierarchy.specs.Joined.{Shorted}
-use Rattle.hierarchy.specs.Defects.{Defects, Covers}
-use Rattle.evidence.specs.Kept.{Kept, HoldsFor}
-use Rattle.diagnose.specs.Listing.{AreFree, IsListOf}
+use Rattle.hierarchy.specs.Defects.{Defects, IsFreeWire, Covers}
+use Rattle.hierarchy.specs.Standing.{IsSeated}
+use Rattle.hierarchy.specs.Tight.{IsFreeWireOf, IsFreeCrossOf, IsAlone, HasFeet, two, HasFreeFeet, IsRightTable, IsTight}
+use Rattle.hierarchy.proofs.Seats.{seated_also}
+use Rattle.evidence.specs.Kept.{Kept, HoldsFor, IsMore, keeps_cross}
+use Rattle.growth.specs.Known.{KnownWires, HasWire, IsKnown, IsKeptCrossOf}
+use Rattle.table_test.specs.Seats.{AddsOnlyTableFacts, KeepsTable}
+use Rattle.diagnose.specs.Listing.{IsListOf}
+use Rattle.diagnose.specs.Stages.{IsReached}
+use Rattle.diagnose.proofs.Knowing.{known_wire, known_pair, known_within}
 
-pub same_or_not : (w u : ℕ) → (w ≡ u) ⊎ (w ≢ u)
+same_or_not : (w u : ℕ) → (w ≡ u) ⊎ (w ≢ u)
 same_or_not w u = by (nat_eq w u) refl
   where
     by : (b : Bool) → nat_eq w u ≡ b → (w ≡ u) ⊎ (w ≢ u)
     by true e = inl (grind (arith, nat_tests))
     by false e = inr (λ s. grind (arith, nat_tests))
 
-pub covers : (k : Kept) (f : Faults) (free : ℕ → Bool) (d : Defects) → HoldsFor k f → AreFree k free → IsListOf k free d → Covers k.shape d f
-covers k f free d holds apart list = record {
-  crosses = λ x h is. holds.crosses x (list.cross_free x h is);
-  cells = λ t a h b is. holds.cells t a ((list.table_free t h is).cells a b);
-  registers = λ t h is. holds.registers t ((list.table_free t h is).register);
-  wires = λ w h is. holds.wires w (apart.wires w (list.wire_free w h is).itself);
-  pairs = λ w u h g is on s. by w u (same_or_not w u) (list.wire_free w h is).itself (list.wire_free u g on).itself s;
-}
-  where
-    by : (w u : ℕ) → (w ≡ u) ⊎ (w ≢ u) → free w ≡ true → free u ≡ true → Shorted k.shape f w u → w ≡ u
-    by w u (inl e) is on s = e
-    by w u (inr n) is on s = absurd (holds.pairs w u (apart.pairs w u is on n) s)
+-- The wires are known by one proof, and what is listed is what isn't kept by a later one.
+module _ {k l : Kept} {known : KnownWires} {f : Faults} {d : Defects} (is : IsKnown k known) (more : IsMore k l) (holds : HoldsFor l f)
+    (list : IsListOf k.shape l known.steps d) where
+  apart : (w u : ℕ) → HasWire known.steps w → HasWire known.steps u → Shorted k.shape f w u → w ≡ u
+  apart w u h g s = by (same_or_not w u)
+    where
+      by : (w ≡ u) ⊎ (w ≢ u) → w ≡ u
+      by (inl e) = e
+      by (inr n) = absurd (holds.pairs w u (more.pairs w u (known_pair is u w g h n)) (subst (λ m. Shorted m f w u) (sym more.shape) s))
+
+  pub covers : Covers k.shape d f
+  covers = record {
+    crosses = λ x h free. holds.crosses x (list.cross_free x h free);
+    cells = λ t a h b free. holds.cells t a ((list.table_free t h free).cells a b);
+    registers = λ t h free. holds.registers t ((list.table_free t h free).register);
+    wires = λ w h free u s. holds.wires w (more.wires w (known_wire is w (list.wire_free w h free))) u (subst (λ m. Shorted m f w u) (sym more.shape) s);
+    pairs = λ w u h g free also s. apart w u (list.wire_free w h free) (list.wire_free u g also) s;
+  }
+
+module _ {k l : Kept} {known : KnownWires} {f : Faults} {d : Defects} (numbered : IsNumbered k.shape) (is : IsKnown k known) (reached : IsReached k f (HasWire known.steps)) (only : AddsOnlyTableFacts k l)
+    (tables : (t : ℕ) → t < tables_of k.shape → IsSeated k.shape (HasWire known.steps) (IsKeptCrossOf k) t → IsRightTable f t → KeepsTable l t) (list : IsListOf k.shape l known.steps d) where
+  free_of : (w : ℕ) → HasWire known.steps w → IsFreeWireOf k.shape d w
+  free_of w h = let below = known_within is numbered w h in (below, list.wire_listed w below h)
+
+  known_of : (w : ℕ) → IsFreeWireOf k.shape d w → HasWire known.steps w
+  known_of w h = list.wire_free w h.0 h.1
+
+  alone : (w : ℕ) → IsAlone k.shape f (IsFreeWireOf k.shape d) w → IsAlone k.shape f (HasWire known.steps) w
+  alone w a u h = a u (free_of u h)
+
+  feet : (w : ℕ) → HasFreeFeet k.shape d f w → HasFeet k.shape f (λ x. x < crosses_of k.shape) (HasWire known.steps) w
+  feet w (two x y a b cx cy ex ey differ fa fb sx sy) = two x y a b cx cy ex ey differ (known_of a fa) (known_of b fb) sx sy
+
+  unlisted : (x : ℕ) → x < crosses_of k.shape → set.contains d.crosses x ≡ true → stuck_cross f x ≡ None → ⊥
+  unlisted x h on unstuck =
+      let c = list.cross_listed x h on in
+      let tap = list.wire_free (ends_of k.shape x).0 (numbered.ends x _ _ h (in_order refl refl)) c.1 in
+      let line = list.wire_free (ends_of k.shape x).1 (numbered.ends x _ _ h (turned refl refl)) c.2 in
+      false≢true (sym c.0 ∙ only.crosses x ∙ reached.crosses x h tap line unstuck)
+
+  seated : (t : ℕ) → IsSeated k.shape (IsFreeWireOf k.shape d) (IsFreeCrossOf k.shape d) t → IsSeated k.shape (HasWire known.steps) (IsKeptCrossOf k) t
+  seated t s = seated_also k.shape (IsFreeWireOf k.shape d) (HasWire known.steps) (IsFreeCrossOf k.shape d) (IsKeptCrossOf k) known_of
+      (λ x a b free at p q. (free.0, sym (only.crosses x) ∙ list.cross_free x free.0 free.1)) t s
+
+  pub tight : IsTight k.shape d f
+  tight = record {
+    pins = λ i h clear a. (free_of (pin_wire k.shape i) (reached.pins i h clear (alone (pin_wire k.shape i) a))).1;
+    wires = λ w h clear a on. (free_of w (reached.wires w h clear (alone w a) (feet w on))).1;
+    crosses = λ x h on unstuck. unlisted x h on unstuck;
+    tables = λ t h on s right. (list.table_listed t h on).0 (tables t h (seated t s) right);
+  }

@@ -1,24 +1,5 @@
-pub mod Covering
-pub mod Fairness
-pub mod Choosing
-pub mod Rounding
-pub mod Swept
-pub mod Later
-pub mod Picking
-pub mod Nodes
-pub mod Descending
-pub mod Celling
-pub mod Tabled
-pub mod Listed
-pub mod Closing
-pub mod Children
-pub mod Rooted
-pub mod Finding
-pub mod Marking
-pub mod Unloaded
-pub mod Pinned
-pub mod Sweeps
-pub mod Budgets
-pub mod TablesKept
-pub mod Ending
-pub mod Faultless
+mod Listed
+mod Knowing
+mod Covering
+mod Preferring
+mod Stepping

@@ -1,5 +1,5 @@
--- A list of what isn't kept, one entry at a time.
-use Rattle.std.proofs.Common.{◌≡◌, ◌⊎◌, ◌<◌, ◌+◌, ℕ, zero, suc, Bool, true, false, not, ◌&&◌, if◌then◌else◌, refl, sym, ap, ◌∙◌, subst, inl, inr, arith}
+-- A list of what isn't known or kept, one entry at a time.
+use Rattle.std.proofs.Common.{◌≡◌, ◌⊎◌, ◌<◌, ◌+◌, ℕ, zero, suc, List, Bool, true, false, not, ◌&&◌, if◌then◌else◌, refl, sym, ap, ◌∙◌, subst, inl, inr, arith}
 use Rattle.std.specs.Prelude.{◌==◌}
 use Rattle.std.specs.FinSet as set
 use Rattle.std.proofs.lemmas.Bool.{false≢true}
@@ -12,7 +12,10 @@ use Rattle.hierarchy.specs.Defects.{IsFreeWire, IsFreeTable}
 use Rattle.defect_db.specs.Lists.{DefectList, IsDefectList, IsWithWire, no_defects, with_cross, with_table, has_free_ends, has_free_pins, all_below}
 use Rattle.defect_db.proofs.Marks.{contains_more}
 use Rattle.evidence.specs.Kept.{Kept, keeps_cross, keeps_cell, keeps_register}
-use Rattle.diagnose.specs.Listing.{KeepsTable, IsListing, AreUsable, IsListOf}
+use Rattle.growth.specs.Known.{HasWire}
+use Rattle.growth.specs.declared.step.Step.{Step}
+use Rattle.table_test.specs.Seats.{KeepsTable}
+use Rattle.diagnose.specs.Listing.{IsListing, IsListOf}
 
 clash : {b : Bool} → b ≡ true → b ≡ false → ⊥
 clash e d = false≢true (sym d ∙ e)
@@ -47,8 +50,8 @@ members s i q e = by (q == i) refl (sym (contains_more s i q) ∙ e)
 none_in : (q : ℕ) → set.contains no_defects.wires q ≡ true → ⊥
 none_in q e = clash e (contains-empty nat_cmp q)
 
-module _ (k : Kept) (usable : ℕ → Bool) where
-  pub listing_none : (m : Shape) → m ≡ k.shape → IsListing k usable (record { shape = m; list = no_defects }) 0 0 0
+module _ (k : Kept) (ss : List Step) where
+  pub listing_none : (m : Shape) → m ≡ k.shape → IsListing k ss (record { shape = m; list = no_defects }) 0 0 0
   listing_none m e = record {
     shape = e;
     wires = λ w is. absurd (none_in w is);
@@ -59,36 +62,40 @@ module _ (k : Kept) (usable : ℕ → Bool) where
     all_tables = λ t h. absurd (omega arith);
   }
 
-  pub wire_listed : (d e : DefectList) (i : ℕ) → usable i ≡ false → IsWithWire d i e → IsListing k usable d i 0 0 → IsListing k usable e (i + 1) 0 0
+  pub wire_listed : (d e : DefectList) (i : ℕ) → ¬ HasWire ss i → IsWithWire d i e → IsListing k ss d i 0 0 → IsListing k ss e (i + 1) 0 0
   wire_listed d e i bad with_it l = record {
     shape = with_it.shape ∙ l.shape;
     wires = λ w is. of_wire w (members d.list.wires i w (subst (λ s. set.contains s w ≡ true) with_it.wires is));
-    all_wires = λ w h isnt. subst (λ s. set.contains s w ≡ true) (sym with_it.wires) (member d.list.wires i w (old w isnt (lt_or w i h)));
+    all_wires = λ w h isnt. by w h isnt (lt_or w i h) (set.contains d.list.wires w) refl;
     crosses = λ x is. l.crosses x (and_left _ _ (sym (with_it.crosses x) ∙ is));
     all_crosses = λ x h. absurd (omega arith);
     tables = λ t is. l.tables t (and_left _ _ (sym (with_it.tables t) ∙ is));
     all_tables = λ t h. absurd (omega arith);
   }
     where
-      of_wire : (w : ℕ) → (w ≡ i) ⊎ (set.contains d.list.wires w ≡ true) → usable w ≡ false
-      of_wire w (inl s) = subst (λ v. usable v ≡ false) (sym s) bad
+      of_wire : (w : ℕ) → (w ≡ i) ⊎ (set.contains d.list.wires w ≡ true) → ¬ HasWire ss w
+      of_wire w (inl s) = subst (λ v. ¬ HasWire ss v) (sym s) bad
       of_wire w (inr h) = l.wires w h
 
-      old : (w : ℕ) → usable w ≡ false → (w ≡ i) ⊎ (w < i) → (w ≡ i) ⊎ (set.contains d.list.wires w ≡ true)
-      old w isnt (inl s) = inl s
-      old w isnt (inr h) = inr (l.all_wires w h isnt)
+      there : (w : ℕ) → (w ≡ i) ⊎ (set.contains d.list.wires w ≡ true) → set.contains e.list.wires w ≡ true
+      there w h = subst (λ s. set.contains s w ≡ true) (sym with_it.wires) (member d.list.wires i w h)
 
-  pub wire_passed : (d : DefectList) (i : ℕ) → usable i ≡ true → IsListing k usable d i 0 0 → IsListing k usable d (i + 1) 0 0
+      by : (w : ℕ) → w < i + 1 → set.contains e.list.wires w ≡ false → (w ≡ i) ⊎ (w < i) → (b : Bool) → set.contains d.list.wires w ≡ b → HasWire ss w
+      by w h isnt (inl s) b o = absurd (clash (there w (inl s)) isnt)
+      by w h isnt (inr less) true o = absurd (clash (there w (inr o)) isnt)
+      by w h isnt (inr less) false o = l.all_wires w less o
+
+  pub wire_passed : (d : DefectList) (i : ℕ) → HasWire ss i → IsListing k ss d i 0 0 → IsListing k ss d (i + 1) 0 0
   wire_passed d i good l = record { shape = l.shape; wires = l.wires; all_wires = λ w h isnt. by w isnt (lt_or w i h); crosses = l.crosses; all_crosses = l.all_crosses; tables = l.tables; all_tables = l.all_tables }
     where
-      by : (w : ℕ) → usable w ≡ false → (w ≡ i) ⊎ (w < i) → set.contains d.list.wires w ≡ true
-      by w isnt (inl s) = absurd (clash good (subst (λ v. usable v ≡ false) s isnt))
+      by : (w : ℕ) → set.contains d.list.wires w ≡ false → (w ≡ i) ⊎ (w < i) → HasWire ss w
+      by w isnt (inl s) = subst (HasWire ss) (sym s) good
       by w isnt (inr h) = l.all_wires w h isnt
 
-  pub cross_listed : (d : DefectList) (i j : ℕ) → keeps_cross k j ≡ false → IsListing k usable d i j 0 → IsListing k usable (record { shape = d.shape; list = with_cross d.shape d.list j }) i (j + 1) 0
+  pub cross_listed : (d : DefectList) (i j : ℕ) → keeps_cross k j ≡ false → IsListing k ss d i j 0 → IsListing k ss (record { shape = d.shape; list = with_cross d.shape d.list j }) i (j + 1) 0
   cross_listed d i j bad l = by (has_free_ends d.shape d.list j) refl
     where
-      by : (b : Bool) → has_free_ends d.shape d.list j ≡ b → IsListing k usable (record { shape = d.shape; list = if b then record d.list { crosses = set.insert d.list.crosses j } else d.list }) i (j + 1) 0
+      by : (b : Bool) → has_free_ends d.shape d.list j ≡ b → IsListing k ss (record { shape = d.shape; list = if b then record d.list { crosses = set.insert d.list.crosses j } else d.list }) i (j + 1) 0
       by true e = record {
         shape = l.shape;
         wires = l.wires;
@@ -112,17 +119,17 @@ module _ (k : Kept) (usable : ℕ → Bool) where
           old x isnt free (inl s) = absurd (clash (subst (λ v. has_free_ends k.shape d.list v ≡ true) s free) (subst (λ m. has_free_ends m d.list j ≡ false) l.shape e))
           old x isnt free (inr h) = l.all_crosses x h isnt free
 
-  pub cross_passed : (d : DefectList) (i j : ℕ) → keeps_cross k j ≡ true → IsListing k usable d i j 0 → IsListing k usable d i (j + 1) 0
+  pub cross_passed : (d : DefectList) (i j : ℕ) → keeps_cross k j ≡ true → IsListing k ss d i j 0 → IsListing k ss d i (j + 1) 0
   cross_passed d i j good l = record { shape = l.shape; wires = l.wires; all_wires = l.all_wires; crosses = l.crosses; all_crosses = λ x h isnt free. by x isnt free (lt_or x j h); tables = l.tables; all_tables = l.all_tables }
     where
       by : (x : ℕ) → keeps_cross k x ≡ false → has_free_ends k.shape d.list x ≡ true → (x ≡ j) ⊎ (x < j) → set.contains d.list.crosses x ≡ true
       by x isnt free (inl s) = absurd (clash good (subst (λ v. keeps_cross k v ≡ false) s isnt))
       by x isnt free (inr h) = l.all_crosses x h isnt free
 
-  pub table_listed : (d : DefectList) (i j n : ℕ) → ¬ KeepsTable k n → IsListing k usable d i j n → IsListing k usable (record { shape = d.shape; list = with_table d.shape d.list n }) i j (n + 1)
+  pub table_listed : (d : DefectList) (i j n : ℕ) → ¬ KeepsTable k n → IsListing k ss d i j n → IsListing k ss (record { shape = d.shape; list = with_table d.shape d.list n }) i j (n + 1)
   table_listed d i j n bad l = by (has_free_pins d.shape d.list n) refl
     where
-      by : (b : Bool) → has_free_pins d.shape d.list n ≡ b → IsListing k usable (record { shape = d.shape; list = if b then record d.list { tables = set.insert d.list.tables n } else d.list }) i j (n + 1)
+      by : (b : Bool) → has_free_pins d.shape d.list n ≡ b → IsListing k ss (record { shape = d.shape; list = if b then record d.list { tables = set.insert d.list.tables n } else d.list }) i j (n + 1)
       by true e = record {
         shape = l.shape;
         wires = l.wires;
@@ -146,24 +153,24 @@ module _ (k : Kept) (usable : ℕ → Bool) where
           old t isnt free (inl s) = absurd (clash (subst (λ v. has_free_pins k.shape d.list v ≡ true) s free) (subst (λ m. has_free_pins m d.list n ≡ false) l.shape e))
           old t isnt free (inr h) = l.all_tables t h isnt free
 
-  pub table_passed : (d : DefectList) (i j n : ℕ) → KeepsTable k n → IsListing k usable d i j n → IsListing k usable d i j (n + 1)
+  pub table_passed : (d : DefectList) (i j n : ℕ) → KeepsTable k n → IsListing k ss d i j n → IsListing k ss d i j (n + 1)
   table_passed d i j n good l = record { shape = l.shape; wires = l.wires; all_wires = l.all_wires; crosses = l.crosses; all_crosses = l.all_crosses; tables = l.tables; all_tables = λ t h isnt free. by t isnt free (lt_or t n h) }
     where
       by : (t : ℕ) → ¬ KeepsTable k t → has_free_pins k.shape d.list t ≡ true → (t ≡ n) ⊎ (t < n) → set.contains d.list.tables t ≡ true
       by t isnt free (inl s) = absurd (isnt (subst (KeepsTable k) (sym s) good))
       by t isnt free (inr h) = l.all_tables t h isnt free
 
-  pub wire_step : (d e : DefectList) (i : ℕ) (b : Bool) → b ≡ usable i → (b ≡ false → IsWithWire d i e) → (b ≡ true → e ≡ d) → IsListing k usable d i 0 0 → IsListing k usable e (i + 1) 0 0
-  wire_step d e i false s bad good l = wire_listed d e i (sym s) (bad refl) l
-  wire_step d e i true s bad good l = subst (λ x. IsListing k usable x (i + 1) 0 0) (sym (good refl)) (wire_passed d i (sym s) l)
+  pub wire_step : (d e : DefectList) (i : ℕ) (b : Bool) → (b ≡ true → HasWire ss i) → (b ≡ false → ¬ HasWire ss i) → (b ≡ false → IsWithWire d i e) → (b ≡ true → e ≡ d) → IsListing k ss d i 0 0 → IsListing k ss e (i + 1) 0 0
+  wire_step d e i false is isnt bad good l = wire_listed d e i (isnt refl) (bad refl) l
+  wire_step d e i true is isnt bad good l = subst (λ x. IsListing k ss x (i + 1) 0 0) (sym (good refl)) (wire_passed d i (is refl) l)
 
-  pub cross_step : (d e : DefectList) (i j : ℕ) (b : Bool) → b ≡ keeps_cross k j → (b ≡ false → e ≡ record { shape = d.shape; list = with_cross d.shape d.list j }) → (b ≡ true → e ≡ d) → IsListing k usable d i j 0 → IsListing k usable e i (j + 1) 0
-  cross_step d e i j false s bad good l = subst (λ x. IsListing k usable x i (j + 1) 0) (sym (bad refl)) (cross_listed d i j (sym s) l)
-  cross_step d e i j true s bad good l = subst (λ x. IsListing k usable x i (j + 1) 0) (sym (good refl)) (cross_passed d i j (sym s) l)
+  pub cross_step : (d e : DefectList) (i j : ℕ) (b : Bool) → b ≡ keeps_cross k j → (b ≡ false → e ≡ record { shape = d.shape; list = with_cross d.shape d.list j }) → (b ≡ true → e ≡ d) → IsListing k ss d i j 0 → IsListing k ss e i (j + 1) 0
+  cross_step d e i j false s bad good l = subst (λ x. IsListing k ss x i (j + 1) 0) (sym (bad refl)) (cross_listed d i j (sym s) l)
+  cross_step d e i j true s bad good l = subst (λ x. IsListing k ss x i (j + 1) 0) (sym (good refl)) (cross_passed d i j (sym s) l)
 
-  pub table_step : (d e : DefectList) (i j n : ℕ) (b : Bool) → (b ≡ true → KeepsTable k n) → (b ≡ false → ¬ KeepsTable k n) → (b ≡ false → e ≡ record { shape = d.shape; list = with_table d.shape d.list n }) → (b ≡ true → e ≡ d) → IsListing k usable d i j n → IsListing k usable e i j (n + 1)
-  table_step d e i j n false is isnt bad good l = subst (λ x. IsListing k usable x i j (n + 1)) (sym (bad refl)) (table_listed d i j n (isnt refl) l)
-  table_step d e i j n true is isnt bad good l = subst (λ x. IsListing k usable x i j (n + 1)) (sym (good refl)) (table_passed d i j n (is refl) l)
+  pub table_step : (d e : DefectList) (i j n : ℕ) (b : Bool) → (b ≡ true → KeepsTable k n) → (b ≡ false → ¬ KeepsTable k n) → (b ≡ false → e ≡ record { shape = d.shape; list = with_table d.shape d.list n }) → (b ≡ true → e ≡ d) → IsListing k ss d i j n → IsListing k ss e i j (n + 1)
+  table_step d e i j n false is isnt bad good l = subst (λ x. IsListing k ss x i j (n + 1)) (sym (bad refl)) (table_listed d i j n (isnt refl) l)
+  table_step d e i j n true is isnt bad good l = subst (λ x. IsListing k ss x i j (n + 1)) (sym (good refl)) (table_passed d i j n (is refl) l)
 
   all_or : (n : ℕ) (test : ℕ → Bool) → ((a : ℕ) → a < n → test a ≡ true) ⊎ (((a : ℕ) → a < n → test a ≡ true) → ⊥)
   all_or zero test = inl (λ a h. absurd (omega arith))
@@ -193,10 +200,10 @@ module _ (k : Kept) (usable : ℕ → Bool) where
   all_true zero test h = refl
   all_true (suc n) test h = rw (all_true n test (λ a lt. h a (omega arith)), h n (omega arith)) refl
 
-  pub whole_list : (free : ℕ → Bool) (d : DefectList) → IsListing k usable d (wires_of k.shape) (crosses_of k.shape) (tables_of k.shape) → AreUsable k free usable → IsDefectList d → IsListOf k free d.list
-  whole_list free d l are right = record {
-    wire_free = λ w h is. are.yes w h (by_bool (usable w) (λ e. clash (l.all_wires w h e) is));
-    wire_listed = λ w h u. not_in (set.contains d.list.wires w) (λ e. clash (are.all w h u) (l.wires w e));
+  pub whole_list : (d : DefectList) → IsListing k ss d (wires_of k.shape) (crosses_of k.shape) (tables_of k.shape) → IsDefectList d → IsListOf k.shape k ss d.list
+  whole_list d l right = record {
+    wire_free = λ w h is. l.all_wires w h is;
+    wire_listed = λ w h u. not_in (set.contains d.list.wires w) (λ e. l.wires w e u);
     cross_free = λ x h is. by_bool (keeps_cross k x) (λ e. clash (l.all_crosses x h e (rw (is.tap, is.line) refl)) is.itself);
     cross_listed = λ x h is. (l.crosses x is, subst (λ m. IsFreeWire d.list (ends_of m x).0) l.shape (right.taps x is), subst (λ m. IsFreeWire d.list (ends_of m x).1) l.shape (right.lines x is));
     table_free = λ t h is. by_table t h is (table_or t);

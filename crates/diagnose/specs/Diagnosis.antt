@@ -1,18 +1,20 @@
 -- What a diagnosis is, and how many loads it takes.
-use Rattle.std.specs.Prelude.{◌≡◌, ℕ, ◌+◌, ◌*◌, ◌<◌, ◌≤◌, Option, Some}
+use Rattle.std.specs.Prelude.{◌≡◌, ℕ, ◌+◌, ◌*◌, ◌≤◌, Option, Some}
 use Rattle.hierarchy.specs.declared.Shape.{Shape}
-use Rattle.hierarchy.specs.Shape.{nodes_of, wires_of, crosses_of, tables_of}
+use Rattle.hierarchy.specs.Shape.{wires_of, crosses_of, tables_of}
 use Rattle.hierarchy.specs.Faults.{Faults, IsFaultless}
-use Rattle.hierarchy.specs.Sound.{IsServed}
 use Rattle.hierarchy.specs.Defects.{Defects, Covers, IsFair}
+use Rattle.hierarchy.specs.Tight.{IsTight}
 
--- where the faults are told, the list covers them and is fair to them
+-- where the faults are told, the list covers them, is fair to them, and is tight to them: nothing can be taken off it
 pub record IsDiagnosis (told : Option Faults) (m : Shape) (d : Defects) : Type 0 where
   pub covers : (f : Faults) → told ≡ Some f → Covers m d f
   pub fair : (f : Faults) → told ≡ Some f → IsFair m d f
+  pub tight : (f : Faults) → told ≡ Some f → IsTight m d f
 
--- where the machine is told to have no faults and each node is served, at most 8 loads for each crosspoint, 256 for each
--- table and 32 for each wire
+-- at most 16 loads for each crosspoint, 20 for each wire and 130 for each table, and where the machine is told to have no
+-- faults, 2, 3 and 130
 pub record TakesFewLoads (told : Option Faults) (m : Shape) (before after : ℕ) : Type 0 where
-  pub at : (f : Faults) → told ≡ Some f → IsFaultless f → ((n : ℕ) → n < nodes_of m → IsServed m f n) →
-      after ≤ before + (8 * crosses_of m + (256 * tables_of m + 32 * wires_of m))
+  pub always : after ≤ before + (16 * crosses_of m + (20 * wires_of m + 130 * tables_of m))
+  pub faultless : (f : Faults) → told ≡ Some f → IsFaultless f →
+      after ≤ before + (2 * crosses_of m + (3 * wires_of m + 130 * tables_of m))

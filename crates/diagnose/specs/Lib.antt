@@ -1,11 +1,6 @@
-pub mod Listing
-pub mod Thorough
-pub mod Chosen
-pub mod Sweeping
-pub mod Cells
-pub mod Spines
-pub mod Budget
-pub mod Crossbars
+-- What crates above cite.
 pub mod Diagnosis
+-- For this crate's bodies alone.
+pub mod Listing
 pub mod Stages
-pub mod AllTables
+pub mod Choice

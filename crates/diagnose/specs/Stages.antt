@@ -1,29 +1,48 @@
 -- The stages of a diagnosis.
-use Rattle.std.specs.Prelude.{◌≡◌, ℕ, ◌+◌, ◌*◌, ◌<◌, ◌≤◌, Bool, Option, Some, List}
-use Rattle.hierarchy.specs.declared.Shape.{Shape}
-use Rattle.hierarchy.specs.Shape.{nodes_of, wires_of, crosses_of, tables_of}
-use Rattle.hierarchy.specs.Faults.{Faults, IsFaultless}
-use Rattle.hierarchy.specs.Sound.{IsServed}
-use Rattle.evidence.specs.Kept.{Kept, HoldsFor}
-use Rattle.evidence.specs.Held.{Findings}
-use Rattle.diagnose.specs.Chosen.{AreFull, AreSeparated}
-use Rattle.diagnose.specs.Sweeping.{KeepsFree, IsSwept}
+use Rattle.std.specs.Prelude.{◌≡◌, ℕ, ◌+◌, ◌*◌, ◌<◌, ◌≤◌, true, Option, Some, None, List, slice_get}
+use Rattle.hierarchy.specs.declared.Table.{Table}
+use Rattle.hierarchy.specs.Shape.{pins_of, pin_wire, wires_of, crosses_of, tables_of, ends_of}
+use Rattle.hierarchy.specs.Faults.{Faults, IsFaultless, stuck_cross}
+use Rattle.hierarchy.specs.Defects.{IsClear}
+use Rattle.hierarchy.specs.Tight.{IsAlone, HasFeet}
+use Rattle.evidence.specs.Kept.{Kept, HoldsFor, keeps_cross}
+use Rattle.growth.specs.Known.{HasWire}
+use Rattle.growth.specs.Tables.{SeatedIsKept}
+use Rattle.growth.specs.declared.step.Step.{Step}
 
--- Where the faults are told, what is kept is true of them, the crossbars are full, and their wires separated.
-pub record AreSettled (told : Option Faults) (k : Kept) (ts : List Findings) : Type 0 where
-  pub holds : (f : Faults) → told ≡ Some f → HoldsFor k f
-  pub full : (f : Faults) → told ≡ Some f → AreFull k f ts
-  pub separated : (f : Faults) → told ≡ Some f → AreSeparated k f ts
+-- All is known that can be reached: each wire that is clear and shorted to no known one, and is a pin of the machine or has feet;
+-- and each crosspoint between known wires that isn't stuck is kept.
+pub record IsReached (k : Kept) (f : Faults) (known : ℕ → Type 0) : Type 0 where
+  pub pins : (i : ℕ) → i < pins_of k.shape → IsClear k.shape f (pin_wire k.shape i) → IsAlone k.shape f known (pin_wire k.shape i) →
+      known (pin_wire k.shape i)
+  pub wires : (w : ℕ) → w < wires_of k.shape → IsClear k.shape f w → IsAlone k.shape f known w →
+      HasFeet k.shape f (λ x. x < crosses_of k.shape) known w → known w
+  pub crosses : (x : ℕ) → x < crosses_of k.shape → known (ends_of k.shape x).0 → known (ends_of k.shape x).1 → stuck_cross f x ≡ None →
+      keeps_cross k x ≡ true
 
--- where the machine is told to have no faults and each node is served, at most 6 loads for each crosspoint and 26 for each wire
-pub record TakesForAll (told : Option Faults) (m : Shape) (before after : ℕ) : Type 0 where
-  pub at : (f : Faults) → told ≡ Some f → IsFaultless f → ((n : ℕ) → n < nodes_of m → IsServed m f n) →
-      after ≤ before + (6 * crosses_of m + 26 * wires_of m)
+-- .. where the faults are told, and what is kept is true of them
+pub record ReachedIf (told : Option Faults) (k : Kept) (ss : List Step) : Type 0 where
+  pub at : (f : Faults) → told ≡ Some f → HoldsFor k f → IsReached k f (HasWire ss)
 
--- where the faults are told, the final pass was whole
-pub record IsSweptIf (told : Option Faults) (k l : Kept) (free : ℕ → Bool) : Type 0 where
-  pub at : (f : Faults) → told ≡ Some f → HoldsFor k f → IsSwept k l f free
+-- where the machine is told to have no faults, and what is kept is true of that
+pub record IfFaultless (told : Option Faults) (k : Kept) (P : Type 0) : Type 0 where
+  pub at : (f : Faults) → told ≡ Some f → IsFaultless f → HoldsFor k f → P
 
--- where all crosspoints of free wires are kept, the tests of tables alone took loads
-pub record TakesForTables (k : Kept) (free : ℕ → Bool) (before after : ℕ) : Type 0 where
-  pub at : KeepsFree k free → after ≤ before + 130 * tables_of k.shape
+-- .. and all is known that can be reached
+pub record IfReached (told : Option Faults) (k : Kept) (ss : List Step) (P : Type 0) : Type 0 where
+  pub at : (f : Faults) → told ≡ Some f → IsFaultless f → IsReached k f (HasWire ss) → P
+
+-- the loads of so much for each crosspoint and so much for each wire
+abbrev pub loads_for : Kept → (crosses wires : ℕ) → ℕ
+loads_for k crosses wires = crosses * crosses_of k.shape + wires * wires_of k.shape
+
+-- each table of the machine that is seated in the known wires and kept crosspoints, and is right, is kept
+pub record TablesIf (told : Option Faults) (k l : Kept) (ss : List Step) : Type 0 where
+  pub each : (t : ℕ) → t < tables_of k.shape → SeatedIsKept told k l ss t
+
+-- the table is one of these
+pub record HasTable (tables : List Table) (t : ℕ) : Type 0 where
+  pub place : ℕ
+  pub table : Table
+  pub here : slice_get tables place ≡ Some table
+  pub is : table.0 ≡ t

@@ -1,96 +1,102 @@
 //! The whole machine: from tests to a list of defects.
-ghost use Rattle.std.specs.Prelude.{◌≡◌, ◌≤◌, Some, length, IfOk, OnOk, IsErrOf};
-ghost use Rattle.tm_bits.specs.Numbers.{has_number};
+ghost use Rattle.std.specs.Prelude.{◌≡◌, ◌≤◌, ◌<◌, ◌+◌, ◌*◌, ℕ, All, Some, IfOk, OnOk, IsErrOf, length};
 ghost use Rattle.tm_outside.specs.Counts.{Rose};
-ghost use Rattle.hierarchy.specs.Shape.{wires_of};
+ghost use Rattle.hierarchy.specs.Shape.{tables_of};
 ghost use Rattle.rig.specs.Rig.{shape_of};
 ghost use Rattle.evidence.specs.Kept.{Advances, KeepsNothing};
-ghost use Rattle.diagnose.specs.Chosen.{AreFound, AreChosen};
+ghost use Rattle.growth.specs.Known.{IsKnown};
+ghost use Rattle.table_test.specs.Seats.{AddsOnlyTableFacts};
 ghost use Rattle.diagnose.specs.Diagnosis.{IsDiagnosis, TakesFewLoads};
-ghost use Rattle.diagnose.specs.Listing.{AreFree};
-ghost use Rattle.diagnose.specs.Stages.{AreSettled, TakesForAll, IsSweptIf, TakesForTables};
+ghost use Rattle.diagnose.specs.Stages.{HasTable, IfFaultless, ReachedIf, TablesIf, loads_for};
 
-use crate::all_tables::test_tables;
-use crate::choose::choose_free;
-use crate::crossbars::test_all;
-use crate::laws::{a_diagnosis_covers_and_is_fair, chosen_wires_are_free};
+use crate::choose::prefer_pins;
 use crate::list::list_of;
-use crate::sweep::sweep_all;
-use crate::taken::taken_wires;
 use defect_db::Defects;
-use evidence::laws::kept_facts_are_sound;
-use evidence::{Proof, Tested};
-use hierarchy::{
-    Shape, crossbars_add_up, each_wire_has_a_home, ports_and_lines_ascend,
-    served_nodes_have_sound_parts, the_crosspoints_are_sound,
-};
+use evidence::Proof;
+use evidence::laws::{kept_facts_are_sound, tests_add_up};
+use growth::{Field, Known, grow, test_tables};
+use hierarchy::{Shape, Table, the_numbering_is_sound, tight_lists_are_fair};
 use rig::{Rig, RigFail};
-use separate::separate_all;
-use std::alloc::Global;
-use tm_bits::BitSet;
+use std::alloc::{AllocError, Global};
 
-// Tests all crossbars, and which of their wires are apart.
-fn test_crossbars(
+// What is known grows in the whole machine.
+fn grow_whole(
     alloc: Global,
     rig: &mut Box<dyn Rig>,
     proof: &mut Proof,
-    shape: &Shape,
-) -> Result<Vec<Tested>, RigFail>
-    requires attached { shape_of (rig_state rig.old) ≡ Some proof.old.shape }
-    requires shape { shape.now ≡ proof.old.shape }
-    requires nothing { KeepsNothing proof.old }
-
-    ensures found { IfOk result (λ tested. AreFound proof.new tested.items) }
-    ensures settled { IfOk result (λ tested. AreSettled (rig_state rig.old).machine.faults proof.new tested.items) }
-    ensures advances { Advances (rig_state rig.old) (rig_state rig.new) proof.old proof.new }
-    ensures loads { OnOk result (TakesForAll (rig_state rig.old).machine.faults proof.old.shape (rig_state rig.old).loads (rig_state rig.new).loads) }
-    ensures cause { IsErrOf result RigFail.Failed → Rose (rig_state rig.old).failures (rig_state rig.new).failures }
-{
-    kept_facts_are_sound();
-    crossbars_add_up();
-    served_nodes_have_sound_parts();
-    the_crosspoints_are_sound();
-    ports_and_lines_ascend();
-    let tested = test_all(alloc, rig, proof, shape)?;
-    separate_all(alloc, rig, proof, shape, &tested)?;
-    Ok(tested)
-}
-
-// Of the wires of tested crossbars those that are free.
-fn free_of(alloc: Global, proof: &Proof, tested: &[Tested]) -> Result<BitSet, RigFail>
-    requires found { AreFound proof.now tested.now }
-    ensures chosen { IfOk result (λ free. AreChosen proof.now tested.now (has_number free)) }
-    ensures marks { IfOk result (λ free. length free ≡ wires_of proof.now.shape) }
-    ensures memory { IsErrOf result RigFail.Failed → ⊥ }
-{
-    let Ok(taken) = taken_wires(alloc, proof, tested) else {
-        return Err(RigFail::Memory);
-    };
-    match choose_free(alloc, proof, &taken) {
-        Ok(free) => Ok(free),
-        Err(_) => Err(RigFail::Memory),
-    }
-}
-
-// The final pass, and the tests of all tables.
-fn sweep(
-    alloc: Global,
-    rig: &mut Box<dyn Rig>,
-    proof: &mut Proof,
-    free: &BitSet,
+    known: &mut Known,
 ) -> Result<(), RigFail>
     requires attached { shape_of (rig_state rig.old) ≡ Some proof.old.shape }
-    requires marks { length free.now ≡ wires_of proof.old.shape }
-    requires free { AreFree proof.old (has_number free.now) }
-
-    ensures swept { OnOk result (IsSweptIf (rig_state rig.old).machine.faults proof.old proof.new (has_number free.now)) }
+    requires known { IsKnown proof.old known.old }
+    ensures known { IsKnown proof.new known.new }
+    ensures reached { OnOk result (ReachedIf (rig_state rig.old).machine.faults proof.new known.new.steps) }
     ensures advances { Advances (rig_state rig.old) (rig_state rig.new) proof.old proof.new }
-    ensures loads { OnOk result (TakesForTables proof.old (has_number free.now) (rig_state rig.old).loads (rig_state rig.new).loads) }
+    ensures loads { (rig_state rig.new).loads ≤ (rig_state rig.old).loads + loads_for proof.old 8 3 }
+    ensures few { IfFaultless (rig_state rig.old).machine.faults proof.old ((rig_state rig.new).loads ≤ (rig_state rig.old).loads + loads_for proof.old 2 3) }
     ensures cause { IsErrOf result RigFail.Failed → Rose (rig_state rig.old).failures (rig_state rig.new).failures }
 {
-    the_crosspoints_are_sound();
-    let spines = sweep_all(alloc, rig, proof, free)?;
-    test_tables(alloc, rig, proof, free, &spines)
+    the_numbering_is_sound();
+    let Ok(field) = Field::whole(alloc, &proof.shape()) else {
+        return Err(RigFail::Memory);
+    };
+    grow(rig, proof, known, &field)
+}
+
+// The known wires of the machine. Where wires are shorted, pins of tables are known first, as far as that can be.
+fn known_wires(alloc: Global, rig: &mut Box<dyn Rig>, proof: &mut Proof) -> Result<Known, RigFail>
+    requires attached { shape_of (rig_state rig.old) ≡ Some proof.old.shape }
+    ensures known { IfOk result (IsKnown proof.new) }
+    ensures reached { IfOk result (λ known. ReachedIf (rig_state rig.old).machine.faults proof.new known.steps) }
+    ensures advances { Advances (rig_state rig.old) (rig_state rig.new) proof.old proof.new }
+    ensures loads { (rig_state rig.new).loads ≤ (rig_state rig.old).loads + loads_for proof.old 16 20 }
+    ensures few { IfFaultless (rig_state rig.old).machine.faults proof.old ((rig_state rig.new).loads ≤ (rig_state rig.old).loads + loads_for proof.old 2 3) }
+    ensures cause { IsErrOf result RigFail.Failed → Rose (rig_state rig.old).failures (rig_state rig.new).failures }
+{
+    tests_add_up();
+    let Ok(mut known) = Known::new(alloc, &proof.shape()) else {
+        return Err(RigFail::Memory);
+    };
+    grow_whole(alloc, rig, proof, &mut known)?;
+    let changed = prefer_pins(alloc, rig, proof, &mut known)?;
+    if changed {
+        grow_whole(alloc, rig, proof, &mut known)?;
+    }
+    Ok(known)
+}
+
+// All tables of a machine.
+fn all_tables(alloc: Global, shape: &Shape) -> Result<Vec<Table>, AllocError>
+    ensures count { IfOk result (λ tables. length tables.items ≡ tables_of shape.now) }
+    ensures within { IfOk result (λ tables. All (λ t. t.0 < tables_of shape.now) tables.items) }
+    ensures each { IfOk result (λ tables. (t : ℕ) → t < tables_of shape.now → HasTable tables.items t) }
+{
+    let mut tables = Vec::new(alloc);
+    'tables: for t in 0..shape.tables() {
+        tables.push(Table(t))?;
+    }
+    Ok(tables)
+}
+
+// Tests all tables over known wires.
+fn test_all(
+    alloc: Global,
+    rig: &mut Box<dyn Rig>,
+    proof: &mut Proof,
+    known: &Known,
+) -> Result<(), RigFail>
+    requires attached { shape_of (rig_state rig.old) ≡ Some proof.old.shape }
+    requires known { IsKnown proof.old known.now }
+    ensures tables { OnOk result (TablesIf (rig_state rig.old).machine.faults proof.old proof.new known.now.steps) }
+    ensures advances { Advances (rig_state rig.old) (rig_state rig.new) proof.old proof.new }
+    ensures only { AddsOnlyTableFacts proof.old proof.new }
+    ensures loads { (rig_state rig.new).loads ≤ (rig_state rig.old).loads + 130 * tables_of proof.old.shape }
+    ensures cause { IsErrOf result RigFail.Failed → Rose (rig_state rig.old).failures (rig_state rig.new).failures }
+{
+    tests_add_up();
+    let Ok(tables) = all_tables(alloc, &proof.shape()) else {
+        return Err(RigFail::Memory);
+    };
+    test_tables(rig, proof, known, &tables)
 }
 
 // The diagnosis, with a proof that keeps nothing yet.
@@ -98,34 +104,35 @@ fn diagnose_with(
     alloc: Global,
     rig: &mut Box<dyn Rig>,
     proof: &mut Proof,
-    shape: &Shape,
 ) -> Result<Defects, RigFail>
     requires attached { shape_of (rig_state rig.old) ≡ Some proof.old.shape }
-    requires shape { shape.now ≡ proof.old.shape }
     requires nothing { KeepsNothing proof.old }
 
     ensures shape { IfOk result (λ d. d.shape ≡ proof.old.shape) }
     ensures right { IfOk result (λ d. IsDiagnosis (rig_state rig.old).machine.faults proof.old.shape d.list) }
     ensures advances { Advances (rig_state rig.old) (rig_state rig.new) proof.old proof.new }
-    ensures loads { OnOk result (TakesFewLoads (rig_state rig.old).machine.faults proof.old.shape (rig_state rig.old).loads (rig_state rig.new).loads) }
+    ensures loads { TakesFewLoads (rig_state rig.old).machine.faults proof.old.shape (rig_state rig.old).loads (rig_state rig.new).loads }
     ensures cause { IsErrOf result RigFail.Failed → Rose (rig_state rig.old).failures (rig_state rig.new).failures }
 {
-    a_diagnosis_covers_and_is_fair();
-    chosen_wires_are_free();
-    each_wire_has_a_home();
-    served_nodes_have_sound_parts();
-    the_crosspoints_are_sound();
-    let tested = test_crossbars(alloc, rig, proof, shape)?;
-    let free = free_of(alloc, proof, &tested)?;
-    sweep(alloc, rig, proof, &free)?;
-    match list_of(alloc, proof, &free) {
+    the_numbering_is_sound();
+    tight_lists_are_fair();
+    kept_facts_are_sound();
+    let known = known_wires(alloc, rig, proof)?;
+    test_all(alloc, rig, proof, &known)?;
+    match list_of(alloc, proof, &known) {
         Ok(list) => Ok(list),
         Err(_) => Err(RigFail::Memory),
     }
 }
 
 /// Finds what is wrong with the machine that is attached, and lists it. Where the rig tells the machine's faults, the list covers
-/// them and is fair to them: of served nodes it holds no sound part, but lines with fewer than two sound crosspoints.
+/// them and is tight to them: nothing can be taken off it. So it is fair: of served nodes it holds no sound part, but lines with
+/// fewer than two sound crosspoints. At every end it took at most 16 loads for each crosspoint, 20 for each wire and 130 for each
+/// table, and where the machine is told to have no faults, 2, 3 and 130.
+///
+/// # Errors
+///
+/// `Failed` where a call of the rig failed, `Memory` where memory was wanting.
 pub fn diagnose(alloc: Global, rig: &mut Box<dyn Rig>, shape: &Shape) -> Result<Defects, RigFail>
     requires attached { shape_of (rig_state rig.old) ≡ Some shape.now }
 
@@ -133,13 +140,13 @@ pub fn diagnose(alloc: Global, rig: &mut Box<dyn Rig>, shape: &Shape) -> Result<
     ensures right { IfOk result (λ d. IsDiagnosis (rig_state rig.old).machine.faults shape.now d.list) }
     ensures machine { (rig_state rig.new).machine ≡ (rig_state rig.old).machine }
     ensures later { (rig_state rig.old).failures ≤ (rig_state rig.new).failures }
-    ensures loads { OnOk result (TakesFewLoads (rig_state rig.old).machine.faults shape.now (rig_state rig.old).loads (rig_state rig.new).loads) }
+    ensures loads { TakesFewLoads (rig_state rig.old).machine.faults shape.now (rig_state rig.old).loads (rig_state rig.new).loads }
     ensures cause { IsErrOf result RigFail.Failed → Rose (rig_state rig.old).failures (rig_state rig.new).failures }
 {
     let Ok(mut proof) = Proof::new(alloc, *shape) else {
         return Err(RigFail::Memory);
     };
-    match diagnose_with(alloc, rig, &mut proof, shape) {
+    match diagnose_with(alloc, rig, &mut proof) {
         Ok(list) => Ok(list),
         Err(fail) => Err(fail),
     }

@@ -12,8 +12,8 @@ pub record Listed : Type 0 where
   pub list : DefectList
   pub loads : ℕ
 
--- The list is one of the machine. Where the machine's faults are told, it is a diagnosis of them, and it took few loads from so
--- many that the rig counted before
+-- The list is one of the machine. Where the machine's faults are told, it is a diagnosis of them. It took few loads from so many
+-- that the rig counted before
 pub record IsListed (m : Shape) (before : ℕ) (rig : RigState) (l : Listed) : Type 0 where
   pub shape : l.list.shape ≡ m
   pub kept : IsDefectList l.list

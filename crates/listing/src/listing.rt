@@ -3,6 +3,7 @@ ghost use Rattle.std.specs.Prelude.{◌≡◌, [], Some};
 ghost use Rattle.tm_outside.specs.Store.{StoreState};
 ghost use Rattle.tm_outside.specs.Sink.{SinkState};
 ghost use Rattle.rig.specs.Rig.{shape_of};
+ghost use Rattle.diagnose.specs.Diagnosis.{TakesFewLoads};
 ghost use Rattle.steps.specs.Outside.{outside};
 ghost use Rattle.steps.specs.Took.{Took};
 ghost use Rattle.listing.specs.Lists.{lists_now};
@@ -14,7 +15,7 @@ use rig::Rig;
 use std::alloc::Global;
 use steps::Stop;
 
-/// Lists the defects of the machine that is attached.
+/// Lists the defects of the machine that is attached. Whatever it answers, it took few loads.
 ///
 /// # Errors
 ///
@@ -23,6 +24,7 @@ pub fn list_of(alloc: Global, shape: &Shape, rig: &mut Box<dyn Rig>) -> Result<D
     requires { shape_of (rig_state rig.old) ≡ Some shape.now }
 
     ensures machine { (rig_state rig.new).machine ≡ (rig_state rig.old).machine }
+    ensures loads { TakesFewLoads (rig_state rig.old).machine.faults shape.now (rig_state rig.old).loads (rig_state rig.new).loads }
     // Whatever the store and the sink are.
     ensures took { (store : StoreState) (sink : SinkState) → Took [] (lists_now shape.now (rig_state rig.old) (rig_state rig.new)) result
         (outside store (rig_state rig.old) sink) (outside store (rig_state rig.new) sink) }

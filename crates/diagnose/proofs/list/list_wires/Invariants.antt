@@ -1,6 +1,5 @@
-use Rattle.tm_bits.specs.Numbers.{has_number}
 use Rattle.diagnose.specs.Listing.{IsListing}
 use Rattle.diagnose.proofs.list.list_wires.Given as goal
 
 abbrev pub invariant-wires : goal.invariant-wires
-invariant-wires l = IsListing l.proof (has_number l.usable) l.list l.w 0 0
+invariant-wires l = IsListing l.proof l.known.steps l.list l.w 0 0

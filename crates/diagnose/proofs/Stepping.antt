@@ -1,0 +1,150 @@
+-- The steps of a diagnosis, together.
+use Rattle.std.proofs.Common.{◌≡◌, ◌≤◌, ◌<◌, ◌+◌, ◌*◌, ℕ, zero, suc, Bool, true, false, Some, None, Option, List, [], ◌∷◌, ◌++◌, length, length-append, refl, sym, ap, ◌∙◌, subst, arith}
+use Rattle.std.specs.Prelude.{All, slice_get}
+use native.Mathlib.Decide.{dec_lt}
+use Rattle.std.proofs.lemmas.Bool.{false≢true}
+use Rattle.std.proofs.lemmas.List.Elements.{All-push}
+use Rattle.std.proofs.lemmas.List.Sums.{count_by-le-length}
+use Rattle.tm_bits.specs.Numbers.{has_number, size_of}
+use Rattle.hierarchy.specs.declared.Shape.{Shape}
+use Rattle.hierarchy.specs.declared.Table.{Table}
+use Rattle.hierarchy.specs.Laws.{IsNumbered}
+use Rattle.hierarchy.specs.Shape.{Ends, in_order, ends_of, pin_wire, wires_of, crosses_of, tables_of}
+use Rattle.hierarchy.specs.Faults.{Faults, IsFaultless}
+use Rattle.hierarchy.specs.Defects.{Defects, Covers, IsFair}
+use Rattle.hierarchy.specs.Tight.{HasFeet, two, IsTight}
+use Rattle.rig.specs.Rig.{RigState}
+use Rattle.evidence.specs.Kept.{Kept, HoldsFor, IsMore, Advances}
+use Rattle.evidence.proofs.Keeping.{holds_earlier}
+use Rattle.growth.specs.Field.{IsFieldOf, ClosedIf, TakesFew}
+use Rattle.growth.specs.Known.{KnownWires, HasWire, IsKnown}
+use Rattle.growth.specs.Tables.{SeatedIsKept, SeatedAreKept}
+use Rattle.growth.specs.declared.field.Field.{Field}
+use Rattle.growth.specs.declared.step.Step.{Step}
+use Rattle.table_test.specs.Seats.{AddsOnlyTableFacts}
+use Rattle.diagnose.specs.Diagnosis.{IsDiagnosis, TakesFewLoads}
+use Rattle.diagnose.specs.Listing.{IsListOf}
+use Rattle.diagnose.specs.Stages.{HasTable, IfFaultless, IfReached, IsReached, ReachedIf, TablesIf, loads_for}
+use Rattle.diagnose.proofs.Covering.{covers, tight}
+use Rattle.diagnose.proofs.Preferring.{reached_later}
+
+-- A field has no more numbers than the machine has wires and crosspoints.
+size_few : (numbers : List Bool) (n : ℕ) → length numbers ≡ n → size_of numbers ≤ n
+size_few numbers n e = omega (arith, count_by-le-length (λ b. b) numbers, e)
+
+pub few_loads : {told : Option Faults} {m : Shape} {k : Kept} {a : Field} {before after : ℕ} → m ≡ k.shape → IsFieldOf m a → TakesFew told k a before after → IfFaultless told k (after ≤ before + loads_for k 2 3)
+few_loads {told} {m} {k} {a} {before} {after} e field few = record { at = λ f t none holds. by (few.at f t none holds) }
+  where
+    by : after ≤ before + (2 * size_of a.crosses + 3 * size_of a.wires) → after ≤ before + loads_for k 2 3
+    by h =
+        let x = size_few a.crosses (crosses_of m) field.crosses in
+        let w = size_few a.wires (wires_of m) field.wires in
+        let s = ap crosses_of e in
+        let t = ap wires_of e in
+        omega (arith, h, x, w, s, t)
+
+-- What is closed in the whole machine is all that can be reached.
+pub reached_if : {told : Option Faults} {m : Shape} {l : Kept} {a : Field} {ss : List Step} → m ≡ l.shape → IsNumbered l.shape → ((w : ℕ) → w < wires_of m → has_number a.wires w ≡ true) →
+    ((x : ℕ) → x < crosses_of m → has_number a.crosses x ≡ true) → ClosedIf told l a ss → ReachedIf told l ss
+reached_if {told} {m} {l} {a} {ss} e numbered wires crosses closed = record {
+  at = λ f t holds. let c = closed.at f t holds in record {
+    pins = λ i h clear alone. c.pins i h (wire (pin_wire l.shape i) (numbered.pins i h)) clear alone;
+    wires = λ w h clear alone feet. c.wires w (wire w h) clear alone (by f w feet);
+    crosses = λ x h tap line unstuck. c.crosses x (cross x h) tap line unstuck;
+  };
+}
+  where
+    wire : (w : ℕ) → w < wires_of l.shape → has_number a.wires w ≡ true
+    wire w h = wires w (subst (λ n. w < wires_of n) (sym e) h)
+
+    cross : (x : ℕ) → x < crosses_of l.shape → has_number a.crosses x ≡ true
+    cross x h = crosses x (subst (λ n. x < crosses_of n) (sym e) h)
+
+    by : (f : Faults) (w : ℕ) → HasFeet l.shape f (λ x. x < crosses_of l.shape) (HasWire ss) w → HasFeet l.shape f (λ x. has_number a.crosses x ≡ true) (HasWire ss) w
+    by f w (two x y u v cx cy ex ey differ hu hv sx sy) = two x y u v (cross x cx) (cross y cy) ex ey differ hu hv sx sy
+
+pub reached_then : {told : Option Faults} {k l : Kept} {a b : KnownWires} → IsMore k l → b ≡ a → ReachedIf told k a.steps → ReachedIf told l b.steps
+reached_then {told} {k} {l} {a} {b} more e r = record { at = λ f t holds. subst (λ (n : KnownWires). IsReached l f (HasWire n.steps)) (sym e) (reached_later more (r.at f t (holds_earlier more holds))) }
+
+pub reached_told : {told now : Option Faults} {l : Kept} {ss : List Step} → now ≡ told → ReachedIf now l ss → ReachedIf told l ss
+reached_told e r = record { at = λ f told holds. r.at f (e ∙ told) holds }
+
+module _ {s t : RigState} {k l : Kept} {ss : List Step} (advances : Advances s t k l) (reached : ReachedIf s.machine.faults l ss) where
+  -- Without faults all was reached.
+  pub calm : {P : Type 0} → IfReached t.machine.faults l ss P → IfFaultless s.machine.faults k P
+  calm idle = record { at = λ f e none holds. idle.at f (ap (λ m. m.faults) advances.machine ∙ e) none (reached.at f e (advances.holds f e holds)) }
+
+pub no_more : {told : Option Faults} {k : Kept} {x y z : ℕ} → IfFaultless told k (y ≤ x) → IfFaultless told k (z ≤ y) → IfFaultless told k (z ≤ x)
+no_more {x = x} {y = y} {z = z} p q = record { at = λ f e none holds. by (p.at f e none holds) (q.at f e none holds) }
+  where
+    by : y ≤ x → z ≤ y → z ≤ x
+    by a b = omega (arith, a, b)
+
+pub never : {told : Option Faults} {k : Kept} {b : Bool} {P : Type 0} → b ≡ true → IfFaultless told k (b ≡ false) → IfFaultless told k P
+never {told} {k} {b} {P} is p = record { at = λ f e none holds. absurd (false≢true (sym (p.at f e none holds) ∙ is)) }
+
+-- what stands in a list with one more
+get_before : (ts : List Table) (t : Table) (i : ℕ) (u : Table) → slice_get ts i ≡ Some u → slice_get (ts ++ t ∷ []) i ≡ Some u
+get_before [] t i u e = cc
+get_before (v ∷ ts) t zero u e = e
+get_before (v ∷ ts) t (suc i) u e = get_before ts t i u e
+
+get_last : (ts : List Table) (t : Table) → slice_get (ts ++ t ∷ []) (length ts) ≡ Some t
+get_last [] t = refl
+get_last (v ∷ ts) t = get_last ts t
+
+-- One table more is among those of the machine.
+module _ (old new : List Table) (n : ℕ) (t : Table) (is : t.0 ≡ n) (more : new ≡ old ++ t ∷ []) where
+  pub tables_count : length old ≡ n → length new ≡ n + 1
+  tables_count e = let l = ap length more ∙ length-append old (t ∷ []) in omega (arith, l, e)
+
+  pub tables_within : (m : Shape) → All (λ (u : Table). u.0 < tables_of m) old → n < tables_of m → All (λ (u : Table). u.0 < tables_of m) new
+  tables_within m all less = rw more (All-push (λ (u : Table). u.0 < tables_of m) old t all (subst (λ i. i < tables_of m) (sym is) less))
+
+  pub tables_each : length old ≡ n → ((u : ℕ) → u < n → HasTable old u) → (u : ℕ) → u < n + 1 → HasTable new u
+  tables_each e each u less = by (dec_lt u n)
+    where
+      by : Dec (u < n) → HasTable new u
+      by (yes h) = let x = each u h in record { place = x.place; table = x.table; here = subst (λ us. slice_get us x.place ≡ Some x.table) (sym more) (get_before old t x.place x.table x.here); is = x.is }
+      by (no h) = record { place = length old; table = t; here = subst (λ us. slice_get us (length old) ≡ Some t) (sym more) (get_last old t); is = is ∙ omega arith }
+
+-- All tables were tested.
+pub tables_if : {told : Option Faults} {m : Shape} {k l : Kept} {ss : List Step} {tables : List Table} → m ≡ k.shape → ((t : ℕ) → t < tables_of m → HasTable tables t) → SeatedAreKept told k l ss tables → TablesIf told k l ss
+tables_if {told} {m} {k} {l} {ss} e has kept = record { each = λ t h. let x = has t (subst (λ n. t < tables_of n) (sym e) h) in subst (SeatedIsKept told k l ss) x.is (kept.each x.place x.table x.here) }
+
+-- What was known by the first proof, and what the second kept besides of tables, makes the list a diagnosis.
+pub diagnosed : {s t u : RigState} {k l n : Kept} {known : KnownWires} {d : Defects} → ((m : Shape) → IsNumbered m) → ((m : Shape) (d : Defects) (f : Faults) → IsTight m d f → IsFair m d f) →
+    ((f : Faults) → HoldsFor k f) → Advances s t k l → Advances t u l n → IsKnown l known → ReachedIf s.machine.faults l known.steps → TablesIf t.machine.faults l n known.steps →
+    AddsOnlyTableFacts l n → IsListOf n.shape n known.steps d → IsDiagnosis s.machine.faults k.shape d
+diagnosed {s} {t} {u} {k} {l} {n} {known} {d} numbering law nothing one other is reached tables only list = record {
+  covers = λ f e. subst (λ m. Covers m d f) one.more.shape (covers is other.more (other.holds f (told f e) (first f e)) here);
+  fair = λ f e. law k.shape d f (tight_by f e);
+  tight = λ f e. tight_by f e;
+}
+  where
+    told : (f : Faults) → s.machine.faults ≡ Some f → t.machine.faults ≡ Some f
+    told f e = ap (λ m. m.faults) one.machine ∙ e
+
+    first : (f : Faults) → s.machine.faults ≡ Some f → HoldsFor l f
+    first f e = one.holds f e (nothing f)
+
+    here : IsListOf l.shape n known.steps d
+    here = subst (λ m. IsListOf m n known.steps d) other.more.shape list
+
+    tight_by : (f : Faults) → s.machine.faults ≡ Some f → IsTight k.shape d f
+    tight_by f e = subst (λ m. IsTight m d f) one.more.shape
+        (tight (numbering l.shape) is (reached.at f e (first f e)) only (λ i h seated right. (tables.each i h).at f (told f e) (first f e) seated right) here)
+
+-- how many loads it took
+pub takes_known : {told : Option Faults} {k : Kept} {before after : ℕ} → ((f : Faults) → HoldsFor k f) → after ≤ before + loads_for k 16 20 → IfFaultless told k (after ≤ before + loads_for k 2 3) → TakesFewLoads told k.shape before after
+takes_known {told} {k} {before} {after} nothing most few = record { always = omega (arith, most); faultless = λ f e none. by (few.at f e none (nothing f)) }
+  where
+    by : after ≤ before + loads_for k 2 3 → after ≤ before + (2 * crosses_of k.shape + (3 * wires_of k.shape + 130 * tables_of k.shape))
+    by h = omega (arith, h)
+
+pub takes_tables : {told : Option Faults} {k : Kept} (l : Kept) {before after last : ℕ} → ((f : Faults) → HoldsFor k f) → l.shape ≡ k.shape → after ≤ before + loads_for k 16 20 → IfFaultless told k (after ≤ before + loads_for k 2 3) →
+    last ≤ after + 130 * tables_of l.shape → TakesFewLoads told k.shape before last
+takes_tables {told} {k} l {before} {after} {last} nothing shape most few tables = record { always = let t = ap tables_of shape in omega (arith, most, tables, t); faultless = λ f e none. by (few.at f e none (nothing f)) }
+  where
+    by : after ≤ before + loads_for k 2 3 → last ≤ before + (2 * crosses_of k.shape + (3 * wires_of k.shape + 130 * tables_of k.shape))
+    by h = let t = ap tables_of shape in omega (arith, h, tables, t)
