@@ -1,17 +1,17 @@
 -- A list of what isn't known or kept covers, and nothing can be taken off it.
-use Rattle.std.proofs.Common.{◌≡◌, ◌≢◌, ◌⊎◌, ◌<◌, ℕ, Bool, true, false, None, refl, sym, ap, ◌∙◌, subst, inl, inr, arith, nat_eq}
+use Rattle.std.proofs.Common.{◌≡◌, ◌≢◌, ◌⊎◌, ◌<◌, ℕ, Bool, true, false, None, refl, sym, ◌∙◌, subst, inl, inr, arith, nat_eq}
 use Rattle.std.specs.FinSet as set
 use Rattle.std.proofs.lemmas.Bool.{false≢true}
 use Rattle.std.proofs.lemmas.Bool.Decides.{nat_tests}
-use Rattle.hierarchy.specs.Shape.{Ends, in_order, turned, ends_of, pin_wire, wires_of, crosses_of, tables_of}
+use Rattle.hierarchy.specs.Shape.{in_order, turned, ends_of, pin_wire, crosses_of, tables_of}
 use Rattle.hierarchy.specs.Laws.{IsNumbered}
 use Rattle.hierarchy.specs.Faults.{Faults, stuck_cross}
 use Rattle.hierarchy.specs.Joined.{Shorted}
-use Rattle.hierarchy.specs.Defects.{Defects, IsFreeWire, Covers}
+use Rattle.hierarchy.specs.Defects.{Defects, Covers}
 use Rattle.hierarchy.specs.Standing.{IsSeated}
 use Rattle.hierarchy.specs.Tight.{IsFreeWireOf, IsFreeCrossOf, IsAlone, HasFeet, two, HasFreeFeet, IsRightTable, IsTight}
 use Rattle.hierarchy.proofs.Seats.{seated_also}
-use Rattle.evidence.specs.Kept.{Kept, HoldsFor, IsMore, keeps_cross}
+use Rattle.evidence.specs.Kept.{Kept, HoldsFor, IsMore}
 use Rattle.growth.specs.Known.{KnownWires, HasWire, IsKnown, IsKeptCrossOf}
 use Rattle.table_test.specs.Seats.{AddsOnlyTableFacts, KeepsTable}
 use Rattle.diagnose.specs.Listing.{IsListOf}

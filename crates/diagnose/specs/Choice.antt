@@ -1,5 +1,5 @@
 -- Which of some shorted wires is known: a pin of a table in place of lines and ports.
-use Rattle.std.specs.Prelude.{◌≡◌, ◌⊎◌, ◌<◌, ℕ, true, Bool, List, length}
+use Rattle.std.specs.Prelude.{◌≡◌, ◌⊎◌, ℕ, true, Bool, List, length}
 use Rattle.tm_bits.specs.Numbers.{has_number}
 use Rattle.hierarchy.specs.Shape.{wires_of}
 use Rattle.hierarchy.specs.Sound.{HasTwo}

@@ -1,5 +1,5 @@
 -- The stages of a diagnosis.
-use Rattle.std.specs.Prelude.{◌≡◌, ℕ, ◌+◌, ◌*◌, ◌<◌, ◌≤◌, true, Option, Some, None, List, slice_get}
+use Rattle.std.specs.Prelude.{◌≡◌, ℕ, ◌+◌, ◌*◌, ◌<◌, true, Option, Some, None, List, slice_get}
 use Rattle.hierarchy.specs.declared.Table.{Table}
 use Rattle.hierarchy.specs.Shape.{pins_of, pin_wire, wires_of, crosses_of, tables_of, ends_of}
 use Rattle.hierarchy.specs.Faults.{Faults, IsFaultless, stuck_cross}

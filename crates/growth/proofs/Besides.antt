@@ -1,13 +1,12 @@
 -- Beside one of the two ways to a wire every other known wire is reached.
-use Rattle.std.proofs.Common.{◌≡◌, ◌≢◌, ◌⊎◌, ℕ, zero, suc, ◌+◌, ◌<◌, Bool, true, false, Some, List, refl, sym, ap, ◌∙◌, subst, inl, inr, arith}
+use Rattle.std.proofs.Common.{◌≡◌, ◌≢◌, ◌⊎◌, ℕ, zero, suc, ◌<◌, Bool, true, false, Some, List, refl, sym, ap, ◌∙◌, subst, inl, inr, arith}
 use Rattle.std.specs.Prelude.{slice_get}
-use Rattle.std.proofs.lemmas.Bool.{false≢true}
 use native.Mathlib.Decide.{ℕ_discrete}
 use Rattle.config_set.specs.Groups.{among}
 use Rattle.test_configs.specs.Routes.{Walk}
 use Rattle.evidence.specs.Kept.{Kept}
-use Rattle.growth.specs.Known.{KnownWires, IsAt, IsFoot, HasWire, Stands, on_pin, on_feet, IsKnown}
-use Rattle.growth.specs.Routes.{IsPin, is_pin, HasFootOn, first, second, RestsOn}
+use Rattle.growth.specs.Known.{KnownWires, IsAt, IsFoot, HasWire, Stands, on_feet, IsKnown}
+use Rattle.growth.specs.Routes.{IsPin, is_pin, HasFootOn, first, second}
 use Rattle.growth.specs.Ways.{IsWay, AreWays, ReachesAll}
 use Rattle.growth.specs.declared.step.Foot.{Foot}
 use Rattle.growth.specs.declared.step.Stand.{Stand}

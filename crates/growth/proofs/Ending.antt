@@ -1,19 +1,19 @@
 -- When growth has come to its end, what is known is closed in the field.
-use Rattle.std.proofs.Common.{◌≡◌, ◌≢◌, ◌⊎◌, ℕ, ◌+◌, ◌<◌, ◌≤◌, Bool, true, false, Some, None, Option, List, [], ◌∷◌, ◌++◌, length, refl, sym, ap, ◌∙◌, subst, inl, inr, arith}
+use Rattle.std.proofs.Common.{◌≡◌, ◌≢◌, ◌⊎◌, ℕ, ◌<◌, Bool, true, false, Some, None, Option, List, length, refl, sym, ◌∙◌, subst, inl, inr}
 use Rattle.std.specs.Prelude.{slice_get}
 use Rattle.std.proofs.lemmas.Bool.{false≢true}
 use Rattle.std.proofs.lemmas.Option.{slice_get_within}
 use Rattle.tm_bits.specs.Numbers.{has_number}
 use Rattle.hierarchy.specs.declared.Shape.{Shape}
 use Rattle.hierarchy.specs.Laws.{IsTree, HasMeetings}
-use Rattle.hierarchy.specs.Shape.{Ends, in_order, ends_of, wires_of, crosses_of, pins_of, pin_wire, IsTap, IsLine, IsPort, tap_pin, tap_port, tap_child, tap_table}
+use Rattle.hierarchy.specs.Shape.{Ends, in_order, ends_of, crosses_of, pins_of, pin_wire, IsTap, IsLine, IsPort, tap_pin, tap_port, tap_child, tap_table}
 use Rattle.hierarchy.specs.Faults.{Faults, stuck_cross}
 use Rattle.hierarchy.specs.Defects.{IsClear}
 use Rattle.hierarchy.specs.Tight.{IsAlone, HasFeet, two}
 use Rattle.evidence.specs.Kept.{Kept, HoldsFor, keeps_cross}
 use Rattle.growth.specs.Field.{IsFieldOf, IsClosed, ClosedIf, GrowsIn}
-use Rattle.growth.specs.Grown.{IsInField, Links, AreLinks, IsGrown}
-use Rattle.growth.specs.Known.{KnownWires, IsAt, IsBefore, HasWire, IsKnown}
+use Rattle.growth.specs.Grown.{Links, AreLinks, IsGrown}
+use Rattle.growth.specs.Known.{KnownWires, IsBefore, HasWire}
 use Rattle.growth.specs.Looks.{AreOutside, AreTried, Grows}
 use Rattle.growth.specs.Offers.{AreLost}
 use Rattle.growth.specs.Trials.{IsFit, IsTried}

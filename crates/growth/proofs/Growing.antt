@@ -1,5 +1,5 @@
 -- What growth has found stays found, and grows from one known wire to the next.
-use Rattle.std.proofs.Common.{◌≡◌, ◌≢◌, ◌⊎◌, ℕ, zero, suc, ◌+◌, ◌<◌, ◌≤◌, Bool, true, false, Some, None, Option, List, [], ◌∷◌, ◌++◌, length, refl, sym, ap, ◌∙◌, subst, inl, inr, arith}
+use Rattle.std.proofs.Common.{◌≡◌, ◌≢◌, ◌⊎◌, ℕ, zero, suc, ◌+◌, ◌<◌, ◌≤◌, Bool, true, Some, Option, List, [], ◌∷◌, ◌++◌, length, sym, ◌∙◌, subst, inl, inr, arith}
 use Rattle.std.specs.Prelude.{slice_get}
 use Rattle.std.proofs.lemmas.Option.{slice_get_within}
 use native.Mathlib.Decide.{ℕ_discrete}
@@ -12,7 +12,7 @@ use Rattle.growth.specs.Grown.{Links, AreLinked, IsGrown}
 use Rattle.growth.specs.Known.{IsAt, IsBefore, HasWire}
 use Rattle.growth.specs.Looks.{IsLooked, StayBarred}
 use Rattle.growth.specs.Offers.{AreLost}
-use Rattle.growth.specs.Trials.{IsFit, IsBad, IsLost, IsKeptUnlessStuck, IsTried}
+use Rattle.growth.specs.Trials.{IsFit, IsLost, IsKeptUnlessStuck, IsTried}
 use Rattle.growth.specs.declared.links.Near.{Near}
 use Rattle.growth.specs.declared.step.Step.{Step}
 use Rattle.growth.proofs.Places.{at_one, has_later}

@@ -5,29 +5,28 @@ use Rattle.std.proofs.lemmas.Bool.{false≢true}
 use Rattle.std.proofs.lemmas.Bool.Decides.{nat_tests}
 use Rattle.std.proofs.lemmas.List.Folds.{list_any-append}
 use Rattle.hierarchy.specs.declared.Shape.{Shape}
-use Rattle.hierarchy.specs.declared.Wire.{Wire}
-use Rattle.hierarchy.specs.Shape.{Ends, ends_of, pin_wire, pins_of, crosses_of, wires_of}
+use Rattle.hierarchy.specs.Shape.{Ends, ends_of, pin_wire, crosses_of}
 use Rattle.hierarchy.specs.Circuit.{Pins}
 use Rattle.hierarchy.specs.Faults.{Faults, stuck_cross}
 use Rattle.hierarchy.specs.Joined.{Shorted}
 use Rattle.hierarchy.specs.Defects.{IsClear}
-use Rattle.hierarchy.proofs.JoinedLemmas.{Joined-sym, Ends-swap}
+use Rattle.hierarchy.proofs.JoinedLemmas.{Ends-swap}
 use Rattle.config_set.specs.Configuration.{Configuration}
 use Rattle.config_set.specs.Groups.{among, IsWithin}
 use Rattle.config_set.specs.Route.{LeadsTo, ends, goes}
 use Rattle.config_set.specs.Tests.{IsLoop, IsDrivenIn}
 use Rattle.config_set.proofs.Grouped.{LeadsTo-start, LeadsTo-end, LeadsTo-within}
 use Rattle.test_configs.specs.Routes.{Walk, IsRoute}
-use Rattle.test_configs.specs.Configs.{IsLoopConfig, is_laid}
-use Rattle.test_configs.proofs.Longer.{among-push, among_both}
-use Rattle.evidence.specs.Kept.{Kept, HoldsFor, IsMore, keeps_cross}
+use Rattle.test_configs.specs.Configs.{IsLoopConfig}
+use Rattle.test_configs.proofs.Longer.{among_both}
+use Rattle.evidence.specs.Kept.{Kept, HoldsFor, IsMore}
 use Rattle.evidence.specs.Loops.{IsLoopBy}
 use Rattle.evidence.specs.Readings.{CrossPasses, wires_over}
 use Rattle.evidence.proofs.Keeping.{holds_earlier}
 use Rattle.evidence.proofs.Lists.{grown, loop_of_lists}
 use Rattle.growth.specs.Known.{KnownWires, HasWire, IsKnown}
-use Rattle.growth.specs.Offers.{IsOffer, IsHanging, InSome, IsOn, IsHung, HangsNot, ArePulled, AreLost, HasNoneBeside}
-use Rattle.growth.specs.Reaches.{reach_at, IsFrom, IsReached, AreTrees, AreWalks, IsTreeWalk, IsOnWalk}
+use Rattle.growth.specs.Offers.{IsOffer, IsHanging, InSome, IsOn, IsHung, HangsNot, ArePulled, HasNoneBeside}
+use Rattle.growth.specs.Reaches.{reach_at, IsReached, AreTrees, IsTreeWalk, IsOnWalk}
 use Rattle.growth.specs.Trials.{IsLinkTo, IsFit, IsFaulty}
 use Rattle.growth.specs.Ways.{IsWay}
 use Rattle.growth.specs.declared.beside.Reach.{Reach}

@@ -1,11 +1,11 @@
 -- Known wires stay known, and one more is known.
-use Rattle.std.proofs.Common.{◌≡◌, ◌≢◌, ◌⊎◌, ℕ, ◌+◌, ◌<◌, Bool, true, false, Some, List, [], ◌∷◌, ◌++◌, length, refl, sym, ap, ◌∙◌, subst, inl, inr, arith}
+use Rattle.std.proofs.Common.{◌≡◌, ◌⊎◌, ℕ, ◌+◌, ◌<◌, Some, List, [], ◌∷◌, ◌++◌, length, sym, ◌∙◌, subst, inl, inr, arith}
 use Rattle.std.specs.Prelude.{slice_get}
 use Rattle.std.proofs.lemmas.Option.{slice_get_within}
 use Rattle.hierarchy.specs.declared.Shape.{Shape}
 use Rattle.hierarchy.specs.Shape.{Ends, ends_of, pin_wire, pins_of, crosses_of}
-use Rattle.evidence.specs.Kept.{Kept, IsMore, keeps_cross, keeps_wire, keeps_pair}
-use Rattle.growth.specs.Known.{KnownWires, IsAt, IsBefore, HasWire, IsFoot, Stands, on_pin, on_feet, IsKnownStep, IsKnown}
+use Rattle.evidence.specs.Kept.{Kept, IsMore}
+use Rattle.growth.specs.Known.{KnownWires, IsBefore, IsFoot, Stands, on_pin, on_feet, IsKnownStep, IsKnown}
 use Rattle.growth.specs.Partings.{IsGood}
 use Rattle.growth.specs.declared.step.Foot.{Foot}
 use Rattle.growth.specs.declared.step.Stand.{Stand}

@@ -1,5 +1,5 @@
 -- One more wire is known, or none.
-use Rattle.std.proofs.Common.{◌≡◌, ◌≢◌, ◌⊎◌, ℕ, ◌<◌, Bool, true, false, Some, Option, List, [], ◌∷◌, ◌++◌, length, refl, sym, ap, ◌∙◌, subst, inl, inr}
+use Rattle.std.proofs.Common.{◌≡◌, ℕ, true, Option, [], ◌∷◌, length, refl, sym, ap, ◌∙◌, subst, inl, inr}
 use Rattle.std.specs.Prelude.{Result, Ok, Err, OnOk, OnErr, slice_set}
 use Rattle.tm_bits.specs.Numbers.{has_number}
 use Rattle.hierarchy.specs.Faults.{Faults}
@@ -10,7 +10,7 @@ use Rattle.growth.specs.Marked.{AreMarks, OffersOnly}
 use Rattle.growth.specs.Partings.{IsGood}
 use Rattle.growth.specs.declared.marks.Marks.{Marks}
 use Rattle.growth.specs.declared.step.Step.{Step}
-use Rattle.growth.proofs.Later.{known_later, learnt}
+use Rattle.growth.proofs.Later.{learnt}
 use Rattle.growth.proofs.Places.{get_last}
 use Rattle.growth.proofs.Settling.{marks_later}
 

@@ -1,22 +1,19 @@
 -- What a look leaves behind: what it found, and the marks.
-use Rattle.std.proofs.Common.{◌≡◌, ◌≢◌, ◌⊎◌, ℕ, ◌+◌, ◌<◌, ◌≤◌, Bool, true, false, Some, None, Option, List, [], ◌∷◌, ◌++◌, length, refl, sym, ap, ◌∙◌, subst, inl, inr, arith}
+use Rattle.std.proofs.Common.{◌≡◌, ◌⊎◌, ℕ, ◌+◌, ◌<◌, ◌≤◌, Bool, true, Some, None, Option, List, length, sym, ap, ◌∙◌, subst, inl, inr, arith}
 use Rattle.std.specs.Prelude.{slice_get, slice_set}
-use Rattle.std.proofs.lemmas.Bool.{false≢true}
 use Rattle.std.proofs.lemmas.Option.{slice_get_within}
 use native.Mathlib.Decide.{ℕ_discrete}
 use Rattle.tm_bits.specs.Numbers.{has_number}
 use Rattle.hierarchy.specs.declared.Shape.{Shape}
 use Rattle.hierarchy.specs.Laws.{IsNumbered}
-use Rattle.hierarchy.specs.Shape.{Ends, ends_of, wires_of, crosses_of}
+use Rattle.hierarchy.specs.Shape.{Ends, ends_of, crosses_of}
 use Rattle.hierarchy.specs.Faults.{Faults}
 use Rattle.hierarchy.proofs.JoinedLemmas.{Ends-swap}
-use Rattle.evidence.specs.Kept.{Kept, HoldsFor, IsMore, keeps_cross}
-use Rattle.growth.specs.Grown.{Links, AreLinked, IsOneMore, list_at}
+use Rattle.evidence.specs.Kept.{Kept, IsMore}
+use Rattle.growth.specs.Grown.{Links, AreLinked, list_at}
 use Rattle.growth.specs.Known.{KnownWires, IsAt, IsBefore, HasWire, IsKnown}
-use Rattle.growth.specs.Looks.{IsLook, IsLookAt, IsLooked, IsLookedOver, IsOfferOf, IsOfferedMark, AreAllMarks, AreTried, Grows, IsLinking, StayBarred}
-use Rattle.growth.specs.Marked.{AreMarks, Spends, IsOfOffer, IsJoined, JoinsAtMost, OffersOnly, BarsAtMost, HasTried, barred, lost}
-use Rattle.growth.specs.Offers.{IsOffer, IsPlaced, HasNoSecond}
-use Rattle.growth.specs.Trials.{IsTried, IsKeptUnlessStuck}
+use Rattle.growth.specs.Looks.{IsLook, IsLookAt, IsLooked, IsLookedOver, IsOfferOf, IsOfferedMark, AreAllMarks, AreTried, Grows, IsLinking}
+use Rattle.growth.specs.Marked.{AreMarks, Spends, IsOfOffer, JoinsAtMost, OffersOnly, HasTried, barred, lost}
 use Rattle.growth.specs.declared.links.Near.{Near}
 use Rattle.growth.specs.declared.look.Look.{Look}
 use Rattle.growth.specs.declared.marks.Marks.{Marks}
@@ -24,12 +21,12 @@ use Rattle.growth.specs.declared.offers.Offer.{Offer}
 use Rattle.growth.specs.declared.step.Foot.{Foot}
 use Rattle.growth.specs.declared.step.Step.{Step}
 use Rattle.growth.proofs.Counting.{set_has}
-use Rattle.growth.proofs.Growing.{before_old, looked_later}
-use Rattle.growth.proofs.Looking.{look_has, look_within, look_ends, looked_barred, looked_lost, not_earlier}
-use Rattle.growth.proofs.Marking.{spends_none, spends_in, spends_between}
+use Rattle.growth.proofs.Growing.{before_old}
+use Rattle.growth.proofs.Looking.{look_within, look_ends, looked_barred, looked_lost}
+use Rattle.growth.proofs.Marking.{spends_none, spends_between}
 use Rattle.growth.proofs.Places.{at_within, at_later, before_has, one_place, some_same}
 use Rattle.growth.proofs.Settling.{ends_same}
-use Rattle.growth.proofs.Stages.{grows_itself, grows_one, tried_none, tried_one, looked_on}
+use Rattle.growth.proofs.Stages.{tried_none, tried_one, looked_on}
 
 -- a look in plain words
 pub look_plain : {k : Kept} {known : KnownWires} {near : List Near} {l : Look} → IsKnown k known → IsNumbered k.shape → AreLinked k.shape near → IsLook near known.steps l → IsLookAt k.shape known.steps l

@@ -1,8 +1,6 @@
 -- Looks over links, and what they find.
-use Rattle.std.proofs.Common.{◌≡◌, ◌≢◌, ◌⊎◌, ℕ, ◌+◌, ◌<◌, ◌≤◌, Bool, true, false, Some, None, Option, List, [], ◌∷◌, ◌++◌, length, refl, sym, ap, ◌∙◌, subst, inl, inr, arith}
+use Rattle.std.proofs.Common.{◌≡◌, ◌⊎◌, ℕ, ◌+◌, ◌<◌, ◌≤◌, Bool, true, Some, None, Option, List, [], ◌∷◌, ◌++◌, length, refl, sym, ap, ◌∙◌, subst, inl, inr, arith}
 use Rattle.std.specs.Prelude.{slice_get, slice_set}
-use Rattle.std.proofs.lemmas.Bool.{false≢true}
-use Rattle.std.proofs.lemmas.List.{get_or-set_same, get_or-set_other, length-set}
 use Rattle.std.proofs.lemmas.Option.{slice_get_within}
 use native.Mathlib.Decide.{ℕ_discrete}
 use Rattle.tm_bits.specs.Numbers.{has_number}
@@ -11,19 +9,19 @@ use Rattle.hierarchy.specs.Laws.{IsNumbered}
 use Rattle.hierarchy.specs.Shape.{Ends, ends_of, wires_of, crosses_of}
 use Rattle.hierarchy.specs.Faults.{Faults}
 use Rattle.hierarchy.proofs.JoinedLemmas.{Ends-swap}
-use Rattle.evidence.specs.Kept.{Kept, IsMore, keeps_cross}
-use Rattle.growth.specs.Grown.{HasLink, Links, AreLinked, IsGrown, IsOneMore, list_at}
+use Rattle.evidence.specs.Kept.{Kept, keeps_cross}
+use Rattle.growth.specs.Grown.{Links, AreLinked, list_at}
 use Rattle.growth.specs.Known.{KnownWires, IsAt, IsBefore, HasWire, IsKnown}
 use Rattle.growth.specs.Looks.{IsLook, IsOfferOf, IsLooked, AreEarlier, AreEarlierUpTo, TakesEarlier}
 use Rattle.growth.specs.Offers.{IsOffer, IsPlaced, AreLost, HasNoSecond}
-use Rattle.growth.specs.Trials.{IsLinkTo, IsKeptUnlessStuck, IsTried}
+use Rattle.growth.specs.Trials.{IsKeptUnlessStuck}
 use Rattle.growth.specs.declared.links.Near.{Near}
 use Rattle.growth.specs.declared.look.Look.{Look}
 use Rattle.growth.specs.declared.offers.Offer.{Offer}
 use Rattle.growth.specs.declared.step.Foot.{Foot}
 use Rattle.growth.specs.declared.step.Step.{Step}
 use Rattle.growth.proofs.Growing.{before_old}
-use Rattle.growth.proofs.Places.{get_before, get_last, get_pushed, some_same, one_place, at_within, before_has}
+use Rattle.growth.proofs.Places.{get_before, get_last, get_pushed, some_same, one_place, before_has}
 
 -- links that came before
 pub takes_none : {ss : List Step} {place : ℕ} {link : Foot} (others : List Foot) → (IsBefore ss place link.wire.0 → ⊥) → TakesEarlier ss place link others others

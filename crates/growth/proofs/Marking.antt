@@ -1,26 +1,20 @@
 -- Marks, and the loads that they stand for.
-use Rattle.std.proofs.Common.{◌≡◌, ◌≢◌, ◌⊎◌, ℕ, ◌+◌, ◌*◌, ◌<◌, ◌≤◌, Bool, true, false, Some, None, Option, List, ◌++◌, length, refl, sym, ap, ◌∙◌, subst, inl, inr, arith}
+use Rattle.std.proofs.Common.{◌≡◌, ◌≢◌, ◌⊎◌, ℕ, ◌+◌, ◌*◌, ◌<◌, ◌≤◌, Bool, true, false, Some, Option, List, length, refl, sym, ap, ◌∙◌, subst, inl, inr, arith}
 use Rattle.std.specs.Prelude.{◌||◌, slice_get, slice_set}
 use Rattle.std.proofs.lemmas.Bool.{false≢true}
-use Rattle.std.proofs.lemmas.List.{length-set}
 use Rattle.tm_bits.specs.Numbers.{has_number}
 use Rattle.hierarchy.specs.declared.Shape.{Shape}
-use Rattle.hierarchy.specs.Shape.{Ends, in_order, turned, ends_of, wires_of, crosses_of}
-use Rattle.hierarchy.specs.Faults.{Faults, IsFaultless, stuck_cross}
+use Rattle.hierarchy.specs.Shape.{wires_of, crosses_of}
+use Rattle.hierarchy.specs.Faults.{Faults, IsFaultless}
 use Rattle.hierarchy.proofs.Clear.{clear_of_sound}
 use Rattle.hierarchy.proofs.Faultless.{all_sound}
-use Rattle.evidence.specs.Kept.{Kept, HoldsFor, IsMore, keeps_cross}
-use Rattle.evidence.proofs.Keeping.{holds_earlier}
+use Rattle.evidence.specs.Kept.{Kept, HoldsFor, keeps_cross}
 use Rattle.growth.specs.Known.{HasWire}
-use Rattle.growth.specs.Marked.{how_many, is_spent, most_loads, few_loads, Spends, IsSecondMark, AreMarks, IsOfOffer, IsOffered, OffersAtMost, IsJoined, JoinsAtMost, OffersOnly, SpendsOn}
-use Rattle.growth.specs.Offers.{InSome}
-use Rattle.growth.specs.Trials.{IsFit, IsLost, IsKeptUnlessStuck}
+use Rattle.growth.specs.Marked.{how_many, is_spent, most_loads, few_loads, Spends, AreMarks}
+use Rattle.growth.specs.Trials.{IsFit}
 use Rattle.growth.specs.declared.marks.Marks.{Marks}
-use Rattle.growth.specs.declared.offers.Offer.{Offer}
 use Rattle.growth.specs.declared.step.Step.{Step}
-use Rattle.growth.proofs.Counting.{many_one, many_more, set_has, set_only, set_stays, set_more, set_one}
-use Rattle.growth.proofs.Growing.{kept_later, lost_one_later}
-use Rattle.growth.proofs.Places.{has_later}
+use Rattle.growth.proofs.Counting.{many_one, set_has, set_only, set_stays, set_one}
 
 -- without faults each wire that isn't known is fit
 pub fit_faultless : {m : Shape} {f : Faults} {ss : List Step} {w : ℕ} → IsFaultless f → ¬ HasWire ss w → IsFit m f ss w

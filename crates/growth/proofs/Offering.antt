@@ -1,17 +1,14 @@
 -- What an offer spends, one trial after the other.
-use Rattle.std.proofs.Common.{◌≡◌, ◌≢◌, ◌⊎◌, ℕ, ◌+◌, ◌<◌, ◌≤◌, Bool, true, false, Some, Option, List, length, refl, sym, ap, ◌∙◌, subst, inl, inr, arith}
+use Rattle.std.proofs.Common.{◌≡◌, ◌≢◌, ◌⊎◌, ℕ, ◌+◌, ◌<◌, ◌≤◌, true, false, Some, Option, List, refl, sym, ap, ◌∙◌, subst, inl, inr, arith}
 use Rattle.std.specs.Prelude.{slice_get, slice_set}
 use Rattle.std.proofs.lemmas.Bool.{false≢true}
 use Rattle.std.proofs.lemmas.List.{set-set}
 use Rattle.tm_bits.specs.Numbers.{has_number}
 use Rattle.hierarchy.specs.declared.Shape.{Shape}
-use Rattle.hierarchy.specs.Shape.{Ends, in_order, turned, ends_of, wires_of, crosses_of}
-use Rattle.hierarchy.specs.Faults.{Faults, IsFaultless}
+use Rattle.hierarchy.specs.Faults.{Faults}
 use Rattle.evidence.specs.Kept.{Kept, HoldsFor, IsMore, keeps_cross}
-use Rattle.growth.specs.Known.{HasWire}
-use Rattle.growth.specs.Marked.{is_spent, most_loads, few_loads, Spends, IsSecondMark, AreMarks, IsOfOffer, IsOffered, OffersAtMost, OffersOnly, SpendsOn, BarsAtMost}
-use Rattle.growth.specs.Offers.{InSome, IsOffer, IsPlaced, AreLost}
-use Rattle.growth.specs.Trials.{IsLost, IsLinkTo}
+use Rattle.growth.specs.Marked.{is_spent, AreMarks, IsOfOffer, OffersAtMost, OffersOnly, SpendsOn}
+use Rattle.growth.specs.Offers.{IsOffer, IsPlaced}
 use Rattle.growth.specs.declared.marks.Marks.{Marks}
 use Rattle.growth.specs.declared.offers.Offer.{Offer}
 use Rattle.growth.specs.declared.step.Foot.{Foot}

@@ -1,5 +1,5 @@
 -- Swings and partings of a wire that isn't known pass, where it is clear and shorted to no known wire.
-use Rattle.std.proofs.Common.{◌≡◌, ◌≢◌, ◌⊎◌, ℕ, ◌+◌, ◌<◌, ◌≤◌, Bool, true, false, Some, None, Option, All, List, [], ◌∷◌, ◌++◌, length, refl, sym, ap, ◌∙◌, subst, inl, inr, arith}
+use Rattle.std.proofs.Common.{◌≡◌, ◌≢◌, ◌⊎◌, ℕ, ◌+◌, ◌<◌, ◌≤◌, Bool, true, false, Some, None, Option, All, List, [], length, refl, sym, ◌∙◌, subst, inl, inr, arith}
 use Rattle.std.specs.Prelude.{slice_get, slice_index_or, ◌==◌, ◌||◌, ◌&&◌}
 use Rattle.std.proofs.lemmas.Bool.{false≢true}
 use Rattle.std.proofs.lemmas.Bool.Decides.{nat_tests}
@@ -18,7 +18,7 @@ use Rattle.config_set.specs.Tests.{IsDrivenAlone}
 use Rattle.config_set.proofs.Grouped.{LeadsTo-start, LeadsTo-end, LeadsTo-within}
 use Rattle.test_configs.specs.Routes.{Walk, IsRoute}
 use Rattle.test_configs.specs.Configs.{IsLoopConfig}
-use Rattle.evidence.specs.Kept.{Kept, HoldsFor, IsMore, Gains, these_wires, these_pairs, is_between, keeps_cross, keeps_wire, keeps_pair}
+use Rattle.evidence.specs.Kept.{Kept, HoldsFor, IsMore, Gains, these_wires, these_pairs, keeps_wire, keeps_pair}
 use Rattle.evidence.specs.Loops.{RoutePasses}
 use Rattle.evidence.specs.Readings.{AllApartPasses, IsReady, wires_over}
 use Rattle.evidence.proofs.Keeping.{pair_turned, holds_earlier}
@@ -26,14 +26,14 @@ use Rattle.evidence.proofs.Lists.{grown, laid_cases, or_first, or_third}
 use Rattle.growth.specs.Known.{KnownWires, IsAt, HasWire, IsKnown}
 use Rattle.growth.specs.Offers.{InSome, IsOn}
 use Rattle.growth.specs.Partings.{IsListed, AreLeft, LeavesAt, IsParting, IsApartBeside, IsGood}
-use Rattle.growth.specs.Reaches.{reach_at, IsReached, AreTrees, AreWalks, IsTreeWalk, IsOnWalk}
+use Rattle.growth.specs.Reaches.{IsReached, IsOnWalk}
 use Rattle.growth.specs.Trials.{IsFit, IsBad}
-use Rattle.growth.specs.Ways.{IsWay, AreWays, ReachesAll}
+use Rattle.growth.specs.Ways.{IsWay, AreWays}
 use Rattle.growth.specs.declared.step.Step.{Step}
-use Rattle.growth.proofs.Besides.{beside, IsBeside}
+use Rattle.growth.proofs.Besides.{beside}
 use Rattle.growth.proofs.Hung.{over_at, at_over, reached_known, reached_off}
 use Rattle.growth.proofs.Passing.{rests_known, known_clear, known_unshorted}
-use Rattle.growth.proofs.Places.{at_one, at_within}
+use Rattle.growth.proofs.Places.{at_within}
 use Rattle.growth.proofs.Rising.{not_true}
 
 -- what holds of each element by its place

@@ -1,5 +1,5 @@
 -- Toggles over routes of known wires pass.
-use Rattle.std.proofs.Common.{◌≡◌, ◌≢◌, ◌⊎◌, ℕ, ◌<◌, Bool, true, false, Some, None, Option, List, [], ◌∷◌, ◌++◌, refl, sym, ap, ◌∙◌, subst, inl, inr, arith}
+use Rattle.std.proofs.Common.{◌≡◌, ◌≢◌, ℕ, ◌<◌, Bool, true, false, None, Option, List, [], ◌∷◌, ◌++◌, refl, sym, ap, ◌∙◌, subst, inr, arith}
 use Rattle.std.specs.Prelude.{slice_get, ◌==◌, ◌||◌}
 use Rattle.std.proofs.lemmas.Bool.{false≢true}
 use Rattle.std.proofs.lemmas.Bool.Decides.{nat_tests}
@@ -11,14 +11,14 @@ use Rattle.hierarchy.specs.Joined.{Shorted}
 use Rattle.hierarchy.specs.Defects.{IsClear}
 use Rattle.hierarchy.proofs.JoinedLemmas.{Joined-sym}
 use Rattle.config_set.specs.Groups.{among, IsWithin}
-use Rattle.config_set.specs.Route.{LeadsTo, ends, goes}
+use Rattle.config_set.specs.Route.{ends, goes}
 use Rattle.config_set.proofs.Grouped.{LeadsTo-end}
 use Rattle.test_configs.specs.Routes.{Walk}
 use Rattle.test_configs.proofs.Longer.{among-push, among_both}
 use Rattle.evidence.specs.Kept.{Kept, HoldsFor, IsMore, keeps_cross, keeps_wire, keeps_pair}
-use Rattle.evidence.specs.Loops.{IsLoopBy, LoopPasses, AreTied}
+use Rattle.evidence.specs.Loops.{IsLoopBy, LoopPasses}
 use Rattle.evidence.proofs.Keeping.{pair_turned, holds_earlier}
-use Rattle.growth.specs.Known.{KnownWires, IsAt, IsBefore, HasWire, IsKnown}
+use Rattle.growth.specs.Known.{KnownWires, IsAt, HasWire, IsKnown}
 use Rattle.growth.specs.Routes.{RestsOn, IsKnownRoute, AreRoutesTo}
 use Rattle.growth.specs.Trials.{IsKeptRoute, IsFit, IsKeptUnlessStuck, IsLost}
 use Rattle.growth.specs.declared.step.Step.{Step}

@@ -1,11 +1,10 @@
 -- Places of known wires.
-use Rattle.std.proofs.Common.{◌≡◌, ◌≢◌, ◌⊎◌, ℕ, zero, suc, ◌+◌, ◌<◌, Bool, true, false, Some, None, Option, List, [], ◌∷◌, ◌++◌, length, refl, sym, ap, ◌∙◌, subst, inl, inr, arith}
+use Rattle.std.proofs.Common.{◌≡◌, ◌≢◌, ◌⊎◌, ℕ, zero, suc, ◌+◌, ◌<◌, Bool, true, false, Some, List, [], ◌∷◌, ◌++◌, length, refl, sym, ap, ◌∙◌, subst, inl, inr, arith}
 use Rattle.std.specs.Prelude.{slice_get}
 use Rattle.std.proofs.lemmas.Bool.{false≢true}
 use Rattle.std.proofs.lemmas.Option.{slice_get_within}
 use Rattle.evidence.specs.Kept.{Kept, keeps_pair}
 use Rattle.evidence.proofs.Keeping.{no_pair_itself}
-use Rattle.hierarchy.specs.Shape.{pin_wire, pins_of}
 use Rattle.growth.specs.Known.{KnownWires, IsAt, IsBefore, HasWire, IsFoot, IsKnown, Stands, on_pin, on_feet, AreTwo}
 use Rattle.growth.specs.Descents.{IsPinAt, IsPinHere, Stays, StepsDown, StepsAlong}
 use Rattle.growth.specs.Routes.{IsPin}

@@ -1,18 +1,18 @@
 -- Routes from two pins up along a descent.
-use Rattle.std.proofs.Common.{◌≡◌, ◌≢◌, ◌⊎◌, ℕ, zero, suc, ◌+◌, ◌<◌, Bool, true, false, Some, None, Option, List, [], ◌∷◌, ◌++◌, length, refl, sym, ap, ◌∙◌, subst, inl, inr, arith}
+use Rattle.std.proofs.Common.{◌≡◌, ◌≢◌, ◌⊎◌, ℕ, ◌+◌, ◌<◌, Bool, true, false, Some, List, [], ◌∷◌, ◌++◌, refl, sym, ap, ◌∙◌, subst, inl, inr, arith}
 use Rattle.std.specs.Prelude.{slice_get, ◌==◌}
 use Rattle.std.proofs.lemmas.Bool.{false≢true}
 use Rattle.std.proofs.lemmas.Bool.Decides.{nat_tests}
 use Rattle.hierarchy.specs.declared.Shape.{Shape}
-use Rattle.hierarchy.specs.Shape.{Ends, in_order, turned, ends_of, pin_wire, pins_of, crosses_of, wires_of}
+use Rattle.hierarchy.specs.Shape.{Ends, in_order, turned, ends_of, pin_wire, crosses_of, wires_of}
 use Rattle.config_set.specs.Groups.{among}
 use Rattle.config_set.proofs.Grouped.{LeadsTo-end}
 use Rattle.test_configs.specs.Routes.{Walk, IsRoute, HasEnd, other_end, Extends, at_pin}
 use Rattle.test_configs.proofs.Longer.{among-push, among_both, at_pin_is}
 use Rattle.evidence.specs.Kept.{Kept, keeps_cross}
-use Rattle.growth.specs.Known.{KnownWires, IsAt, IsBefore, HasWire, IsFoot, IsKnown}
+use Rattle.growth.specs.Known.{KnownWires, IsAt, IsKnown}
 use Rattle.growth.specs.Routes.{IsPin, is_pin, HasFootOn, first, second, RestsOn, IsEarly, IsKnownRoute, AreRoutes, AreRoutesTo}
-use Rattle.growth.specs.Descents.{StepsDown, StepsAlong, Stays, Goes, Descends, DescendsTo, IsPinAt, IsPinHere}
+use Rattle.growth.specs.Descents.{StepsDown, Goes, Descends, DescendsTo, IsPinAt}
 use Rattle.growth.specs.declared.descents.Down.{Down}
 use Rattle.growth.specs.declared.step.Foot.{Foot}
 use Rattle.growth.specs.declared.step.Stand.{Stand}

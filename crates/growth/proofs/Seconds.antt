@@ -1,5 +1,5 @@
 -- Two feet for a wire, or none.
-use Rattle.std.proofs.Common.{◌≡◌, ◌≢◌, ◌⊎◌, ℕ, ◌+◌, ◌<◌, true, Some, None, Option, List, length, refl, sym, ap, ◌∙◌, subst, inl, inr, arith}
+use Rattle.std.proofs.Common.{◌≡◌, ◌⊎◌, ℕ, ◌+◌, ◌<◌, true, Some, Option, List, length, sym, ap, ◌∙◌, subst, inl, inr, arith}
 use Rattle.std.specs.Prelude.{slice_get}
 use native.Mathlib.Decide.{ℕ_discrete}
 use Rattle.hierarchy.specs.declared.Shape.{Shape}
@@ -7,10 +7,9 @@ use Rattle.hierarchy.specs.Faults.{Faults}
 use Rattle.test_configs.specs.Routes.{Walk}
 use Rattle.evidence.specs.Kept.{Kept, IsMore, keeps_cross}
 use Rattle.evidence.proofs.Keeping.{holds_earlier}
-use Rattle.growth.specs.Known.{KnownWires, HasWire, IsFoot, IsKnown, Stands, on_feet}
-use Rattle.growth.specs.Offers.{IsOffer, IsPlaced, IsKeptOther, IsSecond, AreLost, HasNoSecond, HasNoneBeside}
+use Rattle.growth.specs.Known.{KnownWires, IsFoot, IsKnown, Stands, on_feet}
+use Rattle.growth.specs.Offers.{IsOffer, IsSecond, AreLost, HasNoSecond, HasNoneBeside}
 use Rattle.growth.specs.Reaches.{IsReached}
-use Rattle.growth.specs.Routes.{IsEarly}
 use Rattle.growth.specs.Trials.{IsFit, IsLinkTo, IsLost}
 use Rattle.growth.specs.Ways.{AreWays, AreFeetOf}
 use Rattle.growth.specs.declared.offers.Offer.{Offer}

@@ -1,5 +1,5 @@
 -- Marks stay right, while more is kept and known, and where one is set.
-use Rattle.std.proofs.Common.{◌≡◌, ◌≢◌, ◌⊎◌, ℕ, ◌+◌, ◌<◌, ◌≤◌, Bool, true, false, Some, None, Option, List, [], ◌∷◌, ◌++◌, length, refl, sym, ap, ◌∙◌, subst, inl, inr, arith}
+use Rattle.std.proofs.Common.{◌≡◌, ◌≢◌, ◌⊎◌, ℕ, ◌+◌, ◌<◌, Bool, true, false, Some, Option, List, [], ◌++◌, refl, sym, ap, ◌∙◌, subst, inl, inr}
 use Rattle.std.specs.Prelude.{slice_get, slice_set, Result, Ok, Err, IfOk, OnOk, IsTrue}
 use Rattle.std.proofs.lemmas.Bool.{false≢true}
 use Rattle.std.proofs.lemmas.List.{length-set, append-nil}
@@ -7,20 +7,18 @@ use native.Mathlib.Decide.{ℕ_discrete}
 use Rattle.tm_bits.specs.Numbers.{has_number}
 use Rattle.hierarchy.specs.declared.Shape.{Shape}
 use Rattle.hierarchy.specs.Shape.{Ends, in_order, turned, ends_of, wires_of, crosses_of}
-use Rattle.hierarchy.specs.Faults.{Faults, IsFaultless, stuck_cross}
+use Rattle.hierarchy.specs.Faults.{Faults, IsFaultless}
 use Rattle.evidence.specs.Kept.{Kept, HoldsFor, IsMore, keeps_cross}
 use Rattle.evidence.proofs.Keeping.{holds_earlier}
 use Rattle.growth.specs.Known.{HasWire}
-use Rattle.growth.specs.Marked.{is_spent, IsSecondMark, AreMarks, IsOfOffer, Spends, SpendsOn, IsOffered, OffersAtMost, OffersOnly}
-use Rattle.growth.specs.Offers.{InSome, IsOffer, IsPlaced, AreLost}
-use Rattle.growth.specs.Trials.{IsFit, IsLost, IsLinkTo, IsKeptUnlessStuck, IsFaulty}
+use Rattle.growth.specs.Marked.{is_spent, IsSecondMark, AreMarks}
+use Rattle.growth.specs.Trials.{IsLost, IsLinkTo, IsKeptUnlessStuck, IsFaulty}
 use Rattle.growth.specs.declared.marks.Marks.{Marks}
-use Rattle.growth.specs.declared.offers.Offer.{Offer}
 use Rattle.growth.specs.declared.step.Foot.{Foot}
 use Rattle.growth.specs.declared.step.Step.{Step}
 use Rattle.growth.proofs.Counting.{set_only}
 use Rattle.growth.proofs.Growing.{kept_later, lost_one_later}
-use Rattle.growth.proofs.Marking.{MarksOne, offered_one, second_one, between_one, fit_faultless, spends_none, spends_in, spends_then, spends_offered, spends_second}
+use Rattle.growth.proofs.Marking.{MarksOne, offered_one, second_one, between_one, fit_faultless}
 use Rattle.growth.proofs.Places.{has_later}
 
 pub second_mark_later : {told : Option Faults} {k l : Kept} {ss : List Step} {x : ℕ} (ts : List Step) → IsMore k l → IsSecondMark told k ss x → IsSecondMark told l (ss ++ ts) x

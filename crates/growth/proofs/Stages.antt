@@ -8,7 +8,7 @@ use Rattle.hierarchy.specs.Faults.{Faults}
 use Rattle.evidence.specs.Kept.{Kept, IsMore}
 use Rattle.growth.specs.Grown.{IsGrown, IsOneMore}
 use Rattle.growth.specs.Trials.{IsTried}
-use Rattle.growth.specs.Known.{KnownWires, IsBefore, HasWire, IsKnown}
+use Rattle.growth.specs.Known.{KnownWires, HasWire, IsKnown}
 use Rattle.growth.specs.Looks.{IsLooked, StayBarred, AreTried, Grows}
 use Rattle.growth.specs.Marked.{BarsAtMost}
 use Rattle.growth.specs.declared.links.Near.{Near}
@@ -16,7 +16,7 @@ use Rattle.growth.specs.declared.step.Step.{Step}
 use Rattle.growth.proofs.Counting.{set_only, set_stays}
 use Rattle.growth.proofs.Growing.{grown_later, looked_later, tried_later}
 use Rattle.growth.proofs.Later.{known_later}
-use Rattle.growth.proofs.Places.{get_pushed, has_later}
+use Rattle.growth.proofs.Places.{get_pushed}
 
 -- what was barred without a cause, and with one
 pub tried_none : {told : Option Faults} {k : Kept} {ss : List Step} {old new : List Bool} → new ≡ old → AreTried told k ss old new

@@ -1,15 +1,13 @@
 -- The loads of growth in a field.
-use Rattle.std.proofs.Common.{◌≡◌, ◌≢◌, ◌⊎◌, ℕ, ◌+◌, ◌*◌, ◌<◌, ◌≤◌, Bool, true, false, Some, Option, List, length, refl, sym, ap, ◌∙◌, subst, inl, inr, arith}
-use Rattle.std.specs.Prelude.{◌||◌, replicate}
+use Rattle.std.proofs.Common.{◌≡◌, ◌⊎◌, ℕ, ◌+◌, ◌*◌, ◌<◌, ◌≤◌, true, Option, List, sym, ap, ◌∙◌, subst, inl, inr, arith}
 use Rattle.tm_bits.specs.Numbers.{has_number, size_of}
-use Rattle.hierarchy.specs.declared.Shape.{Shape}
 use Rattle.hierarchy.specs.Shape.{wires_of, crosses_of}
-use Rattle.hierarchy.specs.Faults.{Faults, IsFaultless}
-use Rattle.evidence.specs.Kept.{Kept, HoldsFor}
+use Rattle.hierarchy.specs.Faults.{Faults}
+use Rattle.evidence.specs.Kept.{Kept}
 use Rattle.growth.specs.Field.{IsFieldOf, TakesFew}
-use Rattle.growth.specs.Grown.{AreLinks, Links, list_at, IsInField}
+use Rattle.growth.specs.Grown.{AreLinks}
 use Rattle.growth.specs.Looks.{AreOutside, IsLinking}
-use Rattle.growth.specs.Marked.{how_many, is_spent, most_loads, few_loads, Spends}
+use Rattle.growth.specs.Marked.{how_many, is_spent, Spends}
 use Rattle.growth.specs.declared.field.Field.{Field}
 use Rattle.growth.specs.declared.links.Near.{Near}
 use Rattle.growth.specs.declared.marks.Marks.{Marks}

@@ -1,21 +1,21 @@
 -- Two ways to a wire, from two routes to its feet.
-use Rattle.std.proofs.Common.{◌≡◌, ◌≢◌, ◌⊎◌, ℕ, ◌<◌, Bool, true, false, Some, List, [], ◌∷◌, ◌++◌, refl, sym, ap, ◌∙◌, subst, inl, inr}
+use Rattle.std.proofs.Common.{◌≡◌, ◌≢◌, ◌⊎◌, ℕ, true, false, Some, List, [], ◌∷◌, ◌++◌, refl, sym, ap, ◌∙◌, subst, inl, inr}
 use Rattle.std.proofs.lemmas.Bool.{false≢true}
 use Rattle.std.specs.Prelude.{slice_get}
 use Rattle.hierarchy.specs.declared.Shape.{Shape}
-use Rattle.hierarchy.specs.Shape.{pin_wire, ends_of, crosses_of}
+use Rattle.hierarchy.specs.Shape.{pin_wire}
 use Rattle.config_set.specs.Groups.{among}
 use Rattle.test_configs.specs.Routes.{Walk, IsRoute, HasEnd, Extends, at_pin, other_end}
 use Rattle.test_configs.proofs.Longer.{among_both, among-push}
 use Rattle.evidence.specs.Kept.{Kept, keeps_cross}
-use Rattle.growth.specs.Known.{KnownWires, IsAt, IsBefore, IsFoot, HasWire, IsKnown}
-use Rattle.growth.specs.Routes.{IsPin, is_pin, HasFootOn, first, second, RestsOn, IsEarly, AreRoutesTo}
+use Rattle.growth.specs.Known.{KnownWires, IsAt, IsFoot, HasWire, IsKnown}
+use Rattle.growth.specs.Routes.{IsPin, HasFootOn, first, second, RestsOn, IsEarly, AreRoutesTo}
 use Rattle.growth.specs.Ways.{IsWay, AreWays, AreFeetOf}
 use Rattle.growth.specs.declared.step.Foot.{Foot}
 use Rattle.growth.specs.declared.step.Stand.{Stand}
 use Rattle.growth.specs.declared.step.Stand.TheVariants as stand
 use Rattle.growth.specs.declared.step.Step.{Step}
-use Rattle.growth.proofs.Places.{at_one, before_has, feet_here, pin_here, StandsOn}
+use Rattle.growth.proofs.Places.{at_one, before_has, feet_here, StandsOn}
 use Rattle.growth.proofs.Rising.{foot_end, has_end, among_one, not_early, routes_to_turned}
 
 -- the feet are known

@@ -6,7 +6,6 @@ use Rattle.evidence.specs.Kept.{Kept}
 use Rattle.growth.specs.Known.{IsAt, IsFoot}
 use Rattle.growth.specs.Routes.{IsPin}
 use Rattle.growth.specs.declared.step.Foot.{Foot}
-use Rattle.growth.specs.declared.step.Stand.{Stand}
 use Rattle.growth.specs.declared.step.Stand.TheVariants as stand
 use Rattle.growth.specs.declared.step.Step.{Step}
 use Rattle.growth.specs.declared.descents.Down.{Down}

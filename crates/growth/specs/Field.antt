@@ -1,8 +1,8 @@
 -- What growth may look at, and when it has found all that can be found there.
-use Rattle.std.specs.Prelude.{◌≡◌, ◌≢◌, ◌⊎◌, ℕ, ◌+◌, ◌*◌, ◌<◌, ◌≤◌, Bool, true, Option, Some, None, List, length}
+use Rattle.std.specs.Prelude.{◌≡◌, ◌⊎◌, ℕ, ◌+◌, ◌*◌, ◌<◌, ◌≤◌, true, Option, Some, None, List, length}
 use Rattle.tm_bits.specs.Numbers.{has_number, size_of}
 use Rattle.hierarchy.specs.declared.Shape.{Shape}
-use Rattle.hierarchy.specs.Shape.{wires_of, crosses_of, pins_of, pin_wire, ends_of, Ends}
+use Rattle.hierarchy.specs.Shape.{wires_of, crosses_of, pins_of, pin_wire, ends_of}
 use Rattle.hierarchy.specs.Faults.{Faults, IsFaultless, stuck_cross}
 use Rattle.hierarchy.specs.Defects.{IsClear}
 use Rattle.hierarchy.specs.Tight.{IsAlone, HasFeet}

@@ -1,5 +1,5 @@
 -- Looks from a known wire over one crosspoint of the field.
-use Rattle.std.specs.Prelude.{◌≡◌, ◌≢◌, ◌⊎◌, ℕ, ◌<◌, ◌++◌, Bool, true, false, Option, Some, List, length, slice_get}
+use Rattle.std.specs.Prelude.{◌≡◌, ◌⊎◌, ℕ, ◌<◌, ◌++◌, Bool, true, false, Option, Some, List, length, slice_get}
 use Rattle.tm_bits.specs.Numbers.{has_number}
 use Rattle.hierarchy.specs.Faults.{Faults}
 use Rattle.hierarchy.specs.declared.Shape.{Shape}

@@ -1,5 +1,5 @@
 -- What keeps a further wire apart from the known ones.
-use Rattle.std.specs.Prelude.{◌≡◌, ◌≢◌, ◌⊎◌, ℕ, ◌<◌, true, false, Option, Some, List, [], slice_get}
+use Rattle.std.specs.Prelude.{◌≡◌, ◌⊎◌, ℕ, true, Some, List, [], slice_get}
 use Rattle.hierarchy.specs.declared.Wire.{Wire}
 use Rattle.config_set.specs.Groups.{among}
 use Rattle.test_configs.specs.Routes.{Walk}

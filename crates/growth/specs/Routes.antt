@@ -1,9 +1,9 @@
 -- Routes over known wires.
-use Rattle.std.specs.Prelude.{◌≡◌, ◌≢◌, ◌⊎◌, ℕ, ◌<◌, Bool, true, false, List}
+use Rattle.std.specs.Prelude.{◌≡◌, ◌⊎◌, ℕ, ◌<◌, true, false, List}
 use Rattle.config_set.specs.Groups.{among}
 use Rattle.test_configs.specs.Routes.{Walk, IsRoute}
 use Rattle.evidence.specs.Kept.{Kept, keeps_cross}
-use Rattle.growth.specs.Known.{IsAt, HasWire}
+use Rattle.growth.specs.Known.{IsAt}
 use Rattle.growth.specs.declared.step.Foot.{Foot}
 use Rattle.growth.specs.declared.step.Stand.{Stand}
 use Rattle.growth.specs.declared.step.Stand.TheVariants as stand

@@ -1,5 +1,5 @@
 //! Steps down from two known wires to two pins.
-ghost use Rattle.std.specs.Prelude.{◌≡◌, ◌≢◌, ◌⊎◌, ◌<◌, ◌+◌, ℕ, IfOk, IfSome, IfNone, length};
+ghost use Rattle.std.specs.Prelude.{◌≡◌, ◌≢◌, ◌⊎◌, ◌<◌, ◌+◌, IfOk, IfSome, IfNone, length};
 ghost use Rattle.growth.specs.Known.{IsKnown, AreTwo};
 ghost use Rattle.growth.specs.Descents.{StepsDown, StepsAlong, Goes, Stays, DescendsTo, IsPinAt, IsPinHere};
 

@@ -1,5 +1,5 @@
 //! Trials of wires on two feet, and of pins: what is good is known then.
-ghost use Rattle.std.specs.Prelude.{◌≡◌, ◌<◌, ◌≤◌, ◌+◌, true, false, Some, IfOk, OnOk, OnErr, IsErrOf, slice_set};
+ghost use Rattle.std.specs.Prelude.{◌≡◌, ◌<◌, ◌≤◌, ◌+◌, true, false, Some, OnOk, OnErr, IsErrOf, slice_set};
 ghost use Rattle.tm_bits.specs.Numbers.{has_number};
 ghost use Rattle.tm_outside.specs.Counts.{Rose};
 ghost use Rattle.hierarchy.specs.Shape.{pins_of, pin_wire, wires_of};

@@ -1,6 +1,5 @@
 //! What growth has tried in one call, so that nothing is tried twice.
 ghost use Rattle.std.specs.Prelude.{◌≡◌, ◌<◌, IfOk, length, replicate, slice_set, true, false};
-ghost use Rattle.growth.specs.Field.{IsFieldOf};
 ghost use Rattle.growth.specs.Looks.{AreOutside};
 
 use crate::field::Field;

@@ -1,5 +1,5 @@
 //! Trials of a wire that isn't known, by its ways: whether it is clear, and shorted to no known one.
-ghost use Rattle.std.specs.Prelude.{◌≡◌, ◌⊎◌, ◌≤◌, ◌<◌, ◌+◌, ℕ, true, false, Some, IfOk, OnOk, IsErrOf, IsTrue, length};
+ghost use Rattle.std.specs.Prelude.{◌≡◌, ◌≤◌, ◌<◌, ◌+◌, ℕ, true, false, Some, IfOk, OnOk, IsErrOf, IsTrue, length};
 ghost use Rattle.tm_outside.specs.Counts.{Rose};
 ghost use Rattle.hierarchy.specs.Shape.{pins_of, wires_of};
 ghost use Rattle.config_set.specs.Tests.{AreReleased};

@@ -1,5 +1,5 @@
 //! Two routes without a common wire, to any two known wires.
-ghost use Rattle.std.specs.Prelude.{◌≡◌, ◌≢◌, IfOk};
+ghost use Rattle.std.specs.Prelude.{◌≢◌, IfOk};
 ghost use Rattle.growth.specs.Known.{IsKnown, HasWire};
 ghost use Rattle.growth.specs.Routes.{AreRoutesTo};
 

@@ -8,7 +8,10 @@ ghost use Rattle.table_test.specs.Seats.{IsSeat};
 
 use crate::known::Known;
 use evidence::Proof;
-use hierarchy::{Cross, Node, Table, Wire, ports_and_lines_ascend, the_crosspoints_are_sound, the_numbering_is_sound};
+use hierarchy::{
+    Cross, Node, Table, Wire, ports_and_lines_ascend, the_crosspoints_are_sound,
+    the_numbering_is_sound,
+};
 use std::alloc::AllocError;
 use table_test::{Arm, Seat};
 

@@ -1,8 +1,8 @@
 //! Walks over what is reached beside a route.
 ghost use Rattle.std.specs.Prelude.{◌≡◌, ◌⊎◌, ◌<◌, ◌+◌, ◌++◌, [], ◌∷◌, ℕ, true, false, IfOk, OnOk, IfSome, IfNone, IsTrue, Some, length, slice_get};
-ghost use Rattle.hierarchy.specs.Shape.{crosses_of, pins_of, pin_wire};
+ghost use Rattle.hierarchy.specs.Shape.{crosses_of};
 ghost use Rattle.config_set.specs.Groups.{among};
-ghost use Rattle.test_configs.specs.Routes.{Walk, IsRoute, HasEnd, Extends};
+ghost use Rattle.test_configs.specs.Routes.{IsRoute, HasEnd, Extends};
 ghost use Rattle.growth.specs.Known.{IsKnown};
 ghost use Rattle.growth.specs.Descents.{Stays};
 ghost use Rattle.growth.specs.Reaches.{AreBefore, AreTrees, AreWalks, AreWalksFrom, GoesBelow, GoesOn, GoesTo, Hangs, HangsAlong, HangsAt, HangsOn, HasTree, HasWalk, IsFrom, IsFromAt, IsTreeWalk, IsWalkFrom, Leads};

@@ -1,5 +1,5 @@
 //! Two ways to a wire, which have it alone in common.
-ghost use Rattle.std.specs.Prelude.{◌≡◌, ◌<◌, IfOk, length};
+ghost use Rattle.std.specs.Prelude.{◌≡◌, ◌<◌, IfOk};
 ghost use Rattle.hierarchy.specs.Shape.{pins_of, pin_wire};
 ghost use Rattle.evidence.specs.Kept.{Kept};
 ghost use Rattle.growth.specs.Known.{IsKnown, HasWire};

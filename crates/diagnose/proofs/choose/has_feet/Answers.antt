@@ -1,4 +1,4 @@
-use Rattle.std.proofs.Common.{sym, subst}
+use Rattle.std.proofs.Common.{subst}
 use Rattle.std.specs.Prelude.{IfSome}
 use Rattle.hierarchy.specs.declared.Wire.{Wire}
 use Rattle.diagnose.specs.Choice.{IsKnownFoot}

@@ -1,4 +1,4 @@
-use Rattle.std.proofs.Common.{◌≡◌, ◌∙◌, refl, sym, subst, ◌<◌}
+use Rattle.std.proofs.Common.{◌∙◌, refl, sym, subst, ◌<◌}
 use Rattle.std.proofs.lemmas.Result.{IfOk-weaker}
 use Rattle.growth.proofs.Offering.{spends_on_none, spends_other}
 use Rattle.growth.proofs.Seconds.{lost_one}

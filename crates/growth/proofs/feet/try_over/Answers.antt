@@ -1,4 +1,4 @@
-use Rattle.std.proofs.Common.{◌≡◌, ◌∙◌, refl, sym}
+use Rattle.std.proofs.Common.{◌∙◌, refl, sym}
 use Rattle.growth.proofs.Offering.{spends_on_none, spends_own}
 use Rattle.growth.proofs.Seconds.{lost_all}
 use Rattle.growth.proofs.Settling.{marks_offered, lost_faulty}

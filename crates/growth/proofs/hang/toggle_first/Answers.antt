@@ -1,4 +1,4 @@
-use Rattle.std.proofs.Common.{◌≡◌, Option, sym, ap, subst}
+use Rattle.std.proofs.Common.{Option, sym, ap, subst}
 use Rattle.std.proofs.lemmas.Result.{IfOk-weaker, on_ok_weaker}
 use Rattle.hierarchy.specs.Faults.{Faults}
 use Rattle.growth.specs.Marked.{AreMarks}

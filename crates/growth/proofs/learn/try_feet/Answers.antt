@@ -1,4 +1,4 @@
-use Rattle.std.proofs.Common.{◌≡◌, ◌<◌, refl, sym, subst, inl, inr, arith}
+use Rattle.std.proofs.Common.{◌<◌, refl, sym, subst, inl, inr}
 use Rattle.std.proofs.lemmas.Result.{on_ok_weaker}
 use Rattle.growth.specs.Known.{KnownWires, IsKnown}
 use Rattle.growth.proofs.Later.{known_later, stands_later}

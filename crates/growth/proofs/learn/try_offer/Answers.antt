@@ -1,11 +1,11 @@
-use Rattle.std.proofs.Common.{◌≡◌, ◌∙◌, ◌<◌, Option, refl, sym, ap, subst, inl, inr}
+use Rattle.std.proofs.Common.{◌∙◌, ◌<◌, Option, refl, sym, ap, subst, inl, inr}
 use Rattle.std.specs.Prelude.{OnOk}
 use Rattle.std.proofs.lemmas.Result.{on_ok_weaker}
 use Rattle.tm_bits.specs.Numbers.{has_number}
 use Rattle.hierarchy.specs.declared.Shape.{Shape}
 use Rattle.hierarchy.specs.Shape.{wires_of}
 use Rattle.hierarchy.specs.Faults.{Faults}
-use Rattle.growth.specs.Marked.{AreMarks, HasTried, barred, lost}
+use Rattle.growth.specs.Marked.{AreMarks, barred, lost}
 use Rattle.growth.specs.Trials.{IsTried}
 use Rattle.growth.proofs.Later.{known_later}
 use Rattle.growth.proofs.Learning.{none_more, offers_barred, barred_twice}

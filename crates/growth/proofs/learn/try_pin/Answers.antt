@@ -7,7 +7,6 @@ use Rattle.growth.specs.Known.{KnownWires, HasWire, IsKnown, on_pin}
 use Rattle.growth.specs.Grown.{IsOneMore}
 use Rattle.growth.specs.Trials.{IsBad}
 use Rattle.growth.specs.Ways.{AreWays}
-use Rattle.growth.specs.declared.marks.Marks.{Marks}
 use Rattle.growth.proofs.Later.{known_later, stands_later}
 use Rattle.growth.proofs.Learning.{by_result, none_more, learnt_more, learnt_has, learnt_known, learnt_marks}
 use Rattle.growth.proofs.Settling.{marks_barred, marks_still}
@@ -65,7 +64,7 @@ pub learn-requires-clause-new : goal.learn-requires-clause-new
 learn-requires-clause-new g c = subst (λ w. ¬ HasWire c.args.known.now.steps w) (sym (c.pin-wire.ensures.wire ∙ ap (λ m. pin_wire m c.args.pin) c.shape.ensures)) c.requires.new
 
 pub returns-clause-known : goal.returns-clause-known
-returns-clause-known g c = 
+returns-clause-known g c =
     let later = known_later c.is_good.ensures.advances.more c.requires.known in
     by_result c.learn.result c.learn.ensures.learnt c.learn.ensures.same
     (λ l. learnt_known later (c.in_ok-good.ensures.good c.if-not-good.false) (stands_later c.is_good.ensures.advances.more (on_pin c.requires.pin (c.pin-wire.ensures.wire ∙ ap (λ m. pin_wire m c.args.pin) c.shape.ensures))) l)

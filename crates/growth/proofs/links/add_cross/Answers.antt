@@ -1,4 +1,4 @@
-use Rattle.std.proofs.Common.{◌≡◌, ◌∙◌, true, not, refl, sym, arith}
+use Rattle.std.proofs.Common.{refl, sym}
 use Rattle.growth.proofs.Linking.{up_to_next}
 use Rattle.growth.proofs.links.add_cross.Goals as goal
 

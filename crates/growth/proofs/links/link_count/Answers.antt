@@ -1,4 +1,4 @@
-use Rattle.std.proofs.Common.{◌≡◌, ◌∙◌, List, [], length, sym, ap, subst, arith}
+use Rattle.std.proofs.Common.{◌≡◌, List, [], length, sym, ap, subst, arith}
 use Rattle.growth.specs.Grown.{list_at}
 use Rattle.growth.specs.declared.links.Near.{Near}
 use Rattle.growth.specs.declared.step.Foot.{Foot}

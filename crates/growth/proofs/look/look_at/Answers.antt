@@ -1,12 +1,11 @@
-use Rattle.std.proofs.Common.{◌≡◌, ◌∙◌, ◌<◌, Option, Some, refl, sym, ap, subst, arith}
+use Rattle.std.proofs.Common.{◌∙◌, Option, refl, sym, ap, subst, arith}
 use Rattle.hierarchy.specs.declared.Shape.{Shape}
 use Rattle.hierarchy.specs.Faults.{Faults}
 use Rattle.evidence.proofs.Keeping.{advances_itself, advances_then}
 use Rattle.evidence.proofs.KeptLemmas.{more_itself}
 use Rattle.growth.specs.Grown.{AreLinked}
 use Rattle.growth.specs.Known.{IsAt}
-use Rattle.growth.specs.Looks.{AreAllMarks, AreTried, IsLooked, IsLinking}
-use Rattle.growth.specs.Marked.{Spends}
+use Rattle.growth.specs.Looks.{AreAllMarks, AreTried, IsLooked}
 use Rattle.growth.proofs.Growing.{grown_next}
 use Rattle.growth.proofs.Leaving.{looks_next, looks_past, looks_all, spends_told}
 use Rattle.growth.proofs.Looking.{link_leads}

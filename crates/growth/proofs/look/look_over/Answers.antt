@@ -1,4 +1,4 @@
-use Rattle.std.proofs.Common.{◌≡◌, ◌∙◌, ◌<◌, refl, sym, ap, subst, inl, arith}
+use Rattle.std.proofs.Common.{◌∙◌, ◌<◌, refl, sym, ap, subst, inl, arith}
 use Rattle.std.proofs.lemmas.Result.{on_ok_weaker}
 use Rattle.tm_bits.specs.Numbers.{has_number}
 use Rattle.hierarchy.specs.declared.Shape.{Shape}

@@ -1,4 +1,4 @@
-use Rattle.std.proofs.Common.{◌≡◌, ◌∙◌, [], subst}
+use Rattle.std.proofs.Common.{◌∙◌, [], subst}
 use Rattle.std.proofs.lemmas.Result.{IfOk-weaker}
 use Rattle.config_set.specs.Tests.{IsDrivenAlone}
 use Rattle.test_configs.specs.Configs.{IsLoopConfig}

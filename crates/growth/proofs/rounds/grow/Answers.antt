@@ -1,4 +1,4 @@
-use Rattle.std.proofs.Common.{◌≡◌, ◌∙◌, ◌<◌, ◌≤◌, Option, length, refl, sym, ap, subst, arith}
+use Rattle.std.proofs.Common.{◌≡◌, ◌∙◌, Option, length, refl, sym, ap, subst, arith}
 use Rattle.hierarchy.specs.declared.Shape.{Shape}
 use Rattle.hierarchy.specs.Faults.{Faults}
 use Rattle.hierarchy.specs.Shape.{pins_of}
@@ -62,7 +62,7 @@ pub grow_pin-requires-clause-marks : goal.grow_pin-requires-clause-marks
 grow_pin-requires-clause-marks g c = subst (λ (told : Option Faults). AreAllMarks told c.pins.proof c.in-Ok.near.items c.pins.known.steps c.pins.marks) (sym (ap (λ m. m.faults) c.pins.invariant.advances.machine)) c.pins.invariant.growing.marks
 
 pub grow_pin-requires-clause-pin : goal.grow_pin-requires-clause-pin
-grow_pin-requires-clause-pin g c = 
+grow_pin-requires-clause-pin g c =
     let end : c.pins-pin-end.result ≡ pins_of c.pins.proof.shape = c.pins-pin-end.ensures.pins ∙ ap pins_of (c.shape-shape.ensures ∙ sym c.pins.invariant.advances.more.shape) in
     omega (arith, end)
 
@@ -79,7 +79,7 @@ pub returns-in_err-grow_pin-clause-few : goal.returns-in_err-grow_pin-clause-few
 returns-in_err-grow_pin-clause-few g c = growing_few c.pins.invariant.growing c.requires.field (subst (λ (m : Shape). AreLinks m c.args.field.now c.in-Ok.near.items) c.shape-shape.ensures c.in-Ok.ensures) c.pins.invariant.advances.more.shape c.pins.invariant.advances.holds (spends_told (ap (λ m. m.faults) c.pins.invariant.advances.machine) c.grow_pin.ensures.spends)
 
 pub pins-preserved : goal.pins-preserved
-pins-preserved g c = 
+pins-preserved g c =
     let old = c.pins.invariant in
     let same = (ap (λ m. m.faults) c.pins.invariant.advances.machine) in
     record {
@@ -87,7 +87,7 @@ pins-preserved g c =
       growing = growing_next old.advances.more.shape old.advances.holds c.grow_pin.ensures.advances.more old.growing c.grow_pin.ensures.grows
           (subst (λ (told : Option Faults). AreTried told c.grow_pin.new.proof c.grow_pin.new.known.steps c.pins.marks.barred c.grow_pin.new.marks.barred) same c.in_ok-grow_pin.ensures.tried)
           (subst (λ (told : Option Faults). IsGrown told c.pins.proof c.in-Ok.near.items c.pins.known.steps c.pins.marks.barred (length c.pins.known.steps) →
-              IsGrown told c.grow_pin.new.proof c.in-Ok.near.items c.grow_pin.new.known.steps c.grow_pin.new.marks.barred (length c.grow_pin.new.known.steps)) same c.in_ok-grow_pin.ensures.grown old.growing.grown)
+          IsGrown told c.grow_pin.new.proof c.in-Ok.near.items c.grow_pin.new.known.steps c.grow_pin.new.marks.barred (length c.grow_pin.new.known.steps)) same c.in_ok-grow_pin.ensures.grown old.growing.grown)
           c.in_ok-grow_pin.ensures.pin
           (subst (λ (told : Option Faults). AreAllMarks told c.grow_pin.new.proof c.in-Ok.near.items c.grow_pin.new.known.steps c.grow_pin.new.marks) same c.in_ok-grow_pin.ensures.marks) (spends_told (ap (λ m. m.faults) c.pins.invariant.advances.machine) c.grow_pin.ensures.spends);
     }
@@ -99,7 +99,7 @@ pub returns-clause-grows : goal.returns-clause-grows
 returns-clause-grows g c = grows_in c.pins.invariant.growing.outside c.pins.invariant.growing.len c.pins.invariant.growing.grows
 
 pub returns-clause-closed : goal.returns-clause-closed
-returns-clause-closed g c = 
+returns-clause-closed g c =
     let shape = c.pins.invariant.advances.more.shape in
     let end : c.pins-pin-end.result ≡ pins_of c.pins.proof.shape = c.pins-pin-end.ensures.pins ∙ ap pins_of (c.shape-shape.ensures ∙ sym shape) in
     growing_closed (subst (λ (m : Shape). IsFieldOf m c.args.field.now) (sym shape) c.requires.field) (c.the_numbering_is_sound.ensures.tree c.pins.proof.shape) (c.the_crosspoints_are_sound.ensures.meetings c.pins.proof.shape)

@@ -1,4 +1,4 @@
-use Rattle.std.proofs.Common.{◌≡◌, ◌∙◌, ◌<◌, ◌≤◌, Option, length, refl, sym, ap, subst, inl, inr, arith}
+use Rattle.std.proofs.Common.{◌∙◌, ◌<◌, Option, length, refl, sym, ap, subst, inl, inr, arith}
 use Rattle.std.specs.Prelude.{OnOk}
 use Rattle.std.proofs.lemmas.Result.{on_ok_weaker}
 use Rattle.tm_bits.specs.Numbers.{has_number}
@@ -8,7 +8,7 @@ use Rattle.hierarchy.specs.Shape.{pin_wire, wires_of}
 use Rattle.evidence.proofs.KeptLemmas.{more_itself}
 use Rattle.growth.specs.Grown.{AreLinked, IsGrown}
 use Rattle.growth.specs.Known.{HasWire}
-use Rattle.growth.specs.Looks.{AreAllMarks, AreTried, Grows}
+use Rattle.growth.specs.Looks.{AreAllMarks, AreTried}
 use Rattle.growth.specs.declared.marks.Marks.{Marks}
 use Rattle.growth.proofs.Circling.{grown_at, pin_grows, pin_marks, pin_has}
 use Rattle.growth.proofs.Leaving.{spends_told}
@@ -71,13 +71,13 @@ pub look_on-requires-clause-links : goal.look_on-requires-clause-links
 look_on-requires-clause-links g c = subst (λ (m : Shape). AreLinked m c.args.near.now.items) (sym c.try_pin.ensures.advances.more.shape) c.requires.links
 
 pub look_on-requires-clause-marks : goal.look_on-requires-clause-marks
-look_on-requires-clause-marks g c = 
+look_on-requires-clause-marks g c =
     let grows = pin_grows c.requires.marks.are (subst (λ w. w < wires_of c.args.proof.now.shape) (c.pin-wire.ensures.wire ∙ ap (λ m. pin_wire m c.args.pin) c.shape.ensures) (subst (λ (m : Shape). c.pin-wire.result.0 < wires_of m) c.shape.ensures c.pin-wire.ensures.within)) (ap (has_number c.args.marks.now.barred) (sym (c.pin-wire.ensures.wire ∙ ap (λ m. pin_wire m c.args.pin) c.shape.ensures)) ∙ sym c.has.ensures ∙ c.if-has.false) c.try_pin.ensures.known c.try_pin.ensures.more c.try_pin.ensures.barred in
     subst (λ (told : Option Faults). AreAllMarks told c.try_pin.new.proof c.args.near.now.items c.try_pin.new.known.steps c.try_pin.new.marks) (sym (ap (λ m. m.faults) c.try_pin.ensures.advances.machine))
     (pin_marks (pin_wire c.args.proof.now.shape c.args.pin) c.try_pin.ensures.advances.more grows c.requires.marks c.in_ok-try_pin.ensures.marks c.try_pin.ensures.barred)
 
 pub look_on-requires-clause-from : goal.look_on-requires-clause-from
-look_on-requires-clause-from g c = 
+look_on-requires-clause-from g c =
     let long = longer (pin_grows c.requires.marks.are (subst (λ w. w < wires_of c.args.proof.now.shape) (c.pin-wire.ensures.wire ∙ ap (λ m. pin_wire m c.args.pin) c.shape.ensures) (subst (λ (m : Shape). c.pin-wire.result.0 < wires_of m) c.shape.ensures c.pin-wire.ensures.within)) (ap (has_number c.args.marks.now.barred) (sym (c.pin-wire.ensures.wire ∙ ap (λ m. pin_wire m c.args.pin) c.shape.ensures)) ∙ sym c.has.ensures ∙ c.if-has.false) c.try_pin.ensures.known c.try_pin.ensures.more c.try_pin.ensures.barred) in
     let len = c.len-from.ensures.len in
     omega (arith, long, len)
@@ -86,18 +86,18 @@ pub returns-clause-grows : goal.returns-clause-grows
 returns-clause-grows g c = grows_then (pin_grows c.requires.marks.are (subst (λ w. w < wires_of c.args.proof.now.shape) (c.pin-wire.ensures.wire ∙ ap (λ m. pin_wire m c.args.pin) c.shape.ensures) (subst (λ (m : Shape). c.pin-wire.result.0 < wires_of m) c.shape.ensures c.pin-wire.ensures.within)) (ap (has_number c.args.marks.now.barred) (sym (c.pin-wire.ensures.wire ∙ ap (λ m. pin_wire m c.args.pin) c.shape.ensures)) ∙ sym c.has.ensures ∙ c.if-has.false) c.try_pin.ensures.known c.try_pin.ensures.more c.try_pin.ensures.barred) c.look_on.ensures.grows
 
 pub returns-clause-tried : goal.returns-clause-tried
-returns-clause-tried g c = 
+returns-clause-tried g c =
     let step = c.look_on.ensures.grows in
     let first = tried_one (ap (λ (m : Marks). m.barred) c.try_pin.ensures.barred) c.in_ok-try_pin.ensures.tried in
     on_ok_weaker c.look_on.result (λ second. tried_then step.more step.steps c.look_on.ensures.advances.more first
     (subst (λ (told : Option Faults). AreTried told c.look_on.new.proof c.look_on.new.known.steps c.try_pin.new.marks.barred c.look_on.new.marks.barred) (ap (λ m. m.faults) c.try_pin.ensures.advances.machine) second)) c.look_on.ensures.tried
 
 pub returns-clause-grown : goal.returns-clause-grown
-returns-clause-grown g c = 
+returns-clause-grown g c =
     let grows = pin_grows c.requires.marks.are (subst (λ w. w < wires_of c.args.proof.now.shape) (c.pin-wire.ensures.wire ∙ ap (λ m. pin_wire m c.args.pin) c.shape.ensures) (subst (λ (m : Shape). c.pin-wire.result.0 < wires_of m) c.shape.ensures c.pin-wire.ensures.within)) (ap (has_number c.args.marks.now.barred) (sym (c.pin-wire.ensures.wire ∙ ap (λ m. pin_wire m c.args.pin) c.shape.ensures)) ∙ sym c.has.ensures ∙ c.if-has.false) c.try_pin.ensures.known c.try_pin.ensures.more c.try_pin.ensures.barred in
     on_ok_weaker c.look_on.result (λ on. λ grown.
     subst (λ (told : Option Faults). IsGrown told c.try_pin.new.proof c.args.near.now.items c.try_pin.new.known.steps c.try_pin.new.marks.barred c.len-from.result →
-        IsGrown told c.look_on.new.proof c.args.near.now.items c.look_on.new.known.steps c.look_on.new.marks.barred (length c.look_on.new.known.steps)) (ap (λ m. m.faults) c.try_pin.ensures.advances.machine) on
+    IsGrown told c.look_on.new.proof c.args.near.now.items c.look_on.new.known.steps c.look_on.new.marks.barred (length c.look_on.new.known.steps)) (ap (λ m. m.faults) c.try_pin.ensures.advances.machine) on
     (grown_at (sym c.len-from.ensures.len)
     (grown_on c.try_pin.ensures.advances.more (omega arith) grows grown))) c.look_on.ensures.grown
 

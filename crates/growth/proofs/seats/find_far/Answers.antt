@@ -29,8 +29,7 @@ ports-preserved-then-not-has c =
 pub returns-in-Some-clause-far : goal.returns-in-Some-clause-far
 returns-in-Some-clause-far c =
     let k = c.args.proof.now in
-    let differs : c.port-far.result.0 ≢ c.args.near.0 = search rules in
-    (
+    let differs : c.port-far.result.0 ≢ c.args.near.0 = search rules in (
       far_there (port_there c.args.hextant.0 c.ports.k c.port-far.result.0 (c.ports_and_lines_ascend.ensures k.shape) c.shape-shape.ensures c.requires.hextant (let t = c.ports-test.true in let l = c.ports-k-end.ensures in omega (arith, t, l)) c.port-far.ensures.wire)
           differs (c.has.ensures.known c.if-not-has.false) c.in-Some.ensures.meets,
       c.in-Some.ensures.meets,

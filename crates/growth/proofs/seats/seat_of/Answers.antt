@@ -25,11 +25,10 @@ pub push-requires-clause-at : goal.push-requires-clause-at
 push-requires-clause-at c = subst (λ (m : Shape). HasEnd m c.args.place.to_line.0 c.in_ok-near.far.end) (sym c.shape.ensures) (far_end c.in_ok-near.far c.in_ok-near.ensures.right_end c.requires.place.found.place.to_line)
 
 pub returns : goal.returns
-returns c =
-    (
-      seat_over c.args.t c.args.place c.requires.known (c.the_numbering_is_sound.ensures.numbered c.args.proof.now.shape) (c.the_numbering_is_sound.ensures.tree c.args.proof.now.shape)
-          c.requires.outside c.requires.table c.requires.pins c.requires.place c.in_ok-near.ensures
-          (subst (λ (m : Shape). Extends m c.args.place.to_line.0 c.in_ok-near.far c.push.new.self) c.shape.ensures c.in_ok-push.ensures.longer)
-          (subst (λ (m : Shape). IsRoute m c.push.new.self) c.shape.ensures c.in_ok-push.ensures.right),
-      refl,
-    )
+returns c = (
+  seat_over c.args.t c.args.place c.requires.known (c.the_numbering_is_sound.ensures.numbered c.args.proof.now.shape) (c.the_numbering_is_sound.ensures.tree c.args.proof.now.shape)
+      c.requires.outside c.requires.table c.requires.pins c.requires.place c.in_ok-near.ensures
+      (subst (λ (m : Shape). Extends m c.args.place.to_line.0 c.in_ok-near.far c.push.new.self) c.shape.ensures c.in_ok-push.ensures.longer)
+      (subst (λ (m : Shape). IsRoute m c.push.new.self) c.shape.ensures c.in_ok-push.ensures.right),
+  refl,
+)

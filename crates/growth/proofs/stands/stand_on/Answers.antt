@@ -5,8 +5,10 @@ use Rattle.growth.proofs.Stood.{all_from, no_wire}
 use Rattle.growth.proofs.stands.stand_on.Goals as goal
 
 pub take_pins-requires : goal.take_pins-requires
-take_pins-requires c = record { ground = ground_none c.args.wires c.in_ok-feet.feet.items c.wires.result c.requires.apart (c.in_ok-known.ensures.shape ∙ c.shape-shape.ensures) c.in_ok-known.ensures.none c.in_ok-feet.ensures
-    (c.wires.ensures.wires ∙ ap wires_of c.shape-shape.ensures) }
+take_pins-requires c = record {
+  ground = ground_none c.args.wires c.in_ok-feet.feet.items c.wires.result c.requires.apart (c.in_ok-known.ensures.shape ∙ c.shape-shape.ensures) c.in_ok-known.ensures.none c.in_ok-feet.ensures
+      (c.wires.ensures.wires ∙ ap wires_of c.shape-shape.ensures);
+}
 
 pub returns-clause-known : goal.returns-clause-known
 returns-clause-known c = c.in_ok-look_from_all.ensures.ground.known

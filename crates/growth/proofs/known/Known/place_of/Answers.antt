@@ -1,6 +1,6 @@
 use Rattle.std.proofs.Common.{◌<◌, length, sym, subst, arith}
 use Rattle.hierarchy.specs.Shape.{wires_of}
-use Rattle.growth.specs.Known.{KnownWires, HasWire}
+use Rattle.growth.specs.Known.{KnownWires}
 use Rattle.growth.proofs.Ranking.{no_rank}
 use Rattle.growth.proofs.known.Known.place_of.Goals as goal
 

@@ -3,7 +3,7 @@ use Rattle.hierarchy.specs.declared.Shape.{Shape}
 use Rattle.hierarchy.specs.Shape.{crosses_of}
 use Rattle.test_configs.specs.Routes.{IsRoute, HasEnd, Extends}
 use Rattle.growth.specs.declared.descents.Down.{Down}
-use Rattle.growth.proofs.Rising.{IsRising, rising_at, left_within, left_end, left_up, right_within, right_end, right_up, risen_to}
+use Rattle.growth.proofs.Rising.{IsRising, rising_at, left_within, left_end, left_up, right_within, right_end, right_up}
 use Rattle.growth.proofs.known.Known.routes.Goals as goal
 
 pub up-init : goal.up-init
