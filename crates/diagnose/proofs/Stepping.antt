@@ -1,8 +1,7 @@
 -- The steps of a diagnosis, together.
-use Rattle.std.proofs.Common.{◌≡◌, ◌≤◌, ◌<◌, ◌+◌, ◌*◌, ℕ, zero, suc, Bool, true, false, Some, Option, List, [], ◌∷◌, ◌++◌, length, length-append, refl, sym, ap, ◌∙◌, subst, arith}
+use Rattle.std.proofs.Common.{◌≡◌, ◌≤◌, ◌<◌, ◌+◌, ◌*◌, ℕ, zero, suc, Bool, true, Some, Option, List, [], ◌∷◌, ◌++◌, length, length-append, refl, sym, ap, ◌∙◌, subst, arith}
 use Rattle.std.specs.Prelude.{All, slice_get}
 use native.Mathlib.Decide.{dec_lt}
-use Rattle.std.proofs.lemmas.Bool.{false≢true}
 use Rattle.std.proofs.lemmas.List.Elements.{All-push}
 use Rattle.std.proofs.lemmas.List.Sums.{count_by-le-length}
 use Rattle.tm_bits.specs.Numbers.{has_number, size_of}
@@ -22,9 +21,9 @@ use Rattle.growth.specs.Tables.{SeatedIsKept, SeatedAreKept}
 use Rattle.growth.specs.declared.field.Field.{Field}
 use Rattle.growth.specs.declared.step.Step.{Step}
 use Rattle.table_test.specs.Seats.{AddsOnlyTableFacts}
-use Rattle.diagnose.specs.Diagnosis.{IsDiagnosis, TakesFewLoads}
+use Rattle.diagnose.specs.Diagnosis.{IsDiagnosis}
 use Rattle.diagnose.specs.Listing.{IsListOf}
-use Rattle.diagnose.specs.Stages.{HasTable, IfFaultless, IfReached, IsReached, ReachedIf, TablesIf, loads_for}
+use Rattle.diagnose.specs.Stages.{HasTable, IfFaultless, IsReached, ReachedIf, TablesIf, loads_for}
 use Rattle.diagnose.proofs.Covering.{covers, tight}
 use Rattle.diagnose.proofs.Preferring.{reached_later}
 
@@ -68,20 +67,6 @@ reached_then {told} {k} {l} {a} {b} more e r = record { at = λ f t holds. subst
 
 pub reached_told : {told now : Option Faults} {l : Kept} {ss : List Step} → now ≡ told → ReachedIf now l ss → ReachedIf told l ss
 reached_told e r = record { at = λ f told holds. r.at f (e ∙ told) holds }
-
-module _ {s t : RigState} {k l : Kept} {ss : List Step} (advances : Advances s t k l) (reached : ReachedIf s.machine.faults l ss) where
-  -- Without faults all was reached.
-  pub calm : {P : Type 0} → IfReached t.machine.faults l ss P → IfFaultless s.machine.faults k P
-  calm idle = record { at = λ f e none holds. idle.at f (ap (λ m. m.faults) advances.machine ∙ e) none (reached.at f e (advances.holds f e holds)) }
-
-pub no_more : {told : Option Faults} {k : Kept} {x y z : ℕ} → IfFaultless told k (y ≤ x) → IfFaultless told k (z ≤ y) → IfFaultless told k (z ≤ x)
-no_more {x = x} {y = y} {z = z} p q = record { at = λ f e none holds. by (p.at f e none holds) (q.at f e none holds) }
-  where
-    by : y ≤ x → z ≤ y → z ≤ x
-    by a b = omega (arith, a, b)
-
-pub never : {told : Option Faults} {k : Kept} {b : Bool} {P : Type 0} → b ≡ true → IfFaultless told k (b ≡ false) → IfFaultless told k P
-never {told} {k} {b} {P} is p = record { at = λ f e none holds. absurd (false≢true (sym (p.at f e none holds) ∙ is)) }
 
 -- what stands in a list with one more
 get_before : (ts : List Table) (t : Table) (i : ℕ) (u : Table) → slice_get ts i ≡ Some u → slice_get (ts ++ t ∷ []) i ≡ Some u
@@ -134,17 +119,3 @@ diagnosed {s} {t} {u} {k} {l} {n} {known} {d} numbering law nothing one other is
     tight_by : (f : Faults) → s.machine.faults ≡ Some f → IsTight k.shape d f
     tight_by f e = subst (λ m. IsTight m d f) one.more.shape
         (tight (numbering l.shape) is (reached.at f e (first f e)) only (λ i h seated right. (tables.each i h).at f (told f e) (first f e) seated right) here)
-
--- how many loads it took
-pub takes_known : {told : Option Faults} {k : Kept} {before after : ℕ} → ((f : Faults) → HoldsFor k f) → after ≤ before + loads_for k 16 20 → IfFaultless told k (after ≤ before + loads_for k 2 3) → TakesFewLoads told k.shape before after
-takes_known {told} {k} {before} {after} nothing most few = record { always = omega (arith, most); faultless = λ f e none. by (few.at f e none (nothing f)) }
-  where
-    by : after ≤ before + loads_for k 2 3 → after ≤ before + (2 * crosses_of k.shape + (3 * wires_of k.shape + 130 * tables_of k.shape))
-    by h = omega (arith, h)
-
-pub takes_tables : {told : Option Faults} {k : Kept} (l : Kept) {before after last : ℕ} → ((f : Faults) → HoldsFor k f) → l.shape ≡ k.shape → after ≤ before + loads_for k 16 20 → IfFaultless told k (after ≤ before + loads_for k 2 3) →
-    last ≤ after + 130 * tables_of l.shape → TakesFewLoads told k.shape before last
-takes_tables {told} {k} l {before} {after} {last} nothing shape most few tables = record { always = let t = ap tables_of shape in omega (arith, most, tables, t); faultless = λ f e none. by (few.at f e none (nothing f)) }
-  where
-    by : after ≤ before + loads_for k 2 3 → last ≤ before + (2 * crosses_of k.shape + (3 * wires_of k.shape + 130 * tables_of k.shape))
-    by h = let t = ap tables_of shape in omega (arith, h, tables, t)

@@ -13,12 +13,12 @@ use Rattle.growth.specs.declared.step.Step.{Step}
 -- All is known that can be reached: each wire that is clear and shorted to no known one, and is a pin of the machine or has feet;
 -- and each crosspoint between known wires that isn't stuck is kept.
 pub record IsReached (k : Kept) (f : Faults) (known : ℕ → Type 0) : Type 0 where
-  pub pins : (i : ℕ) → i < pins_of k.shape → IsClear k.shape f (pin_wire k.shape i) → IsAlone k.shape f known (pin_wire k.shape i) →
-      known (pin_wire k.shape i)
+  pub pins : (i : ℕ) → i < pins_of k.shape → IsClear k.shape f (pin_wire k.shape i) →
+      IsAlone k.shape f known (pin_wire k.shape i) → known (pin_wire k.shape i)
   pub wires : (w : ℕ) → w < wires_of k.shape → IsClear k.shape f w → IsAlone k.shape f known w →
       HasFeet k.shape f (λ x. x < crosses_of k.shape) known w → known w
-  pub crosses : (x : ℕ) → x < crosses_of k.shape → known (ends_of k.shape x).0 → known (ends_of k.shape x).1 → stuck_cross f x ≡ None →
-      keeps_cross k x ≡ true
+  pub crosses : (x : ℕ) → x < crosses_of k.shape → known (ends_of k.shape x).0 → known (ends_of k.shape x).1 →
+      stuck_cross f x ≡ None → keeps_cross k x ≡ true
 
 -- .. where the faults are told, and what is kept is true of them
 pub record ReachedIf (told : Option Faults) (k : Kept) (ss : List Step) : Type 0 where

@@ -32,7 +32,8 @@ fn grow_whole(
     ensures reached { OnOk result (ReachedIf (rig_state rig.old).machine.faults proof.new known.new.steps) }
     ensures advances { Advances (rig_state rig.old) (rig_state rig.new) proof.old proof.new }
     ensures loads { (rig_state rig.new).loads ≤ (rig_state rig.old).loads + loads_for proof.old 8 3 }
-    ensures few { IfFaultless (rig_state rig.old).machine.faults proof.old ((rig_state rig.new).loads ≤ (rig_state rig.old).loads + loads_for proof.old 2 3) }
+    ensures few { IfFaultless (rig_state rig.old).machine.faults proof.old
+        ((rig_state rig.new).loads ≤ (rig_state rig.old).loads + loads_for proof.old 2 3) }
     ensures cause { IsErrOf result RigFail.Failed → Rose (rig_state rig.old).failures (rig_state rig.new).failures }
 {
     the_numbering_is_sound();
@@ -49,7 +50,8 @@ fn known_wires(alloc: Global, rig: &mut Box<dyn Rig>, proof: &mut Proof) -> Resu
     ensures reached { IfOk result (λ known. ReachedIf (rig_state rig.old).machine.faults proof.new known.steps) }
     ensures advances { Advances (rig_state rig.old) (rig_state rig.new) proof.old proof.new }
     ensures loads { (rig_state rig.new).loads ≤ (rig_state rig.old).loads + loads_for proof.old 16 20 }
-    ensures few { IfFaultless (rig_state rig.old).machine.faults proof.old ((rig_state rig.new).loads ≤ (rig_state rig.old).loads + loads_for proof.old 2 3) }
+    ensures few { IfFaultless (rig_state rig.old).machine.faults proof.old
+        ((rig_state rig.new).loads ≤ (rig_state rig.old).loads + loads_for proof.old 2 3) }
     ensures cause { IsErrOf result RigFail.Failed → Rose (rig_state rig.old).failures (rig_state rig.new).failures }
 {
     tests_add_up();
