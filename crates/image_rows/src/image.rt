@@ -1,15 +1,14 @@
 //! The rows of an image.
 ghost use Rattle.std.specs.Prelude.{◌≡◌, ℕ, ◌≤◌, List, ◌∷◌, [], Some, OnOk, IfOk, IfErr, IsSome, length};
 ghost use Rattle.tm_outside.specs.Store.{StoreState};
-ghost use Rattle.tm_outside.specs.Sink.{SinkState, Wrote};
+ghost use Rattle.tm_outside.specs.Sink.{SinkState};
 ghost use Rattle.hierarchy.specs.Shape.{pins_of};
 ghost use Rattle.rig.specs.Rig.{shape_of, width_of};
 ghost use Rattle.vector_text.specs.Rows.{row_line};
 ghost use Rattle.steps.specs.Files.{IsBegun, file_of};
 ghost use Rattle.steps.specs.Outside.{StandsIn, outside, around};
 ghost use Rattle.steps.specs.Courses.{all_rows};
-ghost use Rattle.steps.specs.Stops.{WriteStops};
-ghost use Rattle.steps.specs.Took.{Took, Follows};
+ghost use Rattle.steps.specs.Took.{Took, Puts, Follows};
 ghost use Rattle.image_rows.specs.Rows.{RowsBegin, image_rows, image_course};
 ghost use Rattle.image_rows.specs.Running.{IsFitting, IsLoaded, CycleGives, CycleStops, prepares};
 
@@ -110,10 +109,7 @@ fn next_row<S: Store>(
 fn write_row<K: Sink>(rows: &mut Running, sink: &mut K) -> Result<(), Stop>
     requires { IsFitting rows.old }
     ensures same { rows.new ≡ rows.old }
-    ensures kind { (K.sink_state sink.new).can_lack ≡ (K.sink_state sink.old).can_lack }
-    ensures later { (K.sink_state sink.old).failures ≤ (K.sink_state sink.new).failures }
-    ensures wrote { OnOk result (Wrote (K.sink_state sink.old).written (K.sink_state sink.new).written (row_line rows.old.row.items)) }
-    ensures refused { IfErr result (λ stop. WriteStops (row_line rows.old.row.items) stop (K.sink_state sink.old) (K.sink_state sink.new)) }
+    ensures puts { Puts (row_line rows.old.row.items) result (K.sink_state sink.old) (K.sink_state sink.new) }
 {
     write(sink, rows.line.line(&rows.row))
 }

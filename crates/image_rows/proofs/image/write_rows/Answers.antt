@@ -15,7 +15,7 @@ file-preserved g c =
     let box1 = c.next_row.new.rig in
     let r1 = (goal.Rig-dyn g (box1.vtable, box1.value)).rig_state box1.value in
     let b = g.K.Sink.sink_state c.write_row.new.sink in
-    rw w.same (IsDriving-more _ _ _ _ c.file.rows c.next_row.new.rows _ s1 _ r1 _ b c.file.invariant driven (record { image = n.image; contents = n.contents; later = n.later; asked = n.asked; machine = n.machine; loads = n.loads; rig_later = n.rig_later }) n.fits w.wrote w.kind w.later)
+    rw w.same (IsDriving-more _ _ _ _ c.file.rows c.next_row.new.rows _ s1 _ r1 _ b c.file.invariant driven (record { image = n.image; contents = n.contents; later = n.later; asked = n.asked; machine = n.machine; loads = n.loads; rig_later = n.rig_later }) n.fits w.puts.wrote w.puts.kind w.puts.later)
 
 pub returns-in_err-next_row : goal.returns-in_err-next_row
 returns-in_err-next_row g c =
@@ -36,7 +36,7 @@ returns-in_err-write_row g c =
     let box1 = c.next_row.new.rig in
     let r1 = (goal.Rig-dyn g (box1.vtable, box1.value)).rig_state box1.value in
     let b = g.K.Sink.sink_state c.write_row.new.sink in
-    rw (p.1, p.2) (record { follows = row-stops _ _ _ _ c.file.rows c.next_row.new.rows _ s1 _ r1 _ _ _ b refl c.file.invariant driven (record { image = n.image; contents = n.contents; later = n.later; asked = n.asked; machine = n.machine; loads = n.loads; rig_later = n.rig_later }) n.fits w.kind w.later w.refused })
+    rw (p.1, p.2) (record { follows = row-stops _ _ _ _ c.file.rows c.next_row.new.rows _ s1 _ r1 _ _ _ b refl c.file.invariant driven (record { image = n.image; contents = n.contents; later = n.later; asked = n.asked; machine = n.machine; loads = n.loads; rig_later = n.rig_later }) n.fits w.puts.kind w.puts.later w.puts.stops })
 
 pub returns : goal.returns
 returns g c =
