@@ -12,6 +12,10 @@ pub mod Counting
 pub mod Taking
 pub mod Reading
 pub mod JobLemmas
+pub mod WrittenRows
+pub mod OpenedRows
+pub mod OpenedLaws
+pub mod Making
 -- For the proofs of this crate alone.
 mod TextLemmas
 mod AttachLemmas
