@@ -1,17 +1,16 @@
 //! The rows of an image.
-ghost use Rattle.std.specs.Prelude.{◌≡◌, ℕ, ◌≤◌, List, ◌∷◌, [], Some, OnOk, IfOk, IfErr, IsSome, length};
+ghost use Rattle.std.specs.Prelude.{◌≡◌, ℕ, List, ◌∷◌, [], Some, OnOk, IfOk, IfErr, IsSome, length};
 ghost use Rattle.tm_outside.specs.Store.{StoreState};
-ghost use Rattle.tm_outside.specs.Sink.{SinkState, Wrote};
+ghost use Rattle.tm_outside.specs.Sink.{SinkState};
 ghost use Rattle.hierarchy.specs.Shape.{pins_of};
 ghost use Rattle.rig.specs.Rig.{shape_of, width_of};
 ghost use Rattle.vector_text.specs.Rows.{row_line};
 ghost use Rattle.steps.specs.Files.{IsBegun, file_of};
 ghost use Rattle.steps.specs.Outside.{StandsIn, outside, around};
 ghost use Rattle.steps.specs.Courses.{all_rows};
-ghost use Rattle.steps.specs.Stops.{WriteStops};
-ghost use Rattle.steps.specs.Took.{Took, Follows};
+ghost use Rattle.steps.specs.Took.{Took, Puts, Follows};
 ghost use Rattle.image_rows.specs.Rows.{RowsBegin, image_rows, image_course};
-ghost use Rattle.image_rows.specs.Running.{IsFitting, IsLoaded, CycleGives, CycleStops, prepares};
+ghost use Rattle.image_rows.specs.Running.{IsFitting, IsLoaded, Keeps, CycleGives, CycleStops, prepares};
 
 use config_image::Image;
 use loader::{Run, begin};
@@ -86,13 +85,7 @@ fn next_row<S: Store>(
     requires fits { IsFitting rows.old }
     requires pins { width_of (rig_state rig.old) ≡ Some (pins_of rows.old.image.config.shape) }
 
-    ensures contents { (S.store_state store.new).contents ≡ (S.store_state store.old).contents }
-    ensures later { (S.store_state store.old).failures ≤ (S.store_state store.new).failures }
-    ensures asked { (S.store_state store.new).asked ≡ (S.store_state store.old).asked }
-    ensures machine { (rig_state rig.new).machine ≡ (rig_state rig.old).machine }
-    ensures loads { (rig_state rig.new).loads ≡ (rig_state rig.old).loads }
-    ensures rig_later { (rig_state rig.old).failures ≤ (rig_state rig.new).failures }
-    ensures image { rows.new.image ≡ rows.old.image }
+    ensures keeps { Keeps rows.old rows.new (S.store_state store.old) (S.store_state store.new) (rig_state rig.old) (rig_state rig.new) }
     ensures fits { OnOk result (IsFitting rows.new) }
     ensures gives { let old = S.store_state store.old in let new = S.store_state store.new in
         IfOk result (λ more. CycleGives more rows.old rows.new old new (rig_state rig.old) (rig_state rig.new)) }
@@ -110,10 +103,7 @@ fn next_row<S: Store>(
 fn write_row<K: Sink>(rows: &mut Running, sink: &mut K) -> Result<(), Stop>
     requires { IsFitting rows.old }
     ensures same { rows.new ≡ rows.old }
-    ensures kind { (K.sink_state sink.new).can_lack ≡ (K.sink_state sink.old).can_lack }
-    ensures later { (K.sink_state sink.old).failures ≤ (K.sink_state sink.new).failures }
-    ensures wrote { OnOk result (Wrote (K.sink_state sink.old).written (K.sink_state sink.new).written (row_line rows.old.row.items)) }
-    ensures refused { IfErr result (λ stop. WriteStops (row_line rows.old.row.items) stop (K.sink_state sink.old) (K.sink_state sink.new)) }
+    ensures puts { Puts (row_line rows.old.row.items) result (K.sink_state sink.old) (K.sink_state sink.new) }
 {
     write(sink, rows.line.line(&rows.row))
 }
