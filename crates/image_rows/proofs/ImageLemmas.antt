@@ -16,6 +16,7 @@ use Rattle.steps.specs.Stops.{StepStops, IsCounted, stop_of_rig}
 use Rattle.steps.specs.Texts.{opens}
 use Rattle.steps.specs.Took.{Took, Puts, Follows}
 use Rattle.steps.specs.declared.refusal.Stop.{Stop}
+use Rattle.steps.proofs.Making.{rig-took, rig-stopped}
 use Rattle.steps.proofs.OpenedRows.{opening-stops, outputs-stops, rows-then}
 use Rattle.steps.proofs.Taking.{step-stops, step-gives}
 use Rattle.image_rows.specs.Rows.{RowsBegin, IsAtOutputs, image_rows, image_course, loaded_course, loads}
@@ -24,39 +25,13 @@ use Rattle.image_rows.specs.declared.image.Running.{Running}
 
 -- ---- the load as a step
 
-module _ (old new : RigState) (machine : new.machine ≡ old.machine) (store : StoreState) (sink : SinkState) where
-  load-later : old.failures ≤ new.failures → IsLater (outside store old sink) (outside store new sink)
-  load-later later = record { contents = refl; texts = ap (λ (m : Machine). m.texts) machine; kind = refl; store = omega arith; rig = later; sink = omega arith }
+module _ (old new : RigState) (machine : new.machine ≡ old.machine) (store : StoreState) (sink : SinkState) (later : old.failures ≤ new.failures) where
+  pub load-took : (rows : Running) → new.loads ≡ next_count old.loads → Took [] (prepares old new) (Ok rows) (outside store old sink) (outside store new sink)
+  load-took rows counted = rig-took (prepares old new) old new store sink machine later rows counted
 
-  pub load-took : (rows : Running) → old.failures ≤ new.failures → new.loads ≡ next_count old.loads → Took [] (prepares old new) (Ok rows) (outside store old sink) (outside store new sink)
-  load-took rows later counted = record {
-    later = load-later later;
-    silent = refl;
-    asked = record { all = sym (append-nil store.asked); some = tt };
-    place = refl;
-    gives = counted;
-    stops = tt;
-    counted = tt;
-  }
-
-  load-stops : (fail : RigFail) → new.loads ≡ old.loads → StepStops (prepares old new) (stop_of_rig fail)
-  load-stops Failed same = (tt, inl same)
-  load-stops Memory same = (tt, inl same)
-
-  load-counts : (fail : RigFail) → LoadFails fail old new → IsCounted ⊥ (stop_of_rig fail) (outside store old sink) (outside store new sink)
-  load-counts Failed fails = fails
-  load-counts Memory fails = tt
-
-  pub load-stopped : (fail : RigFail) → old.failures ≤ new.failures → new.loads ≡ old.loads → LoadFails fail old new → Took [] (prepares old new) (Err (stop_of_rig fail)) (outside store old sink) (outside store new sink)
-  load-stopped fail later same fails = record {
-    later = load-later later;
-    silent = refl;
-    asked = record { all = tt; some = refl };
-    place = refl;
-    gives = tt;
-    stops = load-stops fail same;
-    counted = load-counts fail fails;
-  }
+  pub load-stopped : (fail : RigFail) → new.loads ≡ old.loads → LoadFails fail old new → Took [] (prepares old new) (Err (stop_of_rig fail)) (outside store old sink) (outside store new sink)
+  load-stopped Failed same fails = rig-stopped (prepares old new) old new store sink machine later (stop_of_rig Failed) (tt, inl same) fails
+  load-stopped Memory same fails = rig-stopped (prepares old new) old new store sink machine later (stop_of_rig Memory) (tt, inl same) tt
 
 -- ---- what follows on it
 

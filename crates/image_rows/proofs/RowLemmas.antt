@@ -1,34 +1,32 @@
 -- How the rows of an image go on, and how they stop.
-use Rattle.std.proofs.Common.{◌≡◌, zero, suc, ◌+◌, ◌≤◌, Bool, false, List, [], ◌∷◌, ◌++◌, length, map, flat_map, Option, None, Some, IfSome, arith, refl, ap, subst, ◌∙◌, length-append}
+use Rattle.std.proofs.Common.{◌≡◌, zero, suc, ◌≤◌, Bool, false, List, [], ◌∷◌, ◌++◌, length, map, flat_map, Option, None, Some, IfSome, arith, refl, ap, subst, ◌∙◌}
 use Rattle.std.specs.Prelude.{Ok, Err}
 use Rattle.std.specs.List.{All}
-use Rattle.std.proofs.lemmas.List.{map-append}
 use Rattle.std.proofs.lemmas.List.Elements.{All-append}
-use Rattle.tm_outside.specs.Store.{StoreState}
-use Rattle.tm_outside.specs.Sink.{SinkState}
 use Rattle.hierarchy.specs.Circuit.{Pins}
 use Rattle.hierarchy.specs.Faults.{Faults}
 use Rattle.config_set.specs.Configuration.{Configuration}
-use Rattle.config_set.specs.Run.{at_load, none}
-use Rattle.config_set.specs.Faulty.{IsRun, circuit_of}
-use Rattle.rig.specs.Rig.{RigState, Exchange, IsTold, Begins, config_of, cycles_of, drives_of, readings_of}
+use Rattle.config_set.specs.Faulty.{IsRun}
+use Rattle.rig.specs.Rig.{RigState, config_of, cycles_of, drives_of, readings_of}
 use Rattle.config_image.specs.Images.{ImageValue, drive_of, image_row}
+use Rattle.loader.specs.Pins.{pins_in}
 use Rattle.loader.specs.Run.{RunsRow}
+use Rattle.loader.proofs.Driving.{HasDriven, driven-start, driven-more}
 use Rattle.vector_text.specs.declared.vectors.VectorsFail.{VectorsFail}
 use Rattle.vector_text.specs.declared.vectors.VectorsFail.TheVariants.{Text, Failed}
 use Rattle.vector_text.specs.Readings.{NextFails}
 use Rattle.vector_text.specs.Rows.{row_line}
 use Rattle.steps.specs.Files.{file_of, IsBegun}
-use Rattle.steps.specs.Outside.{Outside, outside, IsLater}
+use Rattle.steps.specs.Outside.{Outside, IsLater}
 use Rattle.steps.specs.Courses.{RowWork, all_rows, HasRows}
 use Rattle.steps.specs.Stops.{StopWrote, IsCounted, stop_of_vectors}
 use Rattle.steps.specs.Took.{Puts, Follows}
 use Rattle.steps.specs.declared.refusal.Refusal.TheVariants as refused
 use Rattle.steps.specs.declared.refusal.Stop.{Stop}
 use Rattle.steps.specs.declared.refusal.Stop.TheVariants.{Refused}
-use Rattle.steps.proofs.WrittenRows.{AreWritten, none-written, row-later, near-next, count-more, written-more, has-rows, rows-follow, vectors-follow, end-follows, row-follows}
+use Rattle.steps.proofs.WrittenRows.{AreWritten, none-written, near-next, count-more, written-more, has-rows, rows-follow, vectors-follow, end-follows, row-follows}
 use Rattle.image_rows.specs.Rows.{most_rows, image_rows, AreRunRows, AreRowsOf, IsSession}
-use Rattle.image_rows.specs.Running.{IsFitting, IsLoaded, IsDriven, Keeps, CycleGives, CycleStops, pins_in}
+use Rattle.image_rows.specs.Running.{IsFitting, IsLoaded, IsDriven, Keeps, CycleGives, CycleStops}
 use Rattle.image_rows.specs.declared.image.Running.{Running}
 
 -- the vector has a bit for each input pin
@@ -52,16 +50,9 @@ pub record IsDriving (image : ImageValue) (begun : Outside) (rows : Running) (no
   pub widths : All (HasWidth image) vectors
   pub machine : now.rig.machine ≡ begun.rig.machine
   pub loads : now.rig.loads ≡ begun.rig.loads
-  pub session : IsSession now.rig image vectors done
-  pub told : IsTold now.rig
+  pub driven : HasDriven most_rows image vectors done now.rig
 
 -- ---- what a session has read
-
--- a run with no drives
-told-none : (faults : Option Faults) (config : Option Configuration) (cycles : List Exchange) → cycles ≡ [] → IfSome faults (λ f. IfSome config (λ g. IsRun f g (drives_of cycles) (readings_of cycles)))
-told-none None config cycles is = tt
-told-none (Some f) None cycles is = tt
-told-none (Some f) (Some g) cycles is = rw is (record { outputs = at_load (circuit_of f g); cycles = none })
 
 read-told : (faults : Option Faults) (config : Option Configuration) (cycles : List Exchange) (i : ImageValue) (vectors rows : List (List Bool)) → config ≡ Some i.config → drives_of cycles ≡ map (drive_of i) vectors → rows ≡ map (image_row i) (readings_of cycles) → IfSome faults (λ f. IfSome config (λ g. IsRun f g (drives_of cycles) (readings_of cycles))) → IfSome faults (λ f. AreRunRows f i vectors rows)
 read-told None config cycles i vectors rows is drives rows_are told = tt
@@ -69,44 +60,21 @@ read-told (Some f) config cycles i vectors rows is drives rows_are told =
     let run : IsRun f i.config (drives_of cycles) (readings_of cycles) = rw is at told in
     (readings_of cycles, subst (λ (d : List Pins). IsRun f i.config d (readings_of cycles)) drives run, rows_are)
 
--- the rows of a session are those of the machine
-session-rows : (rig : RigState) (i : ImageValue) (vectors rows : List (List Bool)) → length rows ≡ length vectors → All (HasWidth i) vectors → IsSession rig i vectors rows → IsTold rig → AreRowsOf rig i vectors rows
-session-rows rig i vectors rows count widths session is = record {
+-- the rows of a session are those of the machine, also where it has ended since
+session-rows : (rig rig' : RigState) (i : ImageValue) (vectors rows : List (List Bool)) → rig'.machine ≡ rig.machine → length rows ≡ length vectors → All (HasWidth i) vectors → HasDriven most_rows i vectors rows rig → AreRowsOf rig' i vectors rows
+session-rows rig rig' i vectors rows same count widths is = record {
   count = count;
   widths = widths;
-  read = read-told rig.machine.faults (config_of rig) (cycles_of rig) i vectors rows session.config session.drives session.rows_are is;
+  read = rw same (read-told rig.machine.faults (config_of rig) (cycles_of rig) i vectors rows is.config is.drives is.rows_are is.told);
 }
 
--- also where the session has ended since
-rows-kept : (rig rig' : RigState) (i : ImageValue) (vectors rows : List (List Bool)) → rig'.machine ≡ rig.machine → AreRowsOf rig i vectors rows → AreRowsOf rig' i vectors rows
-rows-kept rig rig' i vectors rows same are = record { count = are.count; widths = are.widths; read = rw same are.read }
-
-session-kept : (rig rig' : RigState) (i : ImageValue) (vectors rows : List (List Bool)) → rig'.session ≡ rig.session → IsSession rig i vectors rows → IsSession rig' i vectors rows
-session-kept rig rig' i vectors rows same is = record {
+-- a session that is still open
+pub session-is : (rig rig' : RigState) (i : ImageValue) (vectors rows : List (List Bool)) → rig'.session ≡ rig.session → HasDriven most_rows i vectors rows rig → IsSession rig' i vectors rows
+session-is rig rig' i vectors rows same is = record {
   config = rw same is.config;
   drives = rw same is.drives;
   rows_are = rw same is.rows_are;
-  room = rw same is.room;
-}
-
--- one more cycle
-session-more : (rig rig' : RigState) (i : ImageValue) (vectors rows : List (List Bool)) (vector row : List Bool) → IsSession rig i vectors rows → RunsRow (pins_in i) rig rig' vector row → IsSession rig' i (vectors ++ vector ∷ []) (rows ++ row ∷ [])
-session-more rig rig' i vectors rows vector row is run =
-    let size : length (rows ++ row ∷ []) ≡ length rows + 1 = rw (length-append rows) refl in
-    record {
-      config = run.1.config ∙ is.config;
-      drives = rw (run.1.cycles, map-append (λ (x : Exchange). x.drive) (cycles_of rig), map-append (drive_of i) vectors, is.drives) refl;
-      rows_are = rw (run.1.cycles, map-append (λ (x : Exchange). x.reading) (cycles_of rig), map-append (image_row i) (readings_of (cycles_of rig)), ← is.rows_are, run.2) refl;
-      room = let spare = run.1.spare in let room = is.room in omega (arith, room, spare, size);
-    }
-
--- the session of an image that was loaded
-pub session-start : (rig : RigState) (i : ImageValue) → Begins i.config most_rows rig → IsSession rig i [] []
-session-start rig i begins = record {
-  config = begins.config;
-  drives = rw begins.cycles refl;
-  rows_are = rw begins.cycles refl;
-  room = omega (arith, begins.spare);
+  room = rw same is.left;
 }
 
 -- ---- the loop
@@ -121,13 +89,8 @@ IsDriving-start rows o loaded begun = record {
   widths = no-widths rows.image;
   machine = refl;
   loads = refl;
-  session = session-start o.rig rows.image loaded.begins;
-  told = told-none o.rig.machine.faults (config_of o.rig) (cycles_of o.rig) loaded.begins.cycles;
+  driven = driven-start most_rows rows.image o.rig loaded.begins;
 }
-
--- what is the same after a row, whether it was written or not
-pub driven-later : (rows rows' : Running) (store store' : StoreState) (rig rig' : RigState) (sink sink' : SinkState) → Keeps rows rows' store store' rig rig' → sink'.can_lack ≡ sink.can_lack → sink.failures ≤ sink'.failures → IsLater (outside store rig sink) (outside store' rig' sink')
-driven-later rows rows' store store' rig rig' sink sink' keeps kind later = row-later store store' rig rig' sink sink' keeps.store keeps.machine keeps.failures kind later
 
 module _ (image : ImageValue) (begun now new : Outside) (rows rows' : Running) (so_far : IsDriving image begun rows now) (keeps : Keeps rows rows' now.store new.store now.rig new.rig) (later : IsLater now new) where
   abbrev work : RowWork
@@ -141,7 +104,10 @@ module _ (image : ImageValue) (begun now new : Outside) (rows rows' : Running) (
 
   -- the rows so far are those of the machine
   are-rows : AreRowsOf new.rig image so_far.vectors so_far.done
-  are-rows = rows-kept now.rig new.rig image so_far.vectors so_far.done keeps.machine (session-rows now.rig image so_far.vectors so_far.done so_far.written.count so_far.widths so_far.session so_far.told)
+  are-rows = session-rows now.rig new.rig image so_far.vectors so_far.done keeps.machine so_far.written.count so_far.widths so_far.driven
+
+  session-still : new.rig.session ≡ now.rig.session → IsSession new.rig image so_far.vectors so_far.done
+  session-still same = session-is now.rig new.rig image so_far.vectors so_far.done same so_far.driven
 
   -- ---- no further row is made
 
@@ -154,7 +120,7 @@ module _ (image : ImageValue) (begun now new : Outside) (rows rows' : Running) (
 
     fails-follow : {U : Type 0} (fail : VectorsFail) → NextFails fail rows.vectors now.store new.store → new.rig ≡ now.rig → Follows {T = U} ⊥ [] same_rig (all_rows work) (Err (stop_of_vectors fail)) begun new
     fails-follow fail fails same =
-        vectors-follow work begun now new rows.vectors so_far.vectors so_far.done so_far.written later keeps.store.asked refl refl same_rig rig-same are-rows (session-kept now.rig new.rig image so_far.vectors so_far.done (ap (λ (r : RigState). r.session) same) so_far.session) silent fail fails
+        vectors-follow work begun now new rows.vectors so_far.vectors so_far.done so_far.written later keeps.store.asked refl refl same_rig rig-same are-rows (session-still (ap (λ (r : RigState). r.session) same)) silent fail fails
 
     pub cycle-stops : {U : Type 0} (stop : Stop) → CycleStops stop rows rows' now.store new.store now.rig new.rig → Follows {T = U} ⊥ [] same_rig (all_rows work) (Err stop) begun new
     cycle-stops (Refused (refused.Vectors line kind)) stops = fails-follow (Text line kind) stops.0 stops.2
@@ -164,24 +130,23 @@ module _ (image : ImageValue) (begun now new : Outside) (rows rows' : Running) (
         follow (Refused refused.Rig) (flat_map row_line so_far.done, (has, near), rw silent so_far.written.wrote) stops.1
     cycle-stops (Refused refused.Memory) stops =
         let near = near-next (length image.inputs) begun now new rows.vectors rows'.vectors so_far.vectors so_far.done rows'.vector.items so_far.written later keeps.store.asked stops.0 in
-        let room = so_far.session.room in
-        let lacks : most_rows ≤ length so_far.done = omega (arith, room, stops.1) in
-        let session = session-kept now.rig new.rig image so_far.vectors so_far.done stops.2 so_far.session in
-        follow (Refused refused.Memory) (flat_map row_line so_far.done, (record { has = has; session = session }, lacks, near), rw silent so_far.written.wrote) tt
+        let left = so_far.driven.left in
+        let lacks : most_rows ≤ length so_far.done = omega (arith, left, stops.1) in
+        follow (Refused refused.Memory) (flat_map row_line so_far.done, (record { has = has; session = session-still stops.2 }, lacks, near), rw silent so_far.written.wrote) tt
     cycle-stops stop stops = absurd stops
 
     -- the file has ended
     pub file-ends : {U : Type 0} (x : U) → CycleGives false rows rows' now.store new.store now.rig new.rig → Follows ⊥ [] same_rig (all_rows work) (Ok x) begun new
     file-ends x gives =
-        end-follows work begun now new rows.vectors so_far.vectors so_far.done so_far.written later keeps.store.asked refl refl same_rig rig-same are-rows (session-kept now.rig new.rig image so_far.vectors so_far.done (ap (λ (r : RigState). r.session) gives.1) so_far.session) silent x rows'.vectors rows'.vector.items gives.0
+        end-follows work begun now new rows.vectors so_far.vectors so_far.done so_far.written later keeps.store.asked refl refl same_rig rig-same are-rows (session-still (ap (λ (r : RigState). r.session) gives.1)) silent x rows'.vectors rows'.vector.items gives.0
 
   -- ---- the row of one more vector
 
   module _ (driven : IsDriven rows rows' now.store new.store now.rig new.rig) (fits : IsFitting rows') where
-    session-next : IsSession new.rig image (so_far.vectors ++ rows'.vector.items ∷ []) (so_far.done ++ rows'.row.items ∷ [])
-    session-next =
+    driven-next : HasDriven most_rows image (so_far.vectors ++ rows'.vector.items ∷ []) (so_far.done ++ rows'.row.items ∷ []) new.rig
+    driven-next =
         let row : RunsRow (pins_in image) now.rig new.rig rows'.vector.items rows'.row.items = rw so_far.image_is at driven.row in
-        session-more now.rig new.rig image so_far.vectors so_far.done rows'.vector.items rows'.row.items so_far.session row
+        driven-more most_rows image so_far.vectors so_far.done rows'.vector.items rows'.row.items now.rig new.rig so_far.driven row
 
     widths-next : All (HasWidth image) (so_far.vectors ++ rows'.vector.items ∷ [])
     widths-next =
@@ -193,7 +158,7 @@ module _ (image : ImageValue) (begun now new : Outside) (rows rows' : Running) (
     row-stops stop puts =
         let count = count-more (length image.inputs) begun now new rows.vectors rows'.vectors so_far.vectors so_far.done rows'.vector.items so_far.written later keeps.store.asked driven.read rows'.row.items in
         row-follows work begun now new rows.vectors so_far.vectors so_far.done so_far.written later keeps.store.asked refl refl same_rig rig-same rows'.vectors rows'.vector.items rows'.row.items driven.read
-        (session-rows new.rig image _ _ count widths-next session-next driven.row.1.told) session-next stop puts
+        (session-rows new.rig new.rig image _ _ refl count widths-next driven-next) (session-is new.rig new.rig image _ _ refl driven-next) stop puts
 
     -- or it is
     pub IsDriving-more : Puts {T = Unit {0}} (row_line rows'.row.items) (Ok tt) now.sink new.sink → IsDriving image begun rows' new
@@ -206,6 +171,5 @@ module _ (image : ImageValue) (begun now new : Outside) (rows rows' : Running) (
       widths = widths-next;
       machine = rig-same.0;
       loads = rig-same.1;
-      session = session-next;
-      told = driven.row.1.told;
+      driven = driven-next;
     }

@@ -2,10 +2,8 @@
 use Rattle.std.specs.Prelude.{◌≡◌, ◌≤◌, Bool, true, false, length, None}
 use Rattle.tm_outside.specs.Counts.{Rose}
 use Rattle.tm_outside.specs.Store.{StoreState, IsFailure}
-use Rattle.hierarchy.specs.Shape.{pins_of}
 use Rattle.rig.specs.Rig.{RigState, Begins, spare_of}
-use Rattle.config_image.specs.Images.{ImageValue}
-use Rattle.loader.specs.Pins.{Rows}
+use Rattle.loader.specs.Pins.{pins_in}
 use Rattle.loader.specs.Run.{RunsRow}
 use Rattle.vector_text.specs.declared.vectors.VectorsFail.TheVariants.{Text}
 use Rattle.vector_text.specs.Readings.{new_reading, NextGives, NextFails, StaysWithin}
@@ -17,10 +15,6 @@ use Rattle.steps.specs.declared.refusal.Stop.{Stop}
 use Rattle.steps.specs.declared.refusal.Stop.TheVariants.{Refused}
 use Rattle.image_rows.specs.Rows.{most_rows, loads}
 use Rattle.image_rows.specs.declared.image.Running.{Running}
-
--- the pins of an image, as a run keeps them
-abbrev pub pins_in : ImageValue → Rows
-pins_in i = record { pins = pins_of i.config.shape; inputs = i.inputs; outputs = i.outputs }
 
 -- the buffers have the lengths that the image asks for
 pub record IsFitting (rows : Running) : Type 0 where

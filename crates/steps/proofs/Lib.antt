@@ -16,6 +16,9 @@ pub mod WrittenRows
 pub mod OpenedRows
 pub mod OpenedLaws
 pub mod Making
+pub mod Keeping
+pub mod AtEnd
+pub mod Well
 -- For the proofs of this crate alone.
 mod TextLemmas
 mod AttachLemmas

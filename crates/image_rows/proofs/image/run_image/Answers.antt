@@ -1,9 +1,11 @@
-use Rattle.std.proofs.Common.{refl}
+use Rattle.std.proofs.Common.{[], refl}
 use Rattle.std.proofs.lemmas.Result.{err_from_is_err_and}
 use Rattle.steps.proofs.Making.{nothing}
 use Rattle.steps.proofs.StartLemmas.{begun-file}
+use Rattle.loader.proofs.Driving.{driven-start}
+use Rattle.image_rows.specs.Rows.{most_rows}
 use Rattle.image_rows.proofs.ImageLemmas.{load-stops, open-stops, line-stops, rows-follow}
-use Rattle.image_rows.proofs.RowLemmas.{session-start}
+use Rattle.image_rows.proofs.RowLemmas.{session-is}
 use Rattle.image_rows.proofs.image.run_image.Goals as goal
 
 pub returns-in_err-rows : goal.returns-in_err-rows
@@ -31,7 +33,7 @@ returns-in_err-write g c =
     let r1 = (goal.Rig-dyn g (box1.vtable, box1.value)).rig_state box1.value in
     let e = c.in_ok-rows.ensures in
     let opened = c.in_ok-open_vectors.ensures in
-    let session = rw e.image at (session-start r1 c.in_ok-rows.rows.image e.loaded.begins) in
+    let session = rw e.image at (session-is r1 r1 c.in_ok-rows.rows.image [] [] refl (driven-start most_rows c.in_ok-rows.rows.image r1 e.loaded.begins)) in
     record {
       follows = λ files begun stands. rw (p.1, p.2) (line-stops c.args.image c.args.vectors.now files begun _ _ stands _ e.machine (e.took s0 a) _ (opened.took r1 a) (refl, refl) _ _ _ refl c.in_err-write.ensures.puts (opened.begun, session));
     }

@@ -1,7 +1,7 @@
 use Rattle.std.proofs.Common.{refl, arith}
 use Rattle.std.proofs.lemmas.Result.{err_from_is_err_and}
-use Rattle.steps.specs.Outside.{outside}
-use Rattle.image_rows.proofs.RowLemmas.{IsDriving-start, IsDriving-more, driven-later, cycle-stops, row-stops, file-ends}
+use Rattle.steps.proofs.WrittenRows.{row-later}
+use Rattle.image_rows.proofs.RowLemmas.{IsDriving-start, IsDriving-more, cycle-stops, row-stops, file-ends}
 use Rattle.image_rows.proofs.image.write_rows.Goals as goal
 
 pub file-init : goal.file-init
@@ -12,7 +12,7 @@ file-preserved g c =
     let n = c.in_ok-next_row.ensures in
     let w = c.in_ok-write_row.ensures in
     let driven = rw c.if-branch.true at n.gives in
-    let later = driven-later c.file.rows c.next_row.new.rows _ _ _ _ _ _ n.keeps w.puts.kind w.puts.later in
+    let later = row-later _ _ _ _ _ _ n.keeps.store n.keeps.machine n.keeps.failures w.puts.kind w.puts.later in
     rw w.same (IsDriving-more _ _ _ _ c.file.rows c.next_row.new.rows c.file.invariant n.keeps later driven n.fits w.puts)
 
 pub returns-in_err-next_row : goal.returns-in_err-next_row
@@ -20,7 +20,7 @@ returns-in_err-next_row g c =
     let p = err_from_is_err_and c.from_residual.result c.from_residual.ensures.1 in
     let n = c.in_err-next_row.ensures in
     let a = g.K.Sink.sink_state c.file.sink in
-    let later = driven-later c.file.rows c.next_row.new.rows _ _ _ _ a a n.keeps refl (omega arith) in
+    let later = row-later _ _ _ _ a a n.keeps.store n.keeps.machine n.keeps.failures refl (omega arith) in
     rw (p.1, p.2) (record { follows = cycle-stops _ _ _ _ c.file.rows c.next_row.new.rows c.file.invariant n.keeps later refl _ n.refused })
 
 pub returns-in_err-write_row : goal.returns-in_err-write_row
@@ -29,7 +29,7 @@ returns-in_err-write_row g c =
     let n = c.in_ok-next_row.ensures in
     let w = c.in_err-write_row.ensures in
     let driven = rw c.if-branch.true at n.gives in
-    let later = driven-later c.file.rows c.next_row.new.rows _ _ _ _ _ _ n.keeps w.puts.kind w.puts.later in
+    let later = row-later _ _ _ _ _ _ n.keeps.store n.keeps.machine n.keeps.failures w.puts.kind w.puts.later in
     rw (p.1, p.2) (record { follows = row-stops _ _ _ _ c.file.rows c.next_row.new.rows c.file.invariant n.keeps later driven n.fits _ w.puts })
 
 pub returns : goal.returns
@@ -37,5 +37,5 @@ returns g c =
     let n = c.in_ok-next_row.ensures in
     let gives = rw c.if-branch.false at n.gives in
     let a = g.K.Sink.sink_state c.file.sink in
-    let later = driven-later c.file.rows c.next_row.new.rows _ _ _ _ a a n.keeps refl (omega arith) in
+    let later = row-later _ _ _ _ a a n.keeps.store n.keeps.machine n.keeps.failures refl (omega arith) in
     record { follows = file-ends _ _ _ _ c.file.rows c.next_row.new.rows c.file.invariant n.keeps later refl tt gives }
