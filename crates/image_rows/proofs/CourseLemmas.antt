@@ -1,5 +1,5 @@
 -- What the course of an image comes to, whoever's rows they are.
-use Rattle.std.proofs.Common.{◌≡◌, ℕ, ◌≤◌, Bool, List, ◌∷◌, ◌++◌, length, None, inl, inr, arith}
+use Rattle.std.proofs.Common.{◌≡◌, ℕ, ◌≤◌, Bool, List, ◌++◌, length, None, inl, inr, arith}
 use Rattle.tm_outside.specs.Counts.{next_count}
 use Rattle.tm_outside.specs.Told.{holds}
 use Rattle.steps.specs.Files.{says_at, vectors_at, AreAll}

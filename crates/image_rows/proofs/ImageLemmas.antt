@@ -1,18 +1,18 @@
 -- How the steps of an image's rows follow one another.
-use Rattle.std.proofs.Common.{◌≡◌, ℕ, ◌≤◌, List, [], ◌∷◌, refl, sym, ap, ◌∙◌, inl, append-nil, arith}
+use Rattle.std.proofs.Common.{◌≡◌, ℕ, ◌≤◌, List, [], ◌∷◌, refl, sym, ap, ◌∙◌, inl}
 use Rattle.std.specs.Prelude.{Result, Ok, Err}
 use Rattle.tm_outside.specs.Counts.{next_count}
 use Rattle.tm_outside.specs.Told.{Told}
 use Rattle.tm_outside.specs.Store.{StoreState}
 use Rattle.tm_outside.specs.Sink.{SinkState}
-use Rattle.rig.specs.Rig.{RigState, Machine, LoadFails}
+use Rattle.rig.specs.Rig.{RigState, LoadFails}
 use Rattle.rig.specs.declared.rig.RigFail.{RigFail}
 use Rattle.rig.specs.declared.rig.RigFail.TheVariants.{Failed, Memory}
 use Rattle.config_image.specs.Images.{ImageValue}
 use Rattle.steps.specs.Lines.{outputs_line}
-use Rattle.steps.specs.Outside.{Outside, outside, around, IsLater, StandsIn}
+use Rattle.steps.specs.Outside.{Outside, outside, around, StandsIn}
 use Rattle.steps.specs.Courses.{Course, RowWork, all_rows}
-use Rattle.steps.specs.Stops.{StepStops, IsCounted, stop_of_rig}
+use Rattle.steps.specs.Stops.{stop_of_rig}
 use Rattle.steps.specs.Texts.{opens}
 use Rattle.steps.specs.Took.{Took, Puts, Follows}
 use Rattle.steps.specs.declared.refusal.Stop.{Stop}

@@ -1,17 +1,17 @@
 -- The list as a step.
-use Rattle.std.proofs.Common.{◌≡◌, ℕ, ◌≤◌, List, [], Some, option_map, refl, sym, ap, arith, append-nil}
+use Rattle.std.proofs.Common.{◌≡◌, ℕ, ◌≤◌, List, [], Some, option_map, refl, ap}
 use Rattle.std.specs.Prelude.{Ok, Err}
 use Rattle.tm_outside.specs.Counts.{Rose}
 use Rattle.tm_outside.specs.Store.{StoreState}
 use Rattle.tm_outside.specs.Sink.{SinkState}
 use Rattle.hierarchy.specs.declared.Shape.{Shape}
 use Rattle.defect_db.specs.Lists.{DefectList, IsDefectList}
-use Rattle.rig.specs.Rig.{RigState, Machine, Asked, shape_of}
+use Rattle.rig.specs.Rig.{RigState, Asked, shape_of}
 use Rattle.rig.specs.declared.rig.RigFail.{RigFail}
 use Rattle.rig.specs.declared.rig.RigFail.TheVariants.{Failed, Memory}
 use Rattle.diagnose.specs.Diagnosis.{IsDiagnosis, TakesFewLoads}
-use Rattle.steps.specs.Outside.{outside, IsLater}
-use Rattle.steps.specs.Stops.{IsCounted, StepStops, stop_of_rig}
+use Rattle.steps.specs.Outside.{outside}
+use Rattle.steps.specs.Stops.{stop_of_rig}
 use Rattle.steps.specs.Took.{Took}
 use Rattle.listing.specs.Lists.{IsListed, Listed, lists_now}
 

@@ -1,7 +1,7 @@
 -- Courses of which nothing is refused but what is excused.
 use Rattle.std.proofs.Common.{ℕ, List, sym, subst, inl, inr}
 use Rattle.steps.specs.Outside.{Around}
-use Rattle.steps.specs.Courses.{Course, Next, Step, StopsAt, after, write, done}
+use Rattle.steps.specs.Courses.{Course, Next, Step, after, write, done}
 use Rattle.steps.specs.Jobs.{IsExcused, EndsWell}
 use Rattle.steps.specs.declared.refusal.Refusal.{Refusal}
 use Rattle.steps.proofs.Leading.{step-leads}

@@ -1,5 +1,5 @@
 -- The rows of a file of vectors that is read row by row: those so far, how they go on, and how they end.
-use Rattle.std.proofs.Common.{◌≡◌, ℕ, ◌≤◌, Bool, false, List, [], ◌∷◌, ◌++◌, length, flat_map, arith, refl, sym, ap, ◌∙◌, append-nil, length-append}
+use Rattle.std.proofs.Common.{◌≡◌, ℕ, ◌≤◌, Bool, false, List, [], ◌∷◌, ◌++◌, length, flat_map, refl, sym, ap, ◌∙◌, append-nil, length-append}
 use Rattle.std.specs.Prelude.{Result, Ok, Err, IfErr}
 use Rattle.tm_outside.specs.Store.{StoreState}
 use Rattle.tm_outside.specs.Sink.{SinkState, Wrote}

@@ -1,4 +1,4 @@
-use Rattle.std.proofs.Common.{◌≡◌, ◌∙◌, length, Some, refl, sym, ap}
+use Rattle.std.proofs.Common.{◌∙◌, length, Some, refl, sym, ap}
 use Rattle.std.proofs.lemmas.Result.{err_from_is_err_and}
 use Rattle.hierarchy.specs.declared.Shape.{Shape}
 use Rattle.netlist.specs.declared.draft.Draft.{Draft}

@@ -1,6 +1,5 @@
 use Rattle.std.proofs.Common.{◌∙◌, refl, ap}
 use Rattle.std.proofs.lemmas.Result.{err_from_is_err_and}
-use Rattle.steps.specs.Outside.{outside}
 use Rattle.steps.proofs.Making.{nothing}
 use Rattle.steps.proofs.OpenedRows.{opening-lacks, opening-stops, outputs-stops, rows-then}
 use Rattle.steps.proofs.StartLemmas.{begun-file}
