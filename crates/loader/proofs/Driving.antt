@@ -44,3 +44,9 @@ driven-more room i vectors rows vector row rig rig' is run =
       told = run.1.told;
       left = let spare = run.1.spare in let left = is.left in omega (arith, left, spare, size);
     }
+
+-- where the faults are told, what was read is the run of the image under what was driven
+pub told-run : (rig : RigState) (i : ImageValue) (vectors : List (List Bool)) → config_of rig ≡ Some i.config → drives_of (cycles_of rig) ≡ map (drive_of i) vectors → IsTold rig → (f : Faults) → rig.machine.faults ≡ Some f → IsRun f i.config (map (drive_of i) vectors) (readings_of (cycles_of rig))
+told-run rig i vectors config drives told f is =
+    let at : IfSome (Some i.config) (λ g. IsRun f g (drives_of (cycles_of rig)) (readings_of (cycles_of rig))) = rw (is, config) at told in
+    rw drives at at

@@ -9,7 +9,7 @@ use Rattle.vector_text.specs.declared.vectors.VectorsFail.{VectorsFail}
 use Rattle.vector_text.specs.declared.vectors.VectorsFail.TheVariants.{Text, Failed as VectorsFailed}
 use Rattle.vector_text.specs.Readings.{VectorReading, new_reading, NextGives, NextFails}
 use Rattle.vector_text.specs.Rows.{row_line}
-use Rattle.steps.specs.Files.{most_vector_bytes, file_of, IsBegun, IsNearNext}
+use Rattle.steps.specs.Files.{most_vector_bytes, file_of, AreAll, AreBeforeFault, IsBegun, IsNearNext}
 use Rattle.steps.specs.NextVectors.{StaysOpen, IsRead}
 use Rattle.steps.specs.Outside.{Outside, outside, IsLater}
 use Rattle.steps.specs.Courses.{RowWork, all_rows, HasRows, HasReadRows, IsBeforeRow}
@@ -97,7 +97,7 @@ module _ (w : RowWork) (begun now new : Outside) (reading : VectorReading) (vect
 
     pub vectors-follow : {U : Type 0} (fail : VectorsFail) → NextFails fail reading now.store new.store → Follows {T = U} ⊥ [] asks (all_rows w) (Err (stop_of_vectors fail)) begun new
     vectors-follow (Text line kind) fails =
-        let fault = rw told (taken-fault w.width begun.store now.store new.store reading vectors line kind so_far.taking fails) in
+        let fault : AreBeforeFault w.width w.told line kind vectors = rw told (taken-fault w.width begun.store now.store new.store reading vectors line kind so_far.taking fails) in
         rows-follow (Err (stop_of_vectors (Text line kind))) (text, (has-read, fault), rw silent so_far.wrote) tt
     vectors-follow VectorsFailed fails =
         rows-follow (Err (stop_of_vectors VectorsFailed)) (text, (has-read, place ∙ fails.closed), rw silent so_far.wrote) fails.rose
@@ -105,7 +105,7 @@ module _ (w : RowWork) (begun now new : Outside) (reading : VectorReading) (vect
     -- the file has ended
     pub end-follows : {U : Type 0} (x : U) (reading' : VectorReading) (vector : List Bool) → NextGives false vector reading reading' now.store new.store → Follows ⊥ [] asks (all_rows w) (Ok x) begun new
     end-follows x reading' vector gives =
-        let all = rw told (taken-all w.width begun.store now.store new.store reading reading' vector vectors so_far.taking gives) in
+        let all : AreAll w.width w.told vectors = rw told (taken-all w.width begun.store now.store new.store reading reading' vector vectors so_far.taking gives) in
         rows-follow (Ok x) (text, (has-read, all), rw silent so_far.wrote) tt
 
   -- the row of one more vector isn't written
