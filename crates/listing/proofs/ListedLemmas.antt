@@ -1,17 +1,17 @@
 -- The list as a step.
-use Rattle.std.proofs.Common.{◌≡◌, ℕ, ◌≤◌, List, [], Some, option_map, refl, ap}
+use Rattle.std.proofs.Common.{◌≡◌, ℕ, ◌≤◌, List, [], Some, option_map, refl, sym, ap, arith, append-nil}
 use Rattle.std.specs.Prelude.{Ok, Err}
 use Rattle.tm_outside.specs.Counts.{Rose}
 use Rattle.tm_outside.specs.Store.{StoreState}
 use Rattle.tm_outside.specs.Sink.{SinkState}
 use Rattle.hierarchy.specs.declared.Shape.{Shape}
 use Rattle.defect_db.specs.Lists.{DefectList, IsDefectList}
-use Rattle.rig.specs.Rig.{RigState, Asked, shape_of}
+use Rattle.rig.specs.Rig.{RigState, Machine, Asked, shape_of}
 use Rattle.rig.specs.declared.rig.RigFail.{RigFail}
 use Rattle.rig.specs.declared.rig.RigFail.TheVariants.{Failed, Memory}
 use Rattle.diagnose.specs.Diagnosis.{IsDiagnosis, TakesFewLoads}
-use Rattle.steps.specs.Outside.{outside}
-use Rattle.steps.specs.Stops.{stop_of_rig}
+use Rattle.steps.specs.Outside.{outside, IsLater}
+use Rattle.steps.specs.Stops.{IsCounted, StepStops, stop_of_rig}
 use Rattle.steps.specs.Took.{Took}
 use Rattle.listing.specs.Lists.{IsListed, Listed, lists_now}
 
@@ -23,11 +23,36 @@ attached-shape rig m name is = ap (option_map (λ (a : Asked). a.shape)) is
 pub listed-on : (m : Shape) (before : ℕ) (mid new : RigState) (l : Listed) → IsListed m before mid l → new.machine ≡ mid.machine → IsListed m before new l
 listed-on m before mid new l is machine = record { shape = is.shape; kept = is.kept; right = rw machine is.right; few = rw machine is.few }
 
-module _ (m : Shape) (old new : RigState) (machine : new.machine ≡ old.machine) (store : StoreState) (sink : SinkState) (later : old.failures ≤ new.failures) where
-  pub list-took : (d : DefectList) → d.shape ≡ m → IsDefectList d → IsDiagnosis old.machine.faults m d.list → TakesFewLoads old.machine.faults m old.loads new.loads → Took [] (lists_now m old new) (Ok d) (outside store old sink) (outside store new sink)
-  list-took d shape kept right few =
-      rig-took (lists_now m old new) old new store sink machine later d (record { shape = shape; kept = kept; right = rw machine right; few = rw machine few })
+module _ (m : Shape) (old new : RigState) (machine : new.machine ≡ old.machine) (store : StoreState) (sink : SinkState) where
+  list-later : old.failures ≤ new.failures → IsLater (outside store old sink) (outside store new sink)
+  list-later later = record { contents = refl; texts = ap (λ (x : Machine). x.texts) machine; kind = refl; store = omega arith; rig = later; sink = omega arith }
 
-  pub list-stopped : (fail : RigFail) → (fail ≡ Failed → Rose old.failures new.failures) → Took [] (lists_now m old new) (Err (stop_of_rig fail)) (outside store old sink) (outside store new sink)
-  list-stopped Failed cause = rig-stopped (lists_now m old new) old new store sink machine later (stop_of_rig Failed) tt (cause refl)
-  list-stopped Memory cause = rig-stopped (lists_now m old new) old new store sink machine later (stop_of_rig Memory) tt tt
+  pub list-took : (d : DefectList) → old.failures ≤ new.failures → d.shape ≡ m → IsDefectList d → IsDiagnosis old.machine.faults m d.list → TakesFewLoads old.machine.faults m old.loads new.loads → Took [] (lists_now m old new) (Ok d) (outside store old sink) (outside store new sink)
+  list-took d later shape kept right few = record {
+    later = list-later later;
+    silent = refl;
+    asked = record { all = sym (append-nil store.asked); some = tt };
+    place = refl;
+    gives = record { shape = shape; kept = kept; right = rw machine right; few = rw machine few };
+    stops = tt;
+    counted = tt;
+  }
+
+  fail-stops : (fail : RigFail) → StepStops (lists_now m old new) (stop_of_rig fail)
+  fail-stops Failed = tt
+  fail-stops Memory = tt
+
+  rig-counted : (fail : RigFail) → (fail ≡ Failed → Rose old.failures new.failures) → IsCounted ⊥ (stop_of_rig fail) (outside store old sink) (outside store new sink)
+  rig-counted Failed cause = cause refl
+  rig-counted Memory cause = tt
+
+  pub list-stopped : (fail : RigFail) → old.failures ≤ new.failures → (fail ≡ Failed → Rose old.failures new.failures) → Took [] (lists_now m old new) (Err (stop_of_rig fail)) (outside store old sink) (outside store new sink)
+  list-stopped fail later cause = record {
+    later = list-later later;
+    silent = refl;
+    asked = record { all = tt; some = refl };
+    place = refl;
+    gives = tt;
+    stops = fail-stops fail;
+    counted = rig-counted fail cause;
+  }
