@@ -10,20 +10,14 @@ use Rattle.fault_model.specs.declared.kind.FaultsFault.TheVariants as text
 use Rattle.steps.specs.Outside.{outside, IsLater}
 use Rattle.steps.specs.Stops.{StepStops, IsCounted, stop_of_attach}
 use Rattle.steps.specs.Took.{Took}
-use Rattle.steps.specs.Texts.{attaches, MayAsk, RigCounts}
+use Rattle.steps.specs.Texts.{attaches, MayAsk}
 
 module _ (machine : Asked) (old new : RigState) where
-  pub attach-stops : (fail : AttachFail) → IsDetached new → AttachFails fail machine old new → StepStops (attaches machine old new) (stop_of_attach fail)
+  attach-stops : (fail : AttachFail) → IsDetached new → AttachFails fail machine old new → StepStops (attaches machine old new) (stop_of_attach fail)
   attach-stops attach.Failed none fails = none
   attach-stops (attach.Faults (text.At line kind)) none fails = (fails.1, none)
   attach-stops (attach.Faults text.Memory) none fails = none
   attach-stops attach.Memory none fails = none
-
-  pub attach-counts : (fail : AttachFail) → AttachFails fail machine old new → RigCounts (stop_of_attach fail) old new
-  attach-counts attach.Failed fails = fails.0
-  attach-counts (attach.Faults (text.At line kind)) fails = tt
-  attach-counts (attach.Faults text.Memory) fails = tt
-  attach-counts attach.Memory fails = tt
 
   pub attach-asks : (fail : AttachFail) → AttachFails fail machine old new → MayAsk machine old.machine.asked new.machine.asked
   attach-asks attach.Failed fails = inr fails.1

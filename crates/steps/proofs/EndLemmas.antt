@@ -15,10 +15,6 @@ use Rattle.steps.specs.declared.refusal.Refusal.{Refusal}
 use Rattle.steps.specs.declared.refusal.Refusal.TheVariants.{Words, Machine, Faults, Defects, Image, Design, Vectors, Room, Rig, Store, Memory as NoMemory}
 use Rattle.steps.proofs.WriteLemmas.{Wrote-then}
 
--- a sink that was written to before
-abbrev pub with_sink : Outside → SinkState → Outside
-with_sink o sink = record { store = o.store; rig = o.rig; sink = sink }
-
 -- what a stop needs is still so, whatever is written then
 counted-on : (words : Type 0) (refusal : Refusal) (old mid new : Outside) → new.store ≡ mid.store → new.rig ≡ mid.rig → IsCounted words (Refused refusal) old mid → IsCounted words (Refused refusal) old new
 counted-on words Words old mid new store rig why = why

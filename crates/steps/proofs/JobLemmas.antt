@@ -1,49 +1,19 @@
 -- Jobs that are done for words.
 use Rattle.std.proofs.Common.{◌≡◌, ◌⊎◌, ℕ, List, [], IsTrue, refl, inl, inr, arith}
-use Rattle.std.specs.Prelude.{Result, Ok, Err, IfErr}
+use Rattle.std.specs.Prelude.{Result, Ok, Err}
 use Rattle.tm_outside.specs.Counts.{Rose}
 use Rattle.tm_outside.specs.Sink.{Wrote}
-use Rattle.tm_outside.specs.declared.sink.SinkFail.TheVariants.{Failed, Memory}
 use Rattle.steps.specs.Outside.{Outside, around}
 use Rattle.steps.specs.Courses.{ends, refuses}
-use Rattle.steps.specs.Stops.{IsCounted, Asks, AsksSome, status_of}
+use Rattle.steps.specs.Stops.{Asks, AsksSome, status_of}
 use Rattle.steps.specs.Jobs.{Job, wrong_words, IsLawful, Does}
 use Rattle.steps.specs.Ends.{EndWrote, Stands, Finishes, whole, refused, cut_line, no_line, cut}
 use Rattle.steps.specs.declared.refusal.Refusal.{Refusal}
 use Rattle.steps.specs.declared.refusal.Refusal.TheVariants as refused
 use Rattle.steps.specs.declared.refusal.Stop.{Stop}
-use Rattle.steps.specs.declared.refusal.Stop.TheVariants.{Refused, Sink}
+use Rattle.steps.specs.declared.refusal.Stop.TheVariants.{Refused}
 use Rattle.steps.proofs.WriteLemmas.{Wrote-none, asks-all}
 use Rattle.steps.proofs.EndLemmas.{end-stop}
-
-counted-words : (words : Type 0) (stop : Stop) (old new : Outside) → IsCounted ⊥ stop old new → IsCounted words stop old new
-counted-words words (Refused refused.Words) old new why = absurd why
-counted-words words (Refused refused.Rig) old new why = why
-counted-words words (Refused refused.Store) old new why = why
-counted-words words (Refused refused.Memory) old new why = tt
-counted-words words (Refused (refused.Machine line kind)) old new why = tt
-counted-words words (Refused (refused.Faults line kind)) old new why = tt
-counted-words words (Refused (refused.Defects line kind)) old new why = tt
-counted-words words (Refused (refused.Image line kind)) old new why = tt
-counted-words words (Refused (refused.Design place)) old new why = tt
-counted-words words (Refused (refused.Vectors line kind)) old new why = tt
-counted-words words (Refused (refused.Room place)) old new why = tt
-counted-words words (Sink Failed) old new why = why
-counted-words words (Sink Memory) old new why = why
-
-counted-word : {T : Type 0} (words : Type 0) (result : Result T Stop) (old new : Outside) → IfErr result (λ stop. IsCounted ⊥ stop old new) → IfErr result (λ stop. IsCounted words stop old new)
-counted-word words (Ok x) old new why = tt
-counted-word words (Err stop) old new why = counted-words words stop old new why
-
--- a command never refuses the words
-pub does-words : {T : Type 0} (words : Type 0) (job : Job) (result : Result T Stop) (old new : Outside) → Does ⊥ job result old new → Does words job result old new
-does-words words job result old new d = record {
-  later = d.later;
-  asked = d.asked;
-  machines = d.machines;
-  written = d.written;
-  counted = counted-word words result old new d.counted;
-}
 
 -- wrong words are refused at once
 pub does-wrong : {T : Type 0} (words : Type 0) (result : Result T Stop) (old : Outside) → result ≡ Err (Refused refused.Words) → words → Does words wrong_words result old old

@@ -1,8 +1,14 @@
 -- What a course leads to, from what its steps do.
-use Rattle.std.proofs.Common.{ℕ, List, [], ◌++◌, refl, sym, subst, inl, inr, append-nil}
+use Rattle.std.proofs.Common.{◌≡◌, ℕ, List, [], ◌++◌, refl, sym, subst, inl, inr}
 use Rattle.steps.specs.Courses.{Course, Next, Step, StopsAt, after, write, done, ends, refuses, writes}
-use Rattle.steps.specs.Jobs.{Leads, Fronts}
+use Rattle.steps.specs.Jobs.{Leads}
 use Rattle.steps.specs.declared.refusal.Refusal.{Refusal}
+
+-- a step that stops refuses something
+pub stopped : {T : Type 0} (step : Step T) (next : Next) → StopsAt step next → (refusal : Refusal) × (next ≡ refuses refusal) × step.stops refusal
+stopped step ends stops = absurd stops
+stopped step (refuses refusal) stops = (refusal, refl, stops)
+stopped step (writes line) stops = absurd stops
 
 -- where a step stops, it is by such a refusal
 pub step-leads : {T : Type 0} (step : Step T) (next_is : Next → Type 0) → ((refusal : Refusal) → step.stops refusal → next_is (refuses refusal)) → (next : Next) → StopsAt step next → next_is next
@@ -23,10 +29,3 @@ write-leads line here rest text_is next_is at gives text next is (inr h) = gives
 -- the end
 pub done-leads : (here : Type 0) (text_is : List ℕ → Type 0) (next_is : Next → Type 0) → (text_is [] → next_is ends) → Leads text_is (done here) next_is
 done-leads here text_is next_is at text next is h = subst next_is (sym h.1) (at (subst text_is h.0 is))
-
--- the whole of a text is a front of it, and so is what stands before a line
-pub whole-front : (P : List ℕ → Type 0) (text : List ℕ) → Fronts P text → P text
-whole-front P text fronts = fronts text [] (sym (append-nil text))
-
-pub first-front : (P : List ℕ → Type 0) (line more : List ℕ) → Fronts P (line ++ more) → P line
-first-front P line more fronts = fronts line more refl

@@ -11,6 +11,8 @@ pub mod Excused
 pub mod Counting
 pub mod Taking
 pub mod Reading
+pub mod Machines
+pub mod Standing
 pub mod JobLemmas
 pub mod WrittenRows
 pub mod OpenedRows

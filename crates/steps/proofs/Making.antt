@@ -1,4 +1,4 @@
--- Steps that touch nothing outside, or the rig alone.
+-- Steps that touch the rig alone.
 use Rattle.std.proofs.Common.{◌≡◌, ◌≤◌, false, [], None, refl, sym, ap, append-nil, arith}
 use Rattle.std.specs.Prelude.{Ok, Err}
 use Rattle.tm_outside.specs.Told.{untold}
@@ -10,7 +10,6 @@ use Rattle.steps.specs.Courses.{Step}
 use Rattle.steps.specs.Stops.{StepStops, IsCounted}
 use Rattle.steps.specs.Took.{Took}
 use Rattle.steps.specs.declared.refusal.Stop.{Stop}
-use Rattle.steps.proofs.Taking.{later-same}
 
 -- an outside to ask with for what doesn't depend on it
 abbrev pub nothing : Outside
@@ -23,18 +22,6 @@ nothing = record {
     failures = 0;
   };
   sink = record { written = None; failures = 0; can_lack = false };
-}
-
--- something was made, with nothing outside
-pub took-made : {T : Type 0} (step : Step T) (x : T) (o : Outside) → step.gives x → Took [] step (Ok x) o o
-took-made step x o gives = record {
-  later = later-same o;
-  silent = refl;
-  asked = record { all = sym (append-nil o.store.asked); some = tt };
-  place = refl;
-  gives = gives;
-  stops = tt;
-  counted = tt;
 }
 
 -- the rig alone was used, and its machine is the same

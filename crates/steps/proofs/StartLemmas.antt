@@ -8,7 +8,7 @@ use Rattle.tm_outside.specs.declared.store.StoreFail.TheVariants.{Failed, Memory
 use Rattle.tm_outside.specs.Sink.{SinkState}
 use Rattle.rig.specs.Rig.{RigState}
 use Rattle.steps.specs.Files.{file_of}
-use Rattle.steps.specs.Outside.{Outside, outside, StaysNear, StandsIn, IsLater}
+use Rattle.steps.specs.Outside.{Outside, outside, StandsIn, IsLater}
 use Rattle.steps.specs.Stops.{AsksSome, StepStops, IsCounted, stop_of_store}
 use Rattle.steps.specs.Texts.{opens}
 use Rattle.steps.specs.Took.{Took}
@@ -16,11 +16,6 @@ use Rattle.steps.specs.Took.{Took}
 -- the file that was started
 pub begun-file : (new : StoreState) (contents : List ℕ → Told) (name : List ℕ) → new.contents ≡ contents → new.current ≡ Some (record { name = name; at = 0 }) → file_of new ≡ contents name
 begun-file new contents name same current = rw (current, same) refl
-
--- after a start that failed no file is current
-pub start-near : (fail : StoreFail) (name : List ℕ) (old mid new : StoreState) → StartFails fail name mid new → StaysNear old mid → StaysNear old new
-start-near Failed name old mid new fails near = inr (rw fails.0.closed tt)
-start-near Memory name old mid new fails near = rw fails near
 
 pub start-stops : (fail : StoreFail) (told : Told) → StepStops (opens told) (stop_of_store fail)
 start-stops Failed told = tt

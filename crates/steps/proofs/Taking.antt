@@ -45,18 +45,33 @@ stands-then files (file ∷ more) old mid new first (inr near) = inr near
 
 -- ---- steps
 
+-- a step that has nothing to do with what is around it stops
+pub took-stop : {T : Type 0} (step : Step T) (stop : Stop) (o : Outside) → StepStops step stop → IsCounted ⊥ stop o o → Took [] step (Err stop) o o
+took-stop step stop o stops counted = record {
+  later = later-same o;
+  silent = refl;
+  asked = record { all = tt; some = refl };
+  place = refl;
+  gives = tt;
+  stops = stops;
+  counted = counted;
+}
+
+-- or it gives something
+pub took-value : {T : Type 0} (step : Step T) (x : T) (o : Outside) → step.gives x → Took [] step (Ok x) o o
+took-value step x o gives = record {
+  later = later-same o;
+  silent = refl;
+  asked = record { all = sym (append-nil o.store.asked); some = tt };
+  place = refl;
+  gives = gives;
+  stops = tt;
+  counted = tt;
+}
+
 -- memory was wanting where a step was to be made
 pub took-nothing : {T : Type 0} (step : Step T) (result : Result T Stop) (o : Outside) → result ≡ Err (Refused Memory) → step.stops Memory → Took [] step result o o
-took-nothing step result o is stops =
-    rw is (record {
-      later = later-same o;
-      silent = refl;
-      asked = record { all = tt; some = refl };
-      place = refl;
-      gives = tt;
-      stops = stops;
-      counted = tt;
-    })
+took-nothing step result o is stops = rw is (took-stop step (Refused Memory) o stops tt)
 
 module _ {T U : Type 0} (step : Step T) (here : Type 0) (rest : T → Course) where
   -- the step stops

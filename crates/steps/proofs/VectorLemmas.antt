@@ -46,11 +46,6 @@ IfTold-all untold P here all = tt
 IfTold-all absent P here all = here
 IfTold-all (holds bytes) P here all = all bytes
 
-pub IfTold-both : (told : Told) (P Q R : List ℕ → Type 0) → IfTold told P → IfTold told Q → ((bytes : List ℕ) → P bytes → Q bytes → R bytes) → IfTold told R
-IfTold-both untold P Q R p q f = tt
-IfTold-both absent P Q R p q f = p
-IfTold-both (holds bytes) P Q R p q f = f bytes p q
-
 -- at the first byte nothing was taken
 pub IsTaking-start : (width : ℕ) (before : StoreState) → IsBegun before → IsTaking width before before (new_reading width most_vector_bytes) []
 IsTaking-start width before begun = record {

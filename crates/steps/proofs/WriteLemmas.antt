@@ -30,20 +30,11 @@ pub asks-all : (names old new : List (List ℕ)) → new ≡ old ++ names → As
 asks-all [] old new all = all ∙ append-nil old
 asks-all (name ∷ names) old new all = inr (asks-all names (old ++ name ∷ []) new (all ∙ sym (append_assoc old (name ∷ []) names)))
 
--- some names and then more were asked before a stop
-pub asks-both : {T : Type 0} (names more : List (List ℕ)) (result : Result T Stop) (stop : Stop) (old mid new : StoreState) → result ≡ Err stop → mid.asked ≡ old.asked ++ names → new.asked ≡ mid.asked ++ more → Asks (names ++ more) result old new
-asks-both names more result stop old mid new is first second =
-    let all : new.asked ≡ old.asked ++ (names ++ more) = second ∙ (ap (λ t. t ++ more) first ∙ append_assoc old.asked names more) in
-    rw is (record { all = tt; some = asks-all (names ++ more) old.asked new.asked all })
-
 -- some names, and then some of the next
 asks-more : (names more old mid new : List (List ℕ)) → mid ≡ old ++ names → AsksSome more mid new → AsksSome (names ++ more) old new
 asks-more [] more old mid new first some = subst (λ t. AsksSome more t new) (first ∙ append-nil old) some
 asks-more (name ∷ names) more old mid new first some =
     inr (asks-more names more (old ++ name ∷ []) mid new (first ∙ sym (append_assoc old (name ∷ []) names)) some)
-
-pub asks-then : {T : Type 0} (names more : List (List ℕ)) (result : Result T Stop) (stop : Stop) (old mid new : StoreState) → result ≡ Err stop → mid.asked ≡ old.asked ++ names → AsksSome more mid.asked new.asked → Asks (names ++ more) result old new
-asks-then names more result stop old mid new is first some = rw is (record { all = tt; some = asks-more names more old.asked mid.asked new.asked first some })
 
 -- no name was asked
 asks-none : (names old new : List (List ℕ)) → new ≡ old → AsksSome names old new
@@ -55,9 +46,6 @@ pub asks-front : (names more old new : List (List ℕ)) → AsksSome names old n
 asks-front [] more old new some = asks-none more old new some
 asks-front (name ∷ names) more old new (inl same) = inl same
 asks-front (name ∷ names) more old new (inr some) = inr (asks-front names more (old ++ name ∷ []) new some)
-
-pub asks-first : (name : List ℕ) (more old new : List (List ℕ)) → AsksSome (name ∷ []) old new → AsksSome (name ∷ more) old new
-asks-first name more old new some = asks-front (name ∷ []) more old new some
 
 pub names-both : (names more : List (List ℕ)) (old mid new : StoreState) → mid.asked ≡ old.asked ++ names → new.asked ≡ mid.asked ++ more → new.asked ≡ old.asked ++ (names ++ more)
 names-both names more old mid new first second = second ∙ (ap (λ t. t ++ more) first ∙ append_assoc old.asked names more)

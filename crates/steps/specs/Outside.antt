@@ -29,10 +29,6 @@ SomethingRose old new =
     (Rose old.store.failures new.store.failures ⊎ Rose old.sink.failures new.sink.failures)
     ⊎ (Rose old.rig.failures new.rig.failures ⊎ Rose old.rig.machine.refused.times new.rig.machine.refused.times)
 
--- the store stands no further than one byte beyond the limit of a file that is read whole, or nothing was read
-abbrev pub StaysNear : StoreState → StoreState → Type 0
-StaysNear old new = (new.current ≡ old.current) ⊎ IfSome new.current (λ p. p.at ≤ most_bytes + 1)
-
 -- what no step changes, and counts that never fall
 pub record IsLater (old new : Outside) : Type 0 where
   pub contents : new.store.contents ≡ old.store.contents

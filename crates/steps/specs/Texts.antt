@@ -1,10 +1,7 @@
 -- The steps that read a file into a value, and those that attach a machine and open the vectors.
-use Rattle.std.specs.Prelude.{◌≡◌, ◌⊎◌, ℕ, ◌≤◌, List, ◌∷◌, [], ◌++◌, length, Some, IsTrue}
-use Rattle.tm_outside.specs.Counts.{Rose, next_count}
+use Rattle.std.specs.Prelude.{◌≡◌, ◌⊎◌, ℕ, ◌≤◌, List, ◌∷◌, [], ◌++◌, length, Some}
+use Rattle.tm_outside.specs.Counts.{next_count}
 use Rattle.tm_outside.specs.Told.{Told, IfTold, IsPresent}
-use Rattle.tm_outside.specs.Store.{StoreState}
-use Rattle.tm_outside.specs.Sink.{SinkState}
-use Rattle.tm_outside.specs.declared.sink.SinkFail.TheVariants.{Failed as SinkFailed, Memory as SinkMemory}
 use Rattle.hierarchy.specs.declared.Counts.{Counts}
 use Rattle.hierarchy.specs.declared.Shape.{Shape}
 use Rattle.machine_file.specs.Machine.{IsMachine}
@@ -23,7 +20,7 @@ use Rattle.steps.specs.declared.design_file.DesignFile.{DesignFile}
 use Rattle.steps.specs.declared.refusal.Refusal.{Refusal}
 use Rattle.steps.specs.declared.refusal.Refusal.TheVariants as refused
 use Rattle.steps.specs.declared.refusal.Stop.{Stop}
-use Rattle.steps.specs.declared.refusal.Stop.TheVariants.{Refused, Sink}
+use Rattle.steps.specs.declared.refusal.Stop.TheVariants.{Refused}
 
 -- ---- machines
 
@@ -147,52 +144,12 @@ abbrev pub AsksMachine : (is_shape : Shape → Type 0) → (name : List ℕ) →
 AsksMachine is_shape name old new =
     (new ≡ old) ⊎ ((m : Shape) × is_shape m × (new ≡ old ++ record { shape = m; name = name } ∷ []))
 
--- no more than one machine, and so many loads
-pub record AsksRig (is_shape : Shape → Type 0) (name : List ℕ) (loads_are : (old new : ℕ) → Type 0) (old new : RigState) : Type 0 where
-  pub machines : AsksMachine is_shape name old.machine.asked new.machine.asked
-  pub loads : loads_are old.loads new.loads
-
 -- no more than one load
 abbrev pub LoadsOnce : (old new : ℕ) → Type 0
 LoadsOnce old new = (new ≡ old) ⊎ (new ≡ next_count old)
-
--- ---- counts
-
--- a step that uses the store alone refuses for its count
-abbrev pub StoreCounts : Stop → StoreState → StoreState → Type 0
-StoreCounts (Refused refused.Store) old new = Rose old.failures new.failures
-StoreCounts (Refused refused.Rig) old new = ⊥
-StoreCounts (Refused refused.Words) old new = ⊥
-StoreCounts (Refused refusal) old new = Unit {0}
-StoreCounts (Sink fail) old new = ⊥
-
--- and one that uses the rig alone for the rig's
-abbrev pub RigCounts : Stop → RigState → RigState → Type 0
-RigCounts (Refused refused.Rig) old new = Rose old.failures new.failures
-RigCounts (Refused refused.Store) old new = ⊥
-RigCounts (Refused refused.Words) old new = ⊥
-RigCounts (Refused refusal) old new = Unit {0}
-RigCounts (Sink fail) old new = ⊥
-
--- a stop of a step that reads a text: the text is refused, or memory is wanting
-abbrev pub IsOfText : Stop → Type 0
-IsOfText (Refused refused.Store) = ⊥
-IsOfText (Refused refused.Rig) = ⊥
-IsOfText (Refused refused.Words) = ⊥
-IsOfText (Refused refusal) = Unit {0}
-IsOfText (Sink fail) = ⊥
 
 -- a fault of a design is refused, or there was no memory for its line
 abbrev pub IsRefusedAt : DesignFile → ℕ → DesignKind → Stop → Type 0
 IsRefusedAt file line kind (Refused (refused.Design place)) = place ≡ record { file = file; line = line; kind = kind }
 IsRefusedAt file line kind (Refused refused.Memory) = Unit {0}
 IsRefusedAt file line kind stop = ⊥
-
--- and one that uses the store and the sink for one of theirs
-abbrev pub FlowCounts : Stop → StoreState → StoreState → SinkState → SinkState → Type 0
-FlowCounts (Refused refused.Store) old new a b = Rose old.failures new.failures
-FlowCounts (Refused refused.Rig) old new a b = ⊥
-FlowCounts (Refused refused.Words) old new a b = ⊥
-FlowCounts (Refused refusal) old new a b = Unit {0}
-FlowCounts (Sink SinkFailed) old new a b = Rose a.failures b.failures
-FlowCounts (Sink SinkMemory) old new a b = IsTrue a.can_lack

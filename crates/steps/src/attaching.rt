@@ -4,8 +4,7 @@ ghost use Rattle.tm_outside.specs.Store.{StoreState};
 ghost use Rattle.tm_outside.specs.Sink.{SinkState};
 ghost use Rattle.rig.specs.Rig.{Asked, Attaches, AttachFails, IsDetached};
 ghost use Rattle.steps.specs.Outside.{outside};
-ghost use Rattle.steps.specs.Stops.{StepStops};
-ghost use Rattle.steps.specs.Texts.{attaches, MayAsk, RigCounts};
+ghost use Rattle.steps.specs.Texts.{attaches, MayAsk};
 ghost use Rattle.steps.specs.Took.{Took};
 
 use crate::refusal::Stop;
@@ -31,15 +30,9 @@ fn attach_boxed(rig: &mut Box<dyn Rig>, shape: &Shape, name: &str) -> Result<(),
 pub fn attach(rig: &mut Box<dyn Rig>, shape: &Shape, name: &str) -> Result<(), Stop>
     requires always { name.now ≡ name.now }
 
-    ensures texts { (rig_state rig.new).machine.texts ≡ (rig_state rig.old).machine.texts }
-    ensures later { (rig_state rig.old).failures ≤ (rig_state rig.new).failures }
     ensures loads { (rig_state rig.new).loads ≡ (rig_state rig.old).loads }
-    ensures attached { OnOk result (Attaches (record { shape = shape.now; name = name.now }) (rig_state rig.old) (rig_state rig.new)) }
     ensures asked { let machine : Asked = record { shape = shape.now; name = name.now } in
         MayAsk machine (rig_state rig.old).machine.asked (rig_state rig.new).machine.asked }
-    ensures refused { let machine : Asked = record { shape = shape.now; name = name.now } in
-        IfErr result (StepStops (attaches machine (rig_state rig.old) (rig_state rig.new))) }
-    ensures counted { IfErr result (λ stop. RigCounts stop (rig_state rig.old) (rig_state rig.new)) }
     // Whatever the store and the sink are.
     ensures took { let machine : Asked = record { shape = shape.now; name = name.now } in
         (store : StoreState) (sink : SinkState) → Took [] (attaches machine (rig_state rig.old) (rig_state rig.new)) result

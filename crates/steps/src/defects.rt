@@ -1,11 +1,10 @@
 //! Lists of defects that are read.
-ghost use Rattle.std.specs.Prelude.{◌≡◌, ◌≤◌, ◌∷◌, [], IfOk, IfErr};
+ghost use Rattle.std.specs.Prelude.{◌∷◌, []};
 ghost use Rattle.tm_outside.specs.Sink.{SinkState};
 ghost use Rattle.tm_outside.specs.Told.{holds};
 ghost use Rattle.rig.specs.Rig.{RigState};
-ghost use Rattle.steps.specs.Outside.{outside, StaysNear, StandsIn};
-ghost use Rattle.steps.specs.Stops.{Asks, StepStops};
-ghost use Rattle.steps.specs.Texts.{reads_defects, IsDefectsText, IsOfText, StoreCounts};
+ghost use Rattle.steps.specs.Outside.{Outside, outside};
+ghost use Rattle.steps.specs.Texts.{reads_defects};
 ghost use Rattle.steps.specs.Took.{Took};
 
 use crate::refusal::{Refusal, Stop};
@@ -17,10 +16,8 @@ use tm_text::MOST_BYTES;
 
 // The list of a text.
 fn list_of_text(alloc: Global, shape: &Shape, text: &[u8]) -> Result<Defects, Stop>
-    ensures shape { IfOk result (λ d. d.shape ≡ shape.now) }
-    ensures found { IfOk result (IsDefectsText shape.now text.now) }
-    ensures refused { IfErr result (StepStops (reads_defects (holds text.now) shape.now)) }
-    ensures of_text { IfErr result IsOfText }
+    // Whatever is outside.
+    ensures { (o : Outside) → Took [] (reads_defects (holds text.now) shape.now) result o o }
 {
     match read_defects(alloc, shape, text) {
         Ok(list) => Ok(list),
@@ -31,20 +28,17 @@ fn list_of_text(alloc: Global, shape: &Shape, text: &[u8]) -> Result<Defects, St
     }
 }
 
-// The list of a file.
-fn list_of_file<S: Store>(
+/// Reads the list of defects of a machine: its file up to one byte more than it may have.
+pub fn read_list<S: Store>(
     alloc: Global,
     shape: &Shape,
     name: &str,
     store: &mut S,
 ) -> Result<Defects, Stop>
-    ensures contents { (S.store_state store.new).contents ≡ (S.store_state store.old).contents }
-    ensures later { (S.store_state store.old).failures ≤ (S.store_state store.new).failures }
-    ensures asked { Asks (name.now ∷ []) result (S.store_state store.old) (S.store_state store.new) }
-    ensures place { StandsIn (name.now ∷ []) (S.store_state store.old) (S.store_state store.new) }
-    ensures found { IfOk result (reads_defects ((S.store_state store.old).contents name.now) shape.now).gives }
-    ensures refused { IfErr result (StepStops (reads_defects ((S.store_state store.old).contents name.now) shape.now)) }
-    ensures counted { IfErr result (λ stop. StoreCounts stop (S.store_state store.old) (S.store_state store.new)) }
+    // Whatever the rig and the sink are.
+    ensures took { (rig : RigState) (sink : SinkState) →
+        Took (name.now ∷ []) (reads_defects ((S.store_state store.old).contents name.now) shape.now) result
+        (outside (S.store_state store.old) rig sink) (outside (S.store_state store.new) rig sink) }
 {
     match read_within(alloc, store, name, MOST_BYTES)? {
         Some(text) => list_of_text(alloc, shape, &text),
@@ -53,26 +47,4 @@ fn list_of_file<S: Store>(
             kind: DefectsKind::Limit,
         })),
     }
-}
-
-/// Reads the list of defects of a machine: its file up to one byte more than it may have.
-pub fn read_list<S: Store>(
-    alloc: Global,
-    shape: &Shape,
-    name: &str,
-    store: &mut S,
-) -> Result<Defects, Stop>
-    ensures contents { (S.store_state store.new).contents ≡ (S.store_state store.old).contents }
-    ensures later { (S.store_state store.old).failures ≤ (S.store_state store.new).failures }
-    ensures asked { Asks (name.now ∷ []) result (S.store_state store.old) (S.store_state store.new) }
-    ensures place { StaysNear (S.store_state store.old) (S.store_state store.new) }
-    ensures found { IfOk result (reads_defects ((S.store_state store.old).contents name.now) shape.now).gives }
-    ensures refused { IfErr result (StepStops (reads_defects ((S.store_state store.old).contents name.now) shape.now)) }
-    ensures counted { IfErr result (λ stop. StoreCounts stop (S.store_state store.old) (S.store_state store.new)) }
-    // Whatever the rig and the sink are.
-    ensures took { (rig : RigState) (sink : SinkState) →
-        Took (name.now ∷ []) (reads_defects ((S.store_state store.old).contents name.now) shape.now) result
-        (outside (S.store_state store.old) rig sink) (outside (S.store_state store.new) rig sink) }
-{
-    list_of_file(alloc, shape, name, store)
 }

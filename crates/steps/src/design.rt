@@ -1,11 +1,10 @@
 //! Designs that are read.
-ghost use Rattle.std.specs.Prelude.{◌≡◌, ◌≤◌, ◌∷◌, [], IfOk, IfErr};
+ghost use Rattle.std.specs.Prelude.{◌∷◌, []};
 ghost use Rattle.tm_outside.specs.Sink.{SinkState};
 ghost use Rattle.tm_outside.specs.Told.{holds};
 ghost use Rattle.rig.specs.Rig.{RigState};
-ghost use Rattle.steps.specs.Outside.{outside, StaysNear, StandsIn};
-ghost use Rattle.steps.specs.Stops.{Asks, StepStops};
-ghost use Rattle.steps.specs.Texts.{IsRefusedAt, reads_design, IsDesignText, IsOfText, StoreCounts};
+ghost use Rattle.steps.specs.Outside.{Outside, outside};
+ghost use Rattle.steps.specs.Texts.{IsRefusedAt, reads_design};
 ghost use Rattle.steps.specs.Took.{Took};
 
 use crate::design_file::DesignFile;
@@ -28,35 +27,13 @@ fn refused(alloc: Global, file: DesignFile, line: u64, kind: DesignKind) -> Stop
 
 // The netlist of a text.
 fn netlist_of(alloc: Global, file: DesignFile, text: &[u8]) -> Result<Netlist, Stop>
-    ensures found { IfOk result (IsDesignText text.now) }
-    ensures refused { IfErr result (StepStops (reads_design file (holds text.now))) }
-    ensures of_text { IfErr result IsOfText }
+    // Whatever is outside.
+    ensures { (o : Outside) → Took [] (reads_design file (holds text.now)) result o o }
 {
     match read_blif(alloc, text) {
         Ok(netlist) => Ok(netlist),
         Err(DesignFault::At { line, kind }) => Err(refused(alloc, file, line, kind)),
         Err(DesignFault::Memory) => Err(Stop::Refused(Refusal::Memory)),
-    }
-}
-
-// The netlist of a file.
-fn netlist_of_file<S: Store>(
-    alloc: Global,
-    file: DesignFile,
-    store: &mut S,
-    name: &str,
-) -> Result<Netlist, Stop>
-    ensures contents { (S.store_state store.new).contents ≡ (S.store_state store.old).contents }
-    ensures later { (S.store_state store.old).failures ≤ (S.store_state store.new).failures }
-    ensures asked { Asks (name.now ∷ []) result (S.store_state store.old) (S.store_state store.new) }
-    ensures place { StandsIn (name.now ∷ []) (S.store_state store.old) (S.store_state store.new) }
-    ensures found { IfOk result (reads_design file ((S.store_state store.old).contents name.now)).gives }
-    ensures refused { IfErr result (StepStops (reads_design file ((S.store_state store.old).contents name.now))) }
-    ensures counted { IfErr result (λ stop. StoreCounts stop (S.store_state store.old) (S.store_state store.new)) }
-{
-    match read_within(alloc, store, name, MOST_BYTES)? {
-        Some(text) => netlist_of(alloc, file, &text),
-        None => Err(refused(alloc, file, 0, DesignKind::Limit)),
     }
 }
 
@@ -67,17 +44,13 @@ pub fn read_design<S: Store>(
     store: &mut S,
     name: &str,
 ) -> Result<Netlist, Stop>
-    ensures contents { (S.store_state store.new).contents ≡ (S.store_state store.old).contents }
-    ensures later { (S.store_state store.old).failures ≤ (S.store_state store.new).failures }
-    ensures asked { Asks (name.now ∷ []) result (S.store_state store.old) (S.store_state store.new) }
-    ensures place { StaysNear (S.store_state store.old) (S.store_state store.new) }
-    ensures found { IfOk result (reads_design file ((S.store_state store.old).contents name.now)).gives }
-    ensures refused { IfErr result (StepStops (reads_design file ((S.store_state store.old).contents name.now))) }
-    ensures counted { IfErr result (λ stop. StoreCounts stop (S.store_state store.old) (S.store_state store.new)) }
     // Whatever the rig and the sink are.
     ensures took { (rig : RigState) (sink : SinkState) →
         Took (name.now ∷ []) (reads_design file ((S.store_state store.old).contents name.now)) result
         (outside (S.store_state store.old) rig sink) (outside (S.store_state store.new) rig sink) }
 {
-    netlist_of_file(alloc, file, store, name)
+    match read_within(alloc, store, name, MOST_BYTES)? {
+        Some(text) => netlist_of(alloc, file, &text),
+        None => Err(refused(alloc, file, 0, DesignKind::Limit)),
+    }
 }

@@ -1,12 +1,10 @@
 //! Images that are read.
-ghost use Rattle.std.specs.Prelude.{◌≡◌, ◌≤◌, ◌∷◌, [], IfOk, IfErr};
+ghost use Rattle.std.specs.Prelude.{◌∷◌, []};
 ghost use Rattle.tm_outside.specs.Sink.{SinkState};
 ghost use Rattle.tm_outside.specs.Told.{holds};
-ghost use Rattle.config_image.specs.Images.{Reads};
 ghost use Rattle.rig.specs.Rig.{RigState};
-ghost use Rattle.steps.specs.Outside.{outside, StaysNear, StandsIn};
-ghost use Rattle.steps.specs.Stops.{Asks, StepStops};
-ghost use Rattle.steps.specs.Texts.{reads_image, IsOfText, StoreCounts};
+ghost use Rattle.steps.specs.Outside.{Outside, outside};
+ghost use Rattle.steps.specs.Texts.{reads_image};
 ghost use Rattle.steps.specs.Took.{Took};
 
 use crate::refusal::{Refusal, Stop};
@@ -18,38 +16,13 @@ use tm_text::MOST_BYTES;
 
 // The image of these bytes.
 fn image_of_text(alloc: Global, shape: &Shape, text: &[u8]) -> Result<Image, Stop>
-    ensures found { IfOk result (Reads shape.now text.now) }
-    ensures refused { IfErr result (StepStops (reads_image (holds text.now) shape.now)) }
-    ensures of_text { IfErr result IsOfText }
+    // Whatever is outside.
+    ensures { (o : Outside) → Took [] (reads_image (holds text.now) shape.now) result o o }
 {
     match read_image(alloc, shape, text) {
         Ok(image) => Ok(image),
         Err(ImageFault::At { line, kind }) => Err(Stop::Refused(Refusal::Image { line, kind })),
         Err(ImageFault::Memory) => Err(Stop::Refused(Refusal::Memory)),
-    }
-}
-
-// The image of a file.
-fn image_of_file<S: Store>(
-    alloc: Global,
-    shape: &Shape,
-    name: &str,
-    store: &mut S,
-) -> Result<Image, Stop>
-    ensures contents { (S.store_state store.new).contents ≡ (S.store_state store.old).contents }
-    ensures later { (S.store_state store.old).failures ≤ (S.store_state store.new).failures }
-    ensures asked { Asks (name.now ∷ []) result (S.store_state store.old) (S.store_state store.new) }
-    ensures place { StandsIn (name.now ∷ []) (S.store_state store.old) (S.store_state store.new) }
-    ensures found { IfOk result (reads_image ((S.store_state store.old).contents name.now) shape.now).gives }
-    ensures refused { IfErr result (StepStops (reads_image ((S.store_state store.old).contents name.now) shape.now)) }
-    ensures counted { IfErr result (λ stop. StoreCounts stop (S.store_state store.old) (S.store_state store.new)) }
-{
-    match read_within(alloc, store, name, MOST_BYTES)? {
-        Some(text) => image_of_text(alloc, shape, &text),
-        None => Err(Stop::Refused(Refusal::Image {
-            line: 0,
-            kind: ImageKind::Limit,
-        })),
     }
 }
 
@@ -60,17 +33,16 @@ pub fn read_image_file<S: Store>(
     name: &str,
     store: &mut S,
 ) -> Result<Image, Stop>
-    ensures contents { (S.store_state store.new).contents ≡ (S.store_state store.old).contents }
-    ensures later { (S.store_state store.old).failures ≤ (S.store_state store.new).failures }
-    ensures asked { Asks (name.now ∷ []) result (S.store_state store.old) (S.store_state store.new) }
-    ensures place { StaysNear (S.store_state store.old) (S.store_state store.new) }
-    ensures found { IfOk result (reads_image ((S.store_state store.old).contents name.now) shape.now).gives }
-    ensures refused { IfErr result (StepStops (reads_image ((S.store_state store.old).contents name.now) shape.now)) }
-    ensures counted { IfErr result (λ stop. StoreCounts stop (S.store_state store.old) (S.store_state store.new)) }
     // Whatever the rig and the sink are.
     ensures took { (rig : RigState) (sink : SinkState) →
         Took (name.now ∷ []) (reads_image ((S.store_state store.old).contents name.now) shape.now) result
         (outside (S.store_state store.old) rig sink) (outside (S.store_state store.new) rig sink) }
 {
-    image_of_file(alloc, shape, name, store)
+    match read_within(alloc, store, name, MOST_BYTES)? {
+        Some(text) => image_of_text(alloc, shape, &text),
+        None => Err(Stop::Refused(Refusal::Image {
+            line: 0,
+            kind: ImageKind::Limit,
+        })),
+    }
 }

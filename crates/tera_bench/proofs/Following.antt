@@ -13,8 +13,7 @@ use Rattle.steps.specs.declared.refusal.Refusal.TheVariants.{Memory}
 use Rattle.steps.specs.declared.refusal.Stop.{Stop}
 use Rattle.steps.specs.declared.refusal.Stop.TheVariants.{Refused}
 use Rattle.steps.proofs.Keeping.{kept-gives}
-use Rattle.steps.proofs.Making.{took-made}
-use Rattle.steps.proofs.Taking.{took-nothing, step-stops, step-gives, attach-gives, asks-machine}
+use Rattle.steps.proofs.Taking.{took-nothing, took-value, step-stops, step-gives, attach-gives, asks-machine}
 use Rattle.listing.specs.Lists.{lists_now}
 use Rattle.listing.proofs.ListedLemmas.{listed-on}
 use Rattle.tera_bench.specs.Bench.{makes_shape, generated_name, design_laid, machine_listed, design_made, bench_course}
@@ -36,7 +35,7 @@ module _ (n : ℕ) (old : Outside) where
     attach-stopped stop result is attach at =
         let took = subst (λ t. Took {T = Unit {0}} [] (attaches (record { shape = m; name = t }) old.rig mid.rig) (Err stop) old mid) named attach in
         let asked = subst (λ t. MayAsk (record { shape = m; name = t }) old.rig.machine.asked mid.rig.machine.asked) named may in
-        step-gives _ _ _ makes_shape [] [] (asks mid) (asks mid) m m result old old mid (took-made makes_shape m old counts) counts
+        step-gives _ _ _ makes_shape [] [] (asks mid) (asks mid) m m result old old mid (took-value makes_shape m old counts) counts
         (step-stops _ _ _ _ [] [] (asks mid) stop result old mid is took took.stops at (asks-machine _ _ m _ _ counts asked)) (asks-machine _ _ m _ _ counts asked)
 
     module _ (attach : Took [] (attaches (record { shape = m; name = name }) old.rig mid.rig) (Ok tt) old mid) where
@@ -46,7 +45,7 @@ module _ (n : ℕ) (old : Outside) where
           let took = subst (λ t. Took [] (attaches (record { shape = m; name = t }) old.rig mid.rig) (Ok tt) old mid) named attach in
           let asked = subst (λ t. MayAsk (record { shape = m; name = t }) old.rig.machine.asked mid.rig.machine.asked) named may in
           let follows = attach-gives _ _ (λ _. design_made n (around old) (around new) m) [] old.rig result old mid new took asked rest_is in
-          step-gives _ _ _ makes_shape [] [] (asks new) _ m m result old old new (took-made makes_shape m old counts) counts follows (asks-machine _ _ m _ _ counts follows.machines)
+          step-gives _ _ _ makes_shape [] [] (asks new) _ m m result old old new (took-value makes_shape m old counts) counts follows (asks-machine _ _ m _ _ counts follows.machines)
 
     -- the list that was made is one of the machine still
     pub listed : {U : Type 0} (draft : Draft) (d : DefectList) (result : Result U Stop) (now new : Outside) → mid.rig.loads ≡ old.rig.loads → Took [] (lists_now m mid.rig now.rig) (Ok d) mid now → now.rig.machine ≡ mid.rig.machine → Follows ⊥ [] (new.rig.machine ≡ now.rig.machine) (design_laid n draft old.rig.loads (new.store ≡ old.store) new.rig (record { list = d; loads = now.rig.loads })) result now new → Follows ⊥ [] (new.rig.machine ≡ mid.rig.machine) (machine_listed n (around old) (around new) m draft) result mid new

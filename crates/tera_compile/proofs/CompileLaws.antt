@@ -7,13 +7,13 @@ use Rattle.netlist.specs.declared.draft.Draft.{Draft}
 use Rattle.config_image.specs.Images.{image_bytes}
 use Rattle.steps.specs.Outside.{Around, StandsIn}
 use Rattle.steps.specs.Courses.{Course, Next, done, refuses}
-use Rattle.steps.specs.Texts.{reads_machine, reads_defects, reads_design, IsMachineText, IsDefectsText, IsDesignText}
+use Rattle.steps.specs.Texts.{reads_machine, reads_defects, reads_design, IsDefectsText}
 use Rattle.steps.specs.Jobs.{IsLawful, IsExcused, Leads, Fronts, EndsWell, EndsShort}
 use Rattle.steps.specs.declared.refusal.Refusal.{Refusal}
 use Rattle.steps.specs.declared.design_file.DesignFile.TheVariants.{Design}
 use Rattle.steps.proofs.Leading.{after-leads, write-leads, done-leads}
 use Rattle.steps.proofs.Excused.{machine-excused, defects-excused, design-excused}
-use Rattle.steps.proofs.ShapeLemmas.{same-shape}
+use Rattle.steps.proofs.ShapeLemmas.{one-machine, one-design}
 use Rattle.lay.specs.Laying.{lays}
 use Rattle.lay.proofs.Rooms.{AreDecided, never-lacks, never-refused, lay-excused, lay-short}
 use Rattle.tera_compile.specs.Compile.{compile_course, list_read, design_read, design_laid, image_written}
@@ -37,9 +37,7 @@ module _ (decided : AreDecided) (machine defects design : List ℕ) (old new : A
 
   -- there is one machine, one list and one design of right files
   the-shape : (right : AreRightFiles t) (m : Shape) → (reads_machine t.machine).gives m → right.list.shape ≡ m
-  the-shape right m is =
-      let text : IsMachineText right.machine_file m = rw right.machine_told at is in
-      same-shape right.list.shape m (text.only right.list.shape.counts right.machine)
+  the-shape right m is = one-machine t.machine right.machine_file right.list.shape m right.machine_told right.machine is
 
   the-list : (right : AreRightFiles t) (m : Shape) (d : DefectList) → right.list.shape ≡ m → (reads_defects t.defects m).gives d → right.list ≡ d
   the-list right m d shape is =
@@ -47,9 +45,7 @@ module _ (decided : AreDecided) (machine defects design : List ℕ) (old new : A
       text.only right.list (subst (λ (s : Shape). IsText s right.defects_file right.list) shape right.defects)
 
   the-draft : (right : AreRightFiles t) (draft : Draft) → (reads_design Design t.design).gives draft → right.draft ≡ draft
-  the-draft right draft is =
-      let text : IsDesignText right.design_file draft = rw right.design_told at is in
-      text.only right.draft right.design
+  the-draft right draft is = one-design Design t.design right.design_file right.draft draft right.design_told right.design is
 
   -- right files are read, whatever follows on them
   files-lead : (next_is : Next → Type 0) (right : AreRightFiles t) → ((refusal : Refusal) → IsExcused refusal old new → next_is (refuses refusal)) → Leads any (on_list right.list right.draft) next_is → Leads any (compile_course machine defects design old.store new.store) next_is

@@ -6,12 +6,12 @@ use Rattle.steps.specs.Files.{says_at, vectors_at}
 use Rattle.steps.specs.Lines.{outputs_line}
 use Rattle.steps.specs.Outside.{Around}
 use Rattle.steps.specs.Courses.{RowWork, refuses}
-use Rattle.steps.specs.Texts.{reads_machine, reads_image, attaches, IsMachineText}
+use Rattle.steps.specs.Texts.{reads_machine, reads_image, attaches}
 use Rattle.steps.specs.Jobs.{IsLawful, Leads, Fronts, EndsWell}
 use Rattle.steps.specs.declared.refusal.Refusal.TheVariants.{Memory}
 use Rattle.steps.proofs.Leading.{after-leads}
 use Rattle.steps.proofs.Excused.{machine-excused, image-excused, attach-excused}
-use Rattle.steps.proofs.ShapeLemmas.{same-shape}
+use Rattle.steps.proofs.ShapeLemmas.{one-machine}
 use Rattle.image_rows.specs.Rows.{most_rows, RowsBegin, image_rows}
 use Rattle.image_rows.proofs.CourseLemmas.{image-well, image-few}
 use Rattle.tera_run.specs.Run.{run_course, machine_attached, image_read, image_run, IsUnloadedIn, run_files, run_job, RunFiles, RunRight, RunFew}
@@ -22,9 +22,7 @@ module _ (machine name image vectors : List ℕ) (old new : Around) where
 
   -- there is one machine and one image of right files
   the-shape : (right : RunRight t) (m : Shape) → (reads_machine t.machine).gives m → right.shape ≡ m
-  the-shape right m is =
-      let text : IsMachineText right.machine_file m = rw right.machine_told at is in
-      same-shape right.shape m (text.only right.shape.counts right.machine)
+  the-shape right m is = one-machine t.machine right.machine_file right.shape m right.machine_told right.machine is
 
   the-image : (right : RunRight t) (m : Shape) (i : ImageValue) → right.shape ≡ m → (reads_image t.image m).gives i → right.image ≡ i
   the-image right m i shape is =

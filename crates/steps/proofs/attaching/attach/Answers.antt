@@ -1,6 +1,6 @@
 use Rattle.std.proofs.Common.{inr}
 use Rattle.std.proofs.lemmas.Result.{err_from_is_err_and}
-use Rattle.steps.proofs.AttachLemmas.{attach-stops, attach-counts, attach-asks, attach-took, attach-taken}
+use Rattle.steps.proofs.AttachLemmas.{attach-asks, attach-took, attach-taken}
 use Rattle.steps.proofs.attaching.attach.Goals as goal
 
 pub returns-clause-asked : goal.returns-clause-asked
@@ -8,16 +8,6 @@ returns-clause-asked g c = inr c.in_ok-attach_boxed.ensures.attached.asked
 
 pub returns-in_err-attach_boxed-clause-asked : goal.returns-in_err-attach_boxed-clause-asked
 returns-in_err-attach_boxed-clause-asked g c = attach-asks _ _ _ _ c.in_err-attach_boxed.ensures.refused
-
-pub returns-in_err-attach_boxed-clause-refused : goal.returns-in_err-attach_boxed-clause-refused
-returns-in_err-attach_boxed-clause-refused g c =
-    let p = err_from_is_err_and c.from_residual.result c.from_residual.ensures.1 in
-    rw (p.1, p.2) (attach-stops _ _ _ _ c.in_err-attach_boxed.ensures.detached c.in_err-attach_boxed.ensures.refused)
-
-pub returns-in_err-attach_boxed-clause-counted : goal.returns-in_err-attach_boxed-clause-counted
-returns-in_err-attach_boxed-clause-counted g c =
-    let p = err_from_is_err_and c.from_residual.result c.from_residual.ensures.1 in
-    rw (p.1, p.2) (attach-counts _ _ _ _ c.in_err-attach_boxed.ensures.refused)
 
 pub returns-clause-took : goal.returns-clause-took
 returns-clause-took g c =

@@ -1,10 +1,28 @@
-use Rattle.steps.proofs.TookLemmas.{stands-near, read-took}
+use Rattle.std.proofs.lemmas.Result.{err_from_is_err_and}
+use Rattle.netlist.specs.declared.fault.DesignKind.TheVariants.{Limit}
+use Rattle.steps.specs.Texts.{reads_design}
+use Rattle.steps.proofs.TextLemmas.{of-design, long-design, design-counted}
+use Rattle.steps.proofs.TookLemmas.{file-fails, file-text, file-long}
 use Rattle.steps.proofs.design.read_design.Goals as goal
 
-pub returns-clause-place : goal.returns-clause-place
-returns-clause-place g c = stands-near c.args.name.now (g.S.Store.store_state c.args.store.now) (g.S.Store.store_state c.netlist_of_file.new.store) c.netlist_of_file.ensures.place
+pub returns-in_err-text : goal.returns-in_err-text
+returns-in_err-text g c = record {
+  took =
+      let p = err_from_is_err_and c.from_residual.result c.from_residual.ensures.1 in
+      let e = c.in_err-text.ensures in
+      λ rig sink. rw (p.1, p.2) (file-fails (reads_design c.args.file) (of-design c.args.file) c.args.name.now _ _ rig sink e.contents e.later e.within _ e.refused);
+}
 
-pub returns-clause-took : goal.returns-clause-took
-returns-clause-took g c =
-    let e = c.netlist_of_file.ensures in
-    λ rig sink. read-took c.args.name.now _ _ (g.S.Store.store_state c.args.store.now) (g.S.Store.store_state c.netlist_of_file.new.store) rig sink e.contents e.later e.asked e.place e.found e.refused e.counted
+pub returns-in-Some : goal.returns-in-Some
+returns-in-Some g c = record {
+  took =
+      let e = c.in_ok-text.ensures in
+      λ rig sink. file-text (reads_design c.args.file) (of-design c.args.file) c.args.name.now _ _ rig sink e.contents e.later e.within c.in-Some.text.items _ e.asked (rw c.in-Some.is at e.text) (rw c.deref.ensures.value at c.netlist_of.ensures);
+}
+
+pub returns-in-None : goal.returns-in-None
+returns-in-None g c = record {
+  took =
+      let e = c.in_ok-text.ensures in
+      λ rig sink. file-long (reads_design c.args.file) (of-design c.args.file) c.args.name.now _ _ rig sink e.contents e.later e.within _ e.asked (long-design c.args.file _ _ c.refused.ensures (rw c.in-None.is at e.text)) (design-counted c.args.file 0 Limit _ _ _ c.refused.ensures);
+}

@@ -95,7 +95,8 @@ pub run_image-requires : goal.run_image-requires
 run_image-requires g c =
     let box1 = c.attach.new.rig in
     let r1 = (goal.Rig-dyn g (box1.vtable, box1.value)).rig_state box1.value in
-    attached-shape r1 c.in_ok-shape.shape c.args.name.now c.in_ok-image.image c.in_ok-attach.ensures.attached.attached c.in_ok-image.ensures.found.0
+    attached-shape r1 c.in_ok-shape.shape c.args.name.now c.in_ok-image.image (c.in_ok-attach.ensures.took (g.S.Store.store_state c.read_shape.new.store) (g.K.Sink.sink_state c.args.sink.now)).gives
+    (c.in_ok-image.ensures.took r1 (g.K.Sink.sink_state c.args.sink.now)).gives.0
 
 pub returns-clause-does : goal.returns-clause-does
 returns-clause-does g c =
