@@ -1,5 +1,6 @@
 use Rattle.std.proofs.Common.{refl, arith}
 use Rattle.std.proofs.lemmas.Result.{err_from_is_err_and}
+use Rattle.steps.specs.Outside.{outside}
 use Rattle.steps.proofs.WrittenRows.{row-later}
 use Rattle.image_rows.proofs.RowLemmas.{IsDriving-start, IsDriving-more, cycle-stops, row-stops, file-ends}
 use Rattle.image_rows.proofs.image.write_rows.Goals as goal
@@ -7,21 +8,29 @@ use Rattle.image_rows.proofs.image.write_rows.Goals as goal
 pub file-init : goal.file-init
 file-init g c = IsDriving-start c.args.rows.now _ c.requires.loaded c.requires.begun
 
+pub next_row-requires-clause-open : goal.next_row-requires-clause-open
+next_row-requires-clause-open g c = rw c.file.invariant.written.taking.place tt
+
 pub file-preserved : goal.file-preserved
 file-preserved g c =
     let n = c.in_ok-next_row.ensures in
     let w = c.in_ok-write_row.ensures in
     let driven = rw c.if-branch.true at n.gives in
-    let later = row-later _ _ _ _ _ _ n.keeps.store n.keeps.machine n.keeps.failures w.puts.kind w.puts.later in
-    rw w.same (IsDriving-more _ _ _ _ c.file.rows c.next_row.new.rows c.file.invariant n.keeps later driven n.fits w.puts)
+    let s1 = g.S.Store.store_state c.next_row.new.store in
+    let box1 = c.next_row.new.rig in
+    let r1 = (goal.Rig-dyn g (box1.vtable, box1.value)).rig_state box1.value in
+    let new = outside s1 r1 (g.K.Sink.sink_state c.write_row.new.sink) in
+    rw w.same (IsDriving-more _ _ _ new c.file.rows c.next_row.new.rows c.file.invariant n.keeps (row-later _ _ _ _ _ _ n.keeps.store n.keeps.machine n.keeps.failures w.puts.kind w.puts.later) driven n.fits w.puts)
 
 pub returns-in_err-next_row : goal.returns-in_err-next_row
 returns-in_err-next_row g c =
     let p = err_from_is_err_and c.from_residual.result c.from_residual.ensures.1 in
     let n = c.in_err-next_row.ensures in
-    let a = g.K.Sink.sink_state c.file.sink in
-    let later = row-later _ _ _ _ a a n.keeps.store n.keeps.machine n.keeps.failures refl (omega arith) in
-    rw (p.1, p.2) (record { follows = cycle-stops _ _ _ _ c.file.rows c.next_row.new.rows c.file.invariant n.keeps later refl _ n.refused })
+    let s1 = g.S.Store.store_state c.next_row.new.store in
+    let box1 = c.next_row.new.rig in
+    let r1 = (goal.Rig-dyn g (box1.vtable, box1.value)).rig_state box1.value in
+    let new = outside s1 r1 (g.K.Sink.sink_state c.file.sink) in
+    rw (p.1, p.2) (record { follows = cycle-stops _ _ _ new c.file.rows c.next_row.new.rows c.file.invariant n.keeps (row-later _ _ _ _ _ _ n.keeps.store n.keeps.machine n.keeps.failures refl (omega arith)) refl _ n.refused })
 
 pub returns-in_err-write_row : goal.returns-in_err-write_row
 returns-in_err-write_row g c =
@@ -29,13 +38,18 @@ returns-in_err-write_row g c =
     let n = c.in_ok-next_row.ensures in
     let w = c.in_err-write_row.ensures in
     let driven = rw c.if-branch.true at n.gives in
-    let later = row-later _ _ _ _ _ _ n.keeps.store n.keeps.machine n.keeps.failures w.puts.kind w.puts.later in
-    rw (p.1, p.2) (record { follows = row-stops _ _ _ _ c.file.rows c.next_row.new.rows c.file.invariant n.keeps later driven n.fits _ w.puts })
+    let s1 = g.S.Store.store_state c.next_row.new.store in
+    let box1 = c.next_row.new.rig in
+    let r1 = (goal.Rig-dyn g (box1.vtable, box1.value)).rig_state box1.value in
+    let new = outside s1 r1 (g.K.Sink.sink_state c.write_row.new.sink) in
+    rw (p.1, p.2) (record { follows = row-stops _ _ _ new c.file.rows c.next_row.new.rows c.file.invariant n.keeps (row-later _ _ _ _ _ _ n.keeps.store n.keeps.machine n.keeps.failures w.puts.kind w.puts.later) driven n.fits _ w.puts })
 
 pub returns : goal.returns
 returns g c =
     let n = c.in_ok-next_row.ensures in
     let gives = rw c.if-branch.false at n.gives in
-    let a = g.K.Sink.sink_state c.file.sink in
-    let later = row-later _ _ _ _ a a n.keeps.store n.keeps.machine n.keeps.failures refl (omega arith) in
-    record { follows = file-ends _ _ _ _ c.file.rows c.next_row.new.rows c.file.invariant n.keeps later refl tt gives }
+    let s1 = g.S.Store.store_state c.next_row.new.store in
+    let box1 = c.next_row.new.rig in
+    let r1 = (goal.Rig-dyn g (box1.vtable, box1.value)).rig_state box1.value in
+    let new = outside s1 r1 (g.K.Sink.sink_state c.file.sink) in
+    record { follows = file-ends _ _ _ new c.file.rows c.next_row.new.rows c.file.invariant n.keeps (row-later _ _ _ _ _ _ n.keeps.store n.keeps.machine n.keeps.failures refl (omega arith)) refl tt gives }
