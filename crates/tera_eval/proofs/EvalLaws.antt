@@ -39,14 +39,14 @@ module _ (design vectors : List ℕ) (old new : Around) where
       let right = is [] text refl in
       after-leads (reads_design Design (old.store.contents design)) (StandsIn (design ∷ []) old.store new.store) (design_evaluated vectors (design ∷ []) old.store new.store) any (EndsWell old new)
       (λ _ refusal stops. design-well right refusal stops)
-      (λ draft gives. opened-well (eval_rows draft (old.store.contents vectors) new.store.current) _ vectors (design ∷ []) _ _ _ old new right.vectors_file right.vectors_told (same-fault right draft gives))
+      (λ draft gives. opened-well (eval_rows draft (old.store.contents vectors) new.store.current) _ vectors (design ∷ []) old.store new.store _ old new right.vectors_file right.vectors_told (same-fault right draft gives))
       text next tt at
 
   -- no row wants memory
   eval-few : (text : List ℕ) → (more : List ℕ) × (text ≡ outputs_line ++ more) → eval_course design vectors old.store new.store text (refuses Memory) → ⊥
   eval-few text begun (inl h) = let begins = begun.1 in let empty = h.0 in absurd (cc)
   eval-few text begun (inr (draft, gives, h)) =
-      (opened-lacks (eval_rows draft (old.store.contents vectors) new.store.current) _ vectors (design ∷ []) _ _ _ text begun.0 begun.1 h).1.1
+      (opened-lacks (eval_rows draft (old.store.contents vectors) new.store.current) _ vectors (design ∷ []) old.store new.store _ text begun.0 begun.1 h).1.1
 
 pub eval-lawful : (design vectors : List ℕ) → IsLawful (eval_job design vectors)
 eval-lawful design vectors = record {

@@ -9,7 +9,7 @@ pub file-init : goal.file-init
 file-init g c = IsDriving-start c.args.rows.now _ c.requires.loaded c.requires.begun
 
 pub next_row-requires-clause-open : goal.next_row-requires-clause-open
-next_row-requires-clause-open g c = rw c.file.invariant.written.taking.place tt
+next_row-requires-clause-open g c = rw c.file.invariant.written.taking.place refl
 
 pub file-preserved : goal.file-preserved
 file-preserved g c =
