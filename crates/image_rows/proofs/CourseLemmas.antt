@@ -1,8 +1,8 @@
 -- What the course of an image comes to, whoever's rows they are.
-use Rattle.std.proofs.Common.{◌≡◌, ℕ, ◌≤◌, Bool, List, ◌++◌, length, None, inl, inr, arith}
+use Rattle.std.proofs.Common.{◌≡◌, ℕ, ◌≤◌, Bool, List, ◌++◌, length, None, inl, inr, subst, arith}
 use Rattle.tm_outside.specs.Counts.{next_count}
 use Rattle.tm_outside.specs.Told.{holds}
-use Rattle.steps.specs.Files.{says_at, vectors_at, AreAll}
+use Rattle.steps.specs.Files.{says_at, vectors_at, AreAll, IsNearNext}
 use Rattle.steps.specs.Lines.{outputs_line, output_text}
 use Rattle.steps.specs.Outside.{Around, StandsIn}
 use Rattle.steps.specs.Courses.{RowWork, Next, all_rows, HasRows, HasReadRows, IsBeforeRow, ends, refuses, writes}
@@ -76,7 +76,7 @@ module _ (w : RowWork) (b : RowsBegin) where
   image-few new bytes told most few text more begins (inl h) = let empty = h.0 in absurd (cc)
   image-few new bytes told most few text more begins (inr (u, loaded, h)) =
       let at = (opened-lacks w w.told b.vectors b.files b.begun new.store (IsAtOutputs b.image b.vectors new) text more begins h).1 in
-      let next = rw told at at.2 in
+      let next = subst (λ t. IsNearNext w.width t w.place (length at.0.has.rows)) told at.2 in
       let lacks = most (length at.0.has.rows) at.1 in
       absurd (omega (arith, next.0, lacks, few))
 

@@ -77,6 +77,6 @@ module _ (i : ImageValue) (vectors : List ℕ) (files : List (List ℕ)) (begun 
           loaded-then (work opened) begin rows result old mid (outside opened.store opened.rig sink) loaded refl machine (outputs-stops (mid.store.contents vectors) vectors files begun (here opened) (all_rows (work opened)) mid refl stands opened took _ stop result sink is puts at same)
 
       -- or it is, and the rows are followed: those of this image and this file
-      pub rows-follow : {U : Type 0} (j : ImageValue) (told : Told) (result : Result U Stop) (sink : SinkState) (new : Outside) → j ≡ i → told ≡ mid.store.contents vectors → Puts outputs_line (Ok tt) opened.sink sink → SameRig mid.rig new.rig → Follows ⊥ [] (SameRig opened.rig new.rig) (all_rows (image_rows j told new.store.current new.rig)) result (outside opened.store opened.rig sink) new → Follows ⊥ (vectors ∷ []) (new.rig.machine ≡ old.rig.machine) (course new) result old new
+      pub rows-follow : {U : Type 0} (j : ImageValue) (told : Told) (result : Result U Stop) (sink : SinkState) (new : Outside) → j ≡ i → told ≡ mid.store.contents vectors → Puts {T = Unit {0}} outputs_line (Ok tt) opened.sink sink → SameRig mid.rig new.rig → Follows ⊥ [] (SameRig opened.rig new.rig) (all_rows (image_rows j told new.store.current new.rig)) result (outside opened.store opened.rig sink) new → Follows ⊥ (vectors ∷ []) (new.rig.machine ≡ old.rig.machine) (course new) result old new
       rows-follow j told result sink new image file puts rigs rest_is =
-          loaded-then (work new) begin rows result old mid new loaded refl machine (rows-then (mid.store.contents vectors) vectors files begun (here new) (all_rows (work new)) mid refl stands opened took _ _ tt result sink new puts (rw (← image, ← file) rest_is) rigs)
+          loaded-then (work new) begin rows result old mid new loaded refl machine (rows-then (mid.store.contents vectors) vectors files begun (here new) (all_rows (work new)) mid refl stands opened took _ (SameRig opened.rig new.rig) _ result sink new puts (rw (← image, ← file) rest_is) rigs)

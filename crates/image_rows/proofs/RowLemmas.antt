@@ -7,7 +7,7 @@ use Rattle.hierarchy.specs.Circuit.{Pins}
 use Rattle.hierarchy.specs.Faults.{Faults}
 use Rattle.config_set.specs.Configuration.{Configuration}
 use Rattle.config_set.specs.Faulty.{IsRun}
-use Rattle.rig.specs.Rig.{RigState, config_of, cycles_of, drives_of, readings_of}
+use Rattle.rig.specs.Rig.{RigState, Exchange, config_of, cycles_of, drives_of, readings_of}
 use Rattle.config_image.specs.Images.{ImageValue, drive_of, image_row}
 use Rattle.loader.specs.Pins.{pins_in}
 use Rattle.loader.specs.Run.{RunsRow}
