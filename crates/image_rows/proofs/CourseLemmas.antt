@@ -1,16 +1,16 @@
 -- What the course of an image comes to, whoever's rows they are.
-use Rattle.std.proofs.Common.{◌≡◌, ℕ, ◌≤◌, Bool, List, ◌∷◌, ◌++◌, length, None, ◌∙◌, ap, inl, inr, arith}
+use Rattle.std.proofs.Common.{◌≡◌, ℕ, ◌≤◌, Bool, List, ◌++◌, length, None, inl, inr, subst, arith}
 use Rattle.tm_outside.specs.Counts.{next_count}
 use Rattle.tm_outside.specs.Told.{holds}
-use Rattle.steps.specs.Files.{says_at, vectors_at, AreAll}
+use Rattle.steps.specs.Files.{says_at, vectors_at, AreAll, IsNearNext}
 use Rattle.steps.specs.Lines.{outputs_line, output_text}
 use Rattle.steps.specs.Outside.{Around, StandsIn}
-use Rattle.steps.specs.Courses.{RowWork, Next, write, all_rows, HasRows, HasReadRows, IsBeforeRow, ends, refuses, writes}
-use Rattle.steps.specs.Texts.{opens}
+use Rattle.steps.specs.Courses.{RowWork, Next, all_rows, HasRows, HasReadRows, IsBeforeRow, ends, refuses, writes}
 use Rattle.steps.specs.Jobs.{Leads, EndsWell}
 use Rattle.steps.specs.declared.refusal.Refusal.TheVariants as refused
-use Rattle.steps.proofs.Leading.{after-leads, write-leads}
-use Rattle.steps.proofs.Excused.{rig-excused, open-excused, rows-well}
+use Rattle.steps.proofs.Leading.{after-leads}
+use Rattle.steps.proofs.Excused.{rig-excused}
+use Rattle.steps.proofs.OpenedLaws.{opened-well, opened-lacks, opened-ends}
 use Rattle.image_rows.specs.Rows.{most_rows, RowsBegin, IsAtOutputs, image_course, loaded_course, loads}
 
 -- ---- rows of which more is known
@@ -64,28 +64,20 @@ module _ (w : RowWork) (are : (vectors rows : List (List Bool)) → Type 0) (als
 -- ---- what it leads to
 
 module _ (w : RowWork) (b : RowsBegin) where
-  abbrev any : List ℕ → Type 0
-  any text = Unit {0}
-
   -- of vectors without a fault nothing is refused but what is excused
-  pub image-well : (old new : Around) (bytes : List ℕ) → w.told ≡ holds bytes → (says_at w.width bytes).fault ≡ None → Leads any (image_course w b new) (EndsWell old new)
-  image-well old new bytes told none text next is at =
-      after-leads (loads b.before new.rig) (StandsIn b.files b.begun new.store) (λ _. loaded_course w b new) any (EndsWell old new)
+  pub image-well : (old new : Around) (bytes : List ℕ) → w.told ≡ holds bytes → (says_at w.width bytes).fault ≡ None → Leads (λ text. Unit {0}) (image_course w b new) (EndsWell old new)
+  image-well old new bytes told none =
+      after-leads (loads b.before new.rig) (StandsIn b.files b.begun new.store) (λ _. loaded_course w b new) (λ text. Unit {0}) (EndsWell old new)
       (λ _ refusal stops. rig-excused old new refusal stops.0)
-      (λ _ _. after-leads (opens w.told) (StandsIn (b.vectors ∷ b.files) b.begun new.store) (λ _. write outputs_line (IsAtOutputs b.image b.vectors new) (all_rows w)) any (EndsWell old new)
-      (λ _ refusal stops. open-excused old new refusal stops)
-      (λ _ _. write-leads outputs_line (IsAtOutputs b.image b.vectors new) (all_rows w) any (EndsWell old new) tt
-      (rows-well old new w bytes any told none)))
-      text next is at
+      (λ _ _. opened-well w w.told b.vectors b.files b.begun new.store (IsAtOutputs b.image b.vectors new) old new bytes told none)
 
   -- behind the line `outputs` memory is wanting only for more rows than there was room for
   pub image-few : (new : Around) (bytes : List ℕ) → w.told ≡ holds bytes → ((count : ℕ) → w.lacks count → most_rows ≤ count) → length (vectors_at w.width bytes) ≤ most_rows → (text more : List ℕ) → text ≡ outputs_line ++ more → image_course w b new text (refuses refused.Memory) → ⊥
   image-few new bytes told most few text more begins (inl h) = let empty = h.0 in absurd (cc)
-  image-few new bytes told most few text more begins (inr (u, loaded, inl h)) = let empty = h.0 in absurd (cc)
-  image-few new bytes told most few text more begins (inr (u, loaded, inr (v, opened, inl h))) = let line = h.1 in absurd (cc)
-  image-few new bytes told most few text more begins (inr (u, loaded, inr (v, opened, inr (rows, is, h)))) =
-      let next = rw told at h.2 in
-      let lacks = most (length h.0.has.rows) h.1 in
+  image-few new bytes told most few text more begins (inr (u, loaded, h)) =
+      let at = (opened-lacks w w.told b.vectors b.files b.begun new.store (IsAtOutputs b.image b.vectors new) text more begins h).1 in
+      let next = subst (λ t. IsNearNext w.width t w.place (length at.0.has.rows)) told at.2 in
+      let lacks = most (length at.0.has.rows) at.1 in
       absurd (omega (arith, next.0, lacks, few))
 
   -- a course of an image that has come to its end
@@ -98,14 +90,12 @@ module _ (w : RowWork) (b : RowsBegin) where
 
   pub image-ends : (new : Around) (text : List ℕ) → image_course w b new text ends → HasRun new text
   image-ends new text (inl h) = absurd h.1
-  image-ends new text (inr (u, loaded, inl h)) = absurd h.1
-  image-ends new text (inr (u, loaded, inr (v, opened, inl h))) = let line = h.1 in absurd (cc)
-  image-ends new text (inr (u, loaded, inr (v, opened, inr (more, is, h)))) =
-      let rows : HasReadRows w more = h.0 in
+  image-ends new text (inr (u, loaded, h)) =
+      let ended = opened-ends w w.told b.vectors b.files b.begun new.store (IsAtOutputs b.image b.vectors new) text h in
       record {
         loaded = loaded;
-        more = more;
-        rows = rows;
-        all = h.1;
-        text_is = is ∙ ap (λ t. outputs_line ++ t) rows.has.text_is;
+        more = ended.more;
+        rows = ended.rows;
+        all = ended.all;
+        text_is = ended.text_is;
       }

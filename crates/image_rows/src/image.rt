@@ -1,5 +1,5 @@
 //! The rows of an image.
-ghost use Rattle.std.specs.Prelude.{◌≡◌, ℕ, ◌≤◌, List, ◌∷◌, [], Some, OnOk, IfOk, IfErr, IsSome, length};
+ghost use Rattle.std.specs.Prelude.{◌≡◌, ℕ, List, ◌∷◌, [], Some, OnOk, IfOk, IfErr, IsSome, length};
 ghost use Rattle.tm_outside.specs.Store.{StoreState};
 ghost use Rattle.tm_outside.specs.Sink.{SinkState};
 ghost use Rattle.hierarchy.specs.Shape.{pins_of};
@@ -10,7 +10,7 @@ ghost use Rattle.steps.specs.Outside.{StandsIn, outside, around};
 ghost use Rattle.steps.specs.Courses.{all_rows};
 ghost use Rattle.steps.specs.Took.{Took, Puts, Follows};
 ghost use Rattle.image_rows.specs.Rows.{RowsBegin, image_rows, image_course};
-ghost use Rattle.image_rows.specs.Running.{IsFitting, IsLoaded, CycleGives, CycleStops, prepares};
+ghost use Rattle.image_rows.specs.Running.{IsFitting, IsLoaded, Keeps, CycleGives, CycleStops, prepares};
 
 use config_image::Image;
 use loader::{Run, begin};
@@ -85,13 +85,7 @@ fn next_row<S: Store>(
     requires fits { IsFitting rows.old }
     requires pins { width_of (rig_state rig.old) ≡ Some (pins_of rows.old.image.config.shape) }
 
-    ensures contents { (S.store_state store.new).contents ≡ (S.store_state store.old).contents }
-    ensures later { (S.store_state store.old).failures ≤ (S.store_state store.new).failures }
-    ensures asked { (S.store_state store.new).asked ≡ (S.store_state store.old).asked }
-    ensures machine { (rig_state rig.new).machine ≡ (rig_state rig.old).machine }
-    ensures loads { (rig_state rig.new).loads ≡ (rig_state rig.old).loads }
-    ensures rig_later { (rig_state rig.old).failures ≤ (rig_state rig.new).failures }
-    ensures image { rows.new.image ≡ rows.old.image }
+    ensures keeps { Keeps rows.old rows.new (S.store_state store.old) (S.store_state store.new) (rig_state rig.old) (rig_state rig.new) }
     ensures fits { OnOk result (IsFitting rows.new) }
     ensures gives { let old = S.store_state store.old in let new = S.store_state store.new in
         IfOk result (λ more. CycleGives more rows.old rows.new old new (rig_state rig.old) (rig_state rig.new)) }

@@ -1,6 +1,8 @@
 -- The pins of a run.
 use Rattle.std.specs.Prelude.{◌≢◌, ℕ, ◌<◌, List, ◌++◌, All, AllPairs, refl}
 use Rattle.std.specs.Coded.{Coded, code_by, coded×, coded_ℕ, coded_list}
+use Rattle.hierarchy.specs.Shape.{pins_of}
+use Rattle.config_image.specs.Images.{ImageValue}
 
 -- a run: how many pins the machine has, and the image's two lists of pins
 pub record Rows : Type 0 where
@@ -17,3 +19,7 @@ coded_rows = code_by (ℕ × (List ℕ × List ℕ)) (coded× coded_ℕ (coded×
 pub record ArePinsOfRows (r : Rows) : Type 0 where
   pub within : All (λ k. k < r.pins) (r.inputs ++ r.outputs)
   pub apart : AllPairs (λ j k. j ≢ k) (r.inputs ++ r.outputs)
+
+-- the run of an image
+abbrev pub pins_in : ImageValue → Rows
+pins_in i = record { pins = pins_of i.config.shape; inputs = i.inputs; outputs = i.outputs }

@@ -14,6 +14,13 @@ pub mod Reading
 pub mod Machines
 pub mod Standing
 pub mod JobLemmas
+pub mod WrittenRows
+pub mod OpenedRows
+pub mod OpenedLaws
+pub mod Making
+pub mod Keeping
+pub mod AtEnd
+pub mod Well
 -- For the proofs of this crate alone.
 mod TextLemmas
 mod AttachLemmas

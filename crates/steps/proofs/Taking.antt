@@ -32,7 +32,7 @@ later-later old mid new first second = record {
   sink = omega (arith, first.sink, second.sink);
 }
 
-rose-after : {T : Type 0} (result : Result T Stop) (old mid new : Outside) → IsLater old mid → IfErr result (λ stop. IsCounted ⊥ stop mid new) → IfErr result (λ stop. IsCounted ⊥ stop old new)
+pub rose-after : {T : Type 0} (result : Result T Stop) (old mid new : Outside) → IsLater old mid → IfErr result (λ stop. IsCounted ⊥ stop mid new) → IfErr result (λ stop. IsCounted ⊥ stop old new)
 rose-after result old mid new later why = counted-after result old mid new (record { store = later.store; rig = later.rig; sink = later.sink; kind = later.kind }) why
 
 -- where the store stands after two steps

@@ -1,5 +1,5 @@
 -- What a `bench` that is done has done, from its course.
-use Rattle.std.proofs.Common.{◌≡◌, ◌∙◌, ℕ, ◌-◌, ◌<◌, Bool, List, ◌++◌, length, Option, Some, IfSome, sym, ap, subst, inl, inr, append-nil, arith}
+use Rattle.std.proofs.Common.{◌≡◌, ◌∙◌, ℕ, ◌-◌, ◌<◌, Bool, List, ◌++◌, length, Some, sym, ap, subst, inl, inr, append-nil, arith}
 use Rattle.std.specs.Prelude.{Result, Ok, Err, OnOk}
 use Rattle.std.specs.List.{All}
 use Rattle.std.proofs.lemmas.List.FromFn.{get_or-map-range_with_len, length-map-range_with_len}
@@ -7,16 +7,13 @@ use Rattle.tm_outside.specs.Sink.{Wrote}
 use Rattle.hierarchy.specs.declared.Shape.{Shape}
 use Rattle.hierarchy.specs.Faults.{Faults}
 use Rattle.hierarchy.specs.Defects.{Covers}
-use Rattle.hierarchy.specs.Circuit.{Pins}
 use Rattle.netlist.specs.declared.draft.Draft.{Draft}
-use Rattle.blif_read.specs.Designs.{IsDesign}
 use Rattle.table_map.specs.Plain.{plain_network}
 use Rattle.place.specs.Plans.{nets_in}
-use Rattle.config_set.specs.Configuration.{Configuration}
-use Rattle.config_set.specs.Faulty.{IsRun}
 use Rattle.config_image.specs.Images.{ImageValue}
 use Rattle.crossbar_route.specs.RightImages.{IsRightImage}
-use Rattle.rig.specs.Rig.{config_of, cycles_of, drives_of, readings_of}
+use Rattle.rig.specs.Rig.{cycles_of, readings_of}
+use Rattle.loader.proofs.Driving.{told-run}
 use Rattle.bench_gen.specs.Work as work
 use Rattle.bench_laws.specs.Design.{bench_draft}
 use Rattle.steps.specs.Outside.{Outside, around}
@@ -26,7 +23,7 @@ use Rattle.steps.specs.declared.refusal.Stop.{Stop}
 use Rattle.listing.specs.Lists.{Listed, IsListed}
 use Rattle.lay.specs.Laying.{IsImageFor}
 use Rattle.tera_bench.specs.Summary.{summary_text}
-use Rattle.tera_bench.specs.Bench.{IsBenchRun, bench_course, bench_machine, bench_summary, bench_vector, bench_vectors}
+use Rattle.tera_bench.specs.Bench.{bench_course, bench_summary, bench_vector, bench_vectors}
 use Rattle.tera_bench.specs.Headline.{IsBenched}
 use Rattle.tera_bench.proofs.BenchLaws.{IsOnly}
 
@@ -36,12 +33,6 @@ vectors-wide n width one k d less =
     let within : k < 64 = omega (arith, less, length-map-range_with_len (bench_vector n) 0 64) in
     let at = get_or-map-range_with_len (bench_vector n) 0 64 k k d within (omega arith) in
     ap (λ (v : List Bool). length v) at ∙ sym one
-
--- a told run is that of its faults and its configuration
-told-run : (faults : Option Faults) (config : Option Configuration) (drives readings : List Pins) → IfSome faults (λ f. IfSome config (λ g. IsRun f g drives readings)) → (f : Faults) (g : Configuration) → faults ≡ Some f → config ≡ Some g → IsRun f g drives readings
-told-run faults config drives readings told f g is_f is_g =
-    let at : IfSome (Some f) (λ (x : Faults). IfSome config (λ y. IsRun x y drives readings)) = subst (λ (o : Option Faults). IfSome o (λ (x : Faults). IfSome config (λ y. IsRun x y drives readings))) is_f told in
-    subst (λ (o : Option Configuration). IfSome o (λ y. IsRun f y drives readings)) is_g at
 
 module _ (tables : length (plain_network bench_draft).tables ≡ 17) (nets : nets_in (plain_network bench_draft) ≡ 18) (n : ℕ) where
   -- the numbers of the design's plain network
@@ -55,10 +46,18 @@ module _ (tables : length (plain_network bench_draft).tables ≡ 17) (nets : net
     is-right : (m : Shape) (draft : Draft) (l : Listed) (i : ImageValue) → IsListed m old.rig.loads new.rig l → IsImageFor l.list draft i → (f : Faults) → new.rig.machine.faults ≡ Some f → IsRightImage f i draft
     is-right m draft l i listed laid f told = laid.right f (subst (λ (s : Shape). Covers s l.list.list f) (sym listed.shape) (listed.right.covers f told))
 
-    is-benched : (m : Shape) (draft : Draft) (l : Listed) (i : ImageValue) (ones : ℕ) (text : List ℕ) → Wrote old.sink.written new.sink.written text → m.counts ≡ work.bench_counts → new.rig.machine.attached ≡ Some (bench_machine n m) → IsDesign work.bench_design draft → IsListed m old.rig.loads new.rig l → IsImageFor l.list draft i → IsBenchRun n i l.loads new.rig ones → text ≡ bench_summary n draft ones (new.rig.loads - old.rig.loads) → IsBenched n old new
-    is-benched m draft l i ones text wrote counts attached design listed laid run text_is =
-        let is = only draft design in
-        let one : length i.inputs ≡ 1 = laid.inputs ∙ ap (λ (x : Draft). length x.inputs) is in
+    pub benched : (text : List ℕ) → Wrote old.sink.written new.sink.written text → bench_course n (around old) (around new) text ends → IsBenched n old new
+    benched text wrote (inl h) = absurd h.1
+    benched text wrote (inr (m, counts, inl h)) = absurd h.1
+    benched text wrote (inr (m, counts, inr (u, attached, inl h))) = absurd h.1
+    benched text wrote (inr (m, counts, inr (u, attached, inr (draft, design, inl h)))) = absurd h.1
+    benched text wrote (inr (m, counts, inr (u, attached, inr (draft, design, inr (l, listed, inl h))))) = absurd h.1
+    benched text wrote (inr (m, counts, inr (u, attached, inr (draft, design, inr (l, listed, inr (i, laid, inl h)))))) = absurd h.1
+    benched text wrote (inr (m, counts, inr (u, attached, inr (draft, design, inr (l, listed, inr (i, laid, inr (ones, run, inl h))))))) = let line = h.1 in absurd (cc)
+    benched text wrote (inr (m, counts, inr (u, attached, inr (draft, design, inr (l, listed, inr (i, laid, inr (ones, run, inr (more, is, h)))))))) =
+        let the = only draft design in
+        let one : length i.inputs ≡ 1 = laid.0.inputs ∙ ap (λ (x : Draft). length x.inputs) the in
+        let line = is ∙ (ap (λ t. bench_summary n draft ones (new.rig.loads - old.rig.loads) ++ t) h.0 ∙ (append-nil _ ∙ summary-is draft ones (new.rig.loads - old.rig.loads) the)) in
         record {
           shape = m;
           counts = counts;
@@ -69,31 +68,19 @@ module _ (tables : length (plain_network bench_draft).tables ≡ 17) (nets : net
           draft = draft;
           design = design;
           image = i;
-          is_image = laid.image;
-          image_shape = laid.shape ∙ listed.shape;
+          is_image = laid.0.image;
+          image_shape = laid.0.shape ∙ listed.shape;
           one_input = one;
-          two_outputs = laid.outputs ∙ ap (λ (x : Draft). length x.outputs) is;
+          two_outputs = laid.0.outputs ∙ ap (λ (x : Draft). length x.outputs) the;
           config = run.config;
           drives = run.drives;
           ones = ones;
           ones_are = run.ones_are;
-          written = subst (λ t. Wrote old.sink.written new.sink.written t) (text_is ∙ summary-is draft ones (new.rig.loads - old.rig.loads) is) wrote;
-          right = is-right m draft l i listed laid;
-          rows = λ f told. is-right m draft l i listed laid f told (bench_vectors n) (readings_of (cycles_of new.rig)) (vectors-wide n (length i.inputs) one)
-              (subst (λ ds. IsRun f i.config ds (readings_of (cycles_of new.rig))) run.drives (told-run new.rig.machine.faults (config_of new.rig) (drives_of (cycles_of new.rig)) (readings_of (cycles_of new.rig)) run.told f i.config told run.config));
+          written = subst (λ t. Wrote old.sink.written new.sink.written t) line wrote;
+          right = is-right m draft l i listed laid.0;
+          rows = λ f told. is-right m draft l i listed laid.0 f told (bench_vectors n) (readings_of (cycles_of new.rig)) (vectors-wide n (length i.inputs) one)
+              (told-run new.rig i (bench_vectors n) run.config run.drives run.told f told);
         }
-
-    pub benched : (text : List ℕ) → Wrote old.sink.written new.sink.written text → bench_course n (around old) (around new) text ends → IsBenched n old new
-    benched text wrote (inl h) = absurd h.1
-    benched text wrote (inr (m, counts, inl h)) = absurd h.1
-    benched text wrote (inr (m, counts, inr (u, attached, inl h))) = absurd h.1
-    benched text wrote (inr (m, counts, inr (u, attached, inr (draft, design, inl h)))) = absurd h.1
-    benched text wrote (inr (m, counts, inr (u, attached, inr (draft, design, inr (l, listed, inl h))))) = absurd h.1
-    benched text wrote (inr (m, counts, inr (u, attached, inr (draft, design, inr (l, listed, inr (i, laid, inl h)))))) = absurd h.1
-    benched text wrote (inr (m, counts, inr (u, attached, inr (draft, design, inr (l, listed, inr (i, laid, inr (ones, run, inl h))))))) = let line = h.1 in absurd (cc)
-    benched text wrote (inr (m, counts, inr (u, attached, inr (draft, design, inr (l, listed, inr (i, laid, inr (ones, run, inr (more, is, h)))))))) =
-        is-benched m draft l i ones text wrote counts attached design listed laid.0 run
-        (is ∙ (ap (λ t. bench_summary n draft ones (new.rig.loads - old.rig.loads) ++ t) h.0 ∙ append-nil _))
 
     -- at the end of a body that did it
     pub benched-done : {U : Type 0} (result : Result U Stop) → IsWritten (bench_course n (around old) (around new)) result old.sink new.sink → OnOk result (IsBenched n old new)

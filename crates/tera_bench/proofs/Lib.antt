@@ -2,6 +2,5 @@
 pub mod BenchLaws
 pub mod Headlines
 -- For the proofs of this crate alone.
-mod Shapes
 mod RunLemmas
 mod Following

@@ -6,14 +6,15 @@ use Rattle.steps.specs.Files.{says_at}
 use Rattle.steps.specs.Lines.{outputs_line}
 use Rattle.steps.specs.Outside.{Around, StandsIn}
 use Rattle.steps.specs.Courses.{refuses}
-use Rattle.steps.specs.Texts.{reads_design, opens, IsDesignText}
+use Rattle.steps.specs.Texts.{reads_design, IsDesignText}
 use Rattle.steps.specs.Jobs.{IsLawful, Leads, Fronts, EndsWell}
 use Rattle.steps.specs.declared.refusal.Refusal.{Refusal}
 use Rattle.steps.specs.declared.refusal.Refusal.TheVariants.{Memory}
 use Rattle.steps.specs.declared.design_file.DesignFile.TheVariants.{Design}
-use Rattle.steps.proofs.Leading.{after-leads, write-leads}
-use Rattle.steps.proofs.Excused.{design-excused, open-excused, rows-well}
-use Rattle.tera_eval.specs.Eval.{eval_rows, IsAtFirst, design_evaluated, eval_course, eval_job, EvalRight}
+use Rattle.steps.proofs.Leading.{after-leads}
+use Rattle.steps.proofs.Excused.{design-excused}
+use Rattle.steps.proofs.OpenedLaws.{opened-well, opened-lacks}
+use Rattle.tera_eval.specs.Eval.{eval_rows, design_evaluated, eval_course, eval_job, EvalRight}
 
 module _ (design vectors : List ℕ) (old new : Around) where
   abbrev any : List ℕ → Type 0
@@ -38,17 +39,14 @@ module _ (design vectors : List ℕ) (old new : Around) where
       let right = is [] text refl in
       after-leads (reads_design Design (old.store.contents design)) (StandsIn (design ∷ []) old.store new.store) (design_evaluated vectors (design ∷ []) old.store new.store) any (EndsWell old new)
       (λ _ refusal stops. design-well right refusal stops)
-      (λ draft gives. after-leads (opens (old.store.contents vectors)) (StandsIn (vectors ∷ design ∷ []) old.store new.store) _ any (EndsWell old new)
-      (λ _ refusal stops. open-excused old new refusal stops)
-      (λ _ _. write-leads outputs_line (IsAtFirst vectors new.store) _ any (EndsWell old new) tt
-      (rows-well old new (eval_rows draft (old.store.contents vectors) new.store.current) right.vectors_file any right.vectors_told (same-fault right draft gives))))
+      (λ draft gives. opened-well (eval_rows draft (old.store.contents vectors) new.store.current) _ vectors (design ∷ []) old.store new.store _ old new right.vectors_file right.vectors_told (same-fault right draft gives))
       text next tt at
 
+  -- no row wants memory
   eval-few : (text : List ℕ) → (more : List ℕ) × (text ≡ outputs_line ++ more) → eval_course design vectors old.store new.store text (refuses Memory) → ⊥
   eval-few text begun (inl h) = let begins = begun.1 in let empty = h.0 in absurd (cc)
-  eval-few text begun (inr (draft, gives, inl h)) = let begins = begun.1 in let empty = h.0 in absurd (cc)
-  eval-few text begun (inr (draft, gives, inr (u, opened, inl h))) = let line = h.1 in absurd (cc)
-  eval-few text begun (inr (draft, gives, inr (u, opened, inr (more, is, h)))) = h.1
+  eval-few text begun (inr (draft, gives, h)) =
+      (opened-lacks (eval_rows draft (old.store.contents vectors) new.store.current) _ vectors (design ∷ []) old.store new.store _ text begun.0 begun.1 h).1.1
 
 pub eval-lawful : (design vectors : List ℕ) → IsLawful (eval_job design vectors)
 eval-lawful design vectors = record {

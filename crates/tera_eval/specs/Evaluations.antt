@@ -1,11 +1,12 @@
 -- What the steps of an evaluation say.
-use Rattle.std.specs.Prelude.{◌≡◌, ◌<◌, ◌≤◌, Bool, true, false, length}
+use Rattle.std.specs.Prelude.{◌≡◌, Bool, true, false, length}
 use Rattle.tm_outside.specs.Store.{StoreState}
 use Rattle.netlist.specs.declared.draft.Draft.{Draft}
 use Rattle.netlist_eval.specs.Evals.{first_eval, IsStep}
-use Rattle.vector_text.specs.Readings.{new_reading, NextGives, HasMoved}
+use Rattle.vector_text.specs.Readings.{new_reading, NextGives}
 use Rattle.tera_eval.specs.declared.evaluation.Evaluation.{Evaluation}
-use Rattle.steps.specs.Files.{most_vector_bytes, most_ahead}
+use Rattle.steps.specs.Files.{most_vector_bytes}
+use Rattle.steps.specs.NextVectors.{IsRead}
 
 -- the buffers have the lengths that the netlist asks for
 pub record IsSized (rows : Evaluation) : Type 0 where
@@ -21,20 +22,10 @@ pub record IsReady (draft : Draft) (rows : Evaluation) : Type 0 where
   pub vectors : rows.vectors ≡ new_reading (length draft.inputs) most_vector_bytes
   pub sized : IsSized rows
 
--- the store stays in its file, or its count rose
-pub record StaysOpen (before after : StoreState) : Type 0 where
-  pub contents : after.contents ≡ before.contents
-  pub later : before.failures ≤ after.failures
-  pub asked : after.asked ≡ before.asked
-
 -- a vector was read, and its row made
 pub record TakesRow (old new : Evaluation) (before after : StoreState) : Type 0 where
-  pub next : NextGives true new.vector.items old.vectors new.vectors before after
+  pub read : IsRead new.vector.items old.vectors new.vectors before after
   pub step : IsStep old.eval new.vector.items new.row.items new.eval
-  pub moves : HasMoved old.vectors new.vectors before after
-  pub unread : length new.vectors.unread ≤ most_ahead
-  pub onward : old.vectors.at < new.vectors.at
-  pub within : new.vectors.at ≤ most_vector_bytes
 
 abbrev pub RowGives : Bool → Evaluation → Evaluation → StoreState → StoreState → Type 0
 RowGives true old new before after = TakesRow old new before after

@@ -6,11 +6,12 @@ ghost use Rattle.vector_text.specs.Rows.{row_line};
 ghost use Rattle.vector_text.specs.Readings.{NextFails};
 ghost use Rattle.steps.specs.Outside.{outside, StandsIn};
 ghost use Rattle.steps.specs.Files.{IsBegun, file_of};
+ghost use Rattle.steps.specs.NextVectors.{StaysOpen};
 ghost use Rattle.steps.specs.Courses.{all_rows};
 ghost use Rattle.steps.specs.Took.{Puts, Follows};
 ghost use Rattle.steps.specs.Jobs.{Does, IsLawful};
 ghost use Rattle.tera_eval.specs.Eval.{eval_rows, design_evaluated, eval_job};
-ghost use Rattle.tera_eval.specs.Evaluations.{IsReady, IsSized, StaysOpen, RowGives};
+ghost use Rattle.tera_eval.specs.Evaluations.{IsReady, IsSized, RowGives};
 
 use netlist::Netlist;
 use netlist_eval::Eval;

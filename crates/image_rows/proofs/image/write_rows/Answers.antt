@@ -1,10 +1,15 @@
-use Rattle.std.proofs.Common.{refl}
+use Rattle.std.proofs.Common.{refl, arith}
 use Rattle.std.proofs.lemmas.Result.{err_from_is_err_and}
-use Rattle.image_rows.proofs.RowLemmas.{IsDriving-start, IsDriving-more, cycle-stops, row-stops, rows-end}
+use Rattle.steps.specs.Outside.{outside}
+use Rattle.steps.proofs.WrittenRows.{row-later}
+use Rattle.image_rows.proofs.RowLemmas.{IsDriving-start, IsDriving-more, cycle-stops, row-stops, file-ends}
 use Rattle.image_rows.proofs.image.write_rows.Goals as goal
 
 pub file-init : goal.file-init
-file-init g c = IsDriving-start c.args.rows.now _ _ _ c.requires.loaded c.requires.begun
+file-init g c = IsDriving-start c.args.rows.now _ c.requires.loaded c.requires.begun
+
+pub next_row-requires-clause-open : goal.next_row-requires-clause-open
+next_row-requires-clause-open g c = rw c.file.invariant.written.taking.place refl
 
 pub file-preserved : goal.file-preserved
 file-preserved g c =
@@ -14,8 +19,8 @@ file-preserved g c =
     let s1 = g.S.Store.store_state c.next_row.new.store in
     let box1 = c.next_row.new.rig in
     let r1 = (goal.Rig-dyn g (box1.vtable, box1.value)).rig_state box1.value in
-    let b = g.K.Sink.sink_state c.write_row.new.sink in
-    rw w.same (IsDriving-more _ _ _ _ c.file.rows c.next_row.new.rows _ s1 _ r1 _ b c.file.invariant driven (record { image = n.image; contents = n.contents; later = n.later; asked = n.asked; machine = n.machine; loads = n.loads; rig_later = n.rig_later }) n.fits w.puts.wrote w.puts.kind w.puts.later)
+    let new = outside s1 r1 (g.K.Sink.sink_state c.write_row.new.sink) in
+    rw w.same (IsDriving-more _ _ _ new c.file.rows c.next_row.new.rows c.file.invariant n.keeps (row-later _ _ _ _ _ _ n.keeps.store n.keeps.machine n.keeps.failures w.puts.kind w.puts.later) driven n.fits w.puts)
 
 pub returns-in_err-next_row : goal.returns-in_err-next_row
 returns-in_err-next_row g c =
@@ -24,7 +29,8 @@ returns-in_err-next_row g c =
     let s1 = g.S.Store.store_state c.next_row.new.store in
     let box1 = c.next_row.new.rig in
     let r1 = (goal.Rig-dyn g (box1.vtable, box1.value)).rig_state box1.value in
-    rw (p.1, p.2) (record { follows = cycle-stops _ _ _ _ c.file.rows c.next_row.new.rows _ s1 _ r1 _ _ _ refl c.file.invariant (record { image = n.image; contents = n.contents; later = n.later; asked = n.asked; machine = n.machine; loads = n.loads; rig_later = n.rig_later }) n.refused })
+    let new = outside s1 r1 (g.K.Sink.sink_state c.file.sink) in
+    rw (p.1, p.2) (record { follows = cycle-stops _ _ _ new c.file.rows c.next_row.new.rows c.file.invariant n.keeps (row-later _ _ _ _ _ _ n.keeps.store n.keeps.machine n.keeps.failures refl (omega arith)) refl _ n.refused })
 
 pub returns-in_err-write_row : goal.returns-in_err-write_row
 returns-in_err-write_row g c =
@@ -35,8 +41,8 @@ returns-in_err-write_row g c =
     let s1 = g.S.Store.store_state c.next_row.new.store in
     let box1 = c.next_row.new.rig in
     let r1 = (goal.Rig-dyn g (box1.vtable, box1.value)).rig_state box1.value in
-    let b = g.K.Sink.sink_state c.write_row.new.sink in
-    rw (p.1, p.2) (record { follows = row-stops _ _ _ _ c.file.rows c.next_row.new.rows _ s1 _ r1 _ _ _ b refl c.file.invariant driven (record { image = n.image; contents = n.contents; later = n.later; asked = n.asked; machine = n.machine; loads = n.loads; rig_later = n.rig_later }) n.fits w.puts.kind w.puts.later w.puts.stops })
+    let new = outside s1 r1 (g.K.Sink.sink_state c.write_row.new.sink) in
+    rw (p.1, p.2) (record { follows = row-stops _ _ _ new c.file.rows c.next_row.new.rows c.file.invariant n.keeps (row-later _ _ _ _ _ _ n.keeps.store n.keeps.machine n.keeps.failures w.puts.kind w.puts.later) driven n.fits _ w.puts })
 
 pub returns : goal.returns
 returns g c =
@@ -45,4 +51,5 @@ returns g c =
     let s1 = g.S.Store.store_state c.next_row.new.store in
     let box1 = c.next_row.new.rig in
     let r1 = (goal.Rig-dyn g (box1.vtable, box1.value)).rig_state box1.value in
-    record { follows = rows-end _ _ _ _ c.file.rows c.next_row.new.rows _ s1 _ r1 _ tt c.file.invariant (record { image = n.image; contents = n.contents; later = n.later; asked = n.asked; machine = n.machine; loads = n.loads; rig_later = n.rig_later }) gives }
+    let new = outside s1 r1 (g.K.Sink.sink_state c.file.sink) in
+    record { follows = file-ends _ _ _ new c.file.rows c.next_row.new.rows c.file.invariant n.keeps (row-later _ _ _ _ _ _ n.keeps.store n.keeps.machine n.keeps.failures refl (omega arith)) refl tt gives }

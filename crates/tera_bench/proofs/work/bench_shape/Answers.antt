@@ -1,4 +1,4 @@
-use Rattle.tera_bench.proofs.Shapes.{makes_shape}
+use Rattle.bench_laws.proofs.Shapes.{makes_shape}
 use Rattle.tera_bench.proofs.work.bench_shape.Goals as goal
 
 pub unreachable-requires : goal.unreachable-requires

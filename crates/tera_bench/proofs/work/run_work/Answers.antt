@@ -13,7 +13,7 @@ pub next_ones-requires : goal.next_ones-requires
 next_ones-requires g c =
     let so_far = c.rows.invariant in
     record {
-      pins = running-width c.args.n c.args.image.now c.rows.run _ _ c.rows.k c.rows.ones so_far.1 so_far.0;
+      pins = running-width _ _ c.rows.run _ _ _ _ so_far.1 so_far.0;
       one = ap (λ (r : Rows). length r.inputs) so_far.1 ∙ c.requires.one;
       two = ap (λ (r : Rows). length r.outputs) so_far.1 ∙ c.requires.two;
     }
@@ -22,7 +22,7 @@ pub rows-preserved : goal.rows-preserved
 rows-preserved g c =
     let so_far = c.rows.invariant in
     let e = c.in_ok-ones.ensures in
-    (running-more c.args.n c.args.image.now c.rows.run _ _ _ c.rows.k c.rows.ones c.in_ok-ones.field-0 so_far.1 so_far.0 e.row e.machine e.later e.loads, e.same ∙ so_far.1)
+    (running-more _ _ c.rows.run _ _ _ _ so_far.1 so_far.0 _ _ e.row e.machine e.later e.loads, e.same ∙ so_far.1)
 
 pub returns-in_err-run-clause-took : goal.returns-in_err-run-clause-took
 returns-in_err-run-clause-took g c = λ store sink.

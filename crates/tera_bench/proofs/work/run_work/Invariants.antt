@@ -1,5 +1,6 @@
 use Rattle.std.proofs.Common.{◌≡◌}
-use Rattle.tera_bench.proofs.RunLemmas.{IsRunning, pins_in}
+use Rattle.loader.specs.Pins.{pins_in}
+use Rattle.tera_bench.proofs.RunLemmas.{IsRunning}
 use Rattle.tera_bench.proofs.work.run_work.Given as goal
 
 abbrev pub invariant-rows : goal.invariant-rows

@@ -1,0 +1,52 @@
+-- Steps that touch the rig alone.
+use Rattle.std.proofs.Common.{◌≡◌, ◌≤◌, false, [], None, refl, sym, ap, append-nil, arith}
+use Rattle.std.specs.Prelude.{Ok, Err}
+use Rattle.tm_outside.specs.Told.{untold}
+use Rattle.tm_outside.specs.Store.{StoreState}
+use Rattle.tm_outside.specs.Sink.{SinkState}
+use Rattle.rig.specs.Rig.{RigState, Machine}
+use Rattle.steps.specs.Outside.{Outside, outside, IsLater}
+use Rattle.steps.specs.Courses.{Step}
+use Rattle.steps.specs.Stops.{StepStops, IsCounted}
+use Rattle.steps.specs.Took.{Took}
+use Rattle.steps.specs.declared.refusal.Stop.{Stop}
+
+-- an outside to ask with for what doesn't depend on it
+abbrev pub nothing : Outside
+nothing = record {
+  store = record { contents = λ name. untold; asked = []; current = None; failures = 0 };
+  rig = record {
+    machine = record { asked = []; attached = None; faults = None; texts = λ name. None; refused = record { times = 0; last = None } };
+    session = None;
+    loads = 0;
+    failures = 0;
+  };
+  sink = record { written = None; failures = 0; can_lack = false };
+}
+
+-- the rig alone was used, and its machine is the same
+module _ {T : Type 0} (step : Step T) (old new : RigState) (store : StoreState) (sink : SinkState) (machine : new.machine ≡ old.machine) (later : old.failures ≤ new.failures) where
+  abbrev on-rig : IsLater (outside store old sink) (outside store new sink)
+  on-rig = record { contents = refl; texts = ap (λ (m : Machine). m.texts) machine; kind = refl; store = omega arith; rig = later; sink = omega arith }
+
+  pub rig-took : (x : T) → step.gives x → Took [] step (Ok x) (outside store old sink) (outside store new sink)
+  rig-took x gives = record {
+    later = on-rig;
+    silent = refl;
+    asked = record { all = sym (append-nil store.asked); some = tt };
+    place = refl;
+    gives = gives;
+    stops = tt;
+    counted = tt;
+  }
+
+  pub rig-stopped : (stop : Stop) → StepStops step stop → IsCounted ⊥ stop (outside store old sink) (outside store new sink) → Took [] step (Err stop) (outside store old sink) (outside store new sink)
+  rig-stopped stop stops counted = record {
+    later = on-rig;
+    silent = refl;
+    asked = record { all = tt; some = refl };
+    place = refl;
+    gives = tt;
+    stops = stops;
+    counted = counted;
+  }
