@@ -13,7 +13,7 @@ use Rattle.steps.specs.Took.{Follows}
 use Rattle.steps.specs.declared.refusal.Stop.{Stop}
 use Rattle.steps.proofs.Taking.{step-stops, step-gives, line-stops, line-gives}
 use Rattle.listing.specs.Lists.{Listed, IsListed, lists, lists_now, Makes, WritesList}
-use Rattle.listing.proofs.ListedLemmas.{listed-on}
+use Rattle.listing.proofs.ListedLemmas.{listed-on, few-stops}
 
 -- `near` holds while the list is made, and `here` while it is written. So many loads were made before it, and `names` are asked for behind it
 module _ (m : Shape) (before : ℕ) (near : Type 0) (here : Listed → Type 0) (rest : Listed → Course) (names : List (List ℕ)) (s : StoreState) (r0 r1 : RigState) (a k : SinkState) (loads : r0.loads ≡ before) (machine : r1.machine ≡ r0.machine) where
@@ -31,7 +31,7 @@ module _ (m : Shape) (before : ℕ) (near : Type 0) (here : Listed → Type 0) (
 
   pub list-ends : {U : Type 0} (stop : Stop) (result : Result U Stop) → result ≡ Err stop → WritesList m (Err stop) (outside s r0 a) (outside s r1 k) → near → ((l : Listed) → l.loads ≡ r1.loads → here l) → Follows ⊥ names (r1.machine ≡ r0.machine) (after (lists m before r1) near after-list) result (outside s r0 a) (outside s r1 k)
   list-ends stop result is (inl took) at stays =
-      step-stops (lists m before r1) near after-list (lists_now m r0 r1) [] names _ stop result (outside s r0 a) (outside s r1 k) is took took.stops at machine
+      step-stops (lists m before r1) near after-list (lists_now m r0 r1) [] names _ stop result (outside s r0 a) (outside s r1 k) is took (few-stops m before r0 r1 stop loads machine took.stops) at machine
   list-ends stop result is (inr (d, took, puts)) at stays =
       list-gives d result (outside s r1 k) took (line-stops (text_of d) (here (made d)) (rest (made d)) s r1 a k names _ stop result is puts (stays (made d) refl) refl)
 

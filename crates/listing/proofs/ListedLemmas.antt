@@ -13,7 +13,9 @@ use Rattle.diagnose.specs.Diagnosis.{IsDiagnosis, TakesFewLoads}
 use Rattle.steps.specs.Outside.{outside, IsLater}
 use Rattle.steps.specs.Stops.{IsCounted, StepStops, stop_of_rig}
 use Rattle.steps.specs.Took.{Took}
-use Rattle.listing.specs.Lists.{IsListed, Listed, lists_now}
+use Rattle.steps.specs.declared.refusal.Stop.{Stop}
+use Rattle.steps.specs.declared.refusal.Stop.TheVariants.{Refused, Sink}
+use Rattle.listing.specs.Lists.{IsListed, Listed, lists, lists_now}
 
 -- the shape that is attached
 pub attached-shape : (rig : RigState) (m : Shape) (name : List ℕ) → rig.machine.attached ≡ Some (record { shape = m; name = name }) → shape_of rig ≡ Some m
@@ -26,6 +28,11 @@ list-shape old new m d machine same is = ap (λ (x : Machine). option_map (λ (a
 -- a list is one of the machine, and so it stays while the machine stays
 pub listed-on : (m : Shape) (before : ℕ) (mid new : RigState) (l : Listed) → IsListed m before mid l → new.machine ≡ mid.machine → IsListed m before new l
 listed-on m before mid new l is machine = record { shape = is.shape; kept = is.kept; right = rw machine is.right; few = rw machine is.few }
+
+-- where it isn't made, few loads were made too, from so many on
+pub few-stops : (m : Shape) (before : ℕ) (old new : RigState) (stop : Stop) → old.loads ≡ before → new.machine ≡ old.machine → StepStops (lists_now m old new) stop → StepStops (lists m before new) stop
+few-stops m before old new (Refused refusal) loads machine stops = (stops.0, rw (← loads, machine) stops.1)
+few-stops m before old new (Sink fail) loads machine stops = stops
 
 module _ (m : Shape) (old new : RigState) (machine : new.machine ≡ old.machine) (store : StoreState) (sink : SinkState) where
   list-later : old.failures ≤ new.failures → IsLater (outside store old sink) (outside store new sink)
@@ -42,21 +49,21 @@ module _ (m : Shape) (old new : RigState) (machine : new.machine ≡ old.machine
     counted = tt;
   }
 
-  fail-stops : (fail : RigFail) → StepStops (lists_now m old new) (stop_of_rig fail)
-  fail-stops Failed = tt
-  fail-stops Memory = tt
+  fail-stops : (fail : RigFail) → TakesFewLoads old.machine.faults m old.loads new.loads → StepStops (lists_now m old new) (stop_of_rig fail)
+  fail-stops Failed few = (tt, few)
+  fail-stops Memory few = (tt, few)
 
   rig-counted : (fail : RigFail) → (fail ≡ Failed → Rose old.failures new.failures) → IsCounted ⊥ (stop_of_rig fail) (outside store old sink) (outside store new sink)
   rig-counted Failed cause = cause refl
   rig-counted Memory cause = tt
 
-  pub list-stopped : (fail : RigFail) → old.failures ≤ new.failures → (fail ≡ Failed → Rose old.failures new.failures) → Took [] (lists_now m old new) (Err (stop_of_rig fail)) (outside store old sink) (outside store new sink)
-  list-stopped fail later cause = record {
+  pub list-stopped : (fail : RigFail) → old.failures ≤ new.failures → (fail ≡ Failed → Rose old.failures new.failures) → TakesFewLoads old.machine.faults m old.loads new.loads → Took [] (lists_now m old new) (Err (stop_of_rig fail)) (outside store old sink) (outside store new sink)
+  list-stopped fail later cause few = record {
     later = list-later later;
     silent = refl;
     asked = record { all = tt; some = refl };
     place = refl;
     gives = tt;
-    stops = fail-stops fail;
+    stops = fail-stops fail few;
     counted = rig-counted fail cause;
   }

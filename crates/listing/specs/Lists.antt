@@ -1,13 +1,14 @@
 -- The defects of the machine that is attached are listed, as a step, and the list is written.
-use Rattle.std.specs.Prelude.{◌≡◌, ◌⊎◌, ℕ, [], Result, Ok, Err}
+use Rattle.std.specs.Prelude.{◌≡◌, ◌⊎◌, ℕ, List, [], Some, Result, Ok, Err}
+use Rattle.tm_outside.specs.Told.{IfTold}
 use Rattle.hierarchy.specs.declared.Shape.{Shape}
 use Rattle.defect_db.specs.Lists.{DefectList, IsDefectList}
 use Rattle.defect_db.specs.Text.{text_of}
 use Rattle.rig.specs.Rig.{RigState}
 use Rattle.diagnose.specs.Diagnosis.{IsDiagnosis, TakesFewLoads}
 use Rattle.steps.specs.Courses.{Step}
-use Rattle.steps.specs.Outside.{Outside, outside}
-use Rattle.steps.specs.Texts.{FailsOnRig}
+use Rattle.steps.specs.Outside.{Around, Outside, StandsIn, outside}
+use Rattle.steps.specs.Texts.{FailsOnRig, IsMachineText}
 use Rattle.steps.specs.Took.{Took, Puts}
 use Rattle.steps.specs.declared.refusal.Stop.{Stop}
 
@@ -24,13 +25,19 @@ pub record IsListed (m : Shape) (before : ℕ) (rig : RigState) (l : Listed) : T
   pub right : IsDiagnosis rig.machine.faults m l.list.list
   pub few : TakesFewLoads rig.machine.faults m before l.loads
 
--- a machine with these faults is listed, of which the rig counted so many loads before
+-- a machine with these faults is listed, of which the rig counted so many loads before. It took few, also where it isn't listed
 abbrev pub lists : Shape → (before : ℕ) → RigState → Step Listed
-lists m before rig = record { stops = FailsOnRig; gives = IsListed m before rig }
+lists m before rig = record {
+  stops = λ refusal. FailsOnRig refusal × TakesFewLoads rig.machine.faults m before rig.loads;
+  gives = IsListed m before rig;
+}
 
 -- the same of the list alone, from the rig as it was before to the rig as it is then
 abbrev pub lists_now : Shape → (old new : RigState) → Step DefectList
-lists_now m old new = record { stops = FailsOnRig; gives = λ d. IsListed m old.loads new (record { list = d; loads = new.loads }) }
+lists_now m old new = record {
+  stops = λ refusal. FailsOnRig refusal × TakesFewLoads old.machine.faults m old.loads new.loads;
+  gives = λ d. IsListed m old.loads new (record { list = d; loads = new.loads });
+}
 
 -- the list is made, and nothing of it is written yet
 abbrev pub Makes : (m : Shape) → DefectList → Outside → Outside → Type 0
@@ -41,3 +48,17 @@ abbrev pub WritesList : (m : Shape) → Result DefectList Stop → Outside → O
 WritesList m (Ok d) old new = Makes m d old new × Puts {T = Unit {0}} (text_of d) (Ok tt) old.sink new.sink
 WritesList m (Err stop) old new = Took [] (lists_now m old.rig new.rig) (Err stop) old new
     ⊎ ((d : DefectList) × Makes m d old new × Puts {T = Unit {0}} (text_of d) (Err stop) old.sink new.sink)
+
+-- ---- the loads of a command, whatever its end
+
+-- before the list is made: where the store stands, and no load was made
+abbrev pub Unloaded : List (List ℕ) → Around → Around → Type 0
+Unloaded files old new = StandsIn files old.store new.store × (new.rig.loads ≡ old.rig.loads)
+
+-- No load was made; or the machine of the text is attached under the name, few loads were made to list its defects, and behind
+-- these no more than `more` says
+pub data MadeFewLoads (machine name : List ℕ) (more : (made now : ℕ) → Type 0) (old new : Around) : Type 0 where
+  unloaded : new.rig.loads ≡ old.rig.loads → MadeFewLoads machine name more old new
+  few : (shape : Shape) (made : ℕ) → IfTold (old.store.contents machine) (λ bytes. IsMachineText bytes shape)
+      → new.rig.machine.attached ≡ Some (record { shape = shape; name = name })
+      → TakesFewLoads new.rig.machine.faults shape old.rig.loads made → more made new.rig.loads → MadeFewLoads machine name more old new

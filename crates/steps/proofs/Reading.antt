@@ -31,17 +31,26 @@ module _ {T : Type 0} (step : Told → Step T) (name : List ℕ) (files : List (
   pub more-read : (x : T) (old new : Outside) → HasRead files begun old.store → Took (name ∷ []) (step (old.store.contents name)) (Ok x) old new → HasRead (name ∷ files) begun new.store
   more-read x old new read took = record { contents = took.later.contents ∙ read.contents; place = stands-read (Ok x) old new read took }
 
-  -- it isn't right
-  pub file-stops : {U : Type 0} (rest : T → Course) (more : List (List ℕ)) (asks : Type 0) (stop : Stop) (result : Result U Stop) (old new : Outside) → result ≡ Err stop → HasRead files begun old.store → Took (name ∷ []) (step (old.store.contents name)) (Err stop) old new → asks → Follows ⊥ (name ∷ more) asks (after (step (begun.contents name)) (StandsIn (name ∷ files) begun new.store) rest) result old new
-  file-stops rest more asks stop result old new is read took asked =
+  -- it isn't right; `near` holds then
+  pub read-stops : {U : Type 0} (near : Type 0) (rest : T → Course) (more : List (List ℕ)) (asks : Type 0) (stop : Stop) (result : Result U Stop) (old new : Outside) → result ≡ Err stop → HasRead files begun old.store → Took (name ∷ []) (step (old.store.contents name)) (Err stop) old new → (StandsIn (name ∷ files) begun new.store → near) → asks → Follows ⊥ (name ∷ more) asks (after (step (begun.contents name)) near rest) result old new
+  read-stops near rest more asks stop result old new is read took holds asked =
       let same = same-told (Err stop) old new read took in
-      step-stops (step (begun.contents name)) (StandsIn (name ∷ files) begun new.store) rest (step (begun.contents name)) (name ∷ []) more asks stop result old new is same same.stops (stands-read (Err stop) old new read took) asked
+      step-stops (step (begun.contents name)) near rest (step (begun.contents name)) (name ∷ []) more asks stop result old new is same same.stops (holds (stands-read (Err stop) old new read took)) asked
 
   -- or it is, and the rest is followed
+  pub read-gives : {U : Type 0} (near : Type 0) (rest : T → Course) (more : List (List ℕ)) (asks then_asks : Type 0) (x : T) (result : Result U Stop) (old mid new : Outside) → HasRead files begun old.store → Took (name ∷ []) (step (old.store.contents name)) (Ok x) old mid → Follows ⊥ more then_asks (rest x) result mid new → asks → Follows ⊥ (name ∷ more) asks (after (step (begun.contents name)) near rest) result old new
+  read-gives near rest more asks then_asks x result old mid new read took rest_is asked =
+      let same = same-told (Ok x) old mid read took in
+      step-gives (step (begun.contents name)) near rest (step (begun.contents name)) (name ∷ []) more asks then_asks x x result old mid new same same.gives rest_is asked
+
+  -- both where no more is said than where the store stands
+  pub file-stops : {U : Type 0} (rest : T → Course) (more : List (List ℕ)) (asks : Type 0) (stop : Stop) (result : Result U Stop) (old new : Outside) → result ≡ Err stop → HasRead files begun old.store → Took (name ∷ []) (step (old.store.contents name)) (Err stop) old new → asks → Follows ⊥ (name ∷ more) asks (after (step (begun.contents name)) (StandsIn (name ∷ files) begun new.store) rest) result old new
+  file-stops rest more asks stop result old new is read took asked =
+      read-stops (StandsIn (name ∷ files) begun new.store) rest more asks stop result old new is read took (λ at. at) asked
+
   pub file-gives : {U : Type 0} (rest : T → Course) (ended : StoreState) (more : List (List ℕ)) (asks then_asks : Type 0) (x : T) (result : Result U Stop) (old mid new : Outside) → HasRead files begun old.store → Took (name ∷ []) (step (old.store.contents name)) (Ok x) old mid → Follows ⊥ more then_asks (rest x) result mid new → asks → Follows ⊥ (name ∷ more) asks (after (step (begun.contents name)) (StandsIn (name ∷ files) begun ended) rest) result old new
   file-gives rest ended more asks then_asks x result old mid new read took rest_is asked =
-      let same = same-told (Ok x) old mid read took in
-      step-gives (step (begun.contents name)) (StandsIn (name ∷ files) begun ended) rest (step (begun.contents name)) (name ∷ []) more asks then_asks x x result old mid new same same.gives rest_is asked
+      read-gives (StandsIn (name ∷ files) begun ended) rest more asks then_asks x result old mid new read took rest_is asked
 
 -- the last line was written, or wasn't
 pub line-last : (line : List ℕ) (here : Type 0) (store : StoreState) (rig : RigState) (a b : SinkState) (result : Result (Unit {0}) Stop) → Puts line result a b → here → Follows ⊥ [] (Unit {0}) (write line here (done here)) result (outside store rig a) (outside store rig b)

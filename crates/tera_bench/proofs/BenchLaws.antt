@@ -61,7 +61,7 @@ module _ (sure : AreSure) (networks : AreNetworks) (only : IsOnly) (room : Leave
       well-after old new _ _ _ memory-excused
       (λ m counts. well-after old new _ _ _ (attach-excused old new (bench_machine n m))
       (λ _ _. well-after old new _ _ _ memory-excused
-      (λ draft design. well-after old new _ _ _ (rig-excused old new)
+      (λ draft design. well-after old new _ _ _ (λ refusal stops. rig-excused old new refusal stops.0)
       (λ l listed. well-after old new _ _ _ (lay-excused l.list draft old new (never-short m draft l counts design listed))
       (λ i _. well-after old new _ _ _ (run-excused l.loads)
       (λ ones _. well-write old new _ _ _ (well-done old new _)))))))

@@ -7,12 +7,15 @@ use Rattle.steps.specs.Texts.{reads_machine, attaches}
 use Rattle.steps.specs.Jobs.{IsLawful, Leads, Fronts, EndsWell}
 use Rattle.steps.proofs.Leading.{after-leads, write-leads, done-leads}
 use Rattle.steps.proofs.Excused.{machine-excused, attach-excused, rig-excused}
-use Rattle.listing.specs.Lists.{lists}
+use Rattle.listing.specs.Lists.{Unloaded, lists}
 use Rattle.tera_diagnose.specs.Diagnose.{diagnose_course, diagnose_job, machine_attached, machine_listed, list_written, DiagnoseRight}
 
 module _ (machine name : List ℕ) (old new : Around) where
   abbrev near : Type 0
   near = StandsIn (machine ∷ []) old.store new.store
+
+  abbrev unloaded : Type 0
+  unloaded = Unloaded (machine ∷ []) old new
 
   abbrev any : List ℕ → Type 0
   any text = Unit {0}
@@ -20,12 +23,12 @@ module _ (machine name : List ℕ) (old new : Around) where
   diagnose-right : Leads (Fronts (λ front. DiagnoseRight (old.store.contents machine))) (diagnose_course machine name old new) (EndsWell old new)
   diagnose-right text next is at =
       let right = is [] text refl in
-      after-leads (reads_machine (old.store.contents machine)) near (machine_attached machine name old new) any (EndsWell old new)
+      after-leads (reads_machine (old.store.contents machine)) unloaded (machine_attached machine name old new) any (EndsWell old new)
       (λ _ refusal stops. machine-excused old new right.file right.shape.counts right.is_machine right.within refusal (rw right.told at stops))
-      (λ m read. after-leads (attaches (record { shape = m; name = name }) old.rig new.rig) near (λ _. machine_listed machine old new m) any (EndsWell old new)
+      (λ m read. after-leads (attaches (record { shape = m; name = name }) old.rig new.rig) unloaded (λ _. machine_listed machine old new m) any (EndsWell old new)
       (λ _ refusal stops. attach-excused old new (record { shape = m; name = name }) refusal stops)
       (λ _ _. after-leads (lists m old.rig.loads new.rig) near (list_written machine old new) any (EndsWell old new)
-      (λ _ refusal stops. rig-excused old new refusal stops)
+      (λ _ refusal stops. rig-excused old new refusal stops.0)
       (λ l _. write-leads (text_of l.list) (near × (new.rig.loads ≡ l.loads)) (done (near × (new.rig.loads ≡ l.loads))) any (EndsWell old new) tt
       (done-leads (near × (new.rig.loads ≡ l.loads)) any (EndsWell old new) (λ _. tt)))))
       text next tt at

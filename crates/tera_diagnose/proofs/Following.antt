@@ -14,13 +14,16 @@ use Rattle.steps.specs.Texts.{reads_machine, attaches, MayAsk}
 use Rattle.steps.specs.declared.refusal.Stop.{Stop}
 use Rattle.steps.proofs.Machines.{named, machine-stops, attach-stops, attached-gives}
 use Rattle.steps.proofs.Taking.{all-done}
-use Rattle.listing.specs.Lists.{Listed, WritesList}
+use Rattle.listing.specs.Lists.{Listed, Unloaded, WritesList}
 use Rattle.listing.proofs.Following.{list-ends, list-goes}
 use Rattle.tera_diagnose.specs.Diagnose.{diagnose_job, machine_listed}
 
 module _ (machine name : List ℕ) (s0 s1 : StoreState) (a : SinkState) where
   abbrev near : Type 0
   near = StandsIn (machine ∷ []) s0 s1
+
+  abbrev unloaded : RigState → RigState → Type 0
+  unloaded r0 r1 = Unloaded (machine ∷ []) (around (outside s0 r0 a)) (around (outside s1 r1 a))
 
   abbrev done-to : {U : Type 0} → RigState → Result U Stop → Outside → Type 0
   done-to r0 result new = Does ⊥ (diagnose_job machine name) result (outside s0 r0 a) new
@@ -29,19 +32,21 @@ module _ (machine name : List ℕ) (s0 s1 : StoreState) (a : SinkState) where
   rest-at r0 new = machine_listed machine (around (outside s0 r0 a)) (around new)
 
   pub no-machine : {U : Type 0} (r : RigState) (stop : Stop) (result : Result U Stop) → result ≡ Err stop → Took (machine ∷ []) (reads_machine (s0.contents machine)) (Err stop) (outside s0 r a) (outside s1 r a) → done-to r result (outside s1 r a)
-  no-machine r stop result is took = machine-stops machine name near (rest-at r (outside s1 r a)) [] s0 s1 r a stop result is took took.place
+  no-machine r stop result is took =
+      machine-stops machine name (unloaded r r) (rest-at r (outside s1 r a)) [] s0 s1 r a stop result is took (took.place, refl)
 
-  module _ (r0 r1 : RigState) (m : Shape) (read : Took (machine ∷ []) (reads_machine (s0.contents machine)) (Ok m) (outside s0 r0 a) (outside s1 r0 a)) (may : MayAsk (named name m) r0.machine.asked r1.machine.asked) where
+  module _ (r0 r1 : RigState) (m : Shape) (read : Took (machine ∷ []) (reads_machine (s0.contents machine)) (Ok m) (outside s0 r0 a) (outside s1 r0 a)) (may : MayAsk (named name m) r0.machine.asked r1.machine.asked) (loads : r1.loads ≡ r0.loads) where
     pub unattached : {U : Type 0} (stop : Stop) (result : Result U Stop) → result ≡ Err stop → Took [] (attaches (named name m) r0 r1) (Err stop) (outside s1 r0 a) (outside s1 r1 a) → done-to r0 result (outside s1 r1 a)
-    unattached stop result is took = attach-stops machine name near (rest-at r0 (outside s1 r1 a)) [] s0 s1 r0 r1 a m read may stop result is took read.place
+    unattached stop result is took =
+        attach-stops machine name (unloaded r0 r1) (rest-at r0 (outside s1 r1 a)) [] s0 s1 r0 r1 a m read may stop result is took (read.place, loads)
 
-    module _ (attached : Took [] (attaches (named name m) r0 r1) (Ok tt) (outside s1 r0 a) (outside s1 r1 a)) (r2 : RigState) (k : SinkState) (loads : r1.loads ≡ r0.loads) (same : r2.machine ≡ r1.machine) where
+    module _ (attached : Took [] (attaches (named name m) r0 r1) (Ok tt) (outside s1 r0 a) (outside s1 r1 a)) (r2 : RigState) (k : SinkState) (same : r2.machine ≡ r1.machine) where
       abbrev here : Listed → Type 0
       here l = near × (r2.loads ≡ l.loads)
 
       -- the list is made and written, or it isn't
       tried : {U : Type 0} (result : Result U Stop) → Follows ⊥ [] (r2.machine ≡ r1.machine) (rest-at r0 (outside s1 r2 k) m) result (outside s1 r1 a) (outside s1 r2 k) → done-to r0 result (outside s1 r2 k)
-      tried result is = attached-gives machine name near (rest-at r0 (outside s1 r2 k)) [] s0 s1 r0 r1 a m read may result (outside s1 r2 k) attached is
+      tried result is = attached-gives machine name (unloaded r0 r2) (rest-at r0 (outside s1 r2 k)) [] s0 s1 r0 r1 a m read may result (outside s1 r2 k) attached is
 
       pub unlisted : {U : Type 0} (stop : Stop) (result : Result U Stop) → result ≡ Err stop → WritesList m (Err stop) (outside s1 r1 a) (outside s1 r2 k) → done-to r0 result (outside s1 r2 k)
       unlisted stop result is written =

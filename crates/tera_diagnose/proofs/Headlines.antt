@@ -2,8 +2,10 @@
 use Rattle.std.proofs.Common.{◌≡◌, ◌∙◌, ℕ, List, [], ◌∷◌, ◌++◌, ap, subst, inl, inr, append-nil}
 use Rattle.tm_outside.specs.Sink.{Wrote}
 use Rattle.defect_db.specs.Text.{text_of}
-use Rattle.steps.specs.Outside.{Outside, around}
-use Rattle.steps.specs.Courses.{ends}
+use Rattle.steps.specs.Outside.{Around, Outside, around}
+use Rattle.steps.specs.Courses.{Next, ends}
+use Rattle.steps.proofs.Leading.{stopped}
+use Rattle.listing.specs.Lists.{MadeFewLoads, unloaded, few, lists}
 use Rattle.tera_diagnose.specs.Diagnose.{diagnose_course}
 use Rattle.tera_diagnose.specs.Headline.{IsDiagnosed}
 
@@ -23,3 +25,16 @@ module _ (machine name : List ℕ) (old new : Outside) where
     written = subst (λ t. Wrote old.sink.written new.sink.written t) (first ∙ (ap (λ t. text_of l.list ++ t) h.0 ∙ append-nil (text_of l.list))) wrote;
     loads = h.2.1;
   }
+
+-- few loads were made, wherever it ends
+module _ (machine name : List ℕ) (old new : Around) where
+  abbrev few-made : Type 0
+  few-made = MadeFewLoads machine name (λ made now. now ≡ made) old new
+
+  pub few-loads : (text : List ℕ) (next : Next) → diagnose_course machine name old new text next → few-made
+  few-loads text next (inl h) = unloaded h.2.1
+  few-loads text next (inr (m, read, inl h)) = unloaded h.2.1
+  few-loads text next (inr (m, read, inr (u, attached, inl h))) =
+      few m new.rig.loads read attached (stopped (lists m old.rig.loads new.rig) next h.1).2.1 refl
+  few-loads text next (inr (m, read, inr (u, attached, inr (l, listed, inl h)))) = few m l.loads read attached listed.few h.2.1
+  few-loads text next (inr (m, read, inr (u, attached, inr (l, listed, inr (more, first, h))))) = few m l.loads read attached listed.few h.2.1

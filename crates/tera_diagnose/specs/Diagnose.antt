@@ -9,15 +9,15 @@ use Rattle.steps.specs.Outside.{Around, StandsIn}
 use Rattle.steps.specs.Courses.{Course, after, write, done}
 use Rattle.steps.specs.Texts.{reads_machine, attaches, AsksMachine}
 use Rattle.steps.specs.Jobs.{Job, quiet}
-use Rattle.listing.specs.Lists.{Listed, lists}
+use Rattle.listing.specs.Lists.{Listed, Unloaded, lists}
 
--- The list is written, and no load follows on those of its diagnosis
+-- The list is written, and no load follows on those that it took
 abbrev pub list_written : (machine : List ℕ) → Around → Around → Listed → Course
 list_written machine old new l =
     write (text_of l.list) (StandsIn (machine ∷ []) old.store new.store × (new.rig.loads ≡ l.loads))
     (done (StandsIn (machine ∷ []) old.store new.store × (new.rig.loads ≡ l.loads)))
 
--- The defects of the machine are listed, and the list is written
+-- The defects of the machine are listed, with few loads, and the list is written
 abbrev pub machine_listed : (machine : List ℕ) → Around → Around → Shape → Course
 machine_listed machine old new m =
     after (lists m old.rig.loads new.rig) (StandsIn (machine ∷ []) old.store new.store) (list_written machine old new)
@@ -25,13 +25,13 @@ machine_listed machine old new m =
 -- The machine is attached and listed
 abbrev pub machine_attached : (machine name : List ℕ) → Around → Around → Shape → Course
 machine_attached machine name old new m =
-    after (attaches (record { shape = m; name = name }) old.rig new.rig) (StandsIn (machine ∷ []) old.store new.store)
+    after (attaches (record { shape = m; name = name }) old.rig new.rig) (Unloaded (machine ∷ []) old new)
     (λ _. machine_listed machine old new m)
 
--- The machine is read, attached and listed
+-- The machine is read, attached and listed. No load is made before
 abbrev pub diagnose_course : (machine name : List ℕ) → Around → Around → Course
 diagnose_course machine name old new =
-    after (reads_machine (old.store.contents machine)) (StandsIn (machine ∷ []) old.store new.store)
+    after (reads_machine (old.store.contents machine)) (Unloaded (machine ∷ []) old new)
     (machine_attached machine name old new)
 
 -- the text of the machine is told and right

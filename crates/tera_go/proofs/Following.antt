@@ -20,9 +20,9 @@ use Rattle.steps.specs.declared.design_file.DesignFile.TheVariants.{Design}
 use Rattle.steps.specs.declared.refusal.Stop.{Stop}
 use Rattle.steps.proofs.Following.{course-map}
 use Rattle.steps.proofs.Machines.{named, machine-stops, attach-stops, attached-gives}
-use Rattle.steps.proofs.Reading.{HasRead, none-read, more-read, file-stops, file-gives}
+use Rattle.steps.proofs.Reading.{HasRead, none-read, more-read, read-stops, read-gives}
 use Rattle.steps.proofs.Taking.{step-stops, step-gives}
-use Rattle.listing.specs.Lists.{Listed, IsListed, WritesList}
+use Rattle.listing.specs.Lists.{Listed, IsListed, Unloaded, WritesList}
 use Rattle.listing.proofs.Following.{list-ends, list-goes}
 use Rattle.lay.specs.Laying.{lays}
 use Rattle.image_rows.specs.Rows.{RowsBegin, image_rows, image_course}
@@ -59,15 +59,18 @@ module _ (machine name design vectors : List ℕ) (s0 s1 : StoreState) (a : Sink
 
   pub no-machine : {U : Type 0} (r : RigState) (stop : Stop) (result : Result U Stop) → result ≡ Err stop → Took (machine ∷ []) (reads_machine (s0.contents machine)) (Err stop) (outside s0 r a) (outside s1 r a) → gone-to r result (outside s1 r a)
   no-machine r stop result is took =
-      machine-stops machine name (StandsIn (machine ∷ []) s0 s1) (design_read machine design vectors (around (outside s0 r a)) (around (outside s1 r a))) (design ∷ vectors ∷ []) s0 s1 r a stop result is took took.place
+      machine-stops machine name (Unloaded (machine ∷ []) (around (outside s0 r a)) (around (outside s1 r a))) (design_read machine design vectors (around (outside s0 r a)) (around (outside s1 r a))) (design ∷ vectors ∷ []) s0 s1 r a stop result is took (took.place, refl)
 
-  module _ (r0 r1 : RigState) (m : Shape) (read : Took (machine ∷ []) (reads_machine (s0.contents machine)) (Ok m) (outside s0 r0 a) (outside s1 r0 a)) (may : MayAsk (named name m) r0.machine.asked r1.machine.asked) where
+  module _ (r0 r1 : RigState) (m : Shape) (read : Took (machine ∷ []) (reads_machine (s0.contents machine)) (Ok m) (outside s0 r0 a) (outside s1 r0 a)) (may : MayAsk (named name m) r0.machine.asked r1.machine.asked) (loads : r1.loads ≡ r0.loads) where
+    abbrev unloaded : StoreState → RigState → Type 0
+    unloaded s r = Unloaded (machine ∷ []) (around (outside s0 r0 a)) (around (outside s r a))
+
     abbrev rest-at : Outside → Shape → Course
     rest-at new = design_read machine design vectors (around (outside s0 r0 a)) (around new)
 
     pub unattached : {U : Type 0} (stop : Stop) (result : Result U Stop) → result ≡ Err stop → Took [] (attaches (named name m) r0 r1) (Err stop) (outside s1 r0 a) (outside s1 r1 a) → gone-to r0 result (outside s1 r1 a)
     unattached stop result is took =
-        attach-stops machine name (StandsIn (machine ∷ []) s0 s1) (rest-at (outside s1 r1 a)) (design ∷ vectors ∷ []) s0 s1 r0 r1 a m read may stop result is took read.place
+        attach-stops machine name (unloaded s1 r1) (rest-at (outside s1 r1 a)) (design ∷ vectors ∷ []) s0 s1 r0 r1 a m read may stop result is took (read.place, loads)
 
     module _ (s2 : StoreState) (attached : Took [] (attaches (named name m) r0 r1) (Ok tt) (outside s1 r0 a) (outside s1 r1 a)) where
       abbrev begin : GoBegin
@@ -79,19 +82,19 @@ module _ (machine name design vectors : List ℕ) (s0 s1 : StoreState) (a : Sink
       pub no-design : {U : Type 0} (stop : Stop) (result : Result U Stop) → result ≡ Err stop → Took (design ∷ []) (reads_design Design (s1.contents design)) (Err stop) (outside s1 r1 a) (outside s2 r1 a) → gone-to r0 result (outside s2 r1 a)
       no-design stop result is took =
           let new = outside s2 r1 a in
-          attached-gives machine name (StandsIn (machine ∷ []) s0 s2) (rest-at new) (design ∷ vectors ∷ []) s0 s1 r0 r1 a m read may result new attached
-          (file-stops (reads_design Design) design (machine ∷ []) s0 (machine_listed m r0.loads begin (around new)) (vectors ∷ []) (r1.machine ≡ r1.machine) stop result (outside s1 r1 a) new is has took refl)
+          attached-gives machine name (unloaded s2 r1) (rest-at new) (design ∷ vectors ∷ []) s0 s1 r0 r1 a m read may result new attached
+          (read-stops (reads_design Design) design (machine ∷ []) s0 (Unloaded (design ∷ machine ∷ []) (around (outside s0 r0 a)) (around new)) (machine_listed m r0.loads begin (around new)) (vectors ∷ []) (r1.machine ≡ r1.machine) stop result (outside s1 r1 a) new is has took (λ at. (at, loads)) refl)
 
       module _ (draft : Draft) (took : Took (design ∷ []) (reads_design Design (s1.contents design)) (Ok draft) (outside s1 r1 a) (outside s2 r1 a)) where
         has-design : {U : Type 0} (result : Result U Stop) (new : Outside) → Follows ⊥ (vectors ∷ []) (new.rig.machine ≡ r1.machine) (machine_listed m r0.loads begin (around new) draft) result (outside s2 r1 a) new → gone-to r0 result new
         has-design result new is =
-            attached-gives machine name (StandsIn (machine ∷ []) s0 new.store) (rest-at new) (design ∷ vectors ∷ []) s0 s1 r0 r1 a m read may result new attached
-            (file-gives (reads_design Design) design (machine ∷ []) s0 (machine_listed m r0.loads begin (around new)) new.store (vectors ∷ []) (new.rig.machine ≡ r1.machine) (new.rig.machine ≡ r1.machine) draft result (outside s1 r1 a) (outside s2 r1 a) new has took is is.machines)
+            attached-gives machine name (unloaded new.store new.rig) (rest-at new) (design ∷ vectors ∷ []) s0 s1 r0 r1 a m read may result new attached
+            (read-gives (reads_design Design) design (machine ∷ []) s0 (Unloaded (design ∷ machine ∷ []) (around (outside s0 r0 a)) (around new)) (machine_listed m r0.loads begin (around new)) (vectors ∷ []) (new.rig.machine ≡ r1.machine) (new.rig.machine ≡ r1.machine) draft result (outside s1 r1 a) (outside s2 r1 a) new has took is is.machines)
 
         abbrev both : HasRead (design ∷ machine ∷ []) s0 s2
         both = more-read (reads_design Design) design (machine ∷ []) s0 draft (outside s1 r1 a) (outside s2 r1 a) has took
 
-        module _ (r2 : RigState) (k : SinkState) (loads : r1.loads ≡ r0.loads) (same : r2.machine ≡ r1.machine) where
+        module _ (r2 : RigState) (k : SinkState) (same : r2.machine ≡ r1.machine) where
           pub unlisted : {U : Type 0} (stop : Stop) (result : Result U Stop) → result ≡ Err stop → WritesList m (Err stop) (outside s2 r1 a) (outside s2 r2 k) → gone-to r0 result (outside s2 r2 k)
           unlisted stop result is written =
               let end = around (outside s2 r2 k) in

@@ -2,7 +2,8 @@
 use Rattle.std.proofs.Common.{◌⊎◌, ◌∙◌, ◌≡◌, ℕ, List, [], ◌++◌, length, None, refl, sym, subst, inl, inr, ◌≤◌, append-nil}
 use Rattle.hierarchy.specs.declared.Shape.{Shape}
 use Rattle.hierarchy.specs.Faults.{Faults}
-use Rattle.hierarchy.specs.Defects.{Defects, IsFair}
+use Rattle.hierarchy.specs.Defects.{Defects}
+use Rattle.hierarchy.specs.Tight.{IsTight}
 use Rattle.defect_db.specs.Text.{text_of}
 use Rattle.netlist.specs.declared.draft.Draft.{Draft}
 use Rattle.netlist.specs.Checks.{IsChecked}
@@ -11,7 +12,7 @@ use Rattle.table_map.specs.Networks.{IsNetwork}
 use Rattle.table_map.specs.Plain.{plain_network}
 use Rattle.place.specs.declared.short.Short.{Short}
 use Rattle.place.specs.Plans.{IsShortInOrder}
-use Rattle.sound_room.specs.Enough.{HasSoundParts}
+use Rattle.sound_room.specs.Enough.{HasStandingRoom}
 use Rattle.steps.specs.Files.{says_at, vectors_at}
 use Rattle.steps.specs.Faults.{ShortPlace}
 use Rattle.steps.specs.Courses.{Next, refuses}
@@ -30,7 +31,7 @@ use Rattle.tera_go.proofs.Stages.{GoCase, case-of, files-of, HasMade, HasLaid, r
 
 -- sound parts and a want of room on a fair list exclude each other
 abbrev pub AreSure : Type 0
-AreSure = (m : Shape) (d : Defects) (f : Faults) (n : Network) (s : Short) → IsNetwork n → IsFair m d f → HasSoundParts m f n → ¬ IsShortInOrder m d n s
+AreSure = (m : Shape) (d : Defects) (f : Faults) (n : Network) (s : Short) → IsNetwork n → IsTight m d f → HasStandingRoom m f n → ¬ IsShortInOrder m d n s
 
 abbrev pub AreNetworks : Type 0
 AreNetworks = (d : Draft) → IsChecked d → IsNetwork (plain_network d)
@@ -54,23 +55,23 @@ module _ (decided : AreDecided) (sure : AreSure) (networks : AreNetworks) (named
 
   -- ---- all is right, and there is room
 
-  -- by the sound parts of the machine
+  -- by the standing parts of the machine
   parts-fit : (h : HasMade c) (place : ShortPlace) → IsChecked h.draft → HasPartsFor c.new.rig.machine.faults h.shape h.draft → IsNoRoom h.made.list h.draft place → ⊥
   parts-fit h place checked parts short =
       let n = parts.network in
       let d = h.made.list in
       let network : IsNetwork n = subst (λ (x : Network). IsNetwork x) (sym parts.plain) (networks h.draft checked) in
       let on = subst (λ (x : Network). IsShortInOrder d.shape d.list x place.short) (short.plain ∙ sym parts.plain) short.short in
-      sure h.shape d.list parts.faults n place.short network (h.list.right.fair parts.faults parts.faults_told) parts.sound (subst (λ (s : Shape). IsShortInOrder s d.list n place.short) h.list.shape on)
+      sure h.shape d.list parts.faults n place.short network (h.list.right.tight parts.faults parts.faults_told) parts.standing (subst (λ (s : Shape). IsShortInOrder s d.list n place.short) h.list.shape on)
 
   has-room : (h : HasMade c) → IsChecked h.draft → IfList h.shape (text_of h.made.list) (λ d. HasRoom d h.draft) ⊎ HasPartsFor c.new.rig.machine.faults h.shape h.draft → (place : ShortPlace) → IsNoRoom h.made.list h.draft place → ⊥
   has-room h checked (inl room) place short = never-refused decided h.made.list h.draft (room h.made.list h.list.shape h.list.kept refl) place short
   has-room h checked (inr parts) place short = parts-fit h place checked parts short
 
   go-right : (text : List ℕ) (next : Next) → Fronts (GoRight t c.new.rig.machine.faults) text → Stage c text next → EndsWell c.old c.new next
-  go-right text next fronts (early refusal empty is why) = rw is (why (fronts text [] (sym (append-nil text))).texts)
-  go-right text next fronts (listing h empty is) = rw is tt
-  go-right text next fronts (unlaid h refusal stands is short) =
+  go-right text next fronts (early refusal empty is why few) = rw is (why (fronts text [] (sym (append-nil text))).texts)
+  go-right text next fronts (listing h empty is few) = rw is tt
+  go-right text next fronts (unlaid h refusal stands is short few) =
       let right = fronts (text_of h.made.list) [] (stands ∙ sym (append-nil (text_of h.made.list))) in
       let room = as-read (λ s x. IfList s (text_of h.made.list) (λ d. HasRoom d x) ⊎ HasPartsFor c.new.rig.machine.faults s x) right.texts h right.room in
       rw is (lay-excused h.made.list h.draft c.old c.new (has-room h (as-read (λ s x. IsChecked x) right.texts h right.texts.design.checked) room) refusal short)
@@ -82,9 +83,9 @@ module _ (decided : AreDecided) (sure : AreSure) (networks : AreNetworks) (named
   -- ---- there is no room
 
   go-short : (text : List ℕ) (next : Next) → Fronts (GoShort t) text → Stage c text next → EndsShort c.old c.new next
-  go-short text next fronts (early refusal empty is why) = rw is (inr (why (fronts text [] (sym (append-nil text))).texts))
-  go-short text next fronts (listing h empty is) = rw is tt
-  go-short text next fronts (unlaid h refusal alone is short) = rw is (lay-short h.made.list h.draft c.old c.new refusal short)
+  go-short text next fronts (early refusal empty is why few) = rw is (inr (why (fronts text [] (sym (append-nil text))).texts))
+  go-short text next fronts (listing h empty is few) = rw is tt
+  go-short text next fronts (unlaid h refusal alone is short few) = rw is (lay-short h.made.list h.draft c.old c.new refusal short)
   go-short text next fronts (laid h more is at) =
       let d = h.has.made.list in
       let short = fronts (text_of d) more is in
@@ -100,9 +101,9 @@ module _ (decided : AreDecided) (sure : AreSure) (networks : AreNetworks) (named
       never-alone texts.shape (told-of named texts.machine_file texts.shape texts.machine) begun.list h.made.list (sym (the-shape texts begun.list.shape begun.shape)) begun.right (h.list.shape ∙ sym (the-shape texts h.shape h.read)) h.list.kept begun.more text begun.text_is alone
 
   go-few : GoFew t → (text : List ℕ) → HasOutputs (reads_machine t.machine).gives text → Stage c text (refuses refused.Memory) → ⊥
-  go-few few text begun (early refusal empty is why) = never-empty (text_of begun.list) begun.more text begun.text_is empty
-  go-few few text begun (listing h empty is) = never-empty (text_of begun.list) begun.more text begun.text_is empty
-  go-few few text begun (unlaid h refusal stands is short) = not-begun few.texts h text [] begun (stands ∙ sym (append-nil (text_of h.made.list))) refl
+  go-few few text begun (early refusal empty is why made) = never-empty (text_of begun.list) begun.more text begun.text_is empty
+  go-few few text begun (listing h empty is made) = never-empty (text_of begun.list) begun.more text begun.text_is empty
+  go-few few text begun (unlaid h refusal stands is short made) = not-begun few.texts h text [] begun (stands ∙ sym (append-nil (text_of h.made.list))) refl
   go-few few text begun (laid h more is (inl at)) = not-begun few.texts h.has text more begun is at.0
   go-few few text begun (laid h more is (inr (u, once, inl at))) = not-begun few.texts h.has text more begun is at.0
   go-few few text begun (laid h more is (inr (u, once, inr (v, opened, inl at)))) = not-begun few.texts h.has text more begun is at.0

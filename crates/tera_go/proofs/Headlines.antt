@@ -12,12 +12,13 @@ use Rattle.steps.specs.Files.{AreAll}
 use Rattle.steps.specs.Outside.{Outside, around}
 use Rattle.steps.specs.Courses.{Next, ends, refuses, writes}
 use Rattle.steps.specs.Stops.{Asks, IsWritten}
-use Rattle.steps.specs.Texts.{IsMachineText}
+use Rattle.steps.specs.Texts.{IsMachineText, LoadsOnce}
 use Rattle.steps.specs.declared.refusal.Stop.{Stop}
 use Rattle.steps.proofs.Standing.{Adds, Standing, stands-done}
+use Rattle.listing.specs.Lists.{MadeFewLoads}
 use Rattle.image_rows.proofs.CourseLemmas.{image-ends}
 use Rattle.tera_go.specs.Headline.{IsListOfMachine, BeginsWithList, none, part, whole, IsGone, HasRoomLeft}
-use Rattle.tera_go.proofs.Stages.{GoCase, case-of, course-of, HasMade, rows-of, begin-of, Stage, early, listing, unlaid, laid, stage-of}
+use Rattle.tera_go.proofs.Stages.{GoCase, case-of, course-of, HasMade, rows-of, begin-of, Stage, early, listing, unlaid, laid, stage-of, few-made}
 
 module _ (machine name design vectors : List ℕ) (old new : Outside) where
   abbrev c : GoCase
@@ -42,17 +43,21 @@ module _ (machine name design vectors : List ℕ) (old new : Outside) where
       whole h.made (rest ++ more) (list-of h) (wrote-as (text ++ more) _ (ap (λ (s : List ℕ). s ++ more) is ∙ append_assoc (text_of h.made.list) rest more) wrote)
 
   at-stage : (text more : List ℕ) (next : Next) → Stage c text next → Adds next more → Wrote old.sink.written new.sink.written (text ++ more) → BeginsWithList machine name old new
-  at-stage text more next (early refusal empty is why) adds wrote =
+  at-stage text more next (early refusal empty is why few) adds wrote =
       let some : Adds (refuses refusal) more = subst (λ (n : Next). Adds n more) is adds in
       none refusal some.0 (wrote-as (text ++ more) _ (ap (λ (s : List ℕ). s ++ more) empty ∙ some.1) wrote)
-  at-stage text more next (listing h empty is) adds wrote =
+  at-stage text more next (listing h empty is few) adds wrote =
       at-list h more (subst (λ (n : Next). Adds n more) is adds) (wrote-as (text ++ more) more (ap (λ (s : List ℕ). s ++ more) empty) wrote)
-  at-stage text more next (unlaid h refusal alone is short) adds wrote = behind-list h text [] more (alone ∙ sym (append-nil (text_of h.made.list))) wrote
+  at-stage text more next (unlaid h refusal alone is short few) adds wrote = behind-list h text [] more (alone ∙ sym (append-nil (text_of h.made.list))) wrote
   at-stage text more next (laid h rest is at) adds wrote = behind-list h.has text rest more is wrote
 
   -- at the end of the program, or of a body
   pub begins : Standing (course-of c) old.sink new.sink → BeginsWithList machine name old new
   begins s = at-stage s.text s.more s.next (stage-of c s.text s.next s.at) s.adds s.wrote
+
+  -- few loads were made by then
+  pub few-loads : Standing (course-of c) old.sink new.sink → MadeFewLoads machine name LoadsOnce (around old) (around new)
+  few-loads s = few-made c s.text s.next (stage-of c s.text s.next s.at)
 
   pub begins-done : {U : Type 0} (result : Result U Stop) → IsWritten (course-of c) result old.sink new.sink → BeginsWithList machine name old new
   begins-done result w = begins (stands-done (course-of c) old.sink new.sink result w)
@@ -61,9 +66,9 @@ module _ (machine name design vectors : List ℕ) (old new : Outside) where
 
   -- the image was run to its end
   finished : (text : List ℕ) → new.store.asked ≡ old.store.asked ++ machine ∷ design ∷ vectors ∷ [] → Wrote old.sink.written new.sink.written text → Stage c text ends → IsGone machine name design vectors old new × HasRoomLeft machine design old new
-  finished text asked wrote (early refusal empty is why) = absurd (cc)
-  finished text asked wrote (listing h empty is) = absurd (cc)
-  finished text asked wrote (unlaid h refusal alone is short) = absurd (cc)
+  finished text asked wrote (early refusal empty is why few) = absurd (cc)
+  finished text asked wrote (listing h empty is few) = absurd (cc)
+  finished text asked wrote (unlaid h refusal alone is short few) = absurd (cc)
   finished text asked wrote (laid h rest is at) =
       let run = image-ends (rows-of c h) (begin-of c h) (around new) rest at in
       let rows = run.rows in
@@ -89,6 +94,7 @@ module _ (machine name design vectors : List ℕ) (old new : Outside) where
           image_right = λ f told. h.right.right f (subst (λ (s : Shape). Covers s d.list f) (sym h.has.list.shape) (h.has.list.right.covers f told));
           as_the_machine_read = record { drives = rows.session.drives; rows_are = rows.session.rows_are };
           exactly_the_outputs = λ f told. subst (λ (o : Option Faults). IfSome o (λ _. AreRows h.has.draft rows.has.vectors rows.has.rows)) told rows.has.are.netlist;
+          tight = h.has.list.right.tight;
           fair = h.has.list.right.fair;
           few = h.has.list.few;
           loaded_once = run.loaded;

@@ -1,5 +1,5 @@
 -- Where the course of `go` stands, and what is known there.
-use Rattle.std.proofs.Common.{◌≡◌, ℕ, List, [], ◌∷◌, ◌++◌, Some, inl, inr, ◌∙◌, append-nil, ap}
+use Rattle.std.proofs.Common.{◌≡◌, ℕ, List, [], ◌∷◌, ◌++◌, Some, inl, inr, ◌∙◌, append-nil, ap, refl}
 use Rattle.hierarchy.specs.declared.Shape.{Shape}
 use Rattle.defect_db.specs.Text.{text_of}
 use Rattle.netlist.specs.declared.draft.Draft.{Draft}
@@ -7,15 +7,15 @@ use Rattle.config_image.specs.Images.{ImageValue}
 use Rattle.rig.specs.Rig.{Asked}
 use Rattle.steps.specs.Outside.{Around}
 use Rattle.steps.specs.Courses.{Course, Next, RowWork, refuses, writes}
-use Rattle.steps.specs.Texts.{reads_machine, reads_design, attaches, NoMachine, NoDesign}
+use Rattle.steps.specs.Texts.{reads_machine, reads_design, attaches, LoadsOnce, NoMachine, NoDesign}
 use Rattle.steps.specs.Jobs.{IsExcused}
 use Rattle.steps.specs.declared.design_file.DesignFile.TheVariants.{Design}
 use Rattle.steps.specs.declared.refusal.Refusal.{Refusal}
 use Rattle.steps.proofs.Leading.{stopped}
 use Rattle.steps.proofs.Excused.{machine-excused, attach-excused, design-excused, rig-excused}
-use Rattle.listing.specs.Lists.{Listed, IsListed, lists}
+use Rattle.listing.specs.Lists.{Listed, IsListed, MadeFewLoads, unloaded, few, lists}
 use Rattle.lay.specs.Laying.{lays, NotLaid, IsImageFor, HasRoom}
-use Rattle.image_rows.specs.Rows.{RowsBegin, image_course}
+use Rattle.image_rows.specs.Rows.{RowsBegin, image_course, loads}
 use Rattle.tera_go.specs.GoRows.{design_rows}
 use Rattle.tera_go.specs.Go.{GoFiles, AreGoTexts, go_files, go_course}
 
@@ -61,13 +61,17 @@ rows-of c h = design_rows h.has.draft h.image (files-of c).vectors c.new.store.c
 abbrev pub begin-of : (c : GoCase) → HasLaid c → RowsBegin
 begin-of c h = record { image = h.image; vectors = c.vectors; files = c.design ∷ c.machine ∷ []; begun = c.old.store; before = h.has.made.loads }
 
+-- few loads were made so far
+abbrev pub FewMade : GoCase → Type 0
+FewMade c = MadeFewLoads c.machine c.name LoadsOnce c.old c.new
+
 pub data Stage (c : GoCase) (text : List ℕ) (next : Next) : Type 0 where
   -- before the list
-  early : (refusal : Refusal) → text ≡ [] → next ≡ refuses refusal → (AreGoTexts (files-of c) → IsExcused refusal c.old c.new) → Stage c text next
+  early : (refusal : Refusal) → text ≡ [] → next ≡ refuses refusal → (AreGoTexts (files-of c) → IsExcused refusal c.old c.new) → FewMade c → Stage c text next
   -- at its text
-  listing : (h : HasMade c) → text ≡ [] → next ≡ writes (text_of h.made.list) → Stage c text next
+  listing : (h : HasMade c) → text ≡ [] → next ≡ writes (text_of h.made.list) → FewMade c → Stage c text next
   -- behind it, with no image
-  unlaid : (h : HasMade c) (refusal : Refusal) → text ≡ text_of h.made.list → next ≡ refuses refusal → NotLaid h.made.list h.draft refusal → Stage c text next
+  unlaid : (h : HasMade c) (refusal : Refusal) → text ≡ text_of h.made.list → next ≡ refuses refusal → NotLaid h.made.list h.draft refusal → FewMade c → Stage c text next
   -- with one, and its course
   laid : (h : HasLaid c) (more : List ℕ) → text ≡ text_of h.has.made.list ++ more → image_course (rows-of c h) (begin-of c h) c.new more next → Stage c text next
 
@@ -86,21 +90,33 @@ module _ (c : GoCase) where
   pub stage-of : (text : List ℕ) (next : Next) → course-of c text next → Stage c text next
   stage-of text next (inl h) =
       let s = stopped (reads_machine (files-of c).machine) next h.1 in
-      early s.0 h.0 s.1 (machine-right s.0 s.2)
+      early s.0 h.0 s.1 (machine-right s.0 s.2) (unloaded h.2.1)
   stage-of text next (inr (m, read, inl h)) =
       let asked : Asked = record { shape = m; name = c.name } in
       let s = stopped (attaches asked c.old.rig c.new.rig) next h.1 in
-      early s.0 h.0 s.1 (λ _. attach-excused c.old c.new asked s.0 s.2)
+      early s.0 h.0 s.1 (λ _. attach-excused c.old c.new asked s.0 s.2) (unloaded h.2.1)
   stage-of text next (inr (m, read, inr (u, attached, inl h))) =
       let s = stopped (reads_design Design (files-of c).design) next h.1 in
-      early s.0 h.0 s.1 (design-right s.0 s.2)
+      early s.0 h.0 s.1 (design-right s.0 s.2) (unloaded h.2.1)
   stage-of text next (inr (m, read, inr (u, attached, inr (draft, drawn, inl h)))) =
       let s = stopped (lists m c.old.rig.loads c.new.rig) next h.1 in
-      early s.0 h.0 s.1 (λ _. rig-excused c.old c.new s.0 s.2)
+      early s.0 h.0 s.1 (λ _. rig-excused c.old c.new s.0 s.2.0) (few m c.new.rig.loads read attached s.2.1 (inl refl))
   stage-of text next (inr (m, read, inr (u, attached, inr (draft, drawn, inr (l, list, inl h))))) =
-      listing (has m draft l read attached drawn list) h.0 h.1
+      listing (has m draft l read attached drawn list) h.0 h.1 (few m l.loads read attached list.few (inl h.2.1))
   stage-of text next (inr (m, read, inr (u, attached, inr (draft, drawn, inr (l, list, inr (more, is, inl h)))))) =
       let s = stopped (lays l.list draft) next h.1 in
-      unlaid (has m draft l read attached drawn list) s.0 (is ∙ (ap (λ (t : List ℕ). text_of l.list ++ t) h.0 ∙ append-nil (text_of l.list))) s.1 s.2
+      unlaid (has m draft l read attached drawn list) s.0 (is ∙ (ap (λ (t : List ℕ). text_of l.list ++ t) h.0 ∙ append-nil (text_of l.list))) s.1 s.2 (few m l.loads read attached list.few (inl h.2.1))
   stage-of text next (inr (m, read, inr (u, attached, inr (draft, drawn, inr (l, list, inr (more, is, inr (i, right, at))))))) =
       laid (record { has = has m draft l read attached drawn list; image = i; right = right.0; room = right.1 }) more is at
+
+  -- few loads were made, wherever it stands
+  run-loads : (h : HasLaid c) (more : List ℕ) (next : Next) → image_course (rows-of c h) (begin-of c h) c.new more next → LoadsOnce h.has.made.loads c.new.rig.loads
+  run-loads h more next (inl at) = (stopped (loads h.has.made.loads c.new.rig) next at.1).2.1
+  run-loads h more next (inr (u, once, at)) = inr once
+
+  pub few-made : (text : List ℕ) (next : Next) → Stage c text next → FewMade c
+  few-made text next (early refusal empty is why made) = made
+  few-made text next (listing h empty is made) = made
+  few-made text next (unlaid h refusal alone is short made) = made
+  few-made text next (laid h more is at) =
+      few h.has.shape h.has.made.loads h.has.read h.has.attached h.has.list.few (run-loads h more next at)

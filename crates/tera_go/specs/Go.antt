@@ -12,7 +12,7 @@ use Rattle.blif_read.specs.Designs.{IsDesign}
 use Rattle.table_map.specs.declared.network.Network.{Network}
 use Rattle.table_map.specs.Plain.{IsPlainNetwork}
 use Rattle.config_image.specs.Images.{ImageValue}
-use Rattle.sound_room.specs.Enough.{HasSoundParts}
+use Rattle.sound_room.specs.Enough.{HasStandingRoom}
 use Rattle.tm_text.specs.Size.{most_bytes}
 use Rattle.steps.specs.Files.{says_at, vectors_at}
 use Rattle.steps.specs.Lines.{outputs_line}
@@ -21,7 +21,7 @@ use Rattle.steps.specs.Courses.{Course, after, write}
 use Rattle.steps.specs.Texts.{reads_machine, reads_design, attaches, AsksMachine}
 use Rattle.steps.specs.Jobs.{Job}
 use Rattle.steps.specs.declared.design_file.DesignFile.TheVariants.{Design}
-use Rattle.listing.specs.Lists.{Listed, lists}
+use Rattle.listing.specs.Lists.{Listed, Unloaded, lists}
 use Rattle.lay.specs.Laying.{lays, HasRoom, LacksRoom}
 use Rattle.image_rows.specs.Rows.{most_rows, image_course}
 use Rattle.tera_go.specs.GoRows.{design_rows}
@@ -33,7 +33,7 @@ pub record GoBegin : Type 0 where
   pub files : List (List ℕ)
   pub vectors : List ℕ
 
--- where the store stands, and no load follows on those of the list's diagnosis
+-- where the store stands, and no load follows on those that the list took
 abbrev pub HasStayed : GoBegin → Listed → Around → Type 0
 HasStayed b l new = StandsIn b.files b.begun new.store × (new.rig.loads ≡ l.loads)
 
@@ -61,20 +61,20 @@ machine_listed m before b new draft = after (lists m before new.rig) (StandsIn b
 -- The design is read, and the machine is listed
 abbrev pub design_read : (machine design vectors : List ℕ) → Around → Around → Shape → Course
 design_read machine design vectors old new m =
-    after (reads_design Design (old.store.contents design)) (StandsIn (design ∷ machine ∷ []) old.store new.store)
+    after (reads_design Design (old.store.contents design)) (Unloaded (design ∷ machine ∷ []) old new)
     (machine_listed m old.rig.loads (go_begin old machine design vectors) new)
 
 -- The machine is attached, and the design is read
 abbrev pub machine_attached : (machine name design vectors : List ℕ) → Around → Around → Shape → Course
 machine_attached machine name design vectors old new m =
-    after (attaches (record { shape = m; name = name }) old.rig new.rig) (StandsIn (machine ∷ []) old.store new.store)
+    after (attaches (record { shape = m; name = name }) old.rig new.rig) (Unloaded (machine ∷ []) old new)
     (λ _. design_read machine design vectors old new m)
 
--- The machine is read and attached, and the design is read. The machine's defects are listed and the list is written. The
--- design is laid on what the list leaves free, and its rows are written. One load follows on the diagnosis
+-- The machine is read and attached, and the design is read; no load is made before that. The machine's defects are listed, with few
+-- loads, and the list is written. The design is laid on what the list leaves free, and its rows are written. One load follows
 abbrev pub go_course : (machine name design vectors : List ℕ) → Around → Around → Course
 go_course machine name design vectors old new =
-    after (reads_machine (old.store.contents machine)) (StandsIn (machine ∷ []) old.store new.store)
+    after (reads_machine (old.store.contents machine)) (Unloaded (machine ∷ []) old new)
     (machine_attached machine name design vectors old new)
 
 -- what is told of the files
@@ -104,13 +104,13 @@ pub record AreGoTexts (t : GoFiles) : Type 0 where
   pub vectors_told : t.vectors ≡ holds vectors_file
   pub no_fault : (says_at (length draft.inputs) vectors_file).fault ≡ None
 
--- the faults of the machine are told, each node is served, and as many parts are sound as the plain network has
+-- the faults of the machine are told, and as many parts stand as the plain network has
 pub record HasPartsFor (told : Option Faults) (m : Shape) (draft : Draft) : Type 0 where
   pub faults : Faults
   pub faults_told : told ≡ Some faults
   pub network : Network
   pub plain : IsPlainNetwork draft network
-  pub sound : HasSoundParts m faults network
+  pub standing : HasStandingRoom m faults network
 
 -- if that is the text of a list of the machine's defects, the list has P
 abbrev pub IfList : Shape → (front : List ℕ) → (DefectList → Type 0) → Type 0

@@ -6,6 +6,7 @@ use Rattle.tm_outside.specs.Sink.{Wrote}
 use Rattle.hierarchy.specs.declared.Shape.{Shape}
 use Rattle.hierarchy.specs.Faults.{Faults}
 use Rattle.hierarchy.specs.Defects.{Covers, IsFair}
+use Rattle.hierarchy.specs.Tight.{IsTight}
 use Rattle.defect_db.specs.Lists.{DefectList, IsDefectList}
 use Rattle.defect_db.specs.Text.{text_of}
 use Rattle.netlist.specs.declared.draft.Draft.{Draft}
@@ -27,7 +28,7 @@ use Rattle.lay.specs.Laying.{HasRoom}
 -- ---- whatever the end
 
 -- the list is one of the machine of the text, which is attached under the name: where the machine's faults are told, it covers
--- them and is fair to them
+-- them and is tight to them, and so fair
 pub record IsListOfMachine (machine name : List ℕ) (old new : Outside) (made : Listed) : Type 0 where
   pub shape : Shape
   pub machine_is : IfTold (old.store.contents machine) (λ bytes. IsMachineText bytes shape)
@@ -92,7 +93,8 @@ pub record IsGone (machine name design vectors : List ℕ) (old new : Outside) :
   pub image_right : (f : Faults) → new.rig.machine.faults ≡ Some f → IsRightImage f image draft
   pub as_the_machine_read : IsAsRead image all_vectors rows new.rig
   pub exactly_the_outputs : (f : Faults) → new.rig.machine.faults ≡ Some f → AreRows draft all_vectors rows
-  -- the list is fair besides; few loads were made for it where nothing is wrong, and exactly one after it
+  -- the list is tight besides, and so fair; few loads were made for it, and exactly one after it
+  pub tight : (f : Faults) → new.rig.machine.faults ≡ Some f → IsTight shape made.list.list f
   pub fair : (f : Faults) → new.rig.machine.faults ≡ Some f → IsFair shape made.list.list f
   pub few : TakesFewLoads new.rig.machine.faults shape old.rig.loads made.loads
   pub loaded_once : new.rig.loads ≡ next_count made.loads

@@ -17,7 +17,7 @@ use listing::write_list;
 use netlist::Netlist;
 use place::in_order_plans_are_decided;
 use rig::Rig;
-use sound_room::sound_parts_are_room;
+use sound_room::standing_parts_are_room;
 use std::alloc::Global;
 use steps::{DesignFile, Stop, attach, read_design, read_shape};
 use table_map::laws::plain_networks_have_the_rows;
@@ -97,7 +97,7 @@ pub fn go<S: Store, K: Sink>(
     ensures does { let old = outside (S.store_state store.old) (rig_state rig.old) (K.sink_state sink.old) in
         let new = outside (S.store_state store.new) (rig_state rig.new) (K.sink_state sink.new) in
         Does ⊥ (go_job machine.now name.now design.now vectors.now) result old new }
-    // The list that stands written covers the machine's faults and is fair to them, whatever the end.
+    // The list that stands written covers the machine's faults and is tight to them, whatever the end.
     ensures listed { let old = outside (S.store_state store.old) (rig_state rig.old) (K.sink_state sink.old) in
         let new = outside (S.store_state store.new) (rig_state rig.new) (K.sink_state sink.new) in
         BeginsWithList machine.now name.now old new }
@@ -109,7 +109,7 @@ pub fn go<S: Store, K: Sink>(
         OnOk result (HasRoomLeft machine.now design.now old new) }
 {
     in_order_plans_are_decided();
-    sound_parts_are_room();
+    standing_parts_are_room();
     plain_networks_have_the_rows();
     hierarchy::names_are_one_to_one();
     hierarchy::the_crosspoints_are_sound();

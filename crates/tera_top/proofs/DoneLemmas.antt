@@ -9,7 +9,10 @@ use Rattle.steps.specs.Outside.{Outside, around}
 use Rattle.steps.specs.Courses.{Next, ends, refuses}
 use Rattle.steps.specs.Jobs.{Job, wrong_words}
 use Rattle.steps.specs.Ends.{EndWrote, Ended, whole, refused, cut_line, no_line, cut}
+use Rattle.steps.specs.Texts.{LoadsOnce}
 use Rattle.steps.specs.declared.refusal.Refusal.TheVariants.{Words}
+use Rattle.rig.specs.Rig.{RigState}
+use Rattle.listing.specs.Lists.{MadeFewLoads, unloaded}
 use Rattle.steps.proofs.Standing.{Adds, Standing, stands-end}
 use Rattle.table_map.specs.Plain.{plain_network}
 use Rattle.place.specs.Plans.{nets_in}
@@ -25,15 +28,15 @@ use Rattle.tera_run.specs.Headline.{IsRan}
 use Rattle.tera_run.proofs.Headlines.{ran}
 use Rattle.tera_diagnose.specs.Diagnose.{diagnose_job}
 use Rattle.tera_diagnose.specs.Headline.{IsDiagnosed}
-use Rattle.tera_diagnose.proofs.Headlines.{diagnosed}
+use Rattle.tera_diagnose.proofs.Headlines.{diagnosed, few-loads as diagnosed-loads}
 use Rattle.tera_go.specs.Go.{go_job, go_course}
 use Rattle.tera_go.specs.Headline.{IsGone, HasRoomLeft, BeginsWithList, none}
-use Rattle.tera_go.proofs.Headlines.{gone, begins}
+use Rattle.tera_go.proofs.Headlines.{gone, begins, few-loads as gone-loads}
 use Rattle.tera_bench.specs.Bench.{bench_job}
 use Rattle.tera_bench.specs.Headline.{IsBenched}
 use Rattle.tera_bench.proofs.BenchLaws.{IsOnly}
 use Rattle.tera_bench.proofs.Headlines.{benched}
-use Rattle.tera_top.specs.Words.{Asked, a_job, HasNoJob, job_of, commands, asked_in, asked_by, is_dashed}
+use Rattle.tera_top.specs.Words.{Asked, no_job, a_job, HasNoJob, job_of, commands, asked_in, asked_by, is_dashed}
 use Rattle.tera_top.proofs.WordLemmas.{some_number}
 use Rattle.tera_top.proofs.AskedLemmas.{refused-some}
 
@@ -51,21 +54,40 @@ wrong-begins machine name old new s =
     none Words adds.0 (subst (λ (t : List ℕ). Wrote old.sink.written new.sink.written t) (ap (λ (t : List ℕ). t ++ s.more) s.at.0 ∙ adds.1) s.wrote)
 
 module _ (words : List (List ℕ)) (old new : Outside) (status : ℕ) (ended : Ended (HasNoJob (asked_by words)) (job_of (asked_by words)) old new status) where
-  -- whatever the status
-  pub go-listed : (machine name design vectors : List ℕ) → words ≡ codes "go" ∷ machine ∷ name ∷ design ∷ vectors ∷ [] → BeginsWithList machine name old new
-  go-listed machine name design vectors is = by_test (list_any is_dashed words) refl
+  -- whatever the status: the words are wrong, or the course of the job stands somewhere
+  whatever : (job : Job) (P : Type 0) → asked_in commands words ≡ a_job job → (asked_by words ≡ no_job → P) → (Standing (job.course (around old) (around new)) old.sink new.sink → P) → P
+  whatever job P is wrong right = by_test (list_any is_dashed words) refl
     where
-      go : asked_in commands words ≡ a_job (go_job machine name design vectors)
-      go = rw is refl
-
-      by_test : (b : Bool) → list_any is_dashed words ≡ b → BeginsWithList machine name old new
-      by_test true e =
-          let wrote = rw e at ended.written in
-          wrong-begins machine name old new (stands-end (Unit {0}) (wrong_words.course (around old) (around new)) old new status wrote)
+      by_test : (b : Bool) → list_any is_dashed words ≡ b → P
+      by_test true e = wrong (rw e refl)
       by_test false e =
-          let same : asked_by words ≡ a_job (go_job machine name design vectors) = rw e go in
+          let same : asked_by words ≡ a_job job = rw e is in
           let wrote = subst (λ (a : Asked). EndWrote (HasNoJob a) ((job_of a).course (around old) (around new)) old new status) same ended.written in
-          begins machine name design vectors old new (stands-end ⊥ (go_course machine name design vectors (around old) (around new)) old new status wrote)
+          right (stands-end ⊥ (job.course (around old) (around new)) old new status wrote)
+
+  pub go-listed : (machine name design vectors : List ℕ) → words ≡ codes "go" ∷ machine ∷ name ∷ design ∷ vectors ∷ [] → BeginsWithList machine name old new
+  go-listed machine name design vectors is =
+      whatever (go_job machine name design vectors) (BeginsWithList machine name old new) (rw is refl)
+      (λ wrong. wrong-begins machine name old new (stands-end (Unit {0}) (wrong_words.course (around old) (around new)) old new status
+          (subst (λ (a : Asked). EndWrote (HasNoJob a) ((job_of a).course (around old) (around new)) old new status) wrong ended.written)))
+      (begins machine name design vectors old new)
+
+  -- wrong words make no load
+  none-loaded : (machine name : List ℕ) (more : ℕ → ℕ → Type 0) → asked_by words ≡ no_job → MadeFewLoads machine name more (around old) (around new)
+  none-loaded machine name more wrong =
+      let same : new.rig ≡ old.rig = subst (λ (a : Asked). (job_of a).asks (around old) (around new)) wrong ended.machines in
+      unloaded (ap (λ (r : RigState). r.loads) same)
+
+  pub go-loads : (machine name design vectors : List ℕ) → words ≡ codes "go" ∷ machine ∷ name ∷ design ∷ vectors ∷ [] → MadeFewLoads machine name LoadsOnce (around old) (around new)
+  go-loads machine name design vectors is =
+      whatever (go_job machine name design vectors) (MadeFewLoads machine name LoadsOnce (around old) (around new)) (rw is refl)
+      (none-loaded machine name LoadsOnce) (gone-loads machine name design vectors old new)
+
+  pub diagnose-loads : (machine name : List ℕ) → words ≡ codes "diagnose" ∷ machine ∷ name ∷ [] → MadeFewLoads machine name (λ made now. now ≡ made) (around old) (around new)
+  diagnose-loads machine name is =
+      whatever (diagnose_job machine name) (MadeFewLoads machine name (λ made now. now ≡ made) (around old) (around new)) (rw is refl)
+      (none-loaded machine name (λ made now. now ≡ made))
+      (λ s. diagnosed-loads machine name (around old) (around new) s.text s.next s.at)
 
   module _ (zero : status ≡ 0) where
     not-zero : (status ≡ 2) ⊎ (((status ≡ 5) × Rose old.sink.failures new.sink.failures) ⊎ ((status ≡ 6) × IsTrue old.sink.can_lack)) → ⊥

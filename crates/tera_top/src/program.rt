@@ -2,7 +2,9 @@
 ghost use Rattle.std.specs.Prelude.{◌≡◌, ◌∷◌, [], ◌<◌, ◌^◌, ℕ, List, map, string_bytes, codes};
 ghost use Rattle.std.specs.Fmt.{decimal};
 ghost use Rattle.tm_outside.specs.Store.{StoreState};
-ghost use Rattle.steps.specs.Outside.{outside};
+ghost use Rattle.steps.specs.Outside.{around, outside};
+ghost use Rattle.steps.specs.Texts.{LoadsOnce};
+ghost use Rattle.listing.specs.Lists.{MadeFewLoads};
 ghost use Rattle.steps.specs.Ends.{Ended};
 ghost use Rattle.tera_top.specs.Words.{HasNoJob, DoesAsked, job_of, of_number, number_of, commands, asked_in, asked_by};
 ghost use Rattle.tera_eval.specs.Headline.{IsEvaled};
@@ -143,7 +145,7 @@ pub fn teramac<S: Store, K: Sink>(
         let new = outside (S.store_state store.new) (rig_state rig.new) (K.sink_state sink.new) in
         Ended (HasNoJob asked) (job_of asked) old new result }
 
-    // What a `go` wrote begins with a list that covers every fault and is fair, so far as it goes.
+    // What a `go` wrote begins with a list that covers every fault and is tight, so far as it goes.
     ensures listed { let old = outside (S.store_state store.old) (rig_state rig.old) (K.sink_state sink.old) in
         let new = outside (S.store_state store.new) (rig_state rig.new) (K.sink_state sink.new) in
         (machine name design vectors : List ℕ) → map string_bytes words.now ≡ codes "go" ∷ machine ∷ name ∷ design ∷ vectors ∷ [] →
@@ -158,6 +160,11 @@ pub fn teramac<S: Store, K: Sink>(
         let new = outside (S.store_state store.new) (rig_state rig.new) (K.sink_state sink.new) in
         (machine name design vectors : List ℕ) → map string_bytes words.now ≡ codes "go" ∷ machine ∷ name ∷ design ∷ vectors ∷ [] →
         result ≡ 0 → HasRoomLeft machine design old new }
+    // Whatever the status, a `go` made few loads for its list, and one more at most.
+    ensures go_loads { let old = outside (S.store_state store.old) (rig_state rig.old) (K.sink_state sink.old) in
+        let new = outside (S.store_state store.new) (rig_state rig.new) (K.sink_state sink.new) in
+        (machine name design vectors : List ℕ) → map string_bytes words.now ≡ codes "go" ∷ machine ∷ name ∷ design ∷ vectors ∷ [] →
+        MadeFewLoads machine name LoadsOnce (around old) (around new) }
     // An `eval` at status 0 wrote the rows of the design.
     ensures evaled { let old = outside (S.store_state store.old) (rig_state rig.old) (K.sink_state sink.old) in
         let new = outside (S.store_state store.new) (rig_state rig.new) (K.sink_state sink.new) in
@@ -178,6 +185,11 @@ pub fn teramac<S: Store, K: Sink>(
         let new = outside (S.store_state store.new) (rig_state rig.new) (K.sink_state sink.new) in
         (machine name : List ℕ) → map string_bytes words.now ≡ codes "diagnose" ∷ machine ∷ name ∷ [] →
         result ≡ 0 → IsDiagnosed machine name old new }
+    // Whatever the status, a `diagnose` made few loads, and none but those of its list.
+    ensures diagnose_loads { let old = outside (S.store_state store.old) (rig_state rig.old) (K.sink_state sink.old) in
+        let new = outside (S.store_state store.new) (rig_state rig.new) (K.sink_state sink.new) in
+        (machine name : List ℕ) → map string_bytes words.now ≡ codes "diagnose" ∷ machine ∷ name ∷ [] →
+        MadeFewLoads machine name (λ made now. now ≡ made) (around old) (around new) }
     // A `bench` at status 0 drove the vectors of its number, through an image that is right for the generated design, and wrote
     // its summary.
     ensures benched { let old = outside (S.store_state store.old) (rig_state rig.old) (K.sink_state sink.old) in

@@ -10,4 +10,4 @@ returns-in-Ok-clause-took g c =
 pub returns-in-Err-clause-took : goal.returns-in-Err-clause-took
 returns-in-Err-clause-took g c =
     let e = c.in-Err.ensures in
-    λ store sink. rw c.from.ensures (list-stopped _ _ _ e.machine store sink c.in-Err.fail e.later (λ is. e.cause (rw is refl)))
+    λ store sink. rw c.from.ensures (list-stopped _ _ _ e.machine store sink c.in-Err.fail e.later (λ is. e.cause (rw is refl)) e.loads)

@@ -15,7 +15,7 @@ returns-in_err-text-clause-written g c =
     let box0 = c.args.rig.now in
     let box1 = c.list_of.new.rig in
     let step = lists_now c.args.shape.now ((goal.Rig-dyn g (box0.vtable, box0.value)).rig_state box0.value) ((goal.Rig-dyn g (box1.vtable, box1.value)).rig_state box1.value) in
-    λ store. rw (p.1, p.2) (inl (took-lacks step step _ c.in_ok-list.list _ _ (c.in_ok-list.ensures.took store (g.K.Sink.sink_state c.args.sink.now)) tt))
+    λ store. rw (p.1, p.2) (inl (took-lacks step step _ c.in_ok-list.list _ _ (c.in_ok-list.ensures.took store (g.K.Sink.sink_state c.args.sink.now)) (tt, c.in_ok-list.ensures.loads)))
 
 pub returns-in_err-write-clause-written : goal.returns-in_err-write-clause-written
 returns-in_err-write-clause-written g c =

@@ -1,7 +1,7 @@
 use Rattle.std.proofs.Common.{◌∙◌, Some, refl, sym, ap}
 use Rattle.std.proofs.lemmas.Result.{err_from_is_err_and}
 use Rattle.rig.specs.Rig.{Machine}
-use Rattle.listing.proofs.ListedLemmas.{attached-shape}
+use Rattle.listing.proofs.ListedLemmas.{attached-shape, few-stops}
 use Rattle.steps.proofs.Keeping.{kept-stops, kept-gives}
 use Rattle.steps.proofs.Making.{nothing}
 use Rattle.tera_bench.proofs.Following.{name-stopped, attach-stopped, attached, listed}
@@ -37,7 +37,7 @@ returns-in_err-list g c = λ store.
     let named = c.as_str.ensures.value ∙ c.in_ok-name.ensures in
     rw (p.1, p.2) (attached c.args.n _ _ c.bench_shape-shape.ensures _ named _ e.asked (e.took store _) _ _
     (kept-gives _ _ _ _ _ c.in_ok-netlist.netlist _ _ _ _ (c.in_ok-netlist.ensures.took _) (λ s. s) refl
-    (kept-stops _ _ _ _ _ _ _ _ refl (c.in_err-list.ensures.took store _) (λ s. s) refl c.in_err-list.ensures.machine)))
+    (kept-stops _ _ _ _ _ _ _ _ refl (c.in_err-list.ensures.took store _) (few-stops _ _ _ _ _ e.loads c.in_err-list.ensures.machine) refl c.in_err-list.ensures.machine)))
 
 pub run_on-requires : goal.run_on-requires
 run_on-requires g c =

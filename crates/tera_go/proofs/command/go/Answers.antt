@@ -4,7 +4,7 @@ use Rattle.tera_go.proofs.command.go.Goals as goal
 
 pub returns-clause-lawful : goal.returns-clause-lawful
 returns-clause-lawful g c =
-    go-lawful c.in_order_plans_are_decided.ensures.never_both c.sound_parts_are_room.ensures.room c.plain_networks_have_the_rows.ensures.network (record {
+    go-lawful c.in_order_plans_are_decided.ensures.never_both c.standing_parts_are_room.ensures.room c.plain_networks_have_the_rows.ensures.network (record {
       names = c.names_are_one_to_one.ensures;
       crosses = c.the_crosspoints_are_sound.ensures.crosses;
       numbered = c.the_numbering_is_sound.ensures.numbered;

@@ -15,21 +15,21 @@ pub returns-in_err-attach : goal.returns-in_err-attach
 returns-in_err-attach g c = record {
   does =
       let p = err_from_is_err_and c.from_residual-in_err-attach.result c.from_residual-in_err-attach.ensures.1 in
-      rw (p.1, p.2) (unattached c.args.machine.now c.args.name.now c.args.design.now c.args.vectors.now _ _ _ _ _ c.in_ok-shape.shape (c.in_ok-shape.ensures.took _ _) c.in_err-attach.ensures.asked _ _ refl (c.in_err-attach.ensures.took _ _));
+      rw (p.1, p.2) (unattached c.args.machine.now c.args.name.now c.args.design.now c.args.vectors.now _ _ _ _ _ c.in_ok-shape.shape (c.in_ok-shape.ensures.took _ _) c.in_err-attach.ensures.asked c.in_err-attach.ensures.loads _ _ refl (c.in_err-attach.ensures.took _ _));
 }
 
 pub returns-in_err-netlist : goal.returns-in_err-netlist
 returns-in_err-netlist g c = record {
   does =
       let p = err_from_is_err_and c.from_residual-in_err-netlist.result c.from_residual-in_err-netlist.ensures.1 in
-      rw (p.1, p.2) (no-design c.args.machine.now c.args.name.now c.args.design.now c.args.vectors.now _ _ _ _ _ c.in_ok-shape.shape (c.in_ok-shape.ensures.took _ _) c.in_ok-attach.ensures.asked _ (c.in_ok-attach.ensures.took _ _) _ _ refl (c.in_err-netlist.ensures.took _ _));
+      rw (p.1, p.2) (no-design c.args.machine.now c.args.name.now c.args.design.now c.args.vectors.now _ _ _ _ _ c.in_ok-shape.shape (c.in_ok-shape.ensures.took _ _) c.in_ok-attach.ensures.asked c.in_ok-attach.ensures.loads _ (c.in_ok-attach.ensures.took _ _) _ _ refl (c.in_err-netlist.ensures.took _ _));
 }
 
 pub returns-in_err-list : goal.returns-in_err-list
 returns-in_err-list g c = record {
   does =
       let p = err_from_is_err_and c.from_residual-in_err-list.result c.from_residual-in_err-list.ensures.1 in
-      rw (p.1, p.2) (unlisted c.args.machine.now c.args.name.now c.args.design.now c.args.vectors.now _ _ _ _ _ c.in_ok-shape.shape (c.in_ok-shape.ensures.took _ _) c.in_ok-attach.ensures.asked _ (c.in_ok-attach.ensures.took _ _) c.in_ok-netlist.netlist (c.in_ok-netlist.ensures.took _ _) _ _ c.in_ok-attach.ensures.loads c.in_err-list.ensures.machine _ _ refl (c.in_err-list.ensures.written _));
+      rw (p.1, p.2) (unlisted c.args.machine.now c.args.name.now c.args.design.now c.args.vectors.now _ _ _ _ _ c.in_ok-shape.shape (c.in_ok-shape.ensures.took _ _) c.in_ok-attach.ensures.asked c.in_ok-attach.ensures.loads _ (c.in_ok-attach.ensures.took _ _) c.in_ok-netlist.netlist (c.in_ok-netlist.ensures.took _ _) _ _ c.in_err-list.ensures.machine _ _ refl (c.in_err-list.ensures.written _));
 }
 
 pub write_list-requires : goal.write_list-requires
@@ -50,6 +50,6 @@ lay_and_run-requires g c =
 pub returns : goal.returns
 returns g c = record {
   does =
-      listed c.args.machine.now c.args.name.now c.args.design.now c.args.vectors.now _ _ _ _ _ c.in_ok-shape.shape (c.in_ok-shape.ensures.took _ _) c.in_ok-attach.ensures.asked _ (c.in_ok-attach.ensures.took _ _) c.in_ok-netlist.netlist (c.in_ok-netlist.ensures.took _ _) _ _ c.in_ok-attach.ensures.loads c.in_ok-list.ensures.machine c.in_ok-list.list _ _ (c.in_ok-list.ensures.written _)
+      listed c.args.machine.now c.args.name.now c.args.design.now c.args.vectors.now _ _ _ _ _ c.in_ok-shape.shape (c.in_ok-shape.ensures.took _ _) c.in_ok-attach.ensures.asked c.in_ok-attach.ensures.loads _ (c.in_ok-attach.ensures.took _ _) c.in_ok-netlist.netlist (c.in_ok-netlist.ensures.took _ _) _ _ c.in_ok-list.ensures.machine c.in_ok-list.list _ _ (c.in_ok-list.ensures.written _)
       (λ list at same. c.lay_and_run.ensures.follows c.in_ok-shape.shape _ (c.args.design.now ∷ c.args.machine.now ∷ []) (g.S.Store.store_state c.args.store.now) list at same);
 }
