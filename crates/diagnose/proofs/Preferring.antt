@@ -12,8 +12,7 @@ use Rattle.hierarchy.proofs.Faultless.{all_sound}
 use Rattle.rig.specs.Rig.{RigState}
 use Rattle.evidence.specs.Kept.{Kept, IsMore, Advances, keeps_cross, keeps_wire, keeps_pair}
 use Rattle.evidence.proofs.Keeping.{pair_turned}
-use Rattle.growth.specs.Grounds.{AreApart}
-use Rattle.growth.specs.Known.{KnownWires, HasWire, IsKnown}
+use Rattle.growth.specs.Known.{KnownWires, HasWire, IsKnown, AreApart}
 use Rattle.growth.specs.declared.step.Step.{Step}
 use Rattle.diagnose.specs.Choice.{AreBeside, IsKnownFoot, IsLeftOut}
 use Rattle.diagnose.specs.Stages.{IsReached, IfReached}

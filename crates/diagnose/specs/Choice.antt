@@ -1,11 +1,10 @@
 -- Which of some shorted wires is known: a pin of a table in place of lines and ports.
 use Rattle.std.specs.Prelude.{◌≡◌, ◌⊎◌, ℕ, true, Bool, List, length}
-use Rattle.tm_bits.specs.Numbers.{has_number}
 use Rattle.hierarchy.specs.Shape.{wires_of}
 use Rattle.hierarchy.specs.Sound.{HasTwo}
 use Rattle.hierarchy.specs.Standing.{Meets}
 use Rattle.evidence.specs.Kept.{Kept, keeps_wire, keeps_pair}
-use Rattle.growth.specs.Known.{HasWire, IsKeptCrossOf}
+use Rattle.growth.specs.Known.{HasWire, InSet, IsKeptCrossOf}
 use Rattle.growth.specs.declared.step.Step.{Step}
 
 -- the pin is joined by a kept crosspoint to a known line
@@ -22,4 +21,4 @@ pub record IsLeftOut (k : Kept) (ss : List Step) (w : ℕ) : Type 0 where
 -- the pin, and known wires that are kept apart from it
 pub record AreBeside (k : Kept) (ss : List Step) (pin : ℕ) (wires : List Bool) : Type 0 where
   pub len : length wires ≡ wires_of k.shape
-  pub each : (w : ℕ) → has_number wires w ≡ true → (w ≡ pin) ⊎ (HasWire ss w × (keeps_pair k w pin ≡ true))
+  pub each : (w : ℕ) → InSet wires w → (w ≡ pin) ⊎ (HasWire ss w × (keeps_pair k w pin ≡ true))
