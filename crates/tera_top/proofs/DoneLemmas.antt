@@ -69,7 +69,7 @@ module _ (words : List (List ℕ)) (old new : Outside) (status : ℕ) (ended : E
   go-listed machine name design vectors is =
       whatever (go_job machine name design vectors) (BeginsWithList machine name old new) (rw is refl)
       (λ wrong. wrong-begins machine name old new (stands-end (Unit {0}) (wrong_words.course (around old) (around new)) old new status
-          (subst (λ (a : Asked). EndWrote (HasNoJob a) ((job_of a).course (around old) (around new)) old new status) wrong ended.written)))
+      (subst (λ (a : Asked). EndWrote (HasNoJob a) ((job_of a).course (around old) (around new)) old new status) wrong ended.written)))
       (begins machine name design vectors old new)
 
   -- wrong words make no load
