@@ -1,5 +1,6 @@
 -- Which of some wires stand by kept crosspoints, as they are found one after the other.
-use Rattle.std.specs.Prelude.{◌≡◌, ◌≢◌, ◌⊎◌, ℕ, ◌+◌, ◌<◌, ◌≤◌, Bool, true, false, Option, Some, None, List, length, slice_get, slice_index_or}
+use Rattle.std.specs.Prelude.{◌≡◌, ◌≢◌, ◌⊎◌, ℕ, ◌+◌, ◌<◌, ◌≤◌, Bool, true, false, Option, Some, None, List}
+use Rattle.std.specs.Prelude.{length, slice_get, slice_index_or}
 use Rattle.tm_bits.specs.Numbers.{has_number, size_of}
 use Rattle.hierarchy.specs.declared.Shape.{Shape}
 use Rattle.hierarchy.specs.Shape.{Ends, ends_of, crosses_of, wires_of}
@@ -58,4 +59,5 @@ pub record Founds (n m : KnownWires) (left rest : List Bool) (feet more : List (
 
 -- each link that leads by a kept crosspoint from one of the first n wires that stand is settled
 abbrev pub AreSettled : Kept → List Near → KnownWires → List Bool → List (Option Foot) → ℕ → Type 0
-AreSettled k near known left feet n = (w x u : ℕ) → IsBefore known.steps n u → HasLink (list_at near u) x w → keeps_cross k x ≡ true → IsSettled left feet w u
+AreSettled k near known left feet n = (w x u : ℕ) → IsBefore known.steps n u → HasLink (list_at near u) x w → keeps_cross k x ≡ true →
+    IsSettled left feet w u

@@ -12,7 +12,8 @@ use Rattle.growth.specs.declared.step.Step.{Step}
 -- Where the faults are told and what was kept is true of them, the table is kept, if it is seated in the known wires and the kept
 -- crosspoints and is right.
 pub record SeatedIsKept (told : Option Faults) (k l : Kept) (ss : List Step) (t : ℕ) : Type 0 where
-  pub at : (f : Faults) → told ≡ Some f → HoldsFor k f → IsSeated k.shape (HasWire ss) (IsKeptCrossOf k) t → IsRightTable f t → KeepsTable l t
+  pub at : (f : Faults) → told ≡ Some f → HoldsFor k f → IsSeated k.shape (HasWire ss) (IsKeptCrossOf k) t → IsRightTable f t →
+      KeepsTable l t
 
 -- .. each of these tables
 pub record SeatedAreKept (told : Option Faults) (k l : Kept) (ss : List Step) (tables : List Table) : Type 0 where

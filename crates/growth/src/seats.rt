@@ -3,7 +3,8 @@ ghost use Rattle.std.specs.Prelude.{◌≡◌, ◌<◌, ℕ, IfOk, IfSome, IfNon
 ghost use Rattle.hierarchy.specs.Shape.{hextant_of, nodes_of, table_wire, tables_of, wires_of, IsLine, IsPort};
 ghost use Rattle.hierarchy.specs.Standing.{Meets};
 ghost use Rattle.growth.specs.Known.{IsKeptCrossOf, IsKnown, HasWire};
-ghost use Rattle.growth.specs.Seating.{AreArmsTo, IsArmTo, IsFarPort, IsFreeArm, IsMeeting, IsPlace, IsPlaceAt, IsPlaceFor, IsPlaceNear, IsWithout, JoinsTaps, MissesArm};
+ghost use Rattle.growth.specs.Seating.{AreArmsTo, IsArmTo, IsFarPort, IsFreeArm, IsMeeting, IsWithout, JoinsTaps, MissesArm};
+ghost use Rattle.growth.specs.Seating.{IsPlace, IsPlaceAt, IsPlaceFor, IsPlaceNear};
 ghost use Rattle.table_test.specs.Seats.{IsSeat};
 
 use crate::known::Known;
@@ -139,7 +140,8 @@ fn find_far(
     requires without { IsKnown proof.now without.now }
     requires hextant { hextant.0 < nodes_of proof.now.shape }
     requires line { line.0 < wires_of proof.now.shape }
-    ensures far { IfSome result (λ f. IsFarPort proof.now without.now.steps hextant.0 near.0 line.0 f.0.0 × IsMeeting proof.now f.0.0 line.0 f.1.0) }
+    ensures far { IfSome result (λ f. IsFarPort proof.now without.now.steps hextant.0 near.0 line.0 f.0.0
+        × IsMeeting proof.now f.0.0 line.0 f.1.0) }
     ensures none { IfNone result ((far : ℕ) → ¬ IsFarPort proof.now without.now.steps hextant.0 near.0 line.0 far) }
 {
     ports_and_lines_ascend();
@@ -214,7 +216,8 @@ fn place_near(
     requires table { t.0 < tables_of proof.now.shape }
     requires near { near.0 < wires_of proof.now.shape }
     ensures place { IfOk result (λ found. IfSome found (IsPlaceNear proof.now known.now.steps without.now.steps t.0 near.0)) }
-    ensures none { IfOk result (λ found. IfNone found ((line : ℕ) → IsLine proof.now.shape (hextant_of proof.now.shape t.0) line → ¬ IsPlaceAt proof.now known.now.steps without.now.steps t.0 near.0 line)) }
+    ensures none { IfOk result (λ found. IfNone found ((line : ℕ) → IsLine proof.now.shape (hextant_of proof.now.shape t.0) line
+        → ¬ IsPlaceAt proof.now known.now.steps without.now.steps t.0 near.0 line)) }
 {
     ports_and_lines_ascend();
     let shape = proof.shape();
@@ -240,8 +243,9 @@ pub(crate) fn find_place(
     requires without { IsKnown proof.now without.now }
     requires table { t.0 < tables_of proof.now.shape }
     ensures place { IfOk result (λ found. IfSome found (IsPlaceFor proof.now known.now.steps without.now.steps t.0)) }
-    ensures none { IfOk result (λ found. IfNone found ((near line : ℕ) → IsPort proof.now.shape (hextant_of proof.now.shape t.0) near → HasWire without.now.steps near →
-        IsLine proof.now.shape (hextant_of proof.now.shape t.0) line → ¬ IsPlaceAt proof.now known.now.steps without.now.steps t.0 near line)) }
+    ensures none { IfOk result (λ found. IfNone found ((near line : ℕ) → IsPort proof.now.shape (hextant_of proof.now.shape t.0) near
+        → HasWire without.now.steps near → IsLine proof.now.shape (hextant_of proof.now.shape t.0) line
+        → ¬ IsPlaceAt proof.now known.now.steps without.now.steps t.0 near line)) }
 {
     ports_and_lines_ascend();
     let shape = proof.shape();

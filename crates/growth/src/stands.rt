@@ -182,7 +182,8 @@ pub(crate) fn stand_on(
     requires links { AreAllLinks proof.now.shape near.now.items }
     ensures known { IfOk result (IsKnown proof.now) }
     ensures within { IfOk result (λ known. (w : ℕ) → HasWire known.steps w → InSet wires w) }
-    ensures whole { IfOk result (λ known. (w : ℕ) → StandsBy proof.now.shape (InSet wires) (IsKeptCrossOf proof.now) w → HasWire known.steps w) }
+    ensures whole { IfOk result (λ known. (w : ℕ) → StandsBy proof.now.shape (InSet wires) (IsKeptCrossOf proof.now) w
+        → HasWire known.steps w) }
 {
     let shape = proof.shape();
     let mut left = wires;
@@ -199,7 +200,8 @@ pub fn standing(alloc: Global, proof: &Proof, wires: BitSet) -> Result<Known, Al
     requires apart { AreApart proof.now wires }
     ensures known { IfOk result (IsKnown proof.now) }
     ensures within { IfOk result (λ known. (w : ℕ) → HasWire known.steps w → InSet wires w) }
-    ensures whole { IfOk result (λ known. (w : ℕ) → StandsBy proof.now.shape (InSet wires) (IsKeptCrossOf proof.now) w → HasWire known.steps w) }
+    ensures whole { IfOk result (λ known. (w : ℕ) → StandsBy proof.now.shape (InSet wires) (IsKeptCrossOf proof.now) w
+        → HasWire known.steps w) }
 {
     let near = all_links(alloc, &proof.shape())?;
     stand_on(alloc, proof, wires, &near)

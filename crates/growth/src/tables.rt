@@ -47,7 +47,8 @@ fn seat_for(
     requires links { AreAllLinks proof.now.shape near.now.items }
     requires table { t.0 < tables_of proof.now.shape }
     ensures seat { IfOk result (λ found. IfSome found (λ seat. IsSeat proof.now seat × (seat.table.0 ≡ t.0))) }
-    ensures none { IfOk result (λ found. IfNone found (¬ IsSeated proof.now.shape (HasWire known.now.steps) (IsKeptCrossOf proof.now) t.0)) }
+    ensures none { IfOk result (λ found. IfNone found
+        (¬ IsSeated proof.now.shape (HasWire known.now.steps) (IsKeptCrossOf proof.now) t.0)) }
 {
     if !has_pins(known, t) {
         return Ok(None);
