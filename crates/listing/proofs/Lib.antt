@@ -1,2 +1,4 @@
 -- What is cited above.
 pub mod ListedLemmas
+pub mod Following
+pub mod Texts

@@ -1,5 +1,5 @@
 -- The list as a step.
-use Rattle.std.proofs.Common.{◌≡◌, ℕ, ◌≤◌, List, [], Some, option_map, refl, sym, ap, arith, append-nil}
+use Rattle.std.proofs.Common.{◌≡◌, ◌∙◌, ℕ, ◌≤◌, List, [], Some, option_map, refl, sym, ap, arith, append-nil}
 use Rattle.std.specs.Prelude.{Ok, Err}
 use Rattle.tm_outside.specs.Counts.{Rose}
 use Rattle.tm_outside.specs.Store.{StoreState}
@@ -18,6 +18,10 @@ use Rattle.listing.specs.Lists.{IsListed, Listed, lists_now}
 -- the shape that is attached
 pub attached-shape : (rig : RigState) (m : Shape) (name : List ℕ) → rig.machine.attached ≡ Some (record { shape = m; name = name }) → shape_of rig ≡ Some m
 attached-shape rig m name is = ap (option_map (λ (a : Asked). a.shape)) is
+
+-- and that of a list of the machine that is attached
+pub list-shape : (old new : RigState) (m : Shape) (d : DefectList) → new.machine ≡ old.machine → d.shape ≡ m → shape_of old ≡ Some m → shape_of new ≡ Some d.shape
+list-shape old new m d machine same is = ap (λ (x : Machine). option_map (λ (a : Asked). a.shape) x.attached) machine ∙ (is ∙ ap Some (sym same))
 
 -- a list is one of the machine, and so it stays while the machine stays
 pub listed-on : (m : Shape) (before : ℕ) (mid new : RigState) (l : Listed) → IsListed m before mid l → new.machine ≡ mid.machine → IsListed m before new l

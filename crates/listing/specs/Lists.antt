@@ -1,11 +1,15 @@
--- The defects of the machine that is attached are listed, as a step.
-use Rattle.std.specs.Prelude.{◌≡◌, ℕ}
+-- The defects of the machine that is attached are listed, as a step, and the list is written.
+use Rattle.std.specs.Prelude.{◌≡◌, ◌⊎◌, ℕ, [], Result, Ok, Err}
 use Rattle.hierarchy.specs.declared.Shape.{Shape}
 use Rattle.defect_db.specs.Lists.{DefectList, IsDefectList}
+use Rattle.defect_db.specs.Text.{text_of}
 use Rattle.rig.specs.Rig.{RigState}
 use Rattle.diagnose.specs.Diagnosis.{IsDiagnosis, TakesFewLoads}
 use Rattle.steps.specs.Courses.{Step}
+use Rattle.steps.specs.Outside.{Outside, outside}
 use Rattle.steps.specs.Texts.{FailsOnRig}
+use Rattle.steps.specs.Took.{Took, Puts}
+use Rattle.steps.specs.declared.refusal.Stop.{Stop}
 
 -- a list of a machine's defects, and how many loads the rig counted when it was made
 pub record Listed : Type 0 where
@@ -27,3 +31,13 @@ lists m before rig = record { stops = FailsOnRig; gives = IsListed m before rig 
 -- the same of the list alone, from the rig as it was before to the rig as it is then
 abbrev pub lists_now : Shape → (old new : RigState) → Step DefectList
 lists_now m old new = record { stops = FailsOnRig; gives = λ d. IsListed m old.loads new (record { list = d; loads = new.loads }) }
+
+-- the list is made, and nothing of it is written yet
+abbrev pub Makes : (m : Shape) → DefectList → Outside → Outside → Type 0
+Makes m d old new = Took [] (lists_now m old.rig new.rig) (Ok d) old (outside new.store new.rig old.sink)
+
+-- The list is made and its text is written; or it isn't made; or it is, and its text isn't written whole
+abbrev pub WritesList : (m : Shape) → Result DefectList Stop → Outside → Outside → Type 0
+WritesList m (Ok d) old new = Makes m d old new × Puts {T = Unit {0}} (text_of d) (Ok tt) old.sink new.sink
+WritesList m (Err stop) old new = Took [] (lists_now m old.rig new.rig) (Err stop) old new
+    ⊎ ((d : DefectList) × Makes m d old new × Puts {T = Unit {0}} (text_of d) (Err stop) old.sink new.sink)

@@ -1,38 +1,56 @@
--- How the steps of `diagnose` follow one another.
-use Rattle.std.proofs.Common.{◌≡◌, ℕ, List, [], ◌∷◌, ap, ◌∙◌}
-use Rattle.std.specs.Prelude.{Result, Ok}
+-- How the steps of `diagnose` follow one another: a lemma for each place where the body ends, over plain states.
+use Rattle.std.proofs.Common.{◌≡◌, ℕ, List, [], ◌∷◌, refl, sym}
+use Rattle.std.specs.Prelude.{Result, Ok, Err}
+use Rattle.tm_outside.specs.Store.{StoreState}
+use Rattle.tm_outside.specs.Sink.{SinkState}
 use Rattle.hierarchy.specs.declared.Shape.{Shape}
 use Rattle.defect_db.specs.Lists.{DefectList}
-use Rattle.rig.specs.Rig.{RigState, Asked}
-use Rattle.steps.specs.Outside.{Outside, Around, StandsIn}
+use Rattle.rig.specs.Rig.{RigState}
+use Rattle.steps.specs.Outside.{Outside, StandsIn, outside, around}
+use Rattle.steps.specs.Courses.{Course, done}
+use Rattle.steps.specs.Jobs.{Does}
 use Rattle.steps.specs.Took.{Took, Follows}
-use Rattle.steps.specs.Texts.{reads_machine, MayAsk, AsksMachine}
+use Rattle.steps.specs.Texts.{reads_machine, attaches, MayAsk}
 use Rattle.steps.specs.declared.refusal.Stop.{Stop}
-use Rattle.steps.proofs.Taking.{step-gives, asks-machine}
-use Rattle.listing.specs.Lists.{Listed, IsListed, lists, lists_now}
-use Rattle.listing.proofs.ListedLemmas.{listed-on}
-use Rattle.tera_diagnose.specs.Diagnose.{diagnose_course, machine_attached, machine_listed, list_written}
+use Rattle.steps.proofs.Machines.{named, machine-stops, attach-stops, attached-gives}
+use Rattle.steps.proofs.Taking.{all-done}
+use Rattle.listing.specs.Lists.{Listed, WritesList}
+use Rattle.listing.proofs.Following.{list-ends, list-goes}
+use Rattle.tera_diagnose.specs.Diagnose.{diagnose_job, machine_listed}
 
-module _ (machine name : List ℕ) (begun ended : Around) where
-  abbrev pub near : Type 0
-  near = StandsIn (machine ∷ []) begun.store ended.store
+module _ (machine name : List ℕ) (s0 s1 : StoreState) (a : SinkState) where
+  abbrev near : Type 0
+  near = StandsIn (machine ∷ []) s0 s1
 
-  abbrev told : Shape → Type 0
-  told = (reads_machine (begun.store.contents machine)).gives
+  abbrev done-to : {U : Type 0} → RigState → Result U Stop → Outside → Type 0
+  done-to r0 result new = Does ⊥ (diagnose_job machine name) result (outside s0 r0 a) new
 
-  abbrev pub asked_for : Shape → Asked
-  asked_for m = record { shape = m; name = name }
+  abbrev rest-at : RigState → Outside → Shape → Course
+  rest-at r0 new = machine_listed machine (around (outside s0 r0 a)) (around new)
 
-  -- the machine was read
-  pub read-then : {U : Type 0} (m : Shape) (result : Result U Stop) (old mid new : Outside) → Took (machine ∷ []) (reads_machine (begun.store.contents machine)) (Ok m) old mid → mid.rig ≡ old.rig → Follows ⊥ [] (MayAsk (asked_for m) mid.rig.machine.asked new.rig.machine.asked) (machine_attached machine name begun ended m) result mid new → Follows ⊥ (machine ∷ []) (AsksMachine told name old.rig.machine.asked new.rig.machine.asked) (diagnose_course machine name begun ended) result old new
-  read-then m result old mid new took same rest_is =
-      let asks = rw same at (asks-machine told name m mid.rig.machine.asked new.rig.machine.asked took.gives rest_is.machines) in
-      step-gives (reads_machine (begun.store.contents machine)) near (machine_attached machine name begun ended) (reads_machine (begun.store.contents machine)) (machine ∷ []) [] _ _ m m result old mid new took took.gives rest_is asks
+  pub no-machine : {U : Type 0} (r : RigState) (stop : Stop) (result : Result U Stop) → result ≡ Err stop → Took (machine ∷ []) (reads_machine (s0.contents machine)) (Err stop) (outside s0 r a) (outside s1 r a) → done-to r result (outside s1 r a)
+  no-machine r stop result is took = machine-stops machine name near (rest-at r (outside s1 r a)) [] s0 s1 r a stop result is took took.place
 
-  -- the list was made
-  pub listed-then : {U : Type 0} (m : Shape) (d : DefectList) (result : Result U Stop) (old mid new : Outside) → Took [] (lists_now m old.rig mid.rig) (Ok d) old mid → mid.rig.machine ≡ old.rig.machine → old.rig.loads ≡ begun.rig.loads → ended.rig ≡ mid.rig → Follows ⊥ [] (Unit {0}) (list_written machine begun ended (record { list = d; loads = mid.rig.loads })) result mid new → Follows ⊥ [] (ended.rig.machine ≡ old.rig.machine) (machine_listed machine begun ended m) result old new
-  listed-then m d result old mid new took machine_same loads same rest_is =
-      let made : Listed = record { list = d; loads = mid.rig.loads } in
-      let is : IsListed m begun.rig.loads mid.rig made = rw loads at took.gives in
-      step-gives (lists m begun.rig.loads ended.rig) near (list_written machine begun ended) (lists_now m old.rig mid.rig) [] [] (ended.rig.machine ≡ old.rig.machine) (Unit {0}) d made result old mid new took
-      (listed-on m begun.rig.loads mid.rig ended.rig made is (ap (λ (r : RigState). r.machine) same)) rest_is (ap (λ (r : RigState). r.machine) same ∙ machine_same)
+  module _ (r0 r1 : RigState) (m : Shape) (read : Took (machine ∷ []) (reads_machine (s0.contents machine)) (Ok m) (outside s0 r0 a) (outside s1 r0 a)) (may : MayAsk (named name m) r0.machine.asked r1.machine.asked) where
+    pub unattached : {U : Type 0} (stop : Stop) (result : Result U Stop) → result ≡ Err stop → Took [] (attaches (named name m) r0 r1) (Err stop) (outside s1 r0 a) (outside s1 r1 a) → done-to r0 result (outside s1 r1 a)
+    unattached stop result is took = attach-stops machine name near (rest-at r0 (outside s1 r1 a)) [] s0 s1 r0 r1 a m read may stop result is took read.place
+
+    module _ (attached : Took [] (attaches (named name m) r0 r1) (Ok tt) (outside s1 r0 a) (outside s1 r1 a)) (r2 : RigState) (k : SinkState) (loads : r1.loads ≡ r0.loads) (same : r2.machine ≡ r1.machine) where
+      abbrev here : Listed → Type 0
+      here l = near × (r2.loads ≡ l.loads)
+
+      -- the list is made and written, or it isn't
+      tried : {U : Type 0} (result : Result U Stop) → Follows ⊥ [] (r2.machine ≡ r1.machine) (rest-at r0 (outside s1 r2 k) m) result (outside s1 r1 a) (outside s1 r2 k) → done-to r0 result (outside s1 r2 k)
+      tried result is = attached-gives machine name near (rest-at r0 (outside s1 r2 k)) [] s0 s1 r0 r1 a m read may result (outside s1 r2 k) attached is
+
+      pub unlisted : {U : Type 0} (stop : Stop) (result : Result U Stop) → result ≡ Err stop → WritesList m (Err stop) (outside s1 r1 a) (outside s1 r2 k) → done-to r0 result (outside s1 r2 k)
+      unlisted stop result is written =
+          tried result (list-ends m r0.loads near here (λ l. done (here l)) [] s1 r1 r2 a k loads same stop result is written read.place (λ l is. (read.place, sym is)))
+
+      pub listed : {U : Type 0} (d : DefectList) (u : U) → WritesList m (Ok d) (outside s1 r1 a) (outside s1 r2 k) → done-to r0 (Ok u) (outside s1 r2 k)
+      listed d u written =
+          let l : Listed = record { list = d; loads = r2.loads } in
+          let end = outside s1 r2 k in
+          let all = all-done (here l) u end (read.place, refl) in
+          tried (Ok u) (list-goes m r0.loads near here (λ l. done (here l)) [] s1 r1 r2 a k loads same d (Ok u) end written
+          (record { later = all.later; asked = all.asked; machines = refl; written = all.written; counted = all.counted }))

@@ -4,12 +4,30 @@ ghost use Rattle.steps.specs.Outside.{outside};
 ghost use Rattle.steps.specs.Jobs.{Does, IsLawful};
 ghost use Rattle.tera_diagnose.specs.Diagnose.{diagnose_job};
 
-use defect_db::defects_text;
-use listing::list_of;
+use listing::write_list;
 use rig::Rig;
 use std::alloc::Global;
-use steps::{Stop, attach, read_shape, write};
+use steps::{Stop, attach, read_shape};
 use tm_outside::{Sink, Store};
+
+// Reads a machine and attaches it, and writes the list of its defects.
+fn work<S: Store, K: Sink>(
+    alloc: Global,
+    machine: &str,
+    name: &str,
+    store: &mut S,
+    rig: &mut Box<dyn Rig>,
+    sink: &mut K,
+) -> Result<(), Stop>
+    ensures does { let old = outside (S.store_state store.old) (rig_state rig.old) (K.sink_state sink.old) in
+        let new = outside (S.store_state store.new) (rig_state rig.new) (K.sink_state sink.new) in
+        Does ⊥ (diagnose_job machine.now name.now) result old new }
+{
+    let shape = read_shape(alloc, store, machine)?;
+    attach(rig, &shape, name)?;
+    write_list(alloc, &shape, rig, sink)?;
+    Ok(())
+}
 
 /// Reads a machine and attaches it under a name, and writes the list of its defects.
 ///
@@ -33,10 +51,5 @@ pub fn diagnose<S: Store, K: Sink>(
         let new = outside (S.store_state store.new) (rig_state rig.new) (K.sink_state sink.new) in
         Does ⊥ (diagnose_job machine.now name.now) result old new }
 {
-    let shape = read_shape(alloc, store, machine)?;
-    attach(rig, &shape, name)?;
-    let list = list_of(alloc, &shape, rig)?;
-    let text = defects_text(alloc, &list)?;
-    write(sink, &text)?;
-    Ok(())
+    work(alloc, machine, name, store, rig, sink)
 }

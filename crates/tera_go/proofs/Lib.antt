@@ -3,6 +3,5 @@ pub mod Headlines
 -- For the proofs of this crate alone.
 mod DesignRows
 mod Following
-mod Texts
 mod Stages
 mod GoLaws

@@ -37,6 +37,9 @@ pub record GoBegin : Type 0 where
 abbrev pub HasStayed : GoBegin → Listed → Around → Type 0
 HasStayed b l new = StandsIn b.files b.begun new.store × (new.rig.loads ≡ l.loads)
 
+abbrev pub go_begin : Around → (machine design vectors : List ℕ) → GoBegin
+go_begin old machine design vectors = record { begun = old.store; files = design ∷ machine ∷ []; vectors = vectors }
+
 -- The image is loaded by one load more, and its rows, which are the design's, are written
 abbrev pub image_run : Draft → GoBegin → (new : Around) → Listed → ImageValue → Course
 image_run draft b new l i =
@@ -59,7 +62,7 @@ machine_listed m before b new draft = after (lists m before new.rig) (StandsIn b
 abbrev pub design_read : (machine design vectors : List ℕ) → Around → Around → Shape → Course
 design_read machine design vectors old new m =
     after (reads_design Design (old.store.contents design)) (StandsIn (design ∷ machine ∷ []) old.store new.store)
-    (machine_listed m old.rig.loads (record { begun = old.store; files = design ∷ machine ∷ []; vectors = vectors }) new)
+    (machine_listed m old.rig.loads (go_begin old machine design vectors) new)
 
 -- The machine is attached, and the design is read
 abbrev pub machine_attached : (machine name design vectors : List ℕ) → Around → Around → Shape → Course

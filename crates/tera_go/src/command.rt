@@ -7,20 +7,19 @@ ghost use Rattle.steps.specs.Outside.{outside, around, StandsIn};
 ghost use Rattle.steps.specs.Took.{Follows};
 ghost use Rattle.steps.specs.Jobs.{Does, IsLawful};
 ghost use Rattle.listing.specs.Lists.{Listed, IsListed};
-ghost use Rattle.tera_go.specs.Go.{GoBegin, machine_listed, design_laid, go_job};
+ghost use Rattle.tera_go.specs.Go.{GoBegin, design_laid, go_job};
 ghost use Rattle.tera_go.specs.Headline.{BeginsWithList, IsGone, HasRoomLeft};
 
-use defect_db::{Defects, defects_text};
-use hierarchy::Shape;
+use defect_db::Defects;
 use image_rows::run_image;
 use lay::lay;
-use listing::list_of;
+use listing::write_list;
 use netlist::Netlist;
 use place::in_order_plans_are_decided;
 use rig::Rig;
 use sound_room::sound_parts_are_room;
 use std::alloc::Global;
-use steps::{DesignFile, Stop, attach, read_design, read_shape, write};
+use steps::{DesignFile, Stop, attach, read_design, read_shape};
 use table_map::laws::plain_networks_have_the_rows;
 use tm_outside::{Sink, Store};
 
@@ -49,32 +48,6 @@ fn lay_and_run<S: Store, K: Sink>(
     run_image(alloc, image, vectors, store, rig, sink)
 }
 
-// Lists the defects of the machine that is attached, writes the list, and runs a design on what it leaves free.
-fn list_and_run<S: Store, K: Sink>(
-    alloc: Global,
-    shape: &Shape,
-    netlist: &Netlist,
-    vectors: &str,
-    store: &mut S,
-    rig: &mut Box<dyn Rig>,
-    sink: &mut K,
-) -> Result<(), Stop>
-    requires { shape_of (rig_state rig.old) ≡ Some shape.now }
-
-    // Wherever the store stood as the command began.
-    ensures follows { let old = outside (S.store_state store.old) (rig_state rig.old) (K.sink_state sink.old) in
-        let new = outside (S.store_state store.new) (rig_state rig.new) (K.sink_state sink.new) in
-        (files : List (List ℕ)) (begun : StoreState) → StandsIn files begun old.store → old.store.contents ≡ begun.contents →
-        let b : GoBegin = record { begun = begun; files = files; vectors = vectors.now } in
-        Follows ⊥ (vectors.now ∷ []) (new.rig.machine ≡ old.rig.machine)
-        (machine_listed shape.now old.rig.loads b (around new) netlist.now) result old new }
-{
-    let list = list_of(alloc, shape, rig)?;
-    let text = defects_text(alloc, &list)?;
-    write(sink, &text)?;
-    lay_and_run(alloc, netlist, &list, vectors, store, rig, sink)
-}
-
 // Reads a machine and attaches it, reads a design, writes the list of the machine's defects, and runs the design on what
 // the list leaves free.
 fn work<S: Store, K: Sink>(
@@ -94,7 +67,8 @@ fn work<S: Store, K: Sink>(
     let shape = read_shape(alloc, store, machine)?;
     attach(rig, &shape, name)?;
     let netlist = read_design(alloc, DesignFile::Design, store, design)?;
-    list_and_run(alloc, &shape, &netlist, vectors, store, rig, sink)
+    let list = write_list(alloc, &shape, rig, sink)?;
+    lay_and_run(alloc, &netlist, &list, vectors, store, rig, sink)
 }
 
 /// Reads a machine and attaches it under a name, reads a design, and writes the list of the machine's defects. Then the

@@ -1,16 +1,16 @@
 -- A program that ended with status 0 has done its job.
-use Rattle.std.proofs.Common.{◌≡◌, ◌⊎◌, ℕ, ◌<◌, ◌^◌, List, [], ◌∷◌, ◌++◌, Bool, true, false, length, take, IsTrue, refl, sym, ap, ◌∙◌, inl, inr, arith, subst, take_all, le_refl}
+use Rattle.std.proofs.Common.{◌≡◌, ◌⊎◌, ℕ, ◌<◌, ◌^◌, List, [], ◌∷◌, ◌++◌, Bool, true, false, length, IsTrue, refl, ap, ◌∙◌, inl, inr, arith, subst}
 use Rattle.std.specs.Prelude.{codes}
 use Rattle.std.specs.Fmt.{decimal}
 use Rattle.std.specs.List.{list_any}
 use Rattle.tm_outside.specs.Counts.{Rose}
 use Rattle.tm_outside.specs.Sink.{Wrote}
 use Rattle.steps.specs.Outside.{Outside, around}
-use Rattle.steps.specs.Courses.{Next, ends}
-use Rattle.steps.specs.Stops.{refusal_text}
+use Rattle.steps.specs.Courses.{Next, ends, refuses}
 use Rattle.steps.specs.Jobs.{Job, wrong_words}
-use Rattle.steps.specs.Ends.{EndWrote, Ended, Stands, whole, refused, cut_line, no_line, cut}
-use Rattle.steps.specs.declared.refusal.Refusal.{Refusal}
+use Rattle.steps.specs.Ends.{EndWrote, Ended, whole, refused, cut_line, no_line, cut}
+use Rattle.steps.specs.declared.refusal.Refusal.TheVariants.{Words}
+use Rattle.steps.proofs.Standing.{Adds, Standing, stands-end}
 use Rattle.table_map.specs.Plain.{plain_network}
 use Rattle.place.specs.Plans.{nets_in}
 use Rattle.bench_laws.specs.Design.{bench_draft}
@@ -26,9 +26,9 @@ use Rattle.tera_run.proofs.Headlines.{ran}
 use Rattle.tera_diagnose.specs.Diagnose.{diagnose_job}
 use Rattle.tera_diagnose.specs.Headline.{IsDiagnosed}
 use Rattle.tera_diagnose.proofs.Headlines.{diagnosed}
-use Rattle.tera_go.specs.Go.{go_job}
+use Rattle.tera_go.specs.Go.{go_job, go_course}
 use Rattle.tera_go.specs.Headline.{IsGone, HasRoomLeft, BeginsWithList, none}
-use Rattle.tera_go.proofs.Headlines.{gone, room-left, begins-end}
+use Rattle.tera_go.proofs.Headlines.{gone, begins}
 use Rattle.tera_bench.specs.Bench.{bench_job}
 use Rattle.tera_bench.specs.Headline.{IsBenched}
 use Rattle.tera_bench.proofs.BenchLaws.{IsOnly}
@@ -45,22 +45,10 @@ end-done words course old new _ (no_line refusal text s l w) is = absurd cc
 end-done words course old new _ (cut text line n p r w) is = absurd cc
 
 -- wrong words: as much of the line of a refusal stands there, and nothing else
-wrong-stands : (words : Type 0) (refusal : Refusal) (text : List ℕ) (old new : Outside) → Stands words (wrong_words.course (around old) (around new)) old new refusal text → text ≡ []
-wrong-stands words refusal text old new (inl stands) = stands.1.0
-wrong-stands words refusal text old new (inr stands) = stands.2.1.0
-
-wrong-begins : (words : Type 0) (machine name : List ℕ) (old new : Outside) (status : ℕ) → EndWrote words (wrong_words.course (around old) (around new)) old new status → BeginsWithList machine name old new
-wrong-begins words machine name old new _ (whole text at wrote) = let is = at.1 in absurd (cc)
-wrong-begins words machine name old new _ (refused refusal text stands wrote) =
-    let line = refusal_text refusal in
-    let empty = wrong-stands words refusal text old new stands in
-    none refusal (length line) (subst (λ t. Wrote old.sink.written new.sink.written t) (ap (λ s. s ++ line) empty ∙ sym (take_all (length line) line (le_refl (length line)))) wrote)
-wrong-begins words machine name old new _ (cut_line refusal text n stands rose wrote) =
-    let empty = wrong-stands words refusal text old new stands in
-    none refusal n (subst (λ t. Wrote old.sink.written new.sink.written t) (ap (λ s. s ++ take n (refusal_text refusal)) empty) wrote)
-wrong-begins words machine name old new _ (no_line refusal text stands lack wrote) =
-    none refusal 0 (subst (λ t. Wrote old.sink.written new.sink.written t) (wrong-stands words refusal text old new stands) wrote)
-wrong-begins words machine name old new _ (cut text line n at rose wrote) = let is = at.1 in absurd (cc)
+wrong-begins : (machine name : List ℕ) (old new : Outside) → Standing (wrong_words.course (around old) (around new)) old.sink new.sink → BeginsWithList machine name old new
+wrong-begins machine name old new s =
+    let adds : Adds (refuses Words) s.more = subst (λ (next : Next). Adds next s.more) s.at.1 s.adds in
+    none Words adds.0 (subst (λ (t : List ℕ). Wrote old.sink.written new.sink.written t) (ap (λ (t : List ℕ). t ++ s.more) s.at.0 ∙ adds.1) s.wrote)
 
 module _ (words : List (List ℕ)) (old new : Outside) (status : ℕ) (ended : Ended (HasNoJob (asked_by words)) (job_of (asked_by words)) old new status) where
   -- whatever the status
@@ -73,11 +61,11 @@ module _ (words : List (List ℕ)) (old new : Outside) (status : ℕ) (ended : E
       by_test : (b : Bool) → list_any is_dashed words ≡ b → BeginsWithList machine name old new
       by_test true e =
           let wrote = rw e at ended.written in
-          wrong-begins (Unit {0}) machine name old new status wrote
+          wrong-begins machine name old new (stands-end (Unit {0}) (wrong_words.course (around old) (around new)) old new status wrote)
       by_test false e =
           let same : asked_by words ≡ a_job (go_job machine name design vectors) = rw e go in
           let wrote = subst (λ (a : Asked). EndWrote (HasNoJob a) ((job_of a).course (around old) (around new)) old new status) same ended.written in
-          begins-end machine name design vectors old new ⊥ status wrote
+          begins machine name design vectors old new (stands-end ⊥ (go_course machine name design vectors (around old) (around new)) old new status wrote)
 
   module _ (zero : status ≡ 0) where
     not-zero : (status ≡ 2) ⊎ (((status ≡ 5) × Rose old.sink.failures new.sink.failures) ⊎ ((status ≡ 6) × IsTrue old.sink.can_lack)) → ⊥
@@ -107,10 +95,10 @@ module _ (words : List (List ℕ)) (old new : Outside) (status : ℕ) (ended : E
         )
 
     pub go-gone : (machine name design vectors : List ℕ) → words ≡ codes "go" ∷ machine ∷ name ∷ design ∷ vectors ∷ [] → IsGone machine name design vectors old new
-    go-gone machine name design vectors is = let w = done-as (go_job machine name design vectors) (rw is refl) in gone machine name design vectors old new w.0 w.3 w.2 w.1
+    go-gone machine name design vectors is = let w = done-as (go_job machine name design vectors) (rw is refl) in (gone machine name design vectors old new w.0 w.3 w.2 w.1).0
 
     pub go-room : (machine name design vectors : List ℕ) → words ≡ codes "go" ∷ machine ∷ name ∷ design ∷ vectors ∷ [] → HasRoomLeft machine design old new
-    go-room machine name design vectors is = let w = done-as (go_job machine name design vectors) (rw is refl) in room-left machine name design vectors old new w.0 w.2 w.1
+    go-room machine name design vectors is = let w = done-as (go_job machine name design vectors) (rw is refl) in (gone machine name design vectors old new w.0 w.3 w.2 w.1).1
 
     pub eval-evaled : (design vectors : List ℕ) → words ≡ codes "eval" ∷ design ∷ vectors ∷ [] → IsEvaled design vectors old new
     eval-evaled design vectors is = let w = done-as (eval_job design vectors) (rw is refl) in evaled design vectors old new w.0 w.3 w.2 w.1

@@ -58,6 +58,8 @@ returns g c = λ store.
     let e = c.in_ok-attach.ensures in
     let named = c.as_str.ensures.value ∙ c.in_ok-name.ensures in
     let made = c.in_ok-list.ensures in
+    let box0 = c.args.rig.now in
+    let rig0 = (goal.Rig-dyn g (box0.vtable, box0.value)).rig_state box0.value in
     attached c.args.n _ _ c.bench_shape-shape.ensures _ named _ e.asked (e.took store _) _ _
     (kept-gives _ _ _ _ _ c.in_ok-netlist.netlist _ _ _ _ (c.in_ok-netlist.ensures.took _) (λ s. s) refl
-    (listed c.args.n _ _ c.in_ok-netlist.netlist c.in_ok-list.list _ _ _ _ e.loads (made.took store _) made.machine (rw c.loads_of-begun.ensures at c.run_on.ensures store)))
+    (listed c.args.n (record { store = store; rig = rig0 }) _ c.in_ok-netlist.netlist c.in_ok-list.list _ _ _ _ e.loads (made.took store _) made.machine (rw c.loads_of-begun.ensures at c.run_on.ensures store)))

@@ -1,5 +1,5 @@
 use Rattle.tera_go.proofs.GoLaws.{go-lawful}
-use Rattle.tera_go.proofs.Headlines.{begins-done, gone-done, room-done}
+use Rattle.tera_go.proofs.Headlines.{begins-done, gone-done}
 use Rattle.tera_go.proofs.command.go.Goals as goal
 
 pub returns-clause-lawful : goal.returns-clause-lawful
@@ -17,8 +17,9 @@ returns-clause-listed g c =
 pub returns-clause-gone : goal.returns-clause-gone
 returns-clause-gone g c =
     let e = c.work.ensures.does in
-    gone-done c.args.machine.now c.args.name.now c.args.design.now c.args.vectors.now _ _ c.work.result e.asked e.written
+    (gone-done c.args.machine.now c.args.name.now c.args.design.now c.args.vectors.now _ _ c.work.result e.asked e.written).0
 
 pub returns-clause-room : goal.returns-clause-room
 returns-clause-room g c =
-    room-done c.args.machine.now c.args.name.now c.args.design.now c.args.vectors.now _ _ c.work.result c.work.ensures.does.written
+    let e = c.work.ensures.does in
+    (gone-done c.args.machine.now c.args.name.now c.args.design.now c.args.vectors.now _ _ c.work.result e.asked e.written).1
