@@ -5,7 +5,7 @@ use Rattle.hierarchy.specs.declared.Shape.{Shape}
 use Rattle.defect_db.specs.Lists.{DefectList}
 use Rattle.netlist.specs.declared.draft.Draft.{Draft}
 use Rattle.bench_gen.specs.Work as work
-use Rattle.steps.specs.Outside.{Outside, around}
+use Rattle.steps.specs.Outside.{Around, Outside, around}
 use Rattle.steps.specs.Courses.{Course}
 use Rattle.steps.specs.Took.{Took, Follows}
 use Rattle.steps.specs.Texts.{attaches, MayAsk, AsksMachine}
@@ -47,7 +47,7 @@ module _ (n : ℕ) (old : Outside) where
           let follows = attach-gives _ _ (λ _. design_made n (around old) (around new) m) [] old.rig result old mid new took asked rest_is in
           step-gives _ _ _ makes_shape [] [] (asks new) _ m m result old old new (took-value makes_shape m old counts) counts follows (asks-machine _ _ m _ _ counts follows.machines)
 
-    -- the list that was made is one of the machine still
-    pub listed : {U : Type 0} (draft : Draft) (d : DefectList) (result : Result U Stop) (now new : Outside) → mid.rig.loads ≡ old.rig.loads → Took [] (lists_now m mid.rig now.rig) (Ok d) mid now → now.rig.machine ≡ mid.rig.machine → Follows ⊥ [] (new.rig.machine ≡ now.rig.machine) (design_laid n draft old.rig.loads (new.store ≡ old.store) new.rig (record { list = d; loads = now.rig.loads })) result now new → Follows ⊥ [] (new.rig.machine ≡ mid.rig.machine) (machine_listed n (around old) (around new) m draft) result mid new
-    listed draft d result now new loads took machine rest_is =
-        kept-gives _ _ _ _ d (record { list = d; loads = now.rig.loads }) result mid now new took (λ is. listed-on m old.rig.loads now.rig new.rig _ (rw loads at is) rest_is.machines) machine rest_is
+-- the list that was made is one of the machine still
+pub listed : {U : Type 0} (n : ℕ) (begun : Around) (m : Shape) (draft : Draft) (d : DefectList) (result : Result U Stop) (mid now new : Outside) → mid.rig.loads ≡ begun.rig.loads → Took [] (lists_now m mid.rig now.rig) (Ok d) mid now → now.rig.machine ≡ mid.rig.machine → Follows ⊥ [] (new.rig.machine ≡ now.rig.machine) (design_laid n draft begun.rig.loads (new.store ≡ begun.store) new.rig (record { list = d; loads = now.rig.loads })) result now new → Follows ⊥ [] (new.rig.machine ≡ mid.rig.machine) (machine_listed n begun (around new) m draft) result mid new
+listed n begun m draft d result mid now new loads took machine rest_is =
+    kept-gives _ _ _ _ d (record { list = d; loads = now.rig.loads }) result mid now new took (λ is. listed-on m begun.rig.loads now.rig new.rig _ (rw loads at is) rest_is.machines) machine rest_is

@@ -4,43 +4,29 @@ use Rattle.tm_outside.specs.Told.{IfTold}
 use Rattle.netlist.specs.declared.draft.Draft.{Draft}
 use Rattle.steps.specs.Files.{says_at}
 use Rattle.steps.specs.Lines.{outputs_line}
-use Rattle.steps.specs.Outside.{Around, StandsIn}
+use Rattle.steps.specs.Outside.{Around}
 use Rattle.steps.specs.Courses.{refuses}
-use Rattle.steps.specs.Texts.{reads_design, IsDesignText}
-use Rattle.steps.specs.Jobs.{IsLawful, Leads, Fronts, EndsWell}
-use Rattle.steps.specs.declared.refusal.Refusal.{Refusal}
+use Rattle.steps.specs.Texts.{IsDesignText}
+use Rattle.steps.specs.Jobs.{IsLawful}
 use Rattle.steps.specs.declared.refusal.Refusal.TheVariants.{Memory}
 use Rattle.steps.specs.declared.design_file.DesignFile.TheVariants.{Design}
-use Rattle.steps.proofs.Leading.{after-leads}
 use Rattle.steps.proofs.Excused.{design-excused}
 use Rattle.steps.proofs.OpenedLaws.{opened-well, opened-lacks}
-use Rattle.tera_eval.specs.Eval.{eval_rows, design_evaluated, eval_course, eval_job, EvalRight}
+use Rattle.steps.proofs.Well.{IsWell, well-after}
+use Rattle.tera_eval.specs.Eval.{eval_rows, eval_course, eval_job, EvalRight}
 
 module _ (design vectors : List ℕ) (old new : Around) where
-  abbrev any : List ℕ → Type 0
-  any text = Unit {0}
+  module _ (right : EvalRight (old.store.contents design) (old.store.contents vectors)) where
+    -- vectors of the right design have no fault
+    same-fault : (draft : Draft) → IfTold (old.store.contents design) (λ bytes. IsDesignText bytes draft) → (says_at (length draft.inputs) right.vectors_file).fault ≡ None
+    same-fault draft is =
+        let only = rw right.design_told at is in
+        subst (λ d. (says_at (length d.inputs) right.vectors_file).fault ≡ None) (only.only right.draft right.is_design) right.no_fault
 
-  abbrev text_is : List ℕ → Type 0
-  text_is = Fronts (λ front. EvalRight (old.store.contents design) (old.store.contents vectors))
-
-  -- vectors of the right design have no fault
-  same-fault : (right : EvalRight (old.store.contents design) (old.store.contents vectors)) (draft : Draft) → IfTold (old.store.contents design) (λ bytes. IsDesignText bytes draft) → (says_at (length draft.inputs) right.vectors_file).fault ≡ None
-  same-fault right draft is =
-      let only = rw right.design_told at is in
-      let same : right.draft ≡ draft = only.only right.draft right.is_design in
-      subst (λ d. (says_at (length d.inputs) right.vectors_file).fault ≡ None) same right.no_fault
-
-  design-well : (right : EvalRight (old.store.contents design) (old.store.contents vectors)) → (refusal : Refusal) → (reads_design Design (old.store.contents design)).stops refusal → EndsWell old new (refuses refusal)
-  design-well right refusal stops =
-      design-excused old new Design right.design_file right.draft right.is_design right.within refusal (rw right.design_told at stops)
-
-  eval-right : Leads text_is (eval_course design vectors old.store new.store) (EndsWell old new)
-  eval-right text next is at =
-      let right = is [] text refl in
-      after-leads (reads_design Design (old.store.contents design)) (StandsIn (design ∷ []) old.store new.store) (design_evaluated vectors (design ∷ []) old.store new.store) any (EndsWell old new)
-      (λ _ refusal stops. design-well right refusal stops)
-      (λ draft gives. opened-well (eval_rows draft (old.store.contents vectors) new.store.current) _ vectors (design ∷ []) old.store new.store _ old new right.vectors_file right.vectors_told (same-fault right draft gives))
-      text next tt at
+    eval-well : IsWell old new (eval_course design vectors old.store new.store)
+    eval-well =
+        well-after old new _ _ _ (λ refusal stops. design-excused old new Design right.design_file right.draft right.is_design right.within refusal (rw right.design_told at stops))
+        (λ draft gives. record { well = λ text next at. opened-well (eval_rows draft (old.store.contents vectors) new.store.current) _ vectors (design ∷ []) old.store new.store _ old new right.vectors_file right.vectors_told (same-fault draft gives) text next tt at })
 
   -- no row wants memory
   eval-few : (text : List ℕ) → (more : List ℕ) × (text ≡ outputs_line ++ more) → eval_course design vectors old.store new.store text (refuses Memory) → ⊥
@@ -50,7 +36,7 @@ module _ (design vectors : List ℕ) (old new : Around) where
 
 pub eval-lawful : (design vectors : List ℕ) → IsLawful (eval_job design vectors)
 eval-lawful design vectors = record {
-  right = λ old new. eval-right design vectors old new;
+  right = λ old new text next is at. (eval-well design vectors old new (is [] text refl)).well text next at;
   short = λ old new text next is at. absurd (is [] text refl);
   few = λ old new few text begun at. eval-few design vectors old new text begun at;
 }

@@ -28,7 +28,10 @@ returns-in_err-netlist g c = λ store.
     (kept-stops _ _ _ _ _ _ _ _ refl (c.in_err-netlist.ensures.took _) (λ s. s) (refl, e.loads) refl))
 
 pub list_of-requires : goal.list_of-requires
-list_of-requires g c = attached-shape _ c.bench_shape-shape.result _ (c.in_ok-attach.ensures.took nothing.store nothing.sink).gives
+list_of-requires g c =
+    let box1 = c.attach.new.rig in
+    let rig1 = (goal.Rig-dyn g (box1.vtable, box1.value)).rig_state box1.value in
+    attached-shape rig1 c.bench_shape-shape.result _ (c.in_ok-attach.ensures.took nothing.store nothing.sink).gives
 
 pub returns-in_err-list : goal.returns-in_err-list
 returns-in_err-list g c = λ store.
@@ -42,9 +45,11 @@ returns-in_err-list g c = λ store.
 pub run_on-requires : goal.run_on-requires
 run_on-requires g c =
     let made = c.in_ok-list.ensures in
+    let box2 = c.list_of.new.rig in
+    let rig2 = (goal.Rig-dyn g (box2.vtable, box2.value)).rig_state box2.value in
     let named = ap (λ (m : Machine). m.attached) made.machine ∙ (c.in_ok-attach.ensures.took nothing.store nothing.sink).gives in
     record {
-      shape = attached-shape _ c.bench_shape-shape.result _ named ∙ ap Some (sym (made.took nothing.store nothing.sink).gives.shape);
+      shape = attached-shape rig2 c.bench_shape-shape.result _ named ∙ ap Some (sym (made.took nothing.store nothing.sink).gives.shape);
       netlist = c.in_ok-netlist.ensures.netlist;
     }
 
@@ -53,6 +58,8 @@ returns g c = λ store.
     let e = c.in_ok-attach.ensures in
     let named = c.as_str.ensures.value ∙ c.in_ok-name.ensures in
     let made = c.in_ok-list.ensures in
+    let box0 = c.args.rig.now in
+    let rig0 = (goal.Rig-dyn g (box0.vtable, box0.value)).rig_state box0.value in
     attached c.args.n _ _ c.bench_shape-shape.ensures _ named _ e.asked (e.took store _) _ _
     (kept-gives _ _ _ _ _ c.in_ok-netlist.netlist _ _ _ _ (c.in_ok-netlist.ensures.took _) (λ s. s) refl
-    (listed c.args.n _ _ c.bench_shape-shape.ensures _ named _ e.asked c.in_ok-netlist.netlist c.in_ok-list.list _ _ _ e.loads (made.took store _) made.machine (rw c.loads_of-begun.ensures at c.run_on.ensures store)))
+    (listed c.args.n (record { store = store; rig = rig0 }) _ c.in_ok-netlist.netlist c.in_ok-list.list _ _ _ _ e.loads (made.took store _) made.machine (rw c.loads_of-begun.ensures at c.run_on.ensures store)))
