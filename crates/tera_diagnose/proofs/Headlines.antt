@@ -1,5 +1,5 @@
 -- What a `diagnose` that is done has done, from its course.
-use Rattle.std.proofs.Common.{◌≡◌, ◌∙◌, ℕ, List, [], ◌∷◌, ◌++◌, ap, subst, inl, inr, append-nil}
+use Rattle.std.proofs.Common.{◌≡◌, ◌∙◌, ℕ, List, [], ◌∷◌, ◌++◌, refl, ap, subst, inl, inr, append-nil}
 use Rattle.tm_outside.specs.Sink.{Wrote}
 use Rattle.defect_db.specs.Text.{text_of}
 use Rattle.steps.specs.Outside.{Around, Outside, around}

@@ -37,10 +37,16 @@ pub returns-in_err-list : goal.returns-in_err-list
 returns-in_err-list g c = λ store.
     let p = err_from_is_err_and c.from_residual-in_err-list.result c.from_residual-in_err-list.ensures.1 in
     let e = c.in_ok-attach.ensures in
+    let box0 = c.args.rig.now in
+    let rig0 = (goal.Rig-dyn g (box0.vtable, box0.value)).rig_state box0.value in
+    let box1 = c.attach.new.rig in
+    let rig1 = (goal.Rig-dyn g (box1.vtable, box1.value)).rig_state box1.value in
+    let box2 = c.list_of.new.rig in
+    let rig2 = (goal.Rig-dyn g (box2.vtable, box2.value)).rig_state box2.value in
     let named = c.as_str.ensures.value ∙ c.in_ok-name.ensures in
     rw (p.1, p.2) (attached c.args.n _ _ c.bench_shape-shape.ensures _ named _ e.asked (e.took store _) _ _
     (kept-gives _ _ _ _ _ c.in_ok-netlist.netlist _ _ _ _ (c.in_ok-netlist.ensures.took _) (λ s. s) refl
-    (kept-stops _ _ _ _ _ _ _ _ refl (c.in_err-list.ensures.took store _) (few-stops _ _ _ _ _ e.loads c.in_err-list.ensures.machine) refl c.in_err-list.ensures.machine)))
+    (kept-stops _ _ _ _ _ _ _ _ refl (c.in_err-list.ensures.took store _) (few-stops c.bench_shape-shape.result rig0.loads rig1 rig2 _ e.loads c.in_err-list.ensures.machine) refl c.in_err-list.ensures.machine)))
 
 pub run_on-requires : goal.run_on-requires
 run_on-requires g c =
