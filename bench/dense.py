@@ -1,0 +1,120 @@
+#!/usr/bin/env python3
+"""What diagnose lists of the sound parts of machines that are denser and denser with faults, and what that takes: a Markdown table.
+
+open: so many of 100 crosspoints are stuck open. mix: besides, a tenth as many are stuck closed, a tenth as many of 100 wires are
+stuck, as many bridges join a wire and one of the next four, and one of 100 tables has a wrong cell. A row is about some machines,
+with faults made from the seeds 1, 2 and so on: shares are of all of them, other figures means. A wire is sound that is neither
+stuck nor shorted; a crosspoint or table that has no fault and sound wires alone; listed is what the list doesn't leave free. Loads
+are those that the program's rig has counted when it is dropped, read by gdb; none are told without gdb or the names in the program.
+"""
+
+import argparse
+import os
+import random
+import re
+import shlex
+import shutil
+import sys
+import tempfile
+
+sys.path.insert(0, os.path.join(os.path.dirname(os.path.abspath(__file__)), "../studies"))  # first: faults.py stands here too
+import teramac_texts as texts
+from faults import amount, count_of, make_faults
+from program import add_program, call, put
+
+BENCH = (2, 2, 4, 8, 24, 24, 24, 32, 32, 32, 32, 28)
+HEAD = "Faults | Number | Sound wires, crosspoints, tables listed, of 100 | Loads | Seconds of processor | Entries | Lists that cover"
+
+
+def faults_of(machine, kind, rate, seed):
+    """The faults of a machine."""
+    if kind == "open":
+        return make_faults(machine, {"open": rate}, seed)
+    faults = make_faults(machine, {"open": rate, "closed": rate / 10, "wires": rate / 10}, seed)
+    chance, last = random.Random(f"mix {seed}"), machine.wire_count - 1
+    for _ in range(count_of(rate / 10, machine.wire_count, chance)):
+        wire = chance.randrange(last)
+        faults.add("bridge", (wire, min(wire + chance.randint(1, 4), last)))
+    for table in chance.sample(range(machine.table_count), count_of(0.01, machine.table_count, chance)):
+        faults.add("cell", (table, chance.randrange(64)), chance.randrange(2))
+    return faults
+
+
+def covers(machine, faults, defects):
+    """Whether no free crosspoint or table has a fault, and no free wire is stuck, or shorted to a stuck one or to another free one."""
+    groups = [(set(group) - defects.wires, faults.stuck.isdisjoint(group)) for group in texts.short_groups(machine, faults)]
+    free = [cross for cross in faults.crosses if defects.is_free_cross(machine, cross)]
+    free += [table for table in faults.tables if defects.is_free_table(machine, table)]
+    return not free and faults.stuck <= defects.wires and all(len(left) <= (1 if clear else 0) for left, clear in groups)
+
+
+def sound_and_listed(machine, faults, defects):
+    """How many wires, crosspoints and tables are sound, and then how many of each the list doesn't leave free."""
+    sound = set(range(machine.wire_count)).difference(faults.stuck, *texts.short_groups(machine, faults))
+    crosses = [c for c in set(range(machine.cross_count)) - faults.crosses if sound.issuperset(machine.ends(c))]
+    tables = [t for t in set(range(machine.table_count)) - faults.tables if sound.issuperset(machine.table_pins[t])]
+    lost = sum(not defects.is_free_cross(machine, c) for c in crosses), sum(not defects.is_free_table(machine, t) for t in tables)
+    return len(sound), len(crosses), len(tables), len(sound & defects.wires), *lost
+
+
+def rig_names(program):
+    """The names of what drops the program's rig and of what tells its loads; none where the program or gdb is without."""
+    listed = call("nm", program).written.decode() if shutil.which("nm") and shutil.which("gdb") else ""
+    found = [re.search(rf" t (\S*LogRig\S*{end}::<\S*)$", listed, re.MULTILINE) for end in ("Destruct::drop", "::loads")]
+    return [name[1] for name in found] if all(found) else None
+
+
+def diagnosed(program, names, *files):
+    """Writes a list into the last of the files; gives the seconds that this took of the processor, and the loads or 0."""
+    run = "diagnose {} {} > {}".format(*map(shlex.quote, files))
+    if not names:
+        before, status, after = os.times(), call("sh", "-c", f"{shlex.quote(program)} {run}").status, os.times()
+        found = [0, *(round(100 * (after[k] - before[k])) for k in (2, 3)), status]
+    else:
+        loads = f"print ((unsigned long (*)(void *)) '{names[1]}')($rdi)"
+        steps = [f"break *'{names[0]}'", f"run {run}", loads, "info proc stat", "continue", "print $_exitcode"]
+        told = call("gdb", "-nx", "-batch", *(word for step in steps for word in ("-ex", step)), program).written.decode()
+        found = [int(number) for number in re.findall(r"^(?:\$\d =|[us]time:) (\d+)$", told, re.MULTILINE)]
+    if len(found) != 4 or found[3]:
+        sys.exit(f"{program}: not there, or its diagnose ended with another status than 0, or gdb couldn't look at it")
+    return (found[1] + found[2]) / 100, found[0]
+
+
+def row(program, names, machine, kind, rate, seeds):
+    """A line of the table."""
+    columns = []
+    for seed in seeds:
+        faults = faults_of(machine, kind, rate / 100, seed)
+        with tempfile.TemporaryDirectory() as folder:
+            files = [put(folder, "machine", machine.text), put(folder, "faults", texts.faults_text(machine, faults)), f"{folder}/defects"]
+            taken = diagnosed(program, names, *files)
+            defects = texts.read_defects(machine, texts.read_file(files[2]))
+        entries = len(defects.wires) + len(defects.crosses) + len(defects.tables)
+        columns.append((*sound_and_listed(machine, faults, defects), faults.count, *taken, entries, covers(machine, faults, defects)))
+    sums = [sum(column) for column in zip(*columns)]
+    shares = ", ".join(f"{100 * listed / sound:.4g}" if sound else "-" for sound, listed in zip(sums[:3], sums[3:6]))
+    count, seconds, loads, entries = (total / len(seeds) for total in sums[6:10])
+    loads = f"{loads:,.0f}" if names else ""
+    return f"| {kind} {rate:g} % | {count:,.0f} | {shares} | {loads} | {seconds:.1f} | {entries:,.0f} | {sums[10]} of {len(seeds)} |"
+
+
+def main():
+    parser = argparse.ArgumentParser(description=__doc__, formatter_class=argparse.RawDescriptionHelpFormatter)
+    parser.add_argument("machine", nargs="?", help="the machine's file (default: the machine of the command bench)")
+    parser.add_argument("--kinds", nargs="+", choices=("open", "mix"), default=("open", "mix"), help="(default: both)")
+    rates = (0.5, 1, 2, 3, 5, 8, 10, 15, 20)
+    parser.add_argument("--rates", nargs="+", type=lambda word: 100 * amount(word + "%"), default=rates, help="of 100: %(default)s")
+    parser.add_argument("--machines", type=int, default=3, choices=range(1, 21), metavar="COUNT", help="for each row (default: 3)")
+    add_program(parser)
+    args = parser.parse_args()
+    machine = texts.read_text(texts.read_machine, args.machine) if args.machine else texts.Machine(BENCH)
+    names, seeds = rig_names(args.program), range(1, args.machines + 1)
+    print(f"| {HEAD} |\n|{'---|' * (HEAD.count('|') + 1)}")
+    for kind, rate in [(kind, rate) for kind in args.kinds for rate in args.rates]:
+        try:
+            print(row(args.program, names, machine, kind, rate, seeds), flush=True)
+        except (ValueError, texts.Refused) as error:
+            sys.exit(f"{kind} {rate:g} %: {error}")
+
+
+main()
