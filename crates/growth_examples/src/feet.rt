@@ -2,43 +2,39 @@
 
 use std::alloc::{AllocError, Global};
 
-/// For each wire one that a crosspoint leads to, if any was said, and whether another one leads to a different one.
-#[derive(Drop)]
-pub struct Feet {
-    first: Vec<Option<u32>>,
-    two: Vec<bool>,
+// What a wire's crosspoints lead to: as yet none of the wires, one, or two different ones.
+#[derive(Clone, Copy, PartialEq)]
+enum Feet {
+    None,
+    One(u32),
+    Two,
 }
 
-impl Feet {
-    /// Nothing said yet of so many wires.
-    pub fn new(alloc: Global, wires: usize) -> Result<Feet, AllocError> {
-        Ok(Feet {
-            first: vec![in alloc; None; wires]?,
-            two: vec![in alloc; false; wires]?,
-        })
+// A crosspoint leads from a wire to another: that counts where the other is one of these wires.
+fn say(feet: &mut [Feet], wires: &[bool], wire: u32, other: u32) {
+    let wire = wire as usize;
+    if wire >= feet.len() || wires.get(other as usize) != Some(&true) {
+        return;
     }
+    let before = feet[wire];
+    feet[wire] = match before {
+        Feet::None => Feet::One(other),
+        Feet::One(first) if first == other => Feet::One(first),
+        _ => Feet::Two,
+    };
+}
 
-    /// A crosspoint leads from the wire to this other one.
-    pub fn say(&mut self, wire: u32, other: u32) {
-        let wire = wire as usize;
-        if wire >= self.first.len() || wire >= self.two.len() {
-            return;
-        }
-        match self.first[wire] {
-            None => self.first[wire] = Some(other),
-            Some(first) => {
-                if first != other {
-                    self.two[wire] = true;
-                }
-            }
-        }
+/// For each wire of as many as these, whether two of the crosspoints, each given by its tap and its line, lead from it to two
+/// different ones of these.
+pub fn on_two(
+    alloc: Global,
+    crosses: &[(u32, u32)],
+    wires: &[bool],
+) -> Result<Vec<bool>, AllocError> {
+    let mut feet = vec![in alloc; Feet::None; wires.len()]?;
+    'crosses: for (tap, line) in crosses.iter() {
+        say(&mut feet, wires, *tap, *line);
+        say(&mut feet, wires, *line, *tap);
     }
-
-    /// Whether two were said of the wire.
-    pub fn has_two(&self, wire: usize) -> bool {
-        match self.two.get(wire) {
-            Some(two) => *two,
-            None => false,
-        }
-    }
+    feet.iter().map(|f| *f == Feet::Two).collect(alloc)
 }

@@ -2,34 +2,35 @@
 ghost use Rattle.std.specs.Prelude.{◌≡◌, ◌<◌};
 ghost use Rattle.hierarchy.specs.Shape.{tables_of};
 
+use crate::shorts::groups_of;
 use defect_db::Defects;
 use fault_model::FaultSet;
-use hierarchy::{Cross, Meaning, Node, Shape, Table, Wire};
+use hierarchy::{Cross, Meaning, Node, Table, Wire};
 use std::alloc::{AllocError, Global};
 
-/// A wire.
+/// A wire. Those that are shorted have one group.
 #[derive(Clone, Copy)]
 pub struct WireSeen {
+    pub number: u32,
     pub meaning: Meaning,
+    pub node: Node,
+    pub group: u32,
     pub free: bool,
     pub stuck: bool,
 }
 
-/// A crosspoint. `stuck` is whether it is closed, where it is stuck.
+/// A crosspoint, by its tap and its line.
 #[derive(Clone, Copy)]
 pub struct CrossSeen {
-    pub tap: u32,
-    pub line: u32,
+    pub ends: (u32, u32),
     pub free: bool,
-    pub stuck: Option<bool>,
+    pub stuck: bool,
 }
 
-/// A table; its output is the last of its pins. It is right where no cell is wrong and its register isn't stuck.
+/// A table, by its seven pins, the output last. It is right where no cell is wrong and its register isn't stuck.
 #[derive(Drop)]
 pub struct TableSeen {
-    pub hextant: Node,
-    pub inputs: Vec<u32>,
-    pub output: u32,
+    pub pins: Vec<u32>,
     pub free: bool,
     pub right: bool,
 }
@@ -40,43 +41,21 @@ pub struct Sight {
     pub wires: Vec<WireSeen>,
     pub crosses: Vec<CrossSeen>,
     pub tables: Vec<TableSeen>,
-    pub bridges: Vec<(u32, u32)>,
 }
 
-impl Sight {
-    /// Whether a wire is free.
-    pub fn has_free(&self, w: u32) -> bool {
-        match self.wires.get(w as usize) {
-            Some(wire) => wire.free,
-            None => false,
-        }
-    }
-
-    /// The node of which a wire is a line.
-    pub fn line_of(&self, w: u32) -> Option<Node> {
-        match self.wires.get(w as usize)?.meaning {
-            Meaning::Line { node, .. } => Some(node),
-            _ => None,
-        }
-    }
-
-    /// The node of which a wire is a port.
-    pub fn port_of(&self, w: u32) -> Option<Node> {
-        match self.wires.get(w as usize)?.meaning {
-            Meaning::Port { node, .. } => Some(node),
-            _ => None,
-        }
-    }
-}
-
+// What these faults and this list say of the wires.
 fn wires_seen(alloc: Global, faults: &FaultSet, list: &Defects) -> Result<Vec<WireSeen>, AllocError>
     requires { list.now.shape ≡ faults.now.shape }
 {
     let shape = list.shape();
+    let groups = groups_of(alloc, faults)?;
     let mut wires = Vec::new(alloc);
     'wires: for w in 0..shape.wires() {
         wires.push(WireSeen {
+            number: w,
             meaning: shape.meaning(Wire(w)),
+            node: shape.node_of(Wire(w)),
+            group: groups.get(w as usize).copied().unwrap_or(w),
             free: list.free_wire(Wire(w)),
             stuck: faults.stuck(Wire(w)).is_some(),
         })?;
@@ -96,10 +75,9 @@ fn crosses_seen(
     'crosses: for c in 0..shape.crosses() {
         let (tap, line) = shape.ends(Cross(c));
         crosses.push(CrossSeen {
-            tap: tap.0,
-            line: line.0,
+            ends: (tap.0, line.0),
             free: list.free_cross(Cross(c)),
-            stuck: faults.cross_stuck(Cross(c)),
+            stuck: faults.cross_stuck(Cross(c)).is_some(),
         })?;
     }
     Ok(crosses)
@@ -109,22 +87,7 @@ fn crosses_seen(
 fn is_right(faults: &FaultSet, t: Table) -> bool
     requires { t.0 < tables_of faults.now.shape }
 {
-    'cells: for address in 0..64 {
-        if faults.cell(t, address).is_some() {
-            return false;
-        }
-    }
-    faults.register(t).is_none()
-}
-
-fn inputs_of(alloc: Global, shape: &Shape, t: Table) -> Result<Vec<u32>, AllocError>
-    requires { t.0 < tables_of shape.now }
-{
-    let mut inputs = Vec::new(alloc);
-    'inputs: for k in 0..6 {
-        inputs.push(shape.pin_of(t, k).0)?;
-    }
-    Ok(inputs)
+    (0..64).all(|address| faults.cell(t, address).is_none()) && faults.register(t).is_none()
 }
 
 fn tables_seen(
@@ -138,22 +101,12 @@ fn tables_seen(
     let mut tables = Vec::new(alloc);
     'tables: for t in 0..shape.tables() {
         tables.push(TableSeen {
-            hextant: shape.hextant_of(Table(t)),
-            inputs: inputs_of(alloc, &shape, Table(t))?,
-            output: shape.pin_of(Table(t), 6).0,
+            pins: (0..7).map(|k| shape.pin_of(Table(t), k).0).collect(alloc)?,
             free: list.free_table(Table(t)),
             right: is_right(faults, Table(t)),
         })?;
     }
     Ok(tables)
-}
-
-fn bridges_seen(alloc: Global, faults: &FaultSet) -> Result<Vec<(u32, u32)>, AllocError> {
-    let mut bridges = Vec::new(alloc);
-    'bridges: for (a, b) in faults.bridges() {
-        bridges.push((a.0, b.0))?;
-    }
-    Ok(bridges)
 }
 
 /// What these faults and this list say of a machine.
@@ -164,6 +117,25 @@ pub fn sight_of(alloc: Global, faults: &FaultSet, list: &Defects) -> Result<Sigh
         wires: wires_seen(alloc, faults, list)?,
         crosses: crosses_seen(alloc, faults, list)?,
         tables: tables_seen(alloc, faults, list)?,
-        bridges: bridges_seen(alloc, faults)?,
     })
+}
+
+impl Sight {
+    /// Whether a wire is free.
+    pub fn has_free(&self, w: u32) -> bool {
+        self.wires.get(w as usize).is_some_and(|wire| wire.free)
+    }
+
+    /// Whether a wire is shorted to no stuck one, itself among them.
+    pub fn is_clear(&self, wire: &WireSeen) -> bool {
+        self.wires.iter().all(|u| u.group != wire.group || !u.stuck)
+    }
+
+    /// To how many free wires a wire is shorted, itself among them.
+    pub fn free_with(&self, wire: &WireSeen) -> usize {
+        self.wires
+            .iter()
+            .filter(|u| u.group == wire.group && u.free)
+            .count()
+    }
 }

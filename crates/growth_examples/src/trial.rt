@@ -1,12 +1,10 @@
 //! A machine that is made, diagnosed and looked at.
-ghost use Rattle.std.specs.Prelude.{◌≡◌, IfOk};
+ghost use Rattle.std.specs.Prelude.{◌≡◌, IfSome};
 
-use crate::covering::covers;
-use crate::hits::{Rates, draw_faults};
+use crate::faults::{Kind, draw_faults};
+use crate::looks::{covers, is_tight};
 use crate::machines::draw_counts;
-use crate::shorts::shorts_of;
 use crate::sight::sight_of;
-use crate::tightness::is_tight;
 use bench_gen::Draws;
 use cycle_sim::SimRig;
 use defect_db::Defects;
@@ -14,111 +12,87 @@ use diagnose::diagnose;
 use fault_model::{FaultSet, faults_text};
 use hierarchy::Shape;
 use rig::Rig;
-use std::alloc::{AllocError, Global};
+use std::alloc::Global;
 use tm_outside::{File, MemoryStore};
-
-/// What is wrong with a trial.
-#[derive(Clone, Copy)]
-pub enum Wrong {
-    /// There was no memory.
-    Memory,
-    /// The counts make no machine.
-    Machine,
-    /// The machine wasn't attached, or not diagnosed.
-    Rig,
-    /// The list leaves something free that is faulty.
-    Covers,
-    /// Something could be taken off the list.
-    Tight,
-    /// There were too many loads.
-    Loads,
-}
-
-impl From<AllocError> for Wrong {
-    fn from(_: AllocError) -> Self {
-        Wrong::Memory
-    }
-}
-
-impl Wrong {
-    /// What is wrong, in words.
-    pub fn words(self) -> &'static str {
-        match self {
-            Wrong::Memory => "no memory",
-            Wrong::Machine => "no machine",
-            Wrong::Rig => "no list",
-            Wrong::Covers => "something faulty is free",
-            Wrong::Tight => "something is listed that could be free",
-            Wrong::Loads => "too many loads",
-        }
-    }
-}
 
 // A list, and how many loads it took.
 #[derive(Drop)]
-struct Listed {
+struct Found {
     list: Defects,
     loads: u64,
 }
 
-// A rig whose one machine, `m`, has the faults.
-fn rig_with(alloc: Global, faults: &FaultSet) -> Result<SimRig<MemoryStore>, AllocError> {
+// A rig whose machine `m` has the faults.
+fn rig_with(alloc: Global, faults: &FaultSet) -> Option<SimRig<MemoryStore>> {
     let file = File {
-        name: String::from_str(alloc, "m")?,
-        bytes: faults_text(alloc, faults)?,
+        name: String::from_str(alloc, "m").ok()?,
+        bytes: faults_text(alloc, faults).ok()?,
     };
-    let files = vec![in alloc; file]?;
+    let files = vec![in alloc; file].ok()?;
     let store = MemoryStore::new(alloc, files, Vec::new(alloc));
-    Ok(SimRig::new(alloc, store))
+    Some(SimRig::new(alloc, store))
 }
 
 // Diagnoses a machine with these faults.
-fn list_for(alloc: Global, shape: &Shape, faults: &FaultSet) -> Result<Listed, Wrong>
-    ensures { IfOk result (λ l. l.list.shape ≡ shape.now) }
+fn diagnosed(alloc: Global, shape: &Shape, faults: &FaultSet) -> Option<Found>
+    ensures { IfSome result (λ found. found.list.shape ≡ shape.now) }
 {
-    let Ok(sim) = Box::new(alloc, rig_with(alloc, faults)?) else {
-        return Err(Wrong::Memory);
-    };
-    let mut rig: Box<dyn Rig> = sim;
+    let mut rig: Box<dyn Rig> = Box::new(alloc, rig_with(alloc, faults)?).ok()?;
     if rig.attach(shape, "m").is_err() {
-        return Err(Wrong::Rig);
+        return None;
     }
     match diagnose(alloc, &mut rig, shape) {
-        Ok(list) => Ok(Listed {
+        Ok(list) => Some(Found {
             list,
             loads: rig.loads(),
         }),
-        Err(_) => Err(Wrong::Rig),
+        Err(_) => None,
     }
 }
 
-// The most loads that a diagnosis may take: so many for each crosspoint, wire and table.
-fn most_loads(shape: &Shape, faultless: bool) -> u64 {
-    let (cross, wire) = if faultless { (2, 3) } else { (16, 20) };
+// The most loads that it may take: so many for each crosspoint and wire, and 130 for each table.
+fn most_loads(shape: &Shape, cross: u64, wire: u64) -> u64 {
     let crosses = u64::from(shape.crosses()).saturating_mul(cross);
     let wires = u64::from(shape.wires()).saturating_mul(wire);
     let tables = u64::from(shape.tables()).saturating_mul(130);
     crosses.saturating_add(wires).saturating_add(tables)
 }
 
-/// Makes the machine and the faults of a number, diagnoses it, and looks at the list and the loads.
-pub fn try_number(alloc: Global, number: u32, most: &Rates) -> Result<(), Wrong> {
+/// Makes the machine of a number and faults of these kinds, diagnoses it, and looks at the list and the loads.
+///
+/// # Errors
+///
+/// What is wrong with them.
+pub fn try_number(
+    alloc: Global,
+    number: u32,
+    kinds: &[Kind; 8],
+    most: u32,
+) -> Result<(), &'static str> {
     let mut draws = Draws::new(number);
-    let Ok(shape) = Shape::new(draw_counts(&mut draws)) else {
-        return Err(Wrong::Machine);
+    let shape = Shape::new(draw_counts(&mut draws))
+        .ok()
+        .ok_or("no machine")?;
+    let faults = draw_faults(alloc, &mut draws, &shape, kinds, most)
+        .ok()
+        .ok_or("no faults")?;
+    let found = diagnosed(alloc, &shape, &faults).ok_or("no list")?;
+    let sight = sight_of(alloc, &faults, &found.list)
+        .ok()
+        .ok_or("no memory")?;
+    if !covers(&sight) {
+        return Err("something wrong is free");
+    }
+    if !is_tight(alloc, &sight).ok().ok_or("no memory")? {
+        return Err("something is listed that could be free");
+    }
+    let (cross, wire) = if faults.count() == 0 {
+        (2, 3)
+    } else {
+        (16, 20)
     };
-    let faults = draw_faults(alloc, &mut draws, &shape, most)?;
-    let listed = list_for(alloc, &shape, &faults)?;
-    let sight = sight_of(alloc, &faults, &listed.list)?;
-    let shorts = shorts_of(alloc, &sight)?;
-    if !covers(&sight, &shorts) {
-        return Err(Wrong::Covers);
-    }
-    if !is_tight(alloc, &sight, &shorts)? {
-        return Err(Wrong::Tight);
-    }
-    if listed.loads > most_loads(&shape, faults.count() == 0) {
-        return Err(Wrong::Loads);
+    if found.loads > most_loads(&shape, cross, wire) {
+        return Err("too many loads");
     }
     Ok(())
 }
