@@ -30,8 +30,8 @@ fn repair_and_write<K: Sink>(
         (outside store rig (K.sink_state sink.old)) (outside store rig (K.sink_state sink.new)) }
 {
     take_few(image)?;
-    let image = repaired(alloc, image, list)?;
-    let bytes = write_image(alloc, &image)?;
+    let made = repaired(alloc, image, list)?;
+    let bytes = write_image(alloc, &made)?;
     write(sink, &bytes)
 }
 
