@@ -6,6 +6,7 @@ ghost use Rattle.steps.specs.Took.{Took};
 ghost use Rattle.tera_repair.specs.Repairing.{most_closed, repairs, takes_few};
 
 use config_image::{Image, ImageKind};
+use config_set::laws::runs_are_one;
 use defect_db::Defects;
 use place::PlaceFail;
 use repair::repair;
@@ -21,7 +22,8 @@ pub fn take_few(image: &Image) -> Result<(), Stop>
     // Whatever is around it.
     ensures took { (o : Outside) → Took [] (takes_few image.now) result o o }
 {
-    if image.config().closed().len() > MOST_CLOSED {
+    let count = image.config().closed().len();
+    if count > MOST_CLOSED {
         return Err(Stop::Refused(Refusal::Image {
             line: 0,
             kind: ImageKind::Limit,
@@ -43,6 +45,7 @@ pub fn repaired(alloc: Global, image: &Image, list: &Defects) -> Result<Image, S
     // Whatever is around it.
     ensures took { (o : Outside) → Took [] (repairs list.now image.now) result o o }
 {
+    runs_are_one();
     // Its contract says that the value is an image.
     image.config();
     match repair(alloc, image, list) {
