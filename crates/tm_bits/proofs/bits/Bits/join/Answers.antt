@@ -19,7 +19,7 @@ returns-clause-joined c = λ i below within.
     let old = c.self.inside.words.items in
     let others = c.other.inside.words.items in
     let are : AreJoined c.deref_mut.result.now c.deref.result.now c.join_words.new.words c.args.first c.args.count =
-        record { joined = c.join_words.ensures.joined; kept = c.join_words.ensures.kept; len_is = c.join_words.ensures.len } in
+    record { joined = c.join_words.ensures.joined; kept = c.join_words.ensures.kept; len_is = c.join_words.ensures.len } in
     let joined : AreJoined old others c.join_words.new.words c.args.first c.args.count = rw (c.deref_mut.ensures.value, c.deref.ensures.value) at are in
     let new = with_items_is c.self.inside.words c.join_words.new.words (omega (arith, c.join_words.auto.words, c.deref_mut.ensures.len)) in
     ap (λ ws. get_or (bits_of c.self.inside.len ws) (64 * c.args.first + i) false) new
@@ -34,7 +34,7 @@ returns-clause-kept c = λ i within out.
     let old = c.self.inside.words.items in
     let others = c.other.inside.words.items in
     let are : AreJoined c.deref_mut.result.now c.deref.result.now c.join_words.new.words c.args.first c.args.count =
-        record { joined = c.join_words.ensures.joined; kept = c.join_words.ensures.kept; len_is = c.join_words.ensures.len } in
+    record { joined = c.join_words.ensures.joined; kept = c.join_words.ensures.kept; len_is = c.join_words.ensures.len } in
     let joined : AreJoined old others c.join_words.new.words c.args.first c.args.count = rw (c.deref_mut.ensures.value, c.deref.ensures.value) at are in
     let new = with_items_is c.self.inside.words c.join_words.new.words (omega (arith, c.join_words.auto.words, c.deref_mut.ensures.len)) in
     ap (λ ws. get_or (bits_of c.self.inside.len ws) i false) new

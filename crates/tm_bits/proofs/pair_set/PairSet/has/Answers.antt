@@ -17,7 +17,7 @@ pub returns-then-get : goal.returns-then-get
 returns-then-get c =
     let n : c.self.inside.n ≡ c.args.self.now.n = ap (λ s. s.n) c.self.view_is in
     let marked : get_or c.self.inside.bits (place_of c.self.inside.n c.args.a c.args.b) false ≡ true =
-        ap (λ k. get_or c.self.inside.bits k false) (sym c.place_of.ensures) ∙ sym c.get.ensures ∙ c.if-get.true in
+    ap (λ k. get_or c.self.inside.bits k false) (sym c.place_of.ensures) ∙ sym c.get.ensures ∙ c.if-get.true in
     c.if-get.true
     ∙ sym (has_pair_inside c.self.inside.n c.self.inside.bits c.args.a c.args.b (omega arith) (omega arith) c.requires.differ
     ∙ ap (λ t. t || get_or c.self.inside.bits (place_of c.self.inside.n c.args.b c.args.a) false) marked)
@@ -27,7 +27,7 @@ pub returns-else-get : goal.returns-else-get
 returns-else-get c =
     let n : c.self.inside.n ≡ c.args.self.now.n = ap (λ s. s.n) c.self.view_is in
     let unmarked : get_or c.self.inside.bits (place_of c.self.inside.n c.args.a c.args.b) false ≡ false =
-        ap (λ k. get_or c.self.inside.bits k false) (sym c.place_of.ensures) ∙ sym c.get.ensures ∙ c.if-get.false in
+    ap (λ k. get_or c.self.inside.bits k false) (sym c.place_of.ensures) ∙ sym c.get.ensures ∙ c.if-get.false in
     c.get-else-get.ensures
     ∙ ap (λ k. get_or c.self.inside.bits k false) c.place_of-else-get.ensures
     ∙ sym (has_pair_inside c.self.inside.n c.self.inside.bits c.args.a c.args.b (omega arith) (omega arith) c.requires.differ
