@@ -31,3 +31,6 @@ returns g c =
     let e = c.in_ok-sound.ensures in
     let l = c.in_ok-list.ensures in
     λ files begun store near. listed-then c.args.image.now files begun store near _ _ a e.machine c.in_ok-sound.sound (e.took store a) c.if-sound.false _ l.machine c.in_ok-list.list _ _ (rw (← c.requires.image) at l.took store a) (c.look_and_write.ensures files begun store _ near)
+
+pub look_and_write-requires : goal.look_and_write-requires
+look_and_write-requires g c = (c.in_ok-list.ensures.took nothing.store nothing.sink).gives.shape ∙ sym c.requires.image

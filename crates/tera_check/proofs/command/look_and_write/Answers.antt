@@ -19,5 +19,5 @@ pub returns : goal.returns
 returns g c =
     let a = g.K.Sink.sink_state c.args.sink.now in
     let b = g.K.Sink.sink_state c.write.new.sink in
-    let puts = rw (c.deref.ensures.value, c.in_ok-text.ensures) at c.write.ensures.puts in
+    let puts = rw (c.deref.ensures.value, c.in_ok-text.ensures, c.shape.ensures.shape, c.requires) at c.write.ensures.puts in
     λ files begun store rig near. answer-looked c.args.list.now c.args.image.now files begun store rig a near c.in_ok-answer.answer c.in_ok-answer.ensures.answer b _ puts
