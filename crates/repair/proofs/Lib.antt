@@ -1,1 +1,0 @@
--- For the proofs of this crate.

@@ -1,4 +1,0 @@
--- Repairs of images.
-pub mod Nets
-pub mod Plans
-pub mod Repairs
