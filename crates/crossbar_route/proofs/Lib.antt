@@ -1,12 +1,15 @@
+-- What is cited above.
+pub mod OnTree
+pub mod Ported
+pub mod Drawn
+pub mod Joining
+-- For the proofs of this crate alone.
 mod PinValues
 mod Turns
-mod OnTree
 mod Terminals
 mod Routed
 mod Marking
 mod Lining
-mod Joining
-mod Ported
 mod Seats
 mod Whole
 mod Deep

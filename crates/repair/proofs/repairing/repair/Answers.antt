@@ -1,0 +1,4 @@
+use Rattle.repair.proofs.repairing.repair.Goals as goal
+
+pub returns : goal.returns
+returns c = ?
