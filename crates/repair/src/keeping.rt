@@ -4,7 +4,7 @@ ghost use Rattle.hierarchy.specs.Shape.{wires_of, crosses_of, tables_of, table_w
 ghost use Rattle.repair.specs.Marks.{IsMarked};
 ghost use Rattle.repair.specs.Nets.{HasWire};
 ghost use Rattle.repair.specs.Plans.{AreMoves};
-ghost use Rattle.repair.specs.Making.{AreNetsOf, IsBroken, IsBrokenBy, IsBrokenTable, IsBrokenHere, IsUnfreeCross, IsUnfreeTable, IsUnfreeCrossOf};
+ghost use Rattle.repair.specs.Making.{AreNetsOf, IsBroken, IsBrokenBy, IsBrokenHere, IsUnfreeCross, IsUnfreeTable, IsUnfreeCrossOf};
 
 use crate::marks::{mark, unmarked};
 use crate::nets::{NetList, net_of};

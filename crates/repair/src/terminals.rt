@@ -1,7 +1,7 @@
 //! The terminals of the nets that move, where they stand now.
-ghost use Rattle.std.specs.Prelude.{◌≡◌, ◌<◌, ℕ, OnOk, IfOk, All, length, replicate, []};
+ghost use Rattle.std.specs.Prelude.{◌≡◌, ◌<◌, ◌++◌, ◌∷◌, ℕ, OnOk, IfOk, All, length, replicate, [], slice_index_or, slice_set};
 ghost use Rattle.hierarchy.specs.Shape.{wires_of, pins_of, tables_of};
-ghost use Rattle.repair.specs.Making.{AreSizedFor, AreTerminalsOf, IsAdded, IsMovedTo, IsNetWire, IsPinTerminal, IsTablePinTerminal, IsTableTerminal};
+ghost use Rattle.repair.specs.Making.{AreSizedFor, AreTerminalsOf, IsAdded, IsMovedTo, IsPinTerminal, IsTablePinTerminal, IsTableTerminal};
 
 use crate::nets::net_of;
 use crate::plan::Plan;
@@ -14,7 +14,7 @@ use tm_items::Items;
 // Adds a wire to a net.
 fn add(lists: &mut [Items<u32>], net: u32, wire: u32) -> Result<(), AllocError>
     requires { net < length lists.old }
-    ensures { OnOk result (IsAdded (IsNetWire net wire) lists.old lists.new) }
+    ensures { OnOk result (lists.new ≡ slice_set lists.old net (slice_index_or lists.old net [] ++ wire ∷ [])) }
 {
     lists[net as usize].push(wire)?;
     Ok(())
