@@ -13,6 +13,8 @@ use Rattle.place.specs.Lists.{nth_of}
 use Rattle.place.specs.Room.{HasTerminal}
 use Rattle.place.proofs.Those.{not_in_nil}
 use Rattle.repair.specs.declared.plan.Plan.{Plan}
+use Rattle.repair.specs.Marks.{HasMark}
+use Rattle.repair.specs.Nets.{HasWire}
 use Rattle.repair.specs.Making.{IsAdded, IsNetWire, IsMovedTo, IsPinTerminal, IsFirstPinTerminal, IsTablePinTerminal, IsFirstTableTerminal, IsTableTerminal, AreTerminalsOf, no_table}
 use Rattle.repair.proofs.Marking.{of_list, listed}
 use Rattle.repair.proofs.Using.{on_is, is_on}
@@ -67,6 +69,13 @@ added_one lists net wire within = record {
     kept : (k w : ℕ) → HasTerminal lists k w → (k ≡ net) ⊎ (k ≢ net) → HasTerminal (set lists net (get_or lists net [] ++ wire ∷ [])) k w
     kept k w t (inl e) = subst (λ xs. Contains xs w) (sym (at_net k e)) (Contains-append_left (get_or lists net []) (wire ∷ []) w (subst (λ z. HasTerminal lists z w) e t))
     kept k w t (inr ne) = subst (λ xs. Contains xs w) (sym (other k ne)) t
+
+-- the net that has the first wire moves, and no other has it
+pub added_to : (g : Configuration) (p : Plan) (from to net : ℕ) (lists : List (List ℕ)) → HasMark p.moves.items net → HasWire g p.nets.lowest net from → ((k : ℕ) → HasWire g p.nets.lowest k from → k ≡ net) → net < length lists →
+    IsAdded (IsMovedTo g p from to) lists (set lists net (get_or lists net [] ++ to ∷ []))
+added_to g p from to net lists moves wire one within = added_same (IsNetWire net to) (IsMovedTo g p from to) lists (set lists net (get_or lists net [] ++ to ∷ [])) (added_one lists net to within)
+    (λ k w c. (subst (HasMark p.moves.items) c.0 moves, subst (λ z. HasWire g p.nets.lowest z from) c.0 wire, c.1))
+    (λ k w m. (sym (one k m.1), m.2))
 
 -- ---- one after the other
 

@@ -210,13 +210,13 @@ module _ (di dj : Defects) (i j : ImageValue) (f h : Faults) (ri : IsFreeUnder d
       turn : {a b x y : Outputs} → a ≡ x → b ≡ y → Same x y → Same a b
       turn {b = b} {x = x} e k t = subst (λ z. Same z b) (sym e) (subst (λ z. Same x z) (sym k) t)
 
-  ticks_as : {n k : ℕ} {vector : List Bool} {before after : Outputs} → n ≡ k → Ticks (circuit_of h j.config) (drive_of j vector) before n after → Ticks (circuit_of h j.config) (drive_of j vector) before k after
-  ticks_as {vector = vector} {before = before} {after = after} e t = subst (λ n. Ticks (circuit_of h j.config) (drive_of j vector) before n after) e t
+  ticks_as : {n k : ℕ} (vector : List Bool) (before after : Outputs) → n ≡ k → Ticks (circuit_of h j.config) (drive_of j vector) before n after → Ticks (circuit_of h j.config) (drive_of j vector) before k after
+  ticks_as vector before after e t = subst (λ n. Ticks (circuit_of h j.config) (drive_of j vector) before n after) e t
 
   same_cycles : {before other after last : Outputs} {reads others : List Pins} (vectors : List (List Bool)) → Same before other → Cycles (circuit_of f i.config) before (map (drive_of i) vectors) reads after → Cycles (circuit_of h j.config) other (map (drive_of j) vectors) others last → map (image_row i) reads ≡ map (image_row j) others
   same_cycles [] s none none = refl
   same_cycles (vector ∷ vectors) s (cycle a more) (cycle b rest_b) =
-      let ticked = same_ticks vector s a.ticks (ticks_as c.ticks b.ticks) in
+      let ticked = same_ticks vector s a.ticks (ticks_as vector _ _ c.ticks b.ticks) in
       let row = ap (image_row i) a.reads ∙ same_row vector a.outputs b.outputs ticked a.value b.value a.values b.values ∙ sym (ap (image_row j) b.reads) in
       let rest = same_cycles vectors (turn a.edge b.edge (after_edges vector a.outputs b.outputs ticked a.value b.value a.values b.values)) more rest_b in
       λ k. row k ∷ rest k

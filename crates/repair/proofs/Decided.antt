@@ -36,7 +36,7 @@ seats_unique d i s r a b = λ z. record {
 }
 
 unmet : (q : Need) (short : Short) → IsMet q → IsUnmet q short → ⊥
-unmet q short met un = absurd (let l = un.2.0 in omega (arith, met, l))
+unmet q short met un = absurd (let l = un.2 in omega (arith, met, l))
 
 same_bool : (a b : Bool) → (a ≡ false → b ≡ false) → (b ≡ false → a ≡ false) → a ≡ b
 same_bool true true to from = refl

@@ -127,3 +127,7 @@ module _ (g : Configuration) (numbered : IsNumbered g.shape) (right : IsConfigur
 
   pub lowest_few : length lowest ≤ wires_of g.shape
   lowest_few = few_below lowest (wires_of g.shape) lowest_within (λ i j d l h. different (get_or lowest i d) (get_or lowest j d) (are.ascending i j d l h))
+
+-- a net with the line of a closed crosspoint has its tap
+pub line_to_tap : (g : Configuration) (lowest : List ℕ) (k x : ℕ) → is_closed g x ≡ true → HasWire g lowest k (ends_of g.shape x).1 → HasWire g lowest k (ends_of g.shape x).0
+line_to_tap g lowest k x on wire = (wire.0, then wire.1 (crossed x on (turned refl refl)))

@@ -5,6 +5,7 @@ mod Marking
 mod Placed
 mod Sieving
 mod Numbering
+mod Sparing
 mod Pins
 mod Using
 mod Unbroken

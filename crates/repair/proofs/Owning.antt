@@ -216,7 +216,7 @@ module _ (d : Defects) (i : ImageValue) (is : IsImage i) (laws : Numbering i.con
         where
           by : (is_closed moved x ≡ true) ⊎ ((is_closed g x ≡ true) × IsKeptWire i n (ends_of m x).0) → (k : ℕ) × Has k (ends_of m x).0 × Has k (ends_of m x).1
           by (inl e) = let r = one_net m laws.tree terminal (is_closed moved) (HasLine visits) (HasPortIn ports) laid x e in (r.0, inr r.1, inr r.2)
-          by (inr (e, k, st, wire)) = (k, inl (st, wire), inl (st, (wire.0, then wire.1 (crossed x e (in_order refl refl)))))
+          by (inr (e, (k, st, wire))) = (k, inl (st, wire), inl (st, (wire.0, then wire.1 (crossed x e (in_order refl refl)))))
 
       has_along : (k : ℕ) {w v : ℕ} → Joined (plain_net m closed) w v → Has k w → Has k v
       has_along k = keeps m closed (Has k) step
@@ -310,4 +310,4 @@ module _ (d : Defects) (i : ImageValue) (is : IsImage i) (laws : Numbering i.con
         where
           by : (is_closed moved x ≡ true) ⊎ ((is_closed g x ≡ true) × IsKeptWire i n (ends_of m x).0) → IsFreeCross m d x
           by (inl e) = rest_cross x (drawn_free m n.rest (length n.lowest) terminal n.terminals ports visits laws drawn_by moved joined x e).1
-          by (inr (e, k, st, wire)) = (kept_at k st).crosses x e wire
+          by (inr (e, (k, st, wire))) = (kept_at k st).crosses x e wire

@@ -7,7 +7,7 @@ use Rattle.hierarchy.specs.Shape.{tables_of}
 use Rattle.config_set.specs.declared.Setting.{Setting}
 use Rattle.config_set.specs.Configuration.{Configuration, IsConfiguration, setting_of}
 
-some_none : {o : Option Setting} → IsSome o → o ≡ None → ⊥
+pub some_none : {o : Option Setting} → IsSome o → o ≡ None → ⊥
 some_none is e = cc
 
 pub on_within : (g : Configuration) → IsConfiguration g → (t : ℕ) → IsSome (setting_of g t) → t < tables_of g.shape

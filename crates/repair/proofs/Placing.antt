@@ -1,9 +1,9 @@
 -- Places are given to what goes, one after the other.
-use Rattle.std.proofs.Common.{◌≡◌, ◌≢◌, ◌⊎◌, ℕ, ◌+◌, ◌<◌, ◌≤◌, Bool, true, false, cond, All, AllPairs, List, [], ◌∷◌, ◌++◌, length, get_or, set, take, refl, sym, ap, ◌∙◌, subst, inl, inr, arith}
+use Rattle.std.proofs.Common.{◌≡◌, ◌≢◌, ◌⊎◌, ℕ, ◌+◌, ◌<◌, ◌≤◌, Bool, true, false, cond, All, AllPairs, List, [], ◌∷◌, ◌++◌, length, get_or, set, take, map, refl, sym, ap, ◌∙◌, subst, inl, inr, arith}
 use Rattle.std.specs.Prelude.{if◌then◌else◌}
 use Rattle.std.specs.List.{filter, range_with_len}
 use Rattle.std.proofs.lemmas.Bool.{cases_eq}
-use Rattle.std.proofs.lemmas.List.{get_or-set_same, get_or-set_other, length-set, take_more, append_assoc, append-nil}
+use Rattle.std.proofs.lemmas.List.{get_or-set_same, get_or-set_other, length-set, take_more, append_assoc, append-nil, map-append}
 use Rattle.std.proofs.lemmas.List.FromFn.{length-range_with_len, get_or-range_with_len}
 use Rattle.place.specs.Lists.{nth_of}
 use Rattle.repair.specs.declared.seats.Moves.{Moves}
@@ -30,7 +30,7 @@ pub places_are : (count : ℕ) (moves : Moves) (old new : List ℕ) → old ≡ 
 places_are count moves old new e put = record {
   sized = put.sized ∙ ap length e ∙ length-range_with_len 0 count;
   put = put.put;
-  others = λ t l ne. put.others t ne ∙ ap (λ xs. nth_of xs t) e ∙ get_or-range_with_len 0 count t 0 l;
+  others = λ t l ne. put.others t ne ∙ ap (λ xs. nth_of xs t) e ∙ get_or-range_with_len 0 count t 0 l ∙ (let z : 0 + t ≡ t = omega arith in z);
 }
 
 -- what passes a test, one after the other
@@ -51,3 +51,7 @@ filter_more test xs old now i b l e so_far = by b e ∙ ap (λ zs. old ++ zs) (s
     by : (b : Bool) → b ≡ test (get_or xs i 0) → (if b then now ++ get_or xs i 0 ∷ [] else now) ≡ old ++ (filter test (take i xs) ++ filter test (get_or xs i 0 ∷ []))
     by true q = ap (λ zs. zs ++ get_or xs i 0 ∷ []) so_far ∙ append_assoc old (filter test (take i xs)) (get_or xs i 0 ∷ []) ∙ ap (λ c. old ++ (filter test (take i xs) ++ cond c (get_or xs i 0 ∷ []) [])) q
     by false q = so_far ∙ ap (λ zs. old ++ zs) (sym (append-nil (filter test (take i xs)))) ∙ ap (λ c. old ++ (filter test (take i xs) ++ cond c (get_or xs i 0 ∷ []) [])) q
+
+-- so with a function
+pub map_more : (f : ℕ → ℕ) (xs now : List ℕ) (i y : ℕ) → i < length xs → y ≡ f (get_or xs i 0) → now ≡ map f (take i xs) → now ++ y ∷ [] ≡ map f (take (i + 1) xs)
+map_more f xs now i y l e so_far = (λ k. so_far k ++ e k ∷ []) ∙ sym (map-append f (take i xs) (get_or xs i 0 ∷ [])) ∙ ap (map f) (sym (take_more xs i 0 l))

@@ -65,7 +65,8 @@ no_longer (x ∷ xs) s counts = (let l = no_longer xs (sets.remove s x.0) rest i
             (member.1 ∙ sym (ap (λ b. if b then 1 else 0) (contains-remove nat_cmp_total s x.0 x.0 ∙ ap (λ b. not b && sets.contains s x.0) (unsigned_tied x.0 x.0 ∙ same))))
         by false e =
             let other : (q == x.0) ≡ false = grind (arith, nat_tests, e) in
-            ap (λ b. (if b then 1 else 0) + count_by (λ (c : Cross). c.0 == q) xs) (sym e) ∙ sym (count q) ∙ counts q ∙ sym (ap (λ b. if b then 1 else 0) (removed ∙ ap (λ b. not b && sets.contains s q) other))
+            (let z : count_by (λ (c : Cross). c.0 == q) xs ≡ 0 + count_by (λ (c : Cross). c.0 == q) xs = omega arith in z)
+            ∙ ap (λ b. (if b then 1 else 0) + count_by (λ (c : Cross). c.0 == q) xs) (sym e) ∙ sym (count q) ∙ counts q ∙ sym (ap (λ b. if b then 1 else 0) (removed ∙ ap (λ b. not b && sets.contains s q) other))
 
 -- ---- crosspoints that stay
 
@@ -86,7 +87,7 @@ module _ (g : Configuration) (p : Plan) where
           subst (IsKeptCross g p) e (on, first.2.1)
 
       from : (x : ℕ) → IsKeptCross g p x → IsOfFirst (λ (c : Cross). IsKeptCrossOf g p c.0) no_cross xs n x
-      from x kept = let r = listed (λ (c : Cross). c.0) xs (is_closed g) counts x no_cross kept.0 in (r.0, omega (arith, r.1, ge), r.2, subst (λ z. HasStayingWire g p (ends_of g.shape z).0) (sym r.2) kept.1)
+      from x kept = let r = listed (λ (c : Cross). c.0) xs (is_closed g) counts x no_cross kept.0 in (r.0, omega (arith, r.1, ge), (r.2, subst (λ z. HasStayingWire g p (ends_of g.shape z).0) (sym r.2) kept.1))
 
   -- ---- tables
 

@@ -3,7 +3,7 @@ use Rattle.std.proofs.Common.{◌≡◌, ◌≢◌, ℕ, ◌+◌, ◌*◌, ◌<�
 use Rattle.std.specs.Ordering.{nat_cmp}
 use Rattle.std.specs.FinSet as set
 use Rattle.std.specs.FinSet.{len-empty}
-use Rattle.std.proofs.lemmas.List.{get_or-map, length-map}
+use Rattle.std.proofs.lemmas.List.{get_or-map, length-map, map-append}
 use Rattle.hierarchy.specs.declared.Shape.{Shape}
 use Rattle.hierarchy.specs.Shape.{pins_of, wires_of}
 use Rattle.config_set.specs.Configuration.{Configuration}
@@ -14,13 +14,9 @@ use Rattle.place.specs.Lists.{nth_of}
 use Rattle.repair.specs.declared.plan.Plan.{Plan}
 use Rattle.repair.specs.Making.{AreSizedFor, ArePinsApart, IsDrawn}
 
-map_append : (f : ℕ → ℕ) (xs ys : List ℕ) → map f xs ++ map f ys ≡ map f (xs ++ ys)
-map_append f [] ys = refl
-map_append f (x ∷ xs) ys = ap (λ zs. f x ∷ zs) (map_append f xs ys)
-
 module _ (i : ImageValue) (p : Plan) (ins outs : List ℕ) (ins_are : ins ≡ map (nth_of p.pins.items) i.inputs) (outs_are : outs ≡ map (nth_of p.pins.items) i.outputs) where
   together : ins ++ outs ≡ map (nth_of p.pins.items) (i.inputs ++ i.outputs)
-  together = (λ z. ins_are z ++ outs_are z) ∙ map_append (nth_of p.pins.items) i.inputs i.outputs
+  together = (λ z. ins_are z ++ outs_are z) ∙ sym (map-append (nth_of p.pins.items) i.inputs i.outputs)
 
   pub places_within : IsImage i → AreSizedFor i.config p → (m : Shape) → m ≡ i.config.shape → All (λ k. k < pins_of m) (ins ++ outs)
   places_within is sized m same = subst (λ z. All (λ k. k < pins_of z) (ins ++ outs)) (sym same) (subst (All (λ k. k < pins_of i.config.shape)) (sym together)
@@ -30,6 +26,11 @@ module _ (i : ImageValue) (p : Plan) (ins outs : List ℕ) (ins_are : ins ≡ ma
 
   pub places_apart : ArePinsApart i p → AllPairs (λ j k. j ≢ k) (ins ++ outs)
   places_apart apart = subst (AllPairs (λ j k. j ≢ k)) (sym together) apart
+
+-- it is a configuration of that machine
+pub drawn_shape : (g : Configuration) (p : Plan) (nets : List (List ℕ)) (ports : List Port) (visits : List Visit) (new : Configuration) → IsDrawn g p nets ports visits new → new.shape ≡ g.shape
+drawn_shape g p nets ports visits new drawn =
+    ap (λ (c : Configuration). c.shape) drawn.whole ∙ ap (λ (c : Configuration). c.shape) drawn.seats.rest ∙ ap (λ (c : Configuration). c.shape) drawn.closes.rest ∙ ap (λ (c : Configuration). c.shape) drawn.joined.closed.rest
 
 -- few enough crosspoints are closed
 pub few_closed : (g : Configuration) (p : Plan) (nets : List (List ℕ)) (ports : List Port) (visits : List Visit) (new : Configuration) → IsDrawn g p nets ports visits new → set.len g.closed ≤ 1000000 → wires_of g.shape ≤ 16384 → set.len new.closed ≤ 1048576

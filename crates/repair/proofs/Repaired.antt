@@ -3,7 +3,7 @@ use Rattle.std.proofs.Common.{◌≡◌, ◌≢◌, ◌⊎◌, ℕ, zero, suc, �
 use Rattle.std.specs.Prelude.{IsSome, ◌↔◌}
 use Rattle.std.specs.List.{All, AllPairs, Contains}
 use Rattle.std.specs.FinSet as set
-use Rattle.std.proofs.lemmas.List.{get_or-map, get_or_default, length-map}
+use Rattle.std.proofs.lemmas.List.{get_or-map, get_or_default, length-map, map-append}
 use Rattle.std.proofs.lemmas.List.Elements.{All-contains, Contains-get_or, Contains-append_left, Contains-append_right}
 use Rattle.hierarchy.specs.declared.Shape.{Shape}
 use Rattle.hierarchy.specs.Shape.{ends_of, wires_of, crosses_of, nodes_of, tables_of, pins_of, pin_wire, table_wire, IsPort}
@@ -26,10 +26,11 @@ use Rattle.place.specs.declared.short.Resource.TheVariants.{Tables, Pins as Pins
 use Rattle.place.specs.declared.short.Short.{Short}
 use Rattle.place.specs.declared.short.Visit.{Visit}
 use Rattle.place.specs.Choices.{AreWires}
-use Rattle.place.specs.Layouts.{AreHeld, AreVisits}
+use Rattle.place.specs.declared.short.Room.{Room}
+use Rattle.place.specs.Layouts.{AreHeld, AreVisits, IsRoom}
 use Rattle.place.specs.Lists.{nth_of}
 use Rattle.place.specs.Plans.{IsFreePin}
-use Rattle.place.specs.Room.{HasTerminal, CrossesAt, HasPort, Suffices, IsShortOf, IsFirstShort}
+use Rattle.place.specs.Room.{HasTerminal, CrossesAt, HasPort, Suffices, IsShortOf, IsFirstShort, IsMet}
 use Rattle.crossbar_route.specs.Routed.{AreWiresOf, HasPortIn}
 use Rattle.crossbar_route.proofs.Drawn.{Numbering, held}
 use Rattle.crossbar_route.proofs.Ported.{same_port}
@@ -52,10 +53,6 @@ off_at : (n t : ℕ) (none : Option Setting) → get_or (replicate n none) t non
 off_at zero t o = refl
 off_at (suc n) zero o = refl
 off_at (suc n) (suc t) o = off_at n t o
-
-map_append : (f : ℕ → ℕ) (xs ys : List ℕ) → map f xs ++ map f ys ≡ map f (xs ++ ys)
-map_append f [] ys = refl
-map_append f (x ∷ xs) ys = ap (λ zs. f x ∷ zs) (map_append f xs ys)
 
 contains_map : (f : ℕ → ℕ) (xs : List ℕ) (k : ℕ) → k < length xs → get_or (map f xs) k 0 ≡ f (nth_of xs k)
 contains_map f xs k l = get_or-map f xs k 0 0 l
@@ -128,8 +125,8 @@ module _ (d : Defects) (i : ImageValue) (is : IsImage i) (laws : Numbering i.con
     wire_in k w t = by (terms.only k w t)
       where
         by : IsPinTerminal g p (i.inputs ++ i.outputs) k w ⊎ IsTableTerminal g p k w → w < wires_of m
-        by (inl (q, has, mark, wire, e)) = subst (λ z. z < wires_of m) e (laws.numbered.pins (pin_place q) (sized_for.pins_within q (pin_in q has)))
-        by (inr (t, on, j, l, mark, wire, e)) = subst (λ z. z < wires_of m) e (laws.numbered.tables (table_place t) j (sized_for.tables_within t (table_in t on)) l)
+        by (inl (q, has, (mark, wire, e))) = subst (λ z. z < wires_of m) e (laws.numbered.pins (pin_place q) (sized_for.pins_within q (pin_in q has)))
+        by (inr (t, on, (j, l, (mark, wire, e)))) = subst (λ z. z < wires_of m) e (laws.numbered.tables (table_place t) j (sized_for.tables_within t (table_in t on)) l)
 
     -- what the search for room asks for
     pub lists_within : All (AreWires m) lists
@@ -145,12 +142,12 @@ module _ (d : Defects) (i : ImageValue) (is : IsImage i) (laws : Numbering i.con
     kept_staying w (k, st, wire) = (k, st.1, wire)
 
     terminal_is : (k w : ℕ) → IsPinTerminal g p (i.inputs ++ i.outputs) k w ⊎ IsTableTerminal g p k w → IsMoving (record { lowest = p.nets.lowest; moves = p.moves.items; terminals = lists; rest = rest.list }) k × IsTerminal d i s p.nets.lowest k w
-    terminal_is k w (inl (q, has, mark, wire, e)) = ((wire.0, mark), at_pin q (pin_place q) has wire (pin_sits q has) e)
-    terminal_is k w (inr (t, on, j, l, mark, wire, e)) = ((wire.0, mark), at_table t (table_place t) j on l wire (table_sits t on) e)
+    terminal_is k w (inl (q, has, (mark, wire, e))) = ((wire.0, mark), at_pin q (pin_place q) has wire (pin_sits q has) e)
+    terminal_is k w (inr (t, on, (j, l, (mark, wire, e)))) = ((wire.0, mark), at_table t (table_place t) j on l wire (table_sits t on) e)
 
     is_terminal : (k w : ℕ) → IsMoving (record { lowest = p.nets.lowest; moves = p.moves.items; terminals = lists; rest = rest.list }) k → IsTerminal d i s p.nets.lowest k w → HasTerminal lists k w
-    is_terminal k w moving (at_pin q r has wire sits e) = terms.by_pin k w (q, has, moving.1, wire, ap (pin_wire m) (one_pin_place d i is s seats q (pin_place q) r (pin_sits q has) sits) ∙ e)
-    is_terminal k w moving (at_table t u j on l wire sits e) = terms.by_table k w (t, on, j, l, moving.1, wire, ap (λ z. table_wire m z j) (one_table_place d i is s seats t (table_place t) u (table_sits t on) sits) ∙ e)
+    is_terminal k w moving (at_pin q r has wire sits e) = terms.by_pin k w (q, has, (moving.1, wire, ap (pin_wire m) (one_pin_place d i is s seats q (pin_place q) r (pin_sits q has) sits) ∙ e))
+    is_terminal k w moving (at_table t u j on l wire sits e) = terms.by_table k w (t, on, (j, l, (moving.1, wire, ap (λ z. table_wire m z j) (one_table_place d i is s seats t (table_place t) u (table_sits t on) sits) ∙ e)))
 
     pub nets_made : AreNets d i s (record { lowest = p.nets.lowest; moves = p.moves.items; terminals = lists; rest = rest.list })
     nets_made = record {
@@ -247,7 +244,7 @@ module _ (d : Defects) (i : ImageValue) (is : IsImage i) (laws : Numbering i.con
         setting_sits t u on sits = ap (setting_of new.config) (one_table_place d i is s seats t u (table_place t) sits (table_sits t on)) ∙ setting_at t on
 
         pins_new : new.inputs ++ new.outputs ≡ map pin_place (i.inputs ++ i.outputs)
-        pins_new = (λ z. drawn.inputs z ++ drawn.outputs z) ∙ map_append pin_place i.inputs i.outputs
+        pins_new = (λ z. drawn.inputs z ++ drawn.outputs z) ∙ sym (map-append pin_place i.inputs i.outputs)
 
         pin_new : (k : ℕ) → k < length (i.inputs ++ i.outputs) → nth_of (new.inputs ++ new.outputs) k ≡ pin_place (nth_of (i.inputs ++ i.outputs) k)
         pin_new k l = ap (λ xs. nth_of xs k) pins_new ∙ contains_map pin_place (i.inputs ++ i.outputs) k l
@@ -355,3 +352,49 @@ module _ (d : Defects) (i : ImageValue) (is : IsImage i) (laws : Numbering i.con
           ports = port_at;
           kept = λ k x st on wire. closed_same x ∙ all_kept x on (k, st, wire);
         }
+
+    -- ---- by what the search for room gives
+
+    module _ (ports : List Port) (visits : List Visit) (enough : Suffices m rest.list (length lists) (HasTerminal lists) (need_of s.tables) (need_of s.pins)) (held_are : AreHeld m rest.list (length lists) (HasTerminal lists) (nodes_of m) ports)
+        (visited : AreVisits m rest.list (length lists) (HasTerminal lists) (nodes_of m) visits) where
+      all_held : AreHeld m rest.list (length p.nets.lowest) (HasTerminal lists) (nodes_of m) ports
+      all_held = subst (λ n. AreHeld m rest.list n (HasTerminal lists) (nodes_of m) ports) terms.sized held_are
+
+      all_visited : AreVisits m rest.list (length p.nets.lowest) (HasTerminal lists) (nodes_of m) visits
+      all_visited = subst (λ n. AreVisits m rest.list n (HasTerminal lists) (nodes_of m) visits) terms.sized visited
+
+      pub redraw_wires : AreWiresOf m lists ports visits
+      redraw_wires = wires_are lists_within ports visits all_held all_visited
+
+      pub repaired : (new : ImageValue) → IsRedrawn i p lists ports visits new → IsRepair d i new
+      repaired new drawn = repair_is lists_within ports visits all_held all_visited new drawn.right drawn
+          (subst (λ n. Suffices m rest.list n (HasTerminal lists) (need_of s.tables) (need_of s.pins)) terms.sized enough)
+
+      pub repaired_free : (new : ImageValue) → IsRedrawn i p lists ports visits new → IsFreeImage d new
+      repaired_free new drawn = free_image lists_within ports visits all_held all_visited new drawn.right drawn
+
+      pub repaired_rows : (new : ImageValue) → IsRedrawn i p lists ports visits new → HasSameRows d i new
+      repaired_rows new drawn = same_rows lists_within ports visits all_held all_visited new drawn.right drawn
+
+-- the same room, by other names of its parts
+pub room_as : (m k : Shape) (d : Defects) (lists others : List (List ℕ)) (tables more pins rest : Need) (r : Room) → m ≡ k → lists ≡ others → tables ≡ more → pins ≡ rest → IsRoom m d (length lists) (HasTerminal lists) tables pins r → IsRoom k d (length others) (HasTerminal others) more rest r
+room_as m k d lists others tables more pins rest r a b e f is =
+    subst (λ z. IsRoom z d (length others) (HasTerminal others) more rest r) a
+    (subst (λ z. IsRoom m d (length z) (HasTerminal z) more rest r) b
+    (subst (λ z. IsRoom m d (length lists) (HasTerminal lists) z rest r) e (subst (λ z. IsRoom m d (length lists) (HasTerminal lists) tables z r) f is)))
+
+pub redrawn_as : (i : ImageValue) (p : Plan) (lists others : List (List ℕ)) (ports over : List Port) (visits more : List Visit) (new : ImageValue) → lists ≡ others → ports ≡ over → visits ≡ more → IsRedrawn i p lists ports visits new → IsRedrawn i p others over more new
+redrawn_as i p lists others ports over visits more new a b e is =
+    subst (λ z. IsRedrawn i p z over more new) a (subst (λ z. IsRedrawn i p lists z more new) b (subst (λ z. IsRedrawn i p lists ports z new) e is))
+
+pub wires_as : (m : Shape) (lists others : List (List ℕ)) (ports over : List Port) (visits more : List Visit) → lists ≡ others → ports ≡ over → visits ≡ more → AreWiresOf m lists ports visits → AreWiresOf m others over more
+wires_as m lists others ports over visits more a b e is =
+    subst (λ z. AreWiresOf m z over more) a (subst (λ z. AreWiresOf m lists z more) b (subst (λ z. AreWiresOf m lists ports z) e is))
+
+-- ---- what is short before a net is looked at
+
+pub short_tables : (d : Defects) (i : ImageValue) (s : Seats) (q : Need) (short : Short) → AreSeats d i s → q ≡ need_of s.tables → q.have < q.need → short ≡ record { resource = Tables; node = record { 0 = 0 }; need = q.need; have = q.have; nets = [] } → IsShortPlan d i short
+short_tables d i s q short are e fewer is = subst (IsShortPlan d i) (sym is) (record { seats = s; seats_are = are; first = (refl, (ap (λ (n : Need). n.need) e, ap (λ (n : Need). n.have) e, subst (λ (n : Need). n.have < n.need) e fewer, refl)) })
+
+pub short_pins : (d : Defects) (i : ImageValue) (s : Seats) (q : Need) (short : Short) → AreSeats d i s → IsMet (need_of s.tables) → q ≡ need_of s.pins → q.have < q.need → short ≡ record { resource = PinsShort; node = record { 0 = 0 }; need = q.need; have = q.have; nets = [] } → IsShortPlan d i short
+short_pins d i s q short are met e fewer is = subst (IsShortPlan d i) (sym is) (record { seats = s; seats_are = are; first = (met, refl, (ap (λ (n : Need). n.need) e, ap (λ (n : Need). n.have) e, subst (λ (n : Need). n.have < n.need) e fewer, refl)) })

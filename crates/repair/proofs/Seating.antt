@@ -5,7 +5,7 @@ use Rattle.std.specs.List.{AllPairs, Contains, filter}
 use Rattle.std.specs.FinSet as set
 use Rattle.std.proofs.lemmas.Bool.{false≢true, cases_order, cases_eq}
 use Rattle.std.proofs.lemmas.List.{get_or_default}
-use Rattle.std.proofs.lemmas.List.Elements.{filter_passes}
+use Rattle.std.proofs.lemmas.List.Elements.{All-filter, filter_passes}
 use Rattle.std.proofs.lemmas.List.Kept.{AllPairs-filter}
 use Rattle.hierarchy.specs.declared.Shape.{Shape}
 use Rattle.hierarchy.specs.Shape.{pin_wire, table_wire, pins_of, tables_of}
@@ -22,6 +22,7 @@ use Rattle.repair.specs.declared.seats.Moves.{Moves}
 use Rattle.repair.specs.declared.seats.Seats.{Seats}
 use Rattle.repair.specs.Plans.{IsSpareTable, IsSparePin, IsGoneTable, is_gone_pin, AreSeats, SitsAt, stays, goes, TableSits, PinSits}
 use Rattle.repair.specs.Making.{ArePlaces}
+use Rattle.repair.proofs.Placed.{on_within}
 
 -- what is known of those that go and of the places for them: `old` are all, of which some go
 record IsSound (IsFree old : ℕ → Type 0) (moves : Moves) : Type 0 where
@@ -108,8 +109,17 @@ module _ (d : Defects) (i : ImageValue) (is : IsImage i) (s : Seats) (are : AreS
     spare_other = λ k t l on e. some_none on (subst (λ u. setting_of i.config u ≡ None) e (are.tables_spare.only k 0 l).off);
   }
 
-  pin_apart : AllPairs (λ a b. a ≢ b) s.pins.gone
+  pub pin_apart : AllPairs (λ a b. a ≢ b) s.pins.gone
   pin_apart = subst (AllPairs (λ a b. a ≢ b)) (sym are.pins_gone) (AllPairs-filter (λ a b. a ≢ b) (is_gone_pin i.config.shape d) (i.inputs ++ i.outputs) is.apart)
+
+  pub pin_within : All (λ p. p < pins_of i.config.shape) s.pins.gone
+  pin_within = subst (All (λ p. p < pins_of i.config.shape)) (sym are.pins_gone) (All-filter (is_gone_pin i.config.shape d) (λ p. p < pins_of i.config.shape) (i.inputs ++ i.outputs) is.within)
+
+  pub table_within : All (λ t. t < tables_of i.config.shape) s.tables.gone
+  table_within k x l = on_within i.config is.config (get_or s.tables.gone k x) (are.tables_gone.only k x l).0
+
+  pub table_apart : AllPairs (λ a b. a ≢ b) s.tables.gone
+  table_apart k l x h g e = (let up = are.tables_gone.ascending k l x h g in absurd (let no : ⊥ = omega (arith, up, e) in no))
 
   pin_unfree : All (λ p. is_gone_pin i.config.shape d p ≡ true) s.pins.gone
   pin_unfree = subst (All (λ p. is_gone_pin i.config.shape d p ≡ true)) (sym are.pins_gone) (filter_passes (is_gone_pin i.config.shape d) (i.inputs ++ i.outputs))

@@ -5,10 +5,8 @@ use Rattle.std.specs.List.{Contains}
 use Rattle.std.proofs.lemmas.Bool.{false≢true, cases_eq, cases_Bool}
 use Rattle.hierarchy.specs.declared.Cross.{Cross}
 use Rattle.hierarchy.specs.declared.Table.{Table}
-use Rattle.hierarchy.specs.Shape.{in_order, turned, ends_of, table_wire, pin_wire}
+use Rattle.hierarchy.specs.Shape.{ends_of, table_wire, pin_wire}
 use Rattle.hierarchy.specs.Laws.{IsNumbered}
-use Rattle.hierarchy.specs.Joined.{then, crossed}
-use Rattle.hierarchy.proofs.JoinedLemmas.{Joined-trans}
 use Rattle.hierarchy.specs.declared.Shape.{Shape}
 use Rattle.hierarchy.specs.Defects.{Defects, IsFreeWire, IsFreeCross, IsFreeTable}
 use Rattle.defect_db.specs.Lists.{is_free_cross, is_free_table}
@@ -19,7 +17,7 @@ use Rattle.repair.specs.Nets.{IsEnd, as_tap, as_line, IsLowest, HasWire, IsKept}
 use Rattle.repair.specs.Plans.{AreMoves}
 use Rattle.repair.specs.Making.{IsUnfreeCross, IsUnfreeCrossOf, IsUnfreeTable, IsBrokenBy, IsBrokenHere, IsBroken, no_cross, no_table}
 use Rattle.repair.specs.Marks.{AreMarks, HasMark, IsMarked, IsOfFirst}
-use Rattle.repair.proofs.Hanging.{has_end}
+use Rattle.repair.proofs.Hanging.{has_end, line_to_tap}
 use Rattle.repair.proofs.Marking.{marked_same, marked_then, first_all, all_first}
 use Rattle.repair.proofs.Using.{on_is, is_on}
 
@@ -60,21 +58,21 @@ module _ (d : Defects) (i : ImageValue) (is : IsImage i) (numbered : IsNumbered 
   by_test false to from nn = absurd (nn (λ p. false≢true (from p)))
 
   whole_cross : (k x : ℕ) → get_or marks k false ≡ false → is_closed i.config x ≡ true → HasWire i.config lowest k (ends_of i.config.shape x).0 → IsFreeCross i.config.shape d x
-  whole_cross k x e on wire = by_test (is_free_cross i.config.shape d x) (crosses_tell x).0 (crosses_tell x).1 (λ unfree. unmarked_whole k e (inl (x, on, unfree, wire)))
+  whole_cross k x e on wire = by_test (is_free_cross i.config.shape d x) (crosses_tell x).0 (crosses_tell x).1 (λ unfree. unmarked_whole k e (inl (x, on, (unfree, wire))))
 
   whole_wire : (k w : ℕ) → get_or marks k false ≡ false → HasWire i.config lowest k w → IsFreeWire d w
   whole_wire k w e wire = by (has_end i.config numbered is.config lowest are k w wire)
     where
       by : IsEnd i.config w → IsFreeWire d w
       by (as_tap x on at) = subst (IsFreeWire d) at (whole_cross k x e on (subst (HasWire i.config lowest k) (sym at) wire)).tap
-      by (as_line x on at) = subst (IsFreeWire d) at (whole_cross k x e on (wire.0, then (subst (λ z. HasWire i.config lowest k z) (sym at) wire).1 (crossed x on (turned refl refl)))).line
+      by (as_line x on at) = subst (IsFreeWire d) at (whole_cross k x e on (line_to_tap i.config lowest k x on (subst (HasWire i.config lowest k) (sym at) wire))).line
 
   whole_table : (k t j : ℕ) → get_or marks k false ≡ false → IsSome (setting_of i.config t) → j < 7 → HasWire i.config lowest k (table_wire i.config.shape t j) → IsFreeTable i.config.shape d t
-  whole_table k t j e on l wire = by_test (is_free_table i.config.shape d t) (tables_tell t).0 (tables_tell t).1 (λ unfree. unmarked_whole k e (inr (t, on, unfree, j, l, wire)))
+  whole_table k t j e on l wire = by_test (is_free_table i.config.shape d t) (tables_tell t).0 (tables_tell t).1 (λ unfree. unmarked_whole k e (inr (t, on, (unfree, (j, l, wire)))))
 
   not_kept : (k : ℕ) → IsBroken d i.config lowest k → ¬ IsKept d i lowest k
-  not_kept k (inl (x, on, unfree, wire)) kept = unfree (kept.crosses x on wire)
-  not_kept k (inr (t, on, unfree, j, l, wire)) kept = unfree (kept.tables t j on l wire)
+  not_kept k (inl (x, on, (unfree, wire))) kept = unfree (kept.crosses x on wire)
+  not_kept k (inr (t, on, (unfree, (j, l, wire)))) kept = unfree (kept.tables t j on l wire)
 
   pub broken_moves : AreMoves d i lowest marks
   broken_moves = record {

@@ -82,13 +82,13 @@ uses_marked i old new are marked = more_marks (wires_of i.config.shape) (IsEnd i
 
     by_seat : (w : ℕ) → IsSeatPin i w → Uses i w
     by_seat w (inl (k, has, e)) = at_pin k has (sym e)
-    by_seat w (inr (t, on, j, l, e)) = at_table t j on l (sym e)
+    by_seat w (inr (t, on, (j, l, e))) = at_table t j on l (sym e)
 
     cases : (w : ℕ) → Uses i w → IsEnd i.config w ⊎ IsSeatPin i w
     cases w (at_pin k has e) = inr (inl (k, has, sym e))
     cases w (at_tap x on e) = inl (as_tap x on (sym e))
     cases w (at_line x on e) = inl (as_line x on (sym e))
-    cases w (at_table t j on l e) = inr (inr (t, on, j, l, sym e))
+    cases w (at_table t j on l e) = inr (inr (t, on, (j, l, sym e)))
 
 pub not_true_and : {b : Bool} → b ≡ false → b ≡ true → ⊥
 not_true_and e f = false≢true (sym e ∙ f)

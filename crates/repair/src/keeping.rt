@@ -6,7 +6,7 @@ ghost use Rattle.repair.specs.Nets.{HasWire};
 ghost use Rattle.repair.specs.Plans.{AreMoves};
 ghost use Rattle.repair.specs.Making.{AreNetsOf, IsBroken, IsBrokenBy, IsBrokenHere, IsUnfreeCross, IsUnfreeTable, IsUnfreeCrossOf};
 
-use crate::marks::{mark, unmarked};
+use crate::marks::{mark, marks_of};
 use crate::nets::{NetList, net_of};
 use config_image::Image;
 use config_set::Config;
@@ -124,7 +124,7 @@ pub fn moving(
 {
     hierarchy::the_numbering_is_sound();
     defect_db::the_tests_are_right();
-    let mut marks = unmarked(alloc, nets.lowest.as_slice().len())?;
+    let mut marks = marks_of(alloc, nets.lowest.as_slice().len(), false)?;
     mark_broken(&mut marks, image.config(), nets, defects);
     Ok(marks)
 }

@@ -1,5 +1,5 @@
 //! Marks on numbers.
-ghost use Rattle.std.specs.Prelude.{◌≡◌, ◌<◌, ◌++◌, ◌∷◌, [], OnOk, IfOk, length, if◌then◌else◌, replicate, false};
+ghost use Rattle.std.specs.Prelude.{◌≡◌, ◌<◌, ◌++◌, ◌∷◌, [], OnOk, IfOk, length, if◌then◌else◌, replicate};
 ghost use Rattle.repair.specs.Marks.{IsMarked, IsThis};
 
 use std::alloc::{AllocError, Global};
@@ -13,11 +13,11 @@ pub fn mark(marks: &mut [bool], number: u32)
     marks[number as usize] = true;
 }
 
-/// No marks on so many numbers.
-pub fn unmarked(alloc: Global, count: usize) -> Result<Vec<bool>, AllocError>
-    ensures { IfOk result (λ marks. marks.items ≡ replicate count false) }
+/// Marks for so many numbers, all the same.
+pub fn marks_of(alloc: Global, count: usize, mark: bool) -> Result<Vec<bool>, AllocError>
+    ensures { IfOk result (λ marks. marks.items ≡ replicate count mark) }
 {
-    let marks = vec![in alloc; false; count]?;
+    let marks = vec![in alloc; mark; count]?;
     Ok(marks)
 }
 

@@ -87,6 +87,8 @@ pub fn nets_of(alloc: Global, config: &Config) -> Result<NetList, AllocError>
     ensures { IfOk result (AreNetsOf config.now.config) }
 {
     hierarchy::the_numbering_is_sound();
+    // Says that what is closed is of the machine, which has few wires.
+    let _wires = config.shape().wires();
     let lows = lowest_of(alloc, config)?;
     let touched = ends_of(alloc, config)?;
     let lowest = lowest_wires(alloc, config, &lows, &touched)?;

@@ -50,9 +50,10 @@ fn redraw(
     requires wires { AreWiresOf image.now.config.shape nets.now ports.now visits.now }
     ensures { IfOk result (IsRedrawn image.now plan.now nets.now ports.now visits.now) }
 {
+    let old = image.config();
     // Says that the machine has few wires.
-    let _wires = image.config().shape().wires();
-    let config = draw(alloc, image.config(), plan, nets, ports, visits)?;
+    let _wires = old.shape().wires();
+    let config = draw(alloc, old, plan, nets, ports, visits)?;
     let inputs = moved(alloc, &plan.pins, image.inputs())?;
     let outputs = moved(alloc, &plan.pins, image.outputs())?;
     Ok(Image::new(config, inputs, outputs))
@@ -80,13 +81,14 @@ fn laid(alloc: Global, image: &Image, defects: &Defects, seats: &Seats) -> Resul
     let plan = plan_of(alloc, image, defects, seats)?;
     let terminals = terminals_of(alloc, image, &plan)?;
     let rest = rest_of(alloc, image, &plan, defects)?;
-    match look_for_room(
+    let room = look_for_room(
         alloc,
         &rest,
         &terminals,
         need_of(&seats.tables),
         need_of(&seats.pins),
-    )? {
+    )?;
+    match room {
         Room::Lacks(short) => Err(PlaceFail::Short(short)),
         Room::Enough { ports, visits } => {
             let repaired = redraw(alloc, image, &plan, &terminals, &ports, &visits)?;

@@ -6,7 +6,7 @@ ghost use Rattle.repair.specs.Marks.{AreMarks, IsMarked};
 ghost use Rattle.repair.specs.Nets.{IsEnd};
 ghost use Rattle.repair.specs.Making.{IsEndOf, IsOnPin, IsPinOf, IsSeatPin, IsTablePin};
 
-use crate::marks::{mark, unmarked};
+use crate::marks::{mark, marks_of};
 use config_image::Image;
 use config_set::Config;
 use hierarchy::{Cross, Shape, Table};
@@ -73,7 +73,7 @@ fn mark_tables(marks: &mut [bool], config: &Config)
 pub fn ends_of(alloc: Global, config: &Config) -> Result<Vec<bool>, AllocError>
     ensures { IfOk result (λ marks. AreMarks (wires_of config.now.config.shape) (IsEnd config.now.config) marks.items) }
 {
-    let mut marks = unmarked(alloc, config.shape().wires() as usize)?;
+    let mut marks = marks_of(alloc, config.shape().wires() as usize, false)?;
     mark_ends(&mut marks, config);
     Ok(marks)
 }

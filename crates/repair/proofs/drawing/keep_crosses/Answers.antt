@@ -12,7 +12,7 @@ pub keep_cross-requires-clause-shape : goal.keep_cross-requires-clause-shape
 keep_cross-requires-clause-shape c = ap (λ (g : Configuration). g.shape) c.loop-k.invariant.rest ∙ c.requires.shape
 
 pub keep_cross-requires-clause-within : goal.keep_cross-requires-clause-within
-keep_cross-requires-clause-within c = c.shape-_shape.ensures.right.crosses (get_or c.closed-closed.result.now c.loop-k.k no_cross).0 (of_list (λ (x : Cross). x.0) c.closed-closed.result.now (is_closed c.args.old.now.config) c.closed-closed.ensures c.loop-k.k no_cross c.loop-k-test.true)
+keep_cross-requires-clause-within c = c.shape-shape.ensures.right.crosses (get_or c.closed-closed.result.now c.loop-k.k no_cross).0 (of_list (λ (x : Cross). x.0) c.closed-closed.result.now (is_closed c.args.old.now.config) c.closed-closed.ensures c.loop-k.k no_cross c.loop-k-test.true)
 
 pub loop-k-init : goal.loop-k-init
 loop-k-init c = closes_none (IsOfFirst (λ (x : Cross). IsKeptCrossOf c.args.old.now.config c.args.plan.now x.0) no_cross c.closed-closed.result.now 0) 0 c.args.config.now.config (first_none (λ (x : Cross). IsKeptCrossOf c.args.old.now.config c.args.plan.now x.0) no_cross c.closed-closed.result.now)

@@ -10,7 +10,7 @@ pub mark_cross-requires-clause-sized : goal.mark_cross-requires-clause-sized
 mark_cross-requires-clause-sized c = c.loop-k.invariant.sized ∙ c.requires.sized
 
 pub mark_cross-requires-clause-within : goal.mark_cross-requires-clause-within
-mark_cross-requires-clause-within c = c.shape-_shape.ensures.right.crosses (get_or c.closed-closed.result.now c.loop-k.k no_cross).0 (of_list (λ (x : Cross). x.0) c.closed-closed.result.now (is_closed c.args.config.now.config) c.closed-closed.ensures c.loop-k.k no_cross c.loop-k-test.true)
+mark_cross-requires-clause-within c = c.shape-shape.ensures.right.crosses (get_or c.closed-closed.result.now c.loop-k.k no_cross).0 (of_list (λ (x : Cross). x.0) c.closed-closed.result.now (is_closed c.args.config.now.config) c.closed-closed.ensures c.loop-k.k no_cross c.loop-k-test.true)
 
 pub loop-k-init : goal.loop-k-init
 loop-k-init c = marked_none _ c.args.marks.now (first_none (λ (x : Cross). IsUnfreeCrossOf c.args.defects.now.list c.args.config.now.config c.args.nets.now.lowest x.0) no_cross c.closed-closed.result.now)

@@ -16,7 +16,7 @@ pub mark_table-requires-clause-within : goal.mark_table-requires-clause-within
 mark_table-requires-clause-within c =
     let g = c.args.config.now.config in
     let t : ℕ = (get_or c.tables_on-tables.result.now c.loop-k.k no_table).0 in
-    on_within g c.shape-_shape.ensures.right t (on_is (setting_of g t) (of_list (λ (x : Table). x.0) c.tables_on-tables.result.now (λ q. is_some (setting_of g q)) c.tables_on-tables.ensures c.loop-k.k no_table c.loop-k-test.true))
+    on_within g c.shape-shape.ensures.right t (on_is (setting_of g t) (of_list (λ (x : Table). x.0) c.tables_on-tables.result.now (λ q. is_some (setting_of g q)) c.tables_on-tables.ensures c.loop-k.k no_table c.loop-k-test.true))
 
 pub loop-k-init : goal.loop-k-init
 loop-k-init c = marked_none _ c.args.marks.now (first_none (λ (x : Table). IsBrokenHere c.args.defects.now.list c.args.config.now.config c.args.nets.now.lowest x.0) no_table c.tables_on-tables.result.now)

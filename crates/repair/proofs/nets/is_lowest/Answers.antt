@@ -13,7 +13,7 @@ pub returns-then-not-is_end : goal.returns-then-not-is_end
 returns-then-not-is_end c = (λ t. absurd (false≢true t), λ is. sym c.if-not-is_end.true ∙ c.requires.touched.each c.args.wire is.touched)
 
 pub returns-then-low-wire : goal.returns-then-low-wire
-returns-then-low-wire c = (λ t. is_lowest c.args.config.now.config (c.the_numbering_is_sound.ensures.numbered c.args.config.now.config.shape) c.shape-_shape.ensures.right c.args.lows.now c.requires.lows c.args.wire (c.requires.touched.only c.args.wire c.if-not-is_end.false) c.if-low-wire.true, λ is. refl)
+returns-then-low-wire c = (λ t. is_lowest c.args.config.now.config (c.the_numbering_is_sound.ensures.numbered c.args.config.now.config.shape) c.shape-shape.ensures.right c.args.lows.now c.requires.lows c.args.wire (c.requires.touched.only c.args.wire c.if-not-is_end.false) c.if-low-wire.true, λ is. refl)
 
 pub returns : goal.returns
-returns c = (λ t. absurd (false≢true t), λ is. absurd (c.if-low-wire.false (lowest_is c.args.config.now.config (c.the_numbering_is_sound.ensures.numbered c.args.config.now.config.shape) c.shape-_shape.ensures.right c.args.lows.now c.requires.lows c.args.wire is)))
+returns c = (λ t. absurd (false≢true t), λ is. absurd (c.if-low-wire.false (lowest_is c.args.config.now.config (c.the_numbering_is_sound.ensures.numbered c.args.config.now.config.shape) c.shape-shape.ensures.right c.args.lows.now c.requires.lows c.args.wire is)))

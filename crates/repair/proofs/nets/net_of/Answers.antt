@@ -40,4 +40,4 @@ returns-clause-some c =
     let within : w < wires_of g.shape = c.requires.within in
     let place : c.index-low.result.now < length n.numbers.items = omega (arith, low, le, sized, within) in
     let number : c.index-number.result.now ≡ get_or n.numbers.items c.index-low.result.now 0 = get_or_read n.numbers.items _ _ place c.index-number.ensures 0 in
-    subst (λ k. HasWire g n.lowest k w) (sym (number ∙ ap (λ l. get_or n.numbers.items l 0) low)) (number_has g (c.the_numbering_is_sound.ensures.numbered g.shape) c.shape-_shape.ensures.right n c.requires.nets w end)
+    subst (λ k. HasWire g n.lowest k w) (sym (number ∙ ap (λ l. get_or n.numbers.items l 0) low)) (number_has g (c.the_numbering_is_sound.ensures.numbered g.shape) c.shape-shape.ensures.right n c.requires.nets w end)

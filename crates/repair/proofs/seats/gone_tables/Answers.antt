@@ -17,4 +17,4 @@ returns c =
     let e : c.tables-t-end.result ≡ tables_of c.args.image.now.config.shape = c.tables-t-end.ensures.tables ∙ ap tables_of (c.shape.ensures.shape ∙ c.requires) in
     let q : c.loop-t.t ≡ c.tables-t-end.result = omega arith in
     sieve_all (IsGoneTable c.args.defects.now.list c.args.image.now) c.loop-t.t c.loop-t.gone
-    (λ t is. subst (λ n. t < n) (sym (q ∙ e)) (on_within c.args.image.now.config c.config-_config.ensures.right.config t is.0)) c.loop-t.invariant
+    (λ t is. subst (λ n. t < n) (sym (q ∙ e)) (on_within c.args.image.now.config c.config-config.ensures.right.config t is.0)) c.loop-t.invariant

@@ -18,7 +18,7 @@ pub add_table-requires-clause-table : goal.add_table-requires-clause-table
 add_table-requires-clause-table c =
     let g = c.args.config.now.config in
     let t : ℕ = (get_or c.tables_on-tables.result.now c.loop-k.k no_table).0 in
-    on_within g c.shape-_shape.ensures.right t (on_is (setting_of g t) (of_list (λ (x : Table). x.0) c.tables_on-tables.result.now (λ q. is_some (setting_of g q)) c.tables_on-tables.ensures c.loop-k.k no_table c.loop-k-test.true))
+    on_within g c.shape-shape.ensures.right t (on_is (setting_of g t) (of_list (λ (x : Table). x.0) c.tables_on-tables.result.now (λ q. is_some (setting_of g q)) c.tables_on-tables.ensures c.loop-k.k no_table c.loop-k-test.true))
 
 pub loop-k-init : goal.loop-k-init
 loop-k-init c = added_none (IsFirstTableTerminal c.args.config.now.config c.args.plan.now c.tables_on-tables.result.now 0) c.args.lists.now (no_tables c.args.config.now.config c.args.plan.now c.tables_on-tables.result.now)
@@ -29,7 +29,7 @@ loop-k-preserved c =
     let p = c.args.plan.now in
     let t : ℕ = (get_or c.tables_on-tables.result.now c.loop-k.k no_table).0 in
     let on = on_is (setting_of g t) (of_list (λ (x : Table). x.0) c.tables_on-tables.result.now (λ q. is_some (setting_of g q)) c.tables_on-tables.ensures c.loop-k.k no_table c.loop-k-test.true) in
-    let within : t < length p.tables.items = subst (λ n. t < n) (sym c.requires.plan.tables_sized) (on_within g c.shape-_shape.ensures.right t on) in
+    let within : t < length p.tables.items = subst (λ n. t < n) (sym c.requires.plan.tables_sized) (on_within g c.shape-shape.ensures.right t on) in
     let place : c.index-place.result.now ≡ nth_of p.tables.items t = get_or_read p.tables.items _ _ within c.index-place.ensures 0 in
     tables_more g p c.tables_on-tables.result.now c.loop-k.k c.args.lists.now c.loop-k.lists c.add_table.new.lists c.loop-k.invariant
     (subst (λ u. IsAdded (IsTablePinTerminal g p t u 7) c.loop-k.lists c.add_table.new.lists) place c.in_ok-add_table.ensures)

@@ -14,11 +14,11 @@ mark_pins-requires-clause-sized c = c.requires ∙ ap wires_of (sym (c.shape-sha
 pub mark_pins-requires-clause-within : goal.mark_pins-requires-clause-within
 mark_pins-requires-clause-within c = inputs_within c.args.image.now c.config-config.ensures.right c.shape-shape.result (c.shape-shape.ensures.shape ∙ ap (λ (g : Configuration). g.shape) c.config-config.ensures.config) c.inputs.result.now c.inputs.ensures.pins
 
-pub mark_pins-2-requires-clause-sized : goal.mark_pins-2-requires-clause-sized
-mark_pins-2-requires-clause-sized c = c.mark_pins.ensures.sized ∙ c.requires ∙ ap wires_of (sym (c.shape-shape.ensures.shape ∙ ap (λ (g : Configuration). g.shape) c.config-config.ensures.config))
+pub mark_pins-requires-2-clause-sized : goal.mark_pins-requires-2-clause-sized
+mark_pins-requires-2-clause-sized c = c.mark_pins.ensures.sized ∙ c.requires ∙ ap wires_of (sym (c.shape-shape.ensures.shape ∙ ap (λ (g : Configuration). g.shape) c.config-config.ensures.config))
 
-pub mark_pins-2-requires-clause-within : goal.mark_pins-2-requires-clause-within
-mark_pins-2-requires-clause-within c = outputs_within c.args.image.now c.config-config.ensures.right c.shape-shape.result (c.shape-shape.ensures.shape ∙ ap (λ (g : Configuration). g.shape) c.config-config.ensures.config) c.outputs.result.now c.outputs.ensures.pins
+pub mark_pins-requires-2-clause-within : goal.mark_pins-requires-2-clause-within
+mark_pins-requires-2-clause-within c = outputs_within c.args.image.now c.config-config.ensures.right c.shape-shape.result (c.shape-shape.ensures.shape ∙ ap (λ (g : Configuration). g.shape) c.config-config.ensures.config) c.outputs.result.now c.outputs.ensures.pins
 
 pub mark_tables-requires : goal.mark_tables-requires
 mark_tables-requires c = c.mark_pins-2.ensures.sized ∙ c.mark_pins.ensures.sized ∙ c.requires ∙ ap (λ (g : Configuration). wires_of g.shape) (sym c.config-config.ensures.config)
