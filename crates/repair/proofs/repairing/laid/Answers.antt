@@ -4,7 +4,7 @@ use Rattle.hierarchy.specs.Shape.{wires_of}
 use Rattle.place.specs.declared.short.Room.{Room}
 use Rattle.place.specs.declared.short.Room.TheVariants.{Enough, Lacks}
 use Rattle.place.specs.Choices.{AreWires}
-use Rattle.place.specs.Laying.{IsRoom}
+use Rattle.place.specs.Layouts.{IsRoom}
 use Rattle.place.specs.Room.{HasTerminal}
 use Rattle.crossbar_route.specs.Routed.{AreWiresOf}
 use Rattle.crossbar_route.proofs.Making.{numbering}
