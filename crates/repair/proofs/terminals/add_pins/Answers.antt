@@ -7,6 +7,28 @@ use Rattle.repair.specs.Making.{IsAdded, IsFirstPinTerminal, IsMovedTo}
 use Rattle.repair.proofs.Adding.{added_none, no_pins, pins_more, pins_all}
 use Rattle.repair.proofs.terminals.add_pins.Goals as goal
 
+pub index-to-requires : goal.index-to-requires
+index-to-requires c =
+    let pin : ℕ = get_or c.args.pins.now c.loop-i.i 0 in
+    let sized : length c.args.plan.now.pins.items ≡ pins_of c.args.config.now.config.shape = c.requires.plan.pins_sized in
+    let within : pin < pins_of c.args.config.now.config.shape = c.requires.within c.loop-i.i 0 c.loop-i-test.true in
+    omega (arith, sized, within)
+
+pub pin-requires : goal.pin-requires
+pin-requires c = subst (λ (m : Shape). get_or c.args.pins.now c.loop-i.i 0 < pins_of m) (sym c.shape-shape.ensures.shape) (c.requires.within c.loop-i.i 0 c.loop-i-test.true)
+
+pub pin-requires-2 : goal.pin-requires-2
+pin-requires-2 c =
+    let p = c.args.plan.now in
+    let pin : ℕ = get_or c.args.pins.now c.loop-i.i 0 in
+    let here : pin < pins_of c.args.config.now.config.shape = c.requires.within c.loop-i.i 0 c.loop-i-test.true in
+    let within : pin < length p.pins.items = subst (λ n. pin < n) (sym c.requires.plan.pins_sized) here in
+    let place : c.index-to.result.now ≡ nth_of p.pins.items pin = get_or_read p.pins.items _ _ within c.index-to.ensures 0 in
+    subst (λ n. n < pins_of c.shape-shape.result) (sym place) (subst (λ (m : Shape). nth_of p.pins.items pin < pins_of m) (sym c.shape-shape.ensures.shape) (c.requires.plan.pins_within pin here))
+
+pub add_moved-requires-clause-within : goal.add_moved-requires-clause-within
+add_moved-requires-clause-within c = subst (λ (m : Shape). c.pin.result.0 < wires_of m) c.shape-shape.ensures.shape c.pin.ensures.within
+
 pub add_moved-requires-clause-sized : goal.add_moved-requires-clause-sized
 add_moved-requires-clause-sized c = c.loop-i.invariant.sized ∙ c.requires.sized
 

@@ -5,6 +5,12 @@ use Rattle.repair.specs.Making.{IsAdded, IsTablePinTerminal, IsMovedTo}
 use Rattle.repair.proofs.Adding.{added_none, no_table_pins, table_pins_more}
 use Rattle.repair.proofs.terminals.add_table.Goals as goal
 
+pub pin_of-requires-clause-table : goal.pin_of-requires-clause-table
+pin_of-requires-clause-table c = subst (λ (m : Shape). c.args.table.0 < tables_of m) (sym c.shape-shape.ensures.shape) c.requires.table
+
+pub pin_of-requires-2-clause-table : goal.pin_of-requires-2-clause-table
+pin_of-requires-2-clause-table c = subst (λ (m : Shape). c.args.place.0 < tables_of m) (sym c.shape-shape.ensures.shape) c.requires.place
+
 pub add_moved-requires-clause-sized : goal.add_moved-requires-clause-sized
 add_moved-requires-clause-sized c = c.loop-j.invariant.sized ∙ c.requires.sized
 
