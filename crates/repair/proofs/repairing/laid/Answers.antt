@@ -88,7 +88,7 @@ redraw-requires-clause-nets c =
     let d = c.args.defects.now.list in
     let laws = numbering c.the_numbering_is_sound.ensures.numbered c.the_numbering_is_sound.ensures.tree c.the_numbering_is_sound.ensures.parents c.the_numbering_is_sound.ensures.meanings c.the_crosspoints_are_sound.ensures.taps c.the_crosspoints_are_sound.ensures.crosses c.ports_and_lines_ascend.ensures m in
     let few : wires_of m ≤ 16384 = subst (λ n. n ≤ 16384) (c.wires-wires.ensures.wires ∙ ap wires_of (c.shape.ensures.shape ∙ c.requires.shape)) c.wires-wires.ensures.few in
-    subst (λ (xs : List (List ℕ)). length xs < 4294967296) (sym c.deref-2.ensures.value)
+    subst (λ (xs : List (List ℕ)). length xs < 4294967296) (sym c.deref-in-Enough.ensures.value)
     (lists_few d i c.config-config.ensures.right laws (c.the_tests_are_right.ensures.tables m d) c.args.seats.now c.requires.seats c.in_ok-plan.plan c.in_ok-plan.ensures c.requires.tables c.requires.pins c.in_ok-terminals.terminals.items c.in_ok-terminals.ensures c.in_ok-rest.rest c.in_ok-rest.ensures few)
 
 pub redraw-requires-clause-wires : goal.redraw-requires-clause-wires
@@ -103,11 +103,11 @@ redraw-requires-clause-wires c =
         room_as c.in_ok-rest.rest.shape m c.in_ok-rest.rest.list c.deref.result.now lists c.need_of.result (need_of s.tables) c.need_of-2.result (need_of s.pins) c.in_ok-room.room c.in_ok-rest.ensures.shape c.deref.ensures.value c.need_of.ensures c.need_of-2.ensures c.in_ok-room.ensures in
     let enough : IsRoom m c.in_ok-rest.rest.list (length lists) (HasTerminal lists) (need_of s.tables) (need_of s.pins) (Enough c.in-Enough.ports c.in-Enough.visits) =
         subst (IsRoom m c.in_ok-rest.rest.list (length lists) (HasTerminal lists) (need_of s.tables) (need_of s.pins)) c.in-Enough.is room in
-    wires_as m c.in_ok-terminals.terminals.items c.deref-2.result.now c.in-Enough.ports.items c.deref-3.result.now c.in-Enough.visits.items c.deref-4.result.now (sym c.deref-2.ensures.value) (sym c.deref-3.ensures.value) (sym c.deref-4.ensures.value)
+    wires_as m c.in_ok-terminals.terminals.items c.deref-in-Enough.result.now c.in-Enough.ports.items c.deref-in-Enough-2.result.now c.in-Enough.visits.items c.deref-in-Enough-3.result.now (sym c.deref-in-Enough.ensures.value) (sym c.deref-in-Enough-2.ensures.value) (sym c.deref-in-Enough-3.ensures.value)
     (redraw_wires d i c.config-config.ensures.right laws (c.the_tests_are_right.ensures.tables m d) s c.requires.seats c.in_ok-plan.plan c.in_ok-plan.ensures c.requires.tables c.requires.pins lists c.in_ok-terminals.ensures c.in_ok-rest.rest c.in_ok-rest.ensures c.in-Enough.ports.items c.in-Enough.visits.items enough.0 enough.1 enough.2)
 
-pub returns-in-Enough : goal.returns-in-Enough
-returns-in-Enough c =
+pub returns : goal.returns
+returns c =
     let i = c.args.image.now in
     let m = i.config.shape in
     let d = c.args.defects.now.list in
@@ -123,7 +123,7 @@ returns-in-Enough c =
     let enough : IsRoom m c.in_ok-rest.rest.list (length lists) (HasTerminal lists) (need_of s.tables) (need_of s.pins) (Enough c.in-Enough.ports c.in-Enough.visits) =
         subst (IsRoom m c.in_ok-rest.rest.list (length lists) (HasTerminal lists) (need_of s.tables) (need_of s.pins)) c.in-Enough.is room in
     let drawn : IsRedrawn i p lists ports visits c.in_ok-repaired.repaired =
-        redrawn_as i p c.deref-2.result.now lists c.deref-3.result.now ports c.deref-4.result.now visits c.in_ok-repaired.repaired c.deref-2.ensures.value c.deref-3.ensures.value c.deref-4.ensures.value c.in_ok-repaired.ensures in
+        redrawn_as i p c.deref-in-Enough.result.now lists c.deref-in-Enough-2.result.now ports c.deref-in-Enough-3.result.now visits c.in_ok-repaired.repaired c.deref-in-Enough.ensures.value c.deref-in-Enough-2.ensures.value c.deref-in-Enough-3.ensures.value c.in_ok-repaired.ensures in
     record {
       repair = repaired d i c.config-config.ensures.right laws tests s c.requires.seats p c.in_ok-plan.ensures c.requires.tables c.requires.pins lists c.in_ok-terminals.ensures c.in_ok-rest.rest c.in_ok-rest.ensures ports visits enough.0 enough.1 enough.2 c.in_ok-repaired.repaired drawn;
       free = repaired_free d i c.config-config.ensures.right laws tests s c.requires.seats p c.in_ok-plan.ensures c.requires.tables c.requires.pins lists c.in_ok-terminals.ensures c.in_ok-rest.rest c.in_ok-rest.ensures ports visits enough.0 enough.1 enough.2 c.in_ok-repaired.repaired drawn;

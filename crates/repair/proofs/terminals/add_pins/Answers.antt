@@ -17,8 +17,8 @@ index-to-requires c =
 pub pin-requires : goal.pin-requires
 pin-requires c = subst (λ (m : Shape). get_or c.args.pins.now c.loop-i.i 0 < pins_of m) (sym c.shape-shape.ensures.shape) (c.requires.within c.loop-i.i 0 c.loop-i-test.true)
 
-pub pin-requires-2 : goal.pin-requires-2
-pin-requires-2 c =
+pub pin-requires-in-loop-i : goal.pin-requires-in-loop-i
+pin-requires-in-loop-i c =
     let p = c.args.plan.now in
     let pin : ℕ = get_or c.args.pins.now c.loop-i.i 0 in
     let here : pin < pins_of c.args.config.now.config.shape = c.requires.within c.loop-i.i 0 c.loop-i-test.true in
@@ -43,7 +43,7 @@ loop-i-preserved c =
     let within : pin < length p.pins.items = subst (λ n. pin < n) (sym c.requires.plan.pins_sized) (c.requires.within c.loop-i.i 0 c.loop-i-test.true) in
     let place : c.index-to.result.now ≡ nth_of p.pins.items pin = get_or_read p.pins.items _ _ within c.index-to.ensures 0 in
     let from : c.pin.result.0 ≡ pin_wire g.shape pin = c.pin.ensures.wire ∙ ap (λ (m : Shape). pin_wire m pin) c.shape-shape.ensures.shape in
-    let to : c.pin-2.result.0 ≡ pin_wire g.shape (nth_of p.pins.items pin) = c.pin-2.ensures.wire ∙ ap (pin_wire c.shape-shape.result) place ∙ ap (λ (m : Shape). pin_wire m (nth_of p.pins.items pin)) c.shape-shape.ensures.shape in
+    let to : c.pin-in-loop-i.result.0 ≡ pin_wire g.shape (nth_of p.pins.items pin) = c.pin-in-loop-i.ensures.wire ∙ ap (pin_wire c.shape-shape.result) place ∙ ap (λ (m : Shape). pin_wire m (nth_of p.pins.items pin)) c.shape-shape.ensures.shape in
     pins_more g p c.args.pins.now c.loop-i.i c.args.lists.now c.loop-i.lists c.add_moved.new.lists c.loop-i.invariant
     (subst (λ w. IsAdded (IsMovedTo g p w (pin_wire g.shape (nth_of p.pins.items pin))) c.loop-i.lists c.add_moved.new.lists) from
     (subst (λ w. IsAdded (IsMovedTo g p c.pin.result.0 w) c.loop-i.lists c.add_moved.new.lists) to c.in_ok-add_moved.ensures))
