@@ -1,8 +1,6 @@
 -- An image has one repair plan for a list of defects.
-use Rattle.std.proofs.Common.{◌≡◌, ◌⊎◌, ℕ, ◌<◌, ◌≤◌, Bool, true, false, List, ◌++◌, length, get_or, refl, sym, ap, ◌∙◌, subst, inl, inr, arith}
-use Rattle.std.specs.Prelude.{◌↔◌}
+use Rattle.std.proofs.Common.{◌≡◌, ℕ, ◌<◌, Bool, true, false, List, length, get_or, refl, sym, ◌∙◌, subst, arith}
 use Rattle.std.specs.Cmp.{nat_cmp_total}
-use Rattle.std.specs.Ordering.{nat_cmp}
 use Rattle.std.specs.FinSet as set
 use Rattle.std.specs.FinSet.{same_set, nat_cmp-IsAntisymmetric}
 use Rattle.std.proofs.lemmas.Bool.{false≢true}
@@ -18,10 +16,9 @@ use Rattle.place.specs.declared.short.Short.{Short}
 use Rattle.place.specs.Room.{HasTerminal, IsFirstShort, IsMet, IsUnmet, IsShortOf, Suffices}
 use Rattle.place.proofs.Those.{those_unique}
 use Rattle.place.proofs.Transfer.{first_on}
-use Rattle.repair.specs.declared.seats.Moves.{Moves}
 use Rattle.repair.specs.declared.seats.Seats.{Seats}
-use Rattle.repair.specs.Nets.{HasWire, IsLowest, IsKept}
-use Rattle.repair.specs.Plans.{AreSeats, AreNets, AreMoves, IsRest, IsTerminal, IsMoving, IsStaying, IsKeptWire, IsGoneTable, IsSpareTable, IsSparePin, HasRoom, IsShortPlan, IsFirstShortBy, IsShortHere, Nets, need_of}
+use Rattle.repair.specs.Nets.{HasWire, IsLowest}
+use Rattle.repair.specs.Plans.{AreSeats, AreNets, AreMoves, IsTerminal, IsKeptWire, IsGoneTable, IsSpareTable, IsSparePin, HasRoom, IsShortPlan, IsFirstShortBy, IsShortHere, Nets, need_of}
 
 pub seats_unique : (d : Defects) (i : ImageValue) (s r : Seats) → AreSeats d i s → AreSeats d i r → s ≡ r
 seats_unique d i s r a b = λ z. record {

@@ -1,8 +1,7 @@
 -- The nets of a configuration, by the lowest wires of its groups.
-use Rattle.std.proofs.Common.{◌≡◌, ◌≢◌, ◌⊎◌, ℕ, ◌<◌, ◌≤◌, Bool, true, false, List, length, get_or, refl, sym, ap, ◌∙◌, subst, inl, inr, arith}
+use Rattle.std.proofs.Common.{◌≡◌, ◌≢◌, ◌⊎◌, ℕ, ◌<◌, ◌≤◌, true, false, List, length, get_or, refl, sym, ap, ◌∙◌, subst, inl, inr, arith}
 use Rattle.std.specs.List.{All, Contains}
-use Rattle.std.proofs.lemmas.Bool.{cases_eq}
-use Rattle.hierarchy.specs.Shape.{Ends, in_order, turned, ends_of, wires_of, crosses_of}
+use Rattle.hierarchy.specs.Shape.{Ends, in_order, turned, ends_of, wires_of}
 use Rattle.hierarchy.specs.Laws.{IsNumbered}
 use Rattle.hierarchy.specs.Joined.{here, then, crossed, bridged}
 use Rattle.hierarchy.proofs.JoinedLemmas.{Joined-trans, Joined-sym}
@@ -10,13 +9,12 @@ use Rattle.std.proofs.lemmas.Bool.{false≢true}
 use Rattle.std.proofs.lemmas.List.{get_or_default}
 use Rattle.config_set.specs.Configuration.{Configuration, IsConfiguration, is_closed}
 use Rattle.config_image.proofs.FreeWires.{keeps}
-use Rattle.place.specs.Lists.{AreThose, IsNth, nth_of}
+use Rattle.place.specs.Lists.{AreThose, nth_of}
 use Rattle.place.proofs.PlanNets.{few_below}
 use Rattle.place.proofs.Those.{same_place}
 use Rattle.repair.specs.Groups.{parent_at, AreLowest}
-use Rattle.repair.specs.Marks.{AreMarks, HasMark}
 use Rattle.repair.specs.Nets.{HangTogether, IsEnd, as_tap, as_line, IsLowest, HasWire, AreNumbered}
-use Rattle.repair.specs.Making.{AreNetsOf, AreNumbers}
+use Rattle.repair.specs.Making.{AreNetsOf}
 use Rattle.repair.specs.declared.nets.NetList.{NetList}
 
 -- a walk that leads elsewhere ends at a closed crosspoint

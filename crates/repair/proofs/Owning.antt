@@ -1,18 +1,16 @@
 -- A repaired image: which net has which wire, and that pins and tables hang together as before.
-use Rattle.std.proofs.Common.{◌≡◌, ◌≢◌, ◌⊎◌, ℕ, ◌<◌, ◌≤◌, Bool, true, false, Option, Some, None, List, ◌++◌, length, get_or, refl, sym, ap, ◌∙◌, subst, inl, inr, arith}
+use Rattle.std.proofs.Common.{◌≡◌, ◌≢◌, ◌⊎◌, ℕ, ◌<◌, Bool, true, false, List, ◌++◌, length, get_or, refl, sym, ap, ◌∙◌, subst, inl, inr}
 use Rattle.std.specs.Prelude.{IsSome}
 use Rattle.std.specs.List.{All, Contains}
 use Rattle.std.specs.FinSet as set
-use Rattle.std.proofs.lemmas.Bool.{false≢true, cases_Bool, cases_lt}
-use Rattle.std.proofs.lemmas.List.{get_or_past}
+use Rattle.std.proofs.lemmas.Bool.{false≢true, cases_Bool}
 use Rattle.std.proofs.lemmas.List.Elements.{All-contains}
 use Rattle.hierarchy.specs.declared.Shape.{Shape}
-use Rattle.hierarchy.specs.Shape.{Ends, in_order, turned, ends_of, wires_of, crosses_of, nodes_of, tables_of, pins_of, pin_wire, table_wire, node_of, hextant_of, IsLine, IsPort, IsTap, tap_pin, tap_table}
+use Rattle.hierarchy.specs.Shape.{Ends, in_order, turned, ends_of, wires_of, nodes_of, tables_of, pins_of, pin_wire, table_wire, node_of, IsLine, IsPort, IsTap, tap_pin, tap_table}
 use Rattle.hierarchy.specs.Joined.{Joined, here, then, crossed, bridged, plain_net}
 use Rattle.hierarchy.proofs.JoinedLemmas.{Joined-trans, Joined-sym}
-use Rattle.hierarchy.specs.Defects.{Defects, IsFreeWire, IsFreeCross, IsFreeTable}
-use Rattle.config_set.specs.declared.Setting.{Setting}
-use Rattle.config_set.specs.Configuration.{Configuration, IsConfiguration, is_closed, setting_of}
+use Rattle.hierarchy.specs.Defects.{Defects, IsFreeWire, IsFreeCross}
+use Rattle.config_set.specs.Configuration.{Configuration, is_closed, setting_of}
 use Rattle.config_image.specs.Images.{ImageValue, IsImage}
 use Rattle.config_image.specs.Parts.{Uses, at_tap, at_line}
 use Rattle.config_image.proofs.FreeWires.{keeps}
@@ -20,9 +18,7 @@ use Rattle.place.specs.declared.short.Port.{Port}
 use Rattle.place.specs.declared.short.Visit.{Visit}
 use Rattle.place.specs.Choices.{AreWires}
 use Rattle.place.specs.Layouts.{AreHeld, AreVisits}
-use Rattle.place.specs.Lists.{nth_of}
-use Rattle.place.specs.Plans.{IsFreePin}
-use Rattle.place.specs.Room.{HasTerminal, CrossesAt, HasPort}
+use Rattle.place.specs.Room.{HasTerminal}
 use Rattle.place.specs.Strands.{Crosses}
 use Rattle.place.proofs.Upward.{up_of}
 use Rattle.crossbar_route.specs.Owners.{HasLine}
@@ -35,7 +31,7 @@ use Rattle.repair.specs.declared.seats.Seats.{Seats}
 use Rattle.repair.specs.Nets.{HangTogether, IsEnd, as_tap, as_line as line_end, HasWire, IsKept}
 use Rattle.repair.specs.Plans.{Nets, AreSeats, AreNets, PinSits, TableSits, IsTerminal, at_pin, at_table, IsMoving, IsStaying, IsKeptWire}
 use Rattle.repair.proofs.Placed.{on_within}
-use Rattle.repair.proofs.Hanging.{has_end, has_within, one_net_has, has_on, hang_in_net, walk_end}
+use Rattle.repair.proofs.Hanging.{has_end, one_net_has, walk_end}
 use Rattle.repair.proofs.Seating.{one_table_place, one_table_owner, one_pin_place, one_pin_owner, table_place_free, pin_place_free, table_stays_or, pin_stays_or, free_table_stays, free_pin_stays}
 
 pub end_used : (i : ImageValue) (w : ℕ) → IsEnd i.config w → Uses i w

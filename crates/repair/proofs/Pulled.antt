@@ -2,14 +2,14 @@
 use Rattle.std.proofs.Common.{◌≡◌, ℕ, ◌+◌, ◌<◌, Bool, true, false, Some, None, Option, List, ◌++◌, length, get_or, refl, sym, ap, ◌∙◌, subst, arith}
 use Rattle.std.specs.Prelude.{IsSome}
 use Rattle.std.proofs.lemmas.Bool.{false≢true}
-use Rattle.std.proofs.lemmas.List.{get_or_append_left, get_or-append-add, length-append}
+use Rattle.std.proofs.lemmas.List.{get_or_append_left, length-append}
 use Rattle.hierarchy.specs.Shape.{pin_wire, table_wire, pins_of, tables_of, crosses_of}
 use Rattle.hierarchy.specs.Laws.{IsNumbered}
 use Rattle.hierarchy.specs.Faults.{Faults}
 use Rattle.hierarchy.specs.Joined.{Joined, plain_net}
 use Rattle.hierarchy.specs.Circuit.{Outputs}
 use Rattle.hierarchy.specs.Value.{Pulls, by_pin, by_table, IsHeld, IsValue, held_0, held_1, pulled, released}
-use Rattle.hierarchy.specs.Defects.{Defects, IsFreeWire, IsFreeCross, Covers}
+use Rattle.hierarchy.specs.Defects.{Defects, IsFreeCross, Covers}
 use Rattle.hierarchy.proofs.Covered.{none_stuck, joined_plainly}
 use Rattle.config_set.specs.declared.Setting.{Setting}
 use Rattle.config_set.specs.Configuration.{Configuration, is_closed, setting_of}

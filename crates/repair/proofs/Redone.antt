@@ -1,16 +1,15 @@
 -- What stays is closed again, and tables are switched on where they stand.
-use Rattle.std.proofs.Common.{◌≡◌, ◌≢◌, ◌⊎◌, ℕ, zero, suc, ◌+◌, ◌<◌, ◌≤◌, Bool, true, false, not, ◌&&◌, Option, Some, None, List, [], ◌∷◌, length, get_or, set, refl, sym, ap, ◌∙◌, subst, inl, inr, arith}
-use Rattle.std.specs.Prelude.{IsSome, is_some, ◌==◌, if◌then◌else◌, count_by}
+use Rattle.std.proofs.Common.{◌≡◌, ◌≢◌, ◌⊎◌, ℕ, ◌+◌, ◌<◌, ◌≤◌, Bool, true, false, not, ◌&&◌, Option, None, List, [], ◌∷◌, length, get_or, set, refl, sym, ap, ◌∙◌, subst, inl, inr, arith}
+use Rattle.std.specs.Prelude.{IsSome, ◌==◌, if◌then◌else◌, count_by}
 use Rattle.std.specs.Cmp.{nat_cmp_total, unsigned_tied}
 use Rattle.std.specs.Ordering.{nat_cmp}
 use Rattle.std.specs.FinSet as sets
 use Rattle.std.specs.FinSet.{len-insert, contains-remove}
-use Rattle.std.proofs.lemmas.Bool.{false≢true, cases_eq}
+use Rattle.std.proofs.lemmas.Bool.{cases_eq}
 use Rattle.std.proofs.lemmas.Bool.Decides.{nat_tests}
 use Rattle.std.proofs.lemmas.List.{get_or-set_same, get_or-set_other, length-set}
 use Rattle.std.proofs.lemmas.List.Sums.{sum_by-cons}
 use Rattle.hierarchy.specs.declared.Cross.{Cross}
-use Rattle.hierarchy.specs.declared.Table.{Table}
 use Rattle.hierarchy.specs.Shape.{ends_of}
 use Rattle.config_set.specs.declared.Setting.{Setting}
 use Rattle.config_set.specs.Configuration.{Configuration, is_closed, setting_of, with_setting}
@@ -19,10 +18,9 @@ use Rattle.crossbar_route.specs.Closing.{Closes}
 use Rattle.crossbar_route.proofs.Joining.{closes_then, closes_same}
 use Rattle.place.specs.Lists.{nth_of}
 use Rattle.repair.specs.declared.plan.Plan.{Plan}
-use Rattle.repair.specs.Making.{HasStayingWire, IsKeptCross, IsKeptCrossOf, AreSeated, IsOn, IsTable, no_cross, no_table}
+use Rattle.repair.specs.Making.{HasStayingWire, IsKeptCross, IsKeptCrossOf, AreSeated, no_cross}
 use Rattle.repair.specs.Marks.{IsOfFirst}
-use Rattle.repair.proofs.Marking.{first_more, first_before, first_last, first_all, all_first, of_list, listed}
-use Rattle.repair.proofs.Using.{on_is, is_on}
+use Rattle.repair.proofs.Marking.{first_more, first_before, first_last, of_list, listed}
 
 -- ---- how many are closed
 

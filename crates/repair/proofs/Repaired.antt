@@ -1,23 +1,20 @@
 -- The steps of a repair together.
-use Rattle.std.proofs.Common.{◌≡◌, ◌≢◌, ◌⊎◌, ℕ, zero, suc, ◌+◌, ◌<◌, ◌≤◌, Bool, true, false, Option, Some, None, List, [], ◌∷◌, ◌++◌, length, get_or, map, replicate, refl, sym, ap, ◌∙◌, subst, inl, inr, arith}
+use Rattle.std.proofs.Common.{◌≡◌, ◌≢◌, ◌⊎◌, ℕ, zero, suc, ◌+◌, ◌<◌, ◌≤◌, true, Option, None, List, [], ◌++◌, length, get_or, map, replicate, refl, sym, ap, ◌∙◌, subst, inl, inr, arith}
 use Rattle.std.specs.Prelude.{IsSome, ◌↔◌}
-use Rattle.std.specs.List.{All, AllPairs, Contains}
+use Rattle.std.specs.List.{All, Contains}
 use Rattle.std.specs.FinSet as set
 use Rattle.std.proofs.lemmas.List.{get_or-map, get_or_default, length-map, map-append}
 use Rattle.std.proofs.lemmas.List.Elements.{All-contains, Contains-get_or, Contains-append_left, Contains-append_right}
 use Rattle.hierarchy.specs.declared.Shape.{Shape}
-use Rattle.hierarchy.specs.Shape.{ends_of, wires_of, crosses_of, nodes_of, tables_of, pins_of, pin_wire, table_wire, IsPort}
+use Rattle.hierarchy.specs.Shape.{ends_of, wires_of, nodes_of, tables_of, pins_of, pin_wire, table_wire}
 use Rattle.hierarchy.specs.Joined.{Joined, plain_net}
 use Rattle.hierarchy.specs.Laws.{IsNumbered}
-use Rattle.hierarchy.specs.Faults.{Faults, IsFaultless}
-use Rattle.hierarchy.specs.Circuit.{Pins}
 use Rattle.hierarchy.specs.Defects.{Defects, IsFreeWire, IsFreeCross, IsFreeTable, Covers}
 use Rattle.hierarchy.proofs.Faultless.{covers_none}
 use Rattle.defect_db.specs.Lists.{DefectList, is_free_table, no_defects}
 use Rattle.config_set.specs.declared.Setting.{Setting}
 use Rattle.config_set.specs.Configuration.{Configuration, is_closed, setting_of, cleared, with_ticks}
-use Rattle.config_set.specs.Faulty.{IsRun}
-use Rattle.config_image.specs.Images.{ImageValue, IsImage, drive_of, image_row}
+use Rattle.config_image.specs.Images.{ImageValue, IsImage}
 use Rattle.config_image.specs.Parts.{IsFreeImage}
 use Rattle.place.specs.declared.short.Need.{Need}
 use Rattle.place.specs.declared.short.Port.{Port}
@@ -29,18 +26,17 @@ use Rattle.place.specs.Choices.{AreWires}
 use Rattle.place.specs.declared.short.Room.{Room}
 use Rattle.place.specs.Layouts.{AreHeld, AreVisits, IsRoom}
 use Rattle.place.specs.Lists.{nth_of}
-use Rattle.place.specs.Plans.{IsFreePin}
-use Rattle.place.specs.Room.{HasTerminal, CrossesAt, HasPort, Suffices, IsShortOf, IsFirstShort, IsMet}
-use Rattle.crossbar_route.specs.Routed.{AreWiresOf, HasPortIn}
+use Rattle.place.specs.Room.{HasTerminal, CrossesAt, Suffices, IsShortOf, IsFirstShort, IsMet}
+use Rattle.crossbar_route.specs.Routed.{AreWiresOf}
 use Rattle.crossbar_route.proofs.Drawn.{Numbering, held}
 use Rattle.crossbar_route.proofs.Ported.{same_port}
 use Rattle.repair.specs.declared.plan.Plan.{Plan}
 use Rattle.repair.specs.declared.seats.Seats.{Seats}
-use Rattle.repair.specs.Nets.{HangTogether, HasWire}
-use Rattle.repair.specs.Plans.{Nets, AreSeats, AreNets, IsRest, PinSits, TableSits, at_pin, at_table, IsTerminal, IsMoving, IsStaying, IsKeptWire, HasRoom, need_of, IsFirstShortBy, IsShortPlan}
-use Rattle.repair.specs.Repairs.{HasSameRows, ArePinsAt, IsTableAt, IsOfTable, IsPortAt, IsRepair}
-use Rattle.repair.specs.Making.{IsPlanOf, AreTerminalsOf, IsPinTerminal, IsTableTerminal, IsRestOf, HasStayingWire, IsKeptCross, IsDrawn, IsRedrawn, AreSizedFor, AreApart, ArePinsApart, ArePlaces}
-use Rattle.repair.proofs.Alike.{IsFreeUnder, Moved, pin_at, table_at, Correspond, run_alike}
+use Rattle.repair.specs.Nets.{HangTogether}
+use Rattle.repair.specs.Plans.{Nets, AreSeats, AreNets, PinSits, TableSits, at_pin, at_table, IsTerminal, IsMoving, IsKeptWire, HasRoom, need_of, IsFirstShortBy, IsShortPlan}
+use Rattle.repair.specs.Repairs.{HasSameRows, ArePinsAt, IsPortAt, IsRepair}
+use Rattle.repair.specs.Making.{IsPlanOf, AreTerminalsOf, IsPinTerminal, IsTableTerminal, IsRestOf, HasStayingWire, IsKeptCross, IsRedrawn, AreSizedFor, AreApart, ArePinsApart}
+use Rattle.repair.proofs.Alike.{Moved, pin_at, table_at, Correspond, run_alike}
 use Rattle.repair.proofs.Hanging.{are_numbered}
 use Rattle.repair.proofs.Placed.{on_within}
 use Rattle.repair.proofs.Owning.{Spot, pin_spot, table_spot, drawn_by, draw_wires, hang_on, hung_before, crossing_within, port_joined, port_only, closed_free}

@@ -1,12 +1,11 @@
 -- What a list of defects and the nets that stay leave free, listed one after the other.
-use Rattle.std.proofs.Common.{◌≡◌, ◌≢◌, ◌⊎◌, ℕ, ◌+◌, ◌<◌, Bool, true, false, not, ◌&&◌, ◌||◌, List, length, refl, sym, ap, ◌∙◌, subst, inl, inr, arith}
-use Rattle.std.specs.Prelude.{◌↔◌, ◌==◌, if◌then◌else◌}
+use Rattle.std.proofs.Common.{◌≡◌, ◌≢◌, ◌⊎◌, ℕ, ◌+◌, ◌<◌, Bool, true, false, not, ◌&&◌, ◌||◌, refl, sym, ap, ◌∙◌, subst, inl, inr, arith}
+use Rattle.std.specs.Prelude.{◌↔◌, if◌then◌else◌}
 use Rattle.std.specs.Cmp.{nat_cmp_total, unsigned_tied}
 use Rattle.std.specs.Ordering.{nat_cmp, eq_by_cmp}
 use Rattle.std.specs.FinSet as set
 use Rattle.std.specs.FinSet.{contains-insert, contains-empty, same_set, nat_cmp-IsAntisymmetric}
-use Rattle.std.proofs.lemmas.Bool.{false≢true, cases_eq, cases_Bool, or_cases, eq-eqb}
-use Rattle.hierarchy.specs.declared.Shape.{Shape}
+use Rattle.std.proofs.lemmas.Bool.{false≢true, cases_eq, or_cases, eq-eqb}
 use Rattle.hierarchy.specs.Shape.{ends_of, wires_of, crosses_of}
 use Rattle.hierarchy.specs.Laws.{IsNumbered}
 use Rattle.hierarchy.specs.Defects.{Defects, AreDefectsOf, IsFreeWire, IsFreeCross}
@@ -14,7 +13,6 @@ use Rattle.defect_db.specs.Lists.{DefectList, IsWithWire, no_defects, is_free_wi
 use Rattle.config_set.specs.Configuration.{Configuration, IsConfiguration}
 use Rattle.config_set.proofs.Changes.{same_number}
 use Rattle.repair.specs.declared.plan.Plan.{Plan}
-use Rattle.repair.specs.Nets.{HasWire}
 use Rattle.repair.specs.Making.{AreNetsOf, HasStayingWire, IsTaken, IsWireRest, IsCrossRest, IsRestOf}
 use Rattle.repair.proofs.Hanging.{has_within}
 

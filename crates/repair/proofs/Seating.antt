@@ -9,18 +9,18 @@ use Rattle.std.proofs.lemmas.List.Elements.{All-filter, filter_passes}
 use Rattle.std.proofs.lemmas.List.Kept.{AllPairs-filter}
 use Rattle.hierarchy.specs.declared.Shape.{Shape}
 use Rattle.hierarchy.specs.Shape.{pin_wire, table_wire, pins_of, tables_of}
-use Rattle.hierarchy.specs.Defects.{Defects, IsFreeWire, IsFreeTable}
+use Rattle.hierarchy.specs.Defects.{Defects, IsFreeTable}
 use Rattle.defect_db.specs.Lists.{is_free_table}
 use Rattle.config_set.specs.declared.Setting.{Setting}
 use Rattle.config_set.specs.Configuration.{setting_of}
 use Rattle.config_image.specs.Images.{ImageValue, IsImage}
 use Rattle.config_image.specs.Parts.{Uses, at_pin}
-use Rattle.place.specs.Lists.{AreThose, IsNth, nth_of}
+use Rattle.place.specs.Lists.{nth_of}
 use Rattle.place.specs.Plans.{IsFreePin}
 use Rattle.place.proofs.Those.{same_place}
 use Rattle.repair.specs.declared.seats.Moves.{Moves}
 use Rattle.repair.specs.declared.seats.Seats.{Seats}
-use Rattle.repair.specs.Plans.{IsSpareTable, IsSparePin, IsGoneTable, is_gone_pin, AreSeats, SitsAt, stays, goes, TableSits, PinSits}
+use Rattle.repair.specs.Plans.{is_gone_pin, AreSeats, SitsAt, stays, goes, TableSits, PinSits}
 use Rattle.repair.specs.Making.{ArePlaces}
 use Rattle.repair.proofs.Placed.{on_within}
 

@@ -1,22 +1,20 @@
 -- Which nets are kept: those without a closed crosspoint and a table that isn't free.
-use Rattle.std.proofs.Common.{◌≡◌, ◌≢◌, ◌⊎◌, ℕ, ◌+◌, ◌<◌, ◌≤◌, Bool, true, false, Option, List, ◌++◌, length, get_or, refl, sym, ap, ◌∙◌, subst, inl, inr, arith}
+use Rattle.std.proofs.Common.{◌≡◌, ◌≢◌, ◌⊎◌, ℕ, ◌+◌, ◌<◌, ◌≤◌, Bool, true, false, List, length, get_or, refl, sym, ◌∙◌, subst, inl, inr, arith}
 use Rattle.std.specs.Prelude.{IsSome, is_some, ◌↔◌, ◌==◌, if◌then◌else◌, count_by}
-use Rattle.std.specs.List.{Contains}
-use Rattle.std.proofs.lemmas.Bool.{false≢true, cases_eq, cases_Bool}
+use Rattle.std.proofs.lemmas.Bool.{false≢true, cases_eq}
 use Rattle.hierarchy.specs.declared.Cross.{Cross}
 use Rattle.hierarchy.specs.declared.Table.{Table}
 use Rattle.hierarchy.specs.Shape.{ends_of, table_wire, pin_wire}
 use Rattle.hierarchy.specs.Laws.{IsNumbered}
-use Rattle.hierarchy.specs.declared.Shape.{Shape}
 use Rattle.hierarchy.specs.Defects.{Defects, IsFreeWire, IsFreeCross, IsFreeTable}
 use Rattle.defect_db.specs.Lists.{is_free_cross, is_free_table}
-use Rattle.config_set.specs.Configuration.{Configuration, IsConfiguration, is_closed, setting_of}
+use Rattle.config_set.specs.Configuration.{Configuration, is_closed, setting_of}
 use Rattle.config_image.specs.Images.{ImageValue, IsImage}
 use Rattle.place.specs.Lists.{AreThose}
 use Rattle.repair.specs.Nets.{IsEnd, as_tap, as_line, IsLowest, HasWire, IsKept}
 use Rattle.repair.specs.Plans.{AreMoves}
 use Rattle.repair.specs.Making.{IsUnfreeCross, IsUnfreeCrossOf, IsUnfreeTable, IsBrokenBy, IsBrokenHere, IsBroken, no_cross, no_table}
-use Rattle.repair.specs.Marks.{AreMarks, HasMark, IsMarked, IsOfFirst}
+use Rattle.repair.specs.Marks.{AreMarks, IsMarked, IsOfFirst}
 use Rattle.repair.proofs.Hanging.{has_end, line_to_tap}
 use Rattle.repair.proofs.Marking.{marked_same, marked_then, first_all, all_first}
 use Rattle.repair.proofs.Using.{on_is, is_on}

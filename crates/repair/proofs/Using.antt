@@ -1,14 +1,13 @@
 -- Which wires are used, by lists of what uses them.
-use Rattle.std.proofs.Common.{◌≡◌, ◌≢◌, ◌⊎◌, ℕ, ◌+◌, ◌<◌, ◌≤◌, Bool, true, false, Some, None, Option, List, ◌++◌, length, get_or, refl, sym, ap, ◌∙◌, subst, inl, inr, arith}
+use Rattle.std.proofs.Common.{◌≡◌, ◌≢◌, ◌⊎◌, ℕ, ◌+◌, ◌≤◌, Bool, true, false, Some, None, Option, List, ◌++◌, length, get_or, refl, sym, ap, ◌∙◌, subst, inl, inr, arith}
 use Rattle.std.specs.Prelude.{IsSome, is_some, ◌==◌, if◌then◌else◌, count_by}
-use Rattle.std.specs.List.{Contains}
 use Rattle.std.proofs.lemmas.Bool.{cases_eq, false≢true}
 use Rattle.std.proofs.lemmas.List.{get_or_default}
 use Rattle.std.proofs.lemmas.List.Elements.{Contains-get_or, Contains-append_left, Contains-append_right, Contains-append_cases}
 use Rattle.hierarchy.specs.declared.Cross.{Cross}
 use Rattle.hierarchy.specs.declared.Shape.{Shape}
 use Rattle.hierarchy.specs.declared.Table.{Table}
-use Rattle.hierarchy.specs.Shape.{ends_of, pin_wire, table_wire, wires_of}
+use Rattle.hierarchy.specs.Shape.{pin_wire, table_wire, wires_of}
 use Rattle.config_set.specs.declared.Setting.{Setting}
 use Rattle.config_set.specs.Configuration.{Configuration, is_closed, setting_of}
 use Rattle.config_image.specs.Images.{ImageValue}

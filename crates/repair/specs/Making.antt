@@ -211,7 +211,8 @@ abbrev pub IsOn : Configuration → ℕ → Type 0
 IsOn g t = IsSome (setting_of g t)
 
 -- nets that move are joined, what stays is closed besides, and the tables are on
-pub record IsDrawn (g : Configuration) (p : Plan) (nets : List (List ℕ)) (ports : List Port) (visits : List Visit) (new : Configuration) : Type 0 where
+pub record IsDrawn (g : Configuration) (p : Plan) (nets : List (List ℕ)) (ports : List Port) (visits : List Visit)
+    (new : Configuration) : Type 0 where
   pub moved : Configuration
   pub joined : IsJoined g.shape nets ports visits moved
   pub closed : Configuration
@@ -221,7 +222,8 @@ pub record IsDrawn (g : Configuration) (p : Plan) (nets : List (List ℕ)) (port
   pub whole : new ≡ with_ticks seated g.ticks
 
 -- the image has that configuration, and its pins stand where the plan says
-pub record IsRedrawn (i : ImageValue) (p : Plan) (nets : List (List ℕ)) (ports : List Port) (visits : List Visit) (new : ImageValue) : Type 0 where
+pub record IsRedrawn (i : ImageValue) (p : Plan) (nets : List (List ℕ)) (ports : List Port) (visits : List Visit)
+    (new : ImageValue) : Type 0 where
   pub right : IsImage new
   pub drawn : IsDrawn i.config p nets ports visits new.config
   pub inputs : new.inputs ≡ map (nth_of p.pins.items) i.inputs

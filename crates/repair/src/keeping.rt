@@ -1,6 +1,6 @@
 //! Which nets are kept.
-ghost use Rattle.std.specs.Prelude.{◌≡◌, ◌<◌, ℕ, IfOk, All, length};
-ghost use Rattle.hierarchy.specs.Shape.{wires_of, crosses_of, tables_of, table_wire};
+ghost use Rattle.std.specs.Prelude.{◌≡◌, ◌<◌, IfOk, length};
+ghost use Rattle.hierarchy.specs.Shape.{wires_of, crosses_of, tables_of};
 ghost use Rattle.repair.specs.Marks.{IsMarked};
 ghost use Rattle.repair.specs.Nets.{HasWire};
 ghost use Rattle.repair.specs.Plans.{AreMoves};

@@ -1,5 +1,5 @@
 //! The plan of a repair: nets, which of them move, and where tables and pins stand.
-ghost use Rattle.std.specs.Prelude.{◌≡◌, ◌<◌, ◌≤◌, IfOk, length};
+ghost use Rattle.std.specs.Prelude.{◌≡◌, ◌<◌, IfOk};
 ghost use Rattle.place.specs.Room.{IsMet};
 ghost use Rattle.repair.specs.Making.{IsPlanOf};
 ghost use Rattle.repair.specs.Plans.{AreSeats, need_of};

@@ -1,7 +1,7 @@
 //! Which tables and pins of an image go, and whither.
-ghost use Rattle.std.specs.Prelude.{◌≡◌, ◌≢◌, ◌<◌, ◌≤◌, ◌↔◌, ◌++◌, ℕ, IfOk, OnOk, All, AllPairs, IsTrue, length, map};
+ghost use Rattle.std.specs.Prelude.{◌≡◌, ◌≢◌, ◌<◌, ◌≤◌, ◌↔◌, ◌++◌, IfOk, OnOk, All, AllPairs, IsTrue, length, map};
 ghost use Rattle.std.specs.List.{filter, range_with_len};
-ghost use Rattle.hierarchy.specs.Shape.{wires_of, tables_of, pins_of, table_wire};
+ghost use Rattle.hierarchy.specs.Shape.{wires_of, tables_of, pins_of};
 ghost use Rattle.config_image.specs.Parts.{Uses};
 ghost use Rattle.place.specs.Lists.{AreThose, nth_of};
 ghost use Rattle.repair.specs.Making.{ArePlaces, IsPut, IsUnusedTo};

@@ -1,5 +1,5 @@
 //! The terminals of the nets that move, where they stand now.
-ghost use Rattle.std.specs.Prelude.{◌≡◌, ◌<◌, ◌++◌, ◌∷◌, ℕ, OnOk, IfOk, All, length, replicate, [], slice_index_or, slice_set};
+ghost use Rattle.std.specs.Prelude.{◌≡◌, ◌<◌, ◌++◌, ◌∷◌, OnOk, IfOk, All, length, replicate, [], slice_index_or, slice_set};
 ghost use Rattle.hierarchy.specs.Shape.{wires_of, pins_of, tables_of};
 ghost use Rattle.repair.specs.Making.{AreSizedFor, AreTerminalsOf, IsAdded, IsMovedTo, IsPinTerminal, IsTablePinTerminal, IsTableTerminal};
 

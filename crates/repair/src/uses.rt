@@ -1,5 +1,5 @@
 //! Which wires an image uses.
-ghost use Rattle.std.specs.Prelude.{◌≡◌, ◌<◌, ℕ, true, IfOk, All, IsSome, length};
+ghost use Rattle.std.specs.Prelude.{◌≡◌, ◌<◌, IfOk, All, length};
 ghost use Rattle.hierarchy.specs.Shape.{wires_of, pins_of, tables_of, crosses_of};
 ghost use Rattle.config_image.specs.Parts.{Uses};
 ghost use Rattle.repair.specs.Marks.{AreMarks, IsMarked};

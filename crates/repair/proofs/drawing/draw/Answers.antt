@@ -1,4 +1,4 @@
-use Rattle.std.proofs.Common.{◌≡◌, ◌≤◌, ℕ, List, sym, ap, ◌∙◌, subst}
+use Rattle.std.proofs.Common.{◌≤◌, sym, ap, ◌∙◌, subst}
 use Rattle.hierarchy.specs.declared.Shape.{Shape}
 use Rattle.config_set.specs.Configuration.{Configuration, with_ticks}
 use Rattle.crossbar_route.specs.Routed.{AreWiresOf, IsJoined}

@@ -1,10 +1,8 @@
-use Rattle.std.proofs.Common.{◌≡◌, ◌<◌, ℕ, Some, None, Option, length, sym, ap, ◌∙◌, subst, arith}
-use Rattle.std.specs.Prelude.{IsSome}
+use Rattle.std.proofs.Common.{◌≡◌, ◌<◌, ℕ, length, sym, ap, ◌∙◌, subst, arith}
 use Rattle.std.proofs.lemmas.List.{get_or_read}
 use Rattle.hierarchy.specs.Shape.{tables_of}
 use Rattle.hierarchy.specs.declared.Shape.{Shape}
-use Rattle.config_set.specs.declared.Setting.{Setting}
-use Rattle.config_set.specs.Configuration.{setting_of, with_setting}
+use Rattle.config_set.specs.Configuration.{with_setting}
 use Rattle.place.specs.Lists.{nth_of}
 use Rattle.repair.proofs.Placed.{some_none}
 use Rattle.repair.proofs.drawing.seat.Goals as goal

@@ -1,8 +1,8 @@
-use Rattle.std.proofs.Common.{◌≡◌, ◌<◌, ◌+◌, ◌⊎◌, ℕ, Some, get_or, length, inl, inr, refl, sym, ap, ◌∙◌, subst, arith}
-use Rattle.std.specs.Prelude.{is_some, IsSome}
+use Rattle.std.proofs.Common.{◌≡◌, ◌<◌, ◌+◌, ℕ, get_or, length, inl, inr, refl, sym, ap, ◌∙◌, subst, arith}
+use Rattle.std.specs.Prelude.{is_some}
 use Rattle.hierarchy.specs.declared.Table.{Table}
 use Rattle.hierarchy.specs.Shape.{tables_of}
-use Rattle.config_set.specs.Configuration.{Configuration, setting_of, with_setting}
+use Rattle.config_set.specs.Configuration.{Configuration, setting_of}
 use Rattle.place.specs.Lists.{nth_of}
 use Rattle.repair.specs.Making.{IsOn, IsTable, no_table}
 use Rattle.repair.specs.Marks.{IsOfFirst}

@@ -4,7 +4,7 @@ use Rattle.std.proofs.lemmas.List.{take_at}
 use Rattle.std.proofs.lemmas.List.FromFn.{length-range_with_len}
 use Rattle.std.proofs.lemmas.Result.{IfOk-weaker}
 use Rattle.hierarchy.specs.Shape.{wires_of}
-use Rattle.repair.specs.Groups.{AreLow, AreLowest, AreRootsOf, IsForest}
+use Rattle.repair.specs.Groups.{AreLow, AreLowest, AreRootsOf}
 use Rattle.repair.proofs.Grouping.{lowest_are}
 use Rattle.repair.proofs.groups.lowest_of.Goals as goal
 

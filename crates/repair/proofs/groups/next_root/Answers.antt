@@ -1,5 +1,4 @@
-use Rattle.std.proofs.Common.{◌≡◌, ◌<◌, ◌+◌, ◌++◌, ◌∷◌, [], ℕ, sym, ◌∙◌, subst, arith}
-use Rattle.repair.specs.Groups.{AreRootsTo, parent_at}
+use Rattle.std.proofs.Common.{arith}
 use Rattle.repair.proofs.Grouping.{root_here, root_above}
 use Rattle.repair.proofs.groups.next_root.Goals as goal
 

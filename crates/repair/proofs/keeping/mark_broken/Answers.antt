@@ -1,4 +1,4 @@
-use Rattle.std.proofs.Common.{◌≡◌, ◌∙◌}
+use Rattle.std.proofs.Common.{◌∙◌}
 use Rattle.repair.specs.Making.{IsUnfreeCross, IsUnfreeTable}
 use Rattle.repair.proofs.Marking.{marked_both}
 use Rattle.repair.proofs.keeping.mark_broken.Goals as goal

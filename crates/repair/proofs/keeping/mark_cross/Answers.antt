@@ -1,9 +1,8 @@
-use Rattle.std.proofs.Common.{◌≡◌, ◌<◌, ℕ, sym, ap, ◌∙◌, subst, refl}
+use Rattle.std.proofs.Common.{◌≡◌, ℕ, sym, ap, ◌∙◌, subst}
 use Rattle.hierarchy.specs.declared.Shape.{Shape}
-use Rattle.hierarchy.specs.Shape.{ends_of, wires_of, crosses_of}
+use Rattle.hierarchy.specs.Shape.{ends_of}
 use Rattle.hierarchy.specs.Defects.{IsFreeCross}
 use Rattle.repair.specs.Making.{IsUnfreeCrossOf}
-use Rattle.repair.specs.Marks.{IsMarked}
 use Rattle.repair.specs.Nets.{HasWire}
 use Rattle.repair.proofs.Marking.{marked_none, marked_same}
 use Rattle.repair.proofs.Using.{not_true_and}

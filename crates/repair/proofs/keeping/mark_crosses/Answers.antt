@@ -1,4 +1,4 @@
-use Rattle.std.proofs.Common.{◌≡◌, ◌<◌, ℕ, get_or, sym, ap, ◌∙◌, subst, arith}
+use Rattle.std.proofs.Common.{get_or, ◌∙◌, arith}
 use Rattle.hierarchy.specs.declared.Cross.{Cross}
 use Rattle.config_set.specs.Configuration.{is_closed}
 use Rattle.repair.specs.Making.{IsUnfreeCrossOf, no_cross}

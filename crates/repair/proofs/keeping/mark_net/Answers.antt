@@ -1,5 +1,5 @@
-use Rattle.std.proofs.Common.{◌≡◌, ◌<◌, ℕ, sym, ap, ◌∙◌, subst}
-use Rattle.repair.specs.Marks.{IsMarked, IsThis}
+use Rattle.std.proofs.Common.{◌<◌, sym, subst}
+use Rattle.repair.specs.Marks.{IsThis}
 use Rattle.repair.specs.Nets.{HasWire}
 use Rattle.repair.proofs.Hanging.{has_end, one_net_has}
 use Rattle.repair.proofs.Marking.{marked_none, marked_same}

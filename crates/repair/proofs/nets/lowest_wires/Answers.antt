@@ -1,7 +1,5 @@
-use Rattle.std.proofs.Common.{◌≡◌, ◌+◌, ◌++◌, ◌<◌, ℕ, [], ◌∷◌, Bool, true, if◌then◌else◌, sym, ap, ◌∙◌, subst, arith}
-use Rattle.std.specs.Prelude.{◌↔◌}
+use Rattle.std.proofs.Common.{◌≡◌, ◌<◌, true, sym, ap, ◌∙◌, subst, arith}
 use Rattle.hierarchy.specs.Shape.{wires_of}
-use Rattle.place.specs.Lists.{AreThose, IsAmongFirst, same_number}
 use Rattle.repair.specs.Nets.{IsLowest}
 use Rattle.repair.proofs.Sieving.{sieve_next, sieve_all}
 use Rattle.repair.proofs.Hanging.{wire_within}

@@ -1,9 +1,9 @@
-use Rattle.std.proofs.Common.{◌≡◌, ◌<◌, ◌≤◌, ℕ, All, AllPairs, List, length, replicate, sym, ap, ◌∙◌, subst, rules, arith}
+use Rattle.std.proofs.Common.{◌≡◌, ◌<◌, ◌≤◌, ℕ, All, List, length, replicate, sym, ap, ◌∙◌, subst, rules, arith}
 use Rattle.std.proofs.lemmas.List.{take_at, length-replicate}
 use Rattle.hierarchy.specs.Shape.{wires_of}
 use Rattle.repair.specs.Groups.{AreLowest}
 use Rattle.repair.specs.Marks.{AreMarks}
-use Rattle.repair.specs.Nets.{IsEnd, IsLowest}
+use Rattle.repair.specs.Nets.{IsEnd}
 use Rattle.repair.specs.Making.{AreNumbers}
 use Rattle.repair.proofs.Hanging.{lowest_within, lowest_few}
 use Rattle.repair.proofs.nets.nets_of.Goals as goal

@@ -1,5 +1,4 @@
-use Rattle.std.proofs.Common.{◌≡◌, ◌<◌, ◌+◌, ℕ, All, length, refl, sym, ap, ◌∙◌, subst, arith}
-use Rattle.repair.specs.Making.{AreNumbersTo}
+use Rattle.std.proofs.Common.{◌<◌, All, refl, sym, ◌∙◌, subst, arith}
 use Rattle.repair.proofs.Numbering.{numbers_none, numbers_more}
 use Rattle.repair.proofs.nets.number.Goals as goal
 

@@ -1,7 +1,6 @@
-use Rattle.std.proofs.Common.{◌≡◌, ◌<◌, ℕ, All, List, sym, ap, ◌∙◌, subst}
+use Rattle.std.proofs.Common.{◌≡◌, ◌<◌, All, sym, ap, ◌∙◌, subst}
 use Rattle.hierarchy.specs.Shape.{tables_of, pins_of}
 use Rattle.config_set.specs.Configuration.{Configuration}
-use Rattle.repair.specs.declared.seats.Moves.{Moves}
 use Rattle.repair.specs.Making.{AreNetsOf, ArePlaces}
 use Rattle.repair.proofs.Seating.{table_within, table_apart, pin_within, pin_apart}
 use Rattle.repair.proofs.plan.plan_of.Goals as goal

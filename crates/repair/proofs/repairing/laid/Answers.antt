@@ -1,12 +1,10 @@
-use Rattle.std.proofs.Common.{◌≡◌, ◌<◌, ◌≤◌, ℕ, All, List, length, sym, ap, ◌∙◌, subst}
+use Rattle.std.proofs.Common.{◌<◌, ◌≤◌, ℕ, All, List, length, sym, ap, ◌∙◌, subst}
 use Rattle.hierarchy.specs.declared.Shape.{Shape}
 use Rattle.hierarchy.specs.Shape.{wires_of}
-use Rattle.place.specs.declared.short.Room.{Room}
-use Rattle.place.specs.declared.short.Room.TheVariants.{Enough, Lacks}
+use Rattle.place.specs.declared.short.Room.TheVariants.{Enough}
 use Rattle.place.specs.Choices.{AreWires}
 use Rattle.place.specs.Layouts.{IsRoom}
 use Rattle.place.specs.Room.{HasTerminal}
-use Rattle.crossbar_route.specs.Routed.{AreWiresOf}
 use Rattle.crossbar_route.proofs.Making.{numbering}
 use Rattle.repair.specs.Making.{IsRedrawn}
 use Rattle.repair.specs.Plans.{need_of}
@@ -56,7 +54,7 @@ returns-in-Lacks-clause-fail c =
     let lists : List (List ℕ) = c.in_ok-terminals.terminals.items in
     let laws = numbering c.the_numbering_is_sound.ensures.numbered c.the_numbering_is_sound.ensures.tree c.the_numbering_is_sound.ensures.parents c.the_numbering_is_sound.ensures.meanings c.the_crosspoints_are_sound.ensures.taps c.the_crosspoints_are_sound.ensures.crosses c.ports_and_lines_ascend.ensures m in
     let room : IsRoom m c.in_ok-rest.rest.list (length lists) (HasTerminal lists) (need_of s.tables) (need_of s.pins) c.in_ok-room.room =
-        room_as c.in_ok-rest.rest.shape m c.in_ok-rest.rest.list c.deref.result.now lists c.need_of.result (need_of s.tables) c.need_of-2.result (need_of s.pins) c.in_ok-room.room c.in_ok-rest.ensures.shape c.deref.ensures.value c.need_of.ensures c.need_of-2.ensures c.in_ok-room.ensures in
+    room_as c.in_ok-rest.rest.shape m c.in_ok-rest.rest.list c.deref.result.now lists c.need_of.result (need_of s.tables) c.need_of-2.result (need_of s.pins) c.in_ok-room.room c.in_ok-rest.ensures.shape c.deref.ensures.value c.need_of.ensures c.need_of-2.ensures c.in_ok-room.ensures in
     short_plan d i c.config-config.ensures.right laws (c.the_tests_are_right.ensures.tables m d) s c.requires.seats c.in_ok-plan.plan c.in_ok-plan.ensures c.requires.tables c.requires.pins lists c.in_ok-terminals.ensures c.in_ok-rest.rest c.in_ok-rest.ensures c.in-Lacks.short
     (subst (IsRoom m c.in_ok-rest.rest.list (length lists) (HasTerminal lists) (need_of s.tables) (need_of s.pins)) c.in-Lacks.is room)
 
@@ -100,9 +98,9 @@ redraw-requires-clause-wires c =
     let lists : List (List ℕ) = c.in_ok-terminals.terminals.items in
     let laws = numbering c.the_numbering_is_sound.ensures.numbered c.the_numbering_is_sound.ensures.tree c.the_numbering_is_sound.ensures.parents c.the_numbering_is_sound.ensures.meanings c.the_crosspoints_are_sound.ensures.taps c.the_crosspoints_are_sound.ensures.crosses c.ports_and_lines_ascend.ensures m in
     let room : IsRoom m c.in_ok-rest.rest.list (length lists) (HasTerminal lists) (need_of s.tables) (need_of s.pins) c.in_ok-room.room =
-        room_as c.in_ok-rest.rest.shape m c.in_ok-rest.rest.list c.deref.result.now lists c.need_of.result (need_of s.tables) c.need_of-2.result (need_of s.pins) c.in_ok-room.room c.in_ok-rest.ensures.shape c.deref.ensures.value c.need_of.ensures c.need_of-2.ensures c.in_ok-room.ensures in
+    room_as c.in_ok-rest.rest.shape m c.in_ok-rest.rest.list c.deref.result.now lists c.need_of.result (need_of s.tables) c.need_of-2.result (need_of s.pins) c.in_ok-room.room c.in_ok-rest.ensures.shape c.deref.ensures.value c.need_of.ensures c.need_of-2.ensures c.in_ok-room.ensures in
     let enough : IsRoom m c.in_ok-rest.rest.list (length lists) (HasTerminal lists) (need_of s.tables) (need_of s.pins) (Enough c.in-Enough.ports c.in-Enough.visits) =
-        subst (IsRoom m c.in_ok-rest.rest.list (length lists) (HasTerminal lists) (need_of s.tables) (need_of s.pins)) c.in-Enough.is room in
+    subst (IsRoom m c.in_ok-rest.rest.list (length lists) (HasTerminal lists) (need_of s.tables) (need_of s.pins)) c.in-Enough.is room in
     wires_as m c.in_ok-terminals.terminals.items c.deref-in-Enough.result.now c.in-Enough.ports.items c.deref-in-Enough-2.result.now c.in-Enough.visits.items c.deref-in-Enough-3.result.now (sym c.deref-in-Enough.ensures.value) (sym c.deref-in-Enough-2.ensures.value) (sym c.deref-in-Enough-3.ensures.value)
     (redraw_wires d i c.config-config.ensures.right laws (c.the_tests_are_right.ensures.tables m d) s c.requires.seats c.in_ok-plan.plan c.in_ok-plan.ensures c.requires.tables c.requires.pins lists c.in_ok-terminals.ensures c.in_ok-rest.rest c.in_ok-rest.ensures c.in-Enough.ports.items c.in-Enough.visits.items enough.0 enough.1 enough.2)
 
@@ -119,14 +117,14 @@ returns c =
     let tests = c.the_tests_are_right.ensures.tables m d in
     let laws = numbering c.the_numbering_is_sound.ensures.numbered c.the_numbering_is_sound.ensures.tree c.the_numbering_is_sound.ensures.parents c.the_numbering_is_sound.ensures.meanings c.the_crosspoints_are_sound.ensures.taps c.the_crosspoints_are_sound.ensures.crosses c.ports_and_lines_ascend.ensures m in
     let room : IsRoom m c.in_ok-rest.rest.list (length lists) (HasTerminal lists) (need_of s.tables) (need_of s.pins) c.in_ok-room.room =
-        room_as c.in_ok-rest.rest.shape m c.in_ok-rest.rest.list c.deref.result.now lists c.need_of.result (need_of s.tables) c.need_of-2.result (need_of s.pins) c.in_ok-room.room c.in_ok-rest.ensures.shape c.deref.ensures.value c.need_of.ensures c.need_of-2.ensures c.in_ok-room.ensures in
+    room_as c.in_ok-rest.rest.shape m c.in_ok-rest.rest.list c.deref.result.now lists c.need_of.result (need_of s.tables) c.need_of-2.result (need_of s.pins) c.in_ok-room.room c.in_ok-rest.ensures.shape c.deref.ensures.value c.need_of.ensures c.need_of-2.ensures c.in_ok-room.ensures in
     let enough : IsRoom m c.in_ok-rest.rest.list (length lists) (HasTerminal lists) (need_of s.tables) (need_of s.pins) (Enough c.in-Enough.ports c.in-Enough.visits) =
-        subst (IsRoom m c.in_ok-rest.rest.list (length lists) (HasTerminal lists) (need_of s.tables) (need_of s.pins)) c.in-Enough.is room in
-    let drawn : IsRedrawn i p lists ports visits c.in_ok-repaired.repaired =
-        redrawn_as i p c.deref-in-Enough.result.now lists c.deref-in-Enough-2.result.now ports c.deref-in-Enough-3.result.now visits c.in_ok-repaired.repaired c.deref-in-Enough.ensures.value c.deref-in-Enough-2.ensures.value c.deref-in-Enough-3.ensures.value c.in_ok-repaired.ensures in
+    subst (IsRoom m c.in_ok-rest.rest.list (length lists) (HasTerminal lists) (need_of s.tables) (need_of s.pins)) c.in-Enough.is room in
+    let drawn : IsRedrawn i p lists ports visits c.in_ok-repaired-in-Enough.repaired =
+    redrawn_as i p c.deref-in-Enough.result.now lists c.deref-in-Enough-2.result.now ports c.deref-in-Enough-3.result.now visits c.in_ok-repaired-in-Enough.repaired c.deref-in-Enough.ensures.value c.deref-in-Enough-2.ensures.value c.deref-in-Enough-3.ensures.value c.in_ok-repaired-in-Enough.ensures in
     record {
-      repair = repaired d i c.config-config.ensures.right laws tests s c.requires.seats p c.in_ok-plan.ensures c.requires.tables c.requires.pins lists c.in_ok-terminals.ensures c.in_ok-rest.rest c.in_ok-rest.ensures ports visits enough.0 enough.1 enough.2 c.in_ok-repaired.repaired drawn;
-      free = repaired_free d i c.config-config.ensures.right laws tests s c.requires.seats p c.in_ok-plan.ensures c.requires.tables c.requires.pins lists c.in_ok-terminals.ensures c.in_ok-rest.rest c.in_ok-rest.ensures ports visits enough.0 enough.1 enough.2 c.in_ok-repaired.repaired drawn;
-      rows = repaired_rows d i c.config-config.ensures.right laws tests s c.requires.seats p c.in_ok-plan.ensures c.requires.tables c.requires.pins lists c.in_ok-terminals.ensures c.in_ok-rest.rest c.in_ok-rest.ensures ports visits enough.0 enough.1 enough.2 c.in_ok-repaired.repaired drawn;
+      repair = repaired d i c.config-config.ensures.right laws tests s c.requires.seats p c.in_ok-plan.ensures c.requires.tables c.requires.pins lists c.in_ok-terminals.ensures c.in_ok-rest.rest c.in_ok-rest.ensures ports visits enough.0 enough.1 enough.2 c.in_ok-repaired-in-Enough.repaired drawn;
+      free = repaired_free d i c.config-config.ensures.right laws tests s c.requires.seats p c.in_ok-plan.ensures c.requires.tables c.requires.pins lists c.in_ok-terminals.ensures c.in_ok-rest.rest c.in_ok-rest.ensures ports visits enough.0 enough.1 enough.2 c.in_ok-repaired-in-Enough.repaired drawn;
+      rows = repaired_rows d i c.config-config.ensures.right laws tests s c.requires.seats p c.in_ok-plan.ensures c.requires.tables c.requires.pins lists c.in_ok-terminals.ensures c.in_ok-rest.rest c.in_ok-rest.ensures ports visits enough.0 enough.1 enough.2 c.in_ok-repaired-in-Enough.repaired drawn;
       fail = tt;
     }

@@ -1,4 +1,4 @@
-use Rattle.std.proofs.Common.{◌≡◌, ◌<◌, ◌≤◌, ℕ, List, All, length, map, refl, sym, ap, ◌∙◌, subst}
+use Rattle.std.proofs.Common.{◌≡◌, ◌<◌, ◌≤◌, All, length, map, refl, sym, ap, ◌∙◌, subst}
 use Rattle.hierarchy.specs.Shape.{pins_of, wires_of}
 use Rattle.config_set.specs.Configuration.{Configuration}
 use Rattle.config_image.specs.Images.{ImageValue, IsImage}

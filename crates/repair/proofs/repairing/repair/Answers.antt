@@ -1,4 +1,4 @@
-use Rattle.std.proofs.Common.{◌≡◌, ◌<◌, ◌≤◌, sym, ap, ◌∙◌, subst}
+use Rattle.std.proofs.Common.{subst}
 use Rattle.place.specs.Room.{IsMet}
 use Rattle.repair.proofs.Repaired.{short_tables, short_pins}
 use Rattle.repair.proofs.repairing.repair.Goals as goal

@@ -1,6 +1,4 @@
-use Rattle.std.proofs.Common.{◌≡◌, true, false, inl, inr, refl, sym, ◌∙◌}
-use Rattle.std.proofs.lemmas.Bool.{false≢true}
-use Rattle.repair.proofs.Using.{not_true_and}
+use Rattle.std.proofs.Common.{true, false, inl, inr, refl}
 use Rattle.repair.proofs.Taking.{unfree_listed, listed_unfree}
 use Rattle.repair.proofs.rest.is_taken.Goals as goal
 

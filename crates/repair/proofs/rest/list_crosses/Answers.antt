@@ -1,5 +1,4 @@
-use Rattle.std.proofs.Common.{◌≡◌, ◌<◌, ℕ, sym, ap, ◌∙◌, subst, arith}
-use Rattle.hierarchy.specs.declared.Shape.{Shape}
+use Rattle.std.proofs.Common.{◌≡◌, ◌<◌, sym, ap, ◌∙◌, subst, arith}
 use Rattle.hierarchy.specs.Shape.{crosses_of}
 use Rattle.repair.specs.Making.{IsCrossRest}
 use Rattle.repair.proofs.Resting.{crosses_begin, crosses_more}

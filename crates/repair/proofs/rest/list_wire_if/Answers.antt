@@ -1,5 +1,3 @@
-use Rattle.std.proofs.Common.{◌≡◌}
-use Rattle.std.proofs.lemmas.Bool.{false≢true}
 use Rattle.repair.proofs.Using.{not_true_and}
 use Rattle.repair.proofs.rest.list_wire_if.Goals as goal
 

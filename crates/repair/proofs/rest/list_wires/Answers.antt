@@ -1,5 +1,4 @@
-use Rattle.std.proofs.Common.{◌≡◌, ◌<◌, ℕ, sym, ap, ◌∙◌, subst, arith}
-use Rattle.hierarchy.specs.declared.Shape.{Shape}
+use Rattle.std.proofs.Common.{◌≡◌, ◌<◌, sym, ap, ◌∙◌, subst, arith}
 use Rattle.hierarchy.specs.Shape.{wires_of}
 use Rattle.repair.specs.Making.{IsWireRest}
 use Rattle.repair.proofs.Resting.{wires_begin, wires_more}

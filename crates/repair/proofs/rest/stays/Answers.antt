@@ -22,8 +22,7 @@ returns-in-Some c =
     let p = c.args.plan.now in
     let net : ℕ = c.in-Some.net in
     let within : net < length p.moves.items = subst (λ n. net < n) (sym c.requires.plan.moves_sized) c.in-Some.ensures.some.0 in
-    let mark : c.index-moves.result.now ≡ get_or p.moves.items net false = get_or_read p.moves.items _ _ within c.index-moves.ensures false in
-    (
+    let mark : c.index-moves.result.now ≡ get_or p.moves.items net false = get_or_read p.moves.items _ _ within c.index-moves.ensures false in (
       λ t. (net, sym mark ∙ not-true c.index-moves.result.now t, c.in-Some.ensures.some),
       λ stays.
           let same : stays.0 ≡ net = one_net_has g (c.the_numbering_is_sound.ensures.numbered g.shape) c.shape-shape.ensures.right p.nets.lowest c.requires.plan.nets_are.lowest_are stays.0 net c.args.wire.0 stays.2 c.in-Some.ensures.some in

@@ -1,7 +1,5 @@
-use Rattle.std.proofs.Common.{◌≡◌, ◌++◌, ℕ, [], List, sym, ap, ◌∙◌}
+use Rattle.std.proofs.Common.{◌++◌, ap, ◌∙◌}
 use Rattle.std.specs.List.{filter}
-use Rattle.hierarchy.specs.declared.Shape.{Shape}
-use Rattle.config_set.specs.Configuration.{Configuration}
 use Rattle.repair.specs.Plans.{is_gone_pin}
 use Rattle.repair.proofs.Pins.{inputs_within, outputs_within}
 use Rattle.repair.proofs.Placing.{filter_both}

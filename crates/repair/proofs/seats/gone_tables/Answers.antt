@@ -1,5 +1,4 @@
-use Rattle.std.proofs.Common.{◌≡◌, ◌<◌, ℕ, sym, ap, ◌∙◌, subst, arith}
-use Rattle.hierarchy.specs.declared.Shape.{Shape}
+use Rattle.std.proofs.Common.{◌≡◌, ◌<◌, sym, ap, ◌∙◌, subst, arith}
 use Rattle.hierarchy.specs.Shape.{tables_of}
 use Rattle.repair.specs.Plans.{IsGoneTable}
 use Rattle.repair.proofs.Placed.{on_within}

@@ -1,4 +1,4 @@
-use Rattle.std.proofs.Common.{◌≡◌, ℕ, sym, ap, ◌∙◌, subst}
+use Rattle.std.proofs.Common.{◌≡◌, sym, ap, ◌∙◌, subst}
 use Rattle.std.specs.Prelude.{IsSome}
 use Rattle.std.proofs.lemmas.Bool.{false≢true}
 use Rattle.hierarchy.specs.declared.Shape.{Shape}
@@ -15,8 +15,7 @@ returns-then-free_table c = (
 
 pub returns : goal.returns
 returns c =
-    let set : c.setting.result ≡ setting_of c.args.image.now.config c.args.table.0 = c.setting.ensures ∙ ap (λ (g : Configuration). setting_of g c.args.table.0) c.config.ensures.config in
-    (
+    let set : c.setting.result ≡ setting_of c.args.image.now.config c.args.table.0 = c.setting.ensures ∙ ap (λ (g : Configuration). setting_of g c.args.table.0) c.config.ensures.config in (
       λ t. (
         subst IsSome set (on_is c.setting.result (sym c.is_some.ensures ∙ t)),
         λ free. not_true_and c.if-free_table.false (c.free_table.ensures.1 (subst (λ (m : Shape). IsFreeTable m c.args.defects.now.list c.args.table.0) (sym c.requires.shape) free)),

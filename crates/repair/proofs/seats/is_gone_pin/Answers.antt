@@ -1,7 +1,6 @@
-use Rattle.std.proofs.Common.{◌≡◌, ℕ, Bool, not, sym, ap, ◌∙◌, subst}
+use Rattle.std.proofs.Common.{◌≡◌, not, ap, ◌∙◌}
 use Rattle.hierarchy.specs.Shape.{pin_wire}
 use Rattle.defect_db.specs.Lists.{is_free_wire}
-use Rattle.hierarchy.specs.Defects.{IsFreeWire}
 use Rattle.repair.proofs.Taking.{free_tested}
 use Rattle.repair.proofs.seats.is_gone_pin.Goals as goal
 

@@ -1,7 +1,7 @@
-use Rattle.std.proofs.Common.{◌≡◌, ℕ, None, sym, ap, ◌∙◌, subst}
+use Rattle.std.proofs.Common.{◌≡◌, ℕ, sym, ap, ◌∙◌, subst}
 use Rattle.std.proofs.lemmas.Bool.{false≢true}
 use Rattle.hierarchy.specs.declared.Shape.{Shape}
-use Rattle.hierarchy.specs.Shape.{table_wire, tables_of}
+use Rattle.hierarchy.specs.Shape.{table_wire}
 use Rattle.hierarchy.specs.Defects.{IsFreeTable}
 use Rattle.config_set.specs.Configuration.{Configuration, setting_of}
 use Rattle.repair.specs.Making.{IsUnusedTo}
@@ -25,8 +25,7 @@ returns c =
     let i = c.args.image.now in
     let t : ℕ = c.args.table.0 in
     let set : c.setting.result ≡ setting_of i.config t = c.setting.ensures ∙ ap (λ (g : Configuration). setting_of g t) c.config.ensures.config in
-    let shape : c.shape.result ≡ i.config.shape = c.shape.ensures.shape ∙ c.requires.shape in
-    (
+    let shape : c.shape.result ≡ i.config.shape = c.shape.ensures.shape ∙ c.requires.shape in (
       λ yes.
           let unused : IsUnusedTo c.args.used.now i.config.shape t 7 = subst (λ (m : Shape). IsUnusedTo c.args.used.now m t 7) shape (c.is_unused.ensures.0 yes) in
           record {

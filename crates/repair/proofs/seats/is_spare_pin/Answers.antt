@@ -1,7 +1,7 @@
-use Rattle.std.proofs.Common.{◌≡◌, ◌<◌, ℕ, false, get_or, length, sym, ap, ◌∙◌, subst}
+use Rattle.std.proofs.Common.{◌≡◌, false, get_or, sym, ap, ◌∙◌, subst}
 use Rattle.std.proofs.lemmas.Bool.{false≢true, not-true, not_from_false}
 use Rattle.hierarchy.specs.declared.Shape.{Shape}
-use Rattle.hierarchy.specs.Shape.{pin_wire, wires_of}
+use Rattle.hierarchy.specs.Shape.{pin_wire}
 use Rattle.hierarchy.specs.Defects.{IsFreeWire}
 use Rattle.repair.proofs.Sparing.{unused_of, of_unused}
 use Rattle.repair.proofs.Using.{not_true_and}
@@ -15,8 +15,7 @@ returns-then-not-free_wire c =
 pub returns : goal.returns
 returns c =
     let i = c.args.image.now in
-    let wire : c.pin-wire.result.0 ≡ pin_wire i.config.shape c.args.pin = c.pin-wire.ensures.wire ∙ ap (λ (m : Shape). pin_wire m c.args.pin) (c.shape.ensures.shape ∙ c.requires.shape) in
-    (
+    let wire : c.pin-wire.result.0 ≡ pin_wire i.config.shape c.args.pin = c.pin-wire.ensures.wire ∙ ap (λ (m : Shape). pin_wire m c.args.pin) (c.shape.ensures.shape ∙ c.requires.shape) in (
       λ yes. record {
         within = c.requires.within;
         free = subst (IsFreeWire c.args.defects.now.list) wire (c.free_wire.ensures.0 c.if-not-free_wire.false);

@@ -1,6 +1,5 @@
-use Rattle.std.proofs.Common.{◌≡◌, ◌<◌, ℕ, false, get_or, sym, ap, ◌∙◌, subst, arith, refl}
+use Rattle.std.proofs.Common.{◌≡◌, false, get_or, sym, ap, ◌∙◌, subst, arith, refl}
 use Rattle.std.proofs.lemmas.Bool.{false≢true}
-use Rattle.hierarchy.specs.Shape.{table_wire}
 use Rattle.repair.specs.Making.{IsUnusedTo}
 use Rattle.repair.proofs.Sparing.{unused_none, unused_more}
 use Rattle.repair.proofs.seats.is_unused.Goals as goal

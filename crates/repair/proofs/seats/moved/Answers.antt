@@ -1,5 +1,5 @@
-use Rattle.std.proofs.Common.{◌≡◌, ℕ, map, sym, ap, ◌∙◌, refl, arith}
-use Rattle.std.proofs.lemmas.List.{get_or_default, take_all}
+use Rattle.std.proofs.Common.{map, ap, ◌∙◌, refl}
+use Rattle.std.proofs.lemmas.List.{take_all}
 use Rattle.place.specs.Lists.{nth_of}
 use Rattle.repair.proofs.Placing.{map_more}
 use Rattle.repair.proofs.seats.moved.Goals as goal

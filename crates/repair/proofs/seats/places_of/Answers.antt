@@ -26,6 +26,6 @@ returns c =
     let moves = c.args.moves.now in
     let len : length c.put_all.new.places ≡ c.in_ok-places.places.len = c.put_all.ensures.sized ∙ c.deref_mut.ensures.len in
     let put : IsPut moves.gone moves.spare (length moves.gone) c.deref_mut.result.now c.put_all.new.places =
-        subst (λ (xs : List ℕ). IsPut xs moves.spare (length xs) c.deref_mut.result.now c.put_all.new.places) c.as_slice.ensures
-        (subst (λ (xs : List ℕ). IsPut c.as_slice.result.now xs (length c.as_slice.result.now) c.deref_mut.result.now c.put_all.new.places) c.as_slice-2.ensures c.put_all.ensures) in
+    subst (λ (xs : List ℕ). IsPut xs moves.spare (length xs) c.deref_mut.result.now c.put_all.new.places) c.as_slice.ensures
+    (subst (λ (xs : List ℕ). IsPut c.as_slice.result.now xs (length c.as_slice.result.now) c.deref_mut.result.now c.put_all.new.places) c.as_slice-2.ensures c.put_all.ensures) in
     subst (ArePlaces c.args.count moves) (sym (take_at _ _ _ len)) (places_are c.args.count moves c.deref_mut.result.now c.put_all.new.places (c.deref_mut.ensures.value ∙ c.in_ok-places.ensures) put)

@@ -1,4 +1,4 @@
-use Rattle.std.proofs.Common.{◌≡◌, ◌<◌, ℕ, All, length, sym, subst, arith}
+use Rattle.std.proofs.Common.{◌≡◌, ◌<◌, All, length, sym, subst, arith}
 use Rattle.repair.specs.Making.{IsPut}
 use Rattle.repair.proofs.Placing.{put_none, put_more}
 use Rattle.repair.proofs.seats.put_all.Goals as goal

@@ -1,4 +1,4 @@
-use Rattle.std.proofs.Common.{◌≡◌, ◌<◌, ℕ, sym, ap, ◌∙◌, subst, arith}
+use Rattle.std.proofs.Common.{◌≡◌, ◌<◌, sym, ap, ◌∙◌, subst, arith}
 use Rattle.hierarchy.specs.Shape.{tables_of}
 use Rattle.repair.specs.Plans.{IsSpareTable}
 use Rattle.repair.proofs.Sieving.{sieve_next, sieve_all}

@@ -1,4 +1,4 @@
-use Rattle.std.proofs.Common.{◌≡◌, ◌<◌, ℕ, [], List, length, replicate, sym, ap, ◌∙◌, subst}
+use Rattle.std.proofs.Common.{◌≡◌, ℕ, [], List, length, replicate, sym, ap, ◌∙◌, subst}
 use Rattle.std.proofs.lemmas.List.{take_at, length-replicate}
 use Rattle.config_set.specs.Configuration.{Configuration}
 use Rattle.repair.specs.Making.{AreSizedFor, AreTerminalsOf, IsAdded, IsPinTerminal, IsTableTerminal}
@@ -46,14 +46,14 @@ returns c =
     let third : length c.add_tables.new.lists ≡ c.in_ok-lists.lists.len = c.in_ok-add_tables.ensures.sized ∙ c.deref_mut-3.ensures.len in
     let none : c.deref_mut.result.now ≡ replicate (length p.nets.lowest) [] = c.deref_mut.ensures.value ∙ c.in_ok-lists.ensures ∙ ap (λ (xs : List ℕ). replicate (length xs) []) c.as_slice.ensures in
     let ins : IsAdded (IsPinTerminal i.config p i.inputs) (replicate (length p.nets.lowest) []) c.add_pins.new.lists =
-        subst (λ (g : Configuration). IsAdded (IsPinTerminal g p i.inputs) (replicate (length p.nets.lowest) []) c.add_pins.new.lists) c.config-config.ensures.config
-        (subst (λ (xs : List ℕ). IsAdded (IsPinTerminal c.config-config.result.now.config p xs) (replicate (length p.nets.lowest) []) c.add_pins.new.lists) c.inputs.ensures.pins
-        (subst (λ (old : List (List ℕ)). IsAdded (IsPinTerminal c.config-config.result.now.config p c.inputs.result.now) old c.add_pins.new.lists) none c.in_ok-add_pins.ensures)) in
+    subst (λ (g : Configuration). IsAdded (IsPinTerminal g p i.inputs) (replicate (length p.nets.lowest) []) c.add_pins.new.lists) c.config-config.ensures.config
+    (subst (λ (xs : List ℕ). IsAdded (IsPinTerminal c.config-config.result.now.config p xs) (replicate (length p.nets.lowest) []) c.add_pins.new.lists) c.inputs.ensures.pins
+    (subst (λ (old : List (List ℕ)). IsAdded (IsPinTerminal c.config-config.result.now.config p c.inputs.result.now) old c.add_pins.new.lists) none c.in_ok-add_pins.ensures)) in
     let outs : IsAdded (IsPinTerminal i.config p i.outputs) c.add_pins.new.lists c.add_pins-2.new.lists =
-        subst (λ (g : Configuration). IsAdded (IsPinTerminal g p i.outputs) c.add_pins.new.lists c.add_pins-2.new.lists) c.config-config.ensures.config
-        (subst (λ (xs : List ℕ). IsAdded (IsPinTerminal c.config-config.result.now.config p xs) c.add_pins.new.lists c.add_pins-2.new.lists) c.outputs.ensures.pins
-        (subst (λ (old : List (List ℕ)). IsAdded (IsPinTerminal c.config-config.result.now.config p c.outputs.result.now) old c.add_pins-2.new.lists) (c.deref_mut-2.ensures.value ∙ take_at _ _ _ first) c.in_ok-add_pins-2.ensures)) in
+    subst (λ (g : Configuration). IsAdded (IsPinTerminal g p i.outputs) c.add_pins.new.lists c.add_pins-2.new.lists) c.config-config.ensures.config
+    (subst (λ (xs : List ℕ). IsAdded (IsPinTerminal c.config-config.result.now.config p xs) c.add_pins.new.lists c.add_pins-2.new.lists) c.outputs.ensures.pins
+    (subst (λ (old : List (List ℕ)). IsAdded (IsPinTerminal c.config-config.result.now.config p c.outputs.result.now) old c.add_pins-2.new.lists) (c.deref_mut-2.ensures.value ∙ take_at _ _ _ first) c.in_ok-add_pins-2.ensures)) in
     let tables : IsAdded (IsTableTerminal i.config p) c.add_pins-2.new.lists c.add_tables.new.lists =
-        subst (λ (g : Configuration). IsAdded (IsTableTerminal g p) c.add_pins-2.new.lists c.add_tables.new.lists) c.config-config.ensures.config
-        (subst (λ (old : List (List ℕ)). IsAdded (IsTableTerminal c.config-config.result.now.config p) old c.add_tables.new.lists) (c.deref_mut-3.ensures.value ∙ take_at _ _ _ second) c.in_ok-add_tables.ensures) in
+    subst (λ (g : Configuration). IsAdded (IsTableTerminal g p) c.add_pins-2.new.lists c.add_tables.new.lists) c.config-config.ensures.config
+    (subst (λ (old : List (List ℕ)). IsAdded (IsTableTerminal c.config-config.result.now.config p) old c.add_tables.new.lists) (c.deref_mut-3.ensures.value ∙ take_at _ _ _ second) c.in_ok-add_tables.ensures) in
     subst (AreTerminalsOf i p) (sym (take_at _ _ _ third)) (terminals_made i p c.add_pins.new.lists c.add_pins-2.new.lists c.add_tables.new.lists ins outs tables)

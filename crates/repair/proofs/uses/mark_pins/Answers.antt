@@ -1,4 +1,4 @@
-use Rattle.std.proofs.Common.{◌≡◌, ◌<◌, ℕ, get_or, sym, ap, ◌∙◌, subst, arith}
+use Rattle.std.proofs.Common.{◌≡◌, ◌<◌, sym, ◌∙◌, subst, arith}
 use Rattle.hierarchy.specs.Shape.{pin_wire}
 use Rattle.repair.specs.Marks.{IsMarked, IsOfFirst}
 use Rattle.repair.proofs.Marking.{marked_none, marked_more, first_none}

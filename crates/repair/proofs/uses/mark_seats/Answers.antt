@@ -1,5 +1,4 @@
-use Rattle.std.proofs.Common.{◌≡◌, ◌<◌, ℕ, Bool, List, sym, ap, ◌∙◌, subst}
-use Rattle.hierarchy.specs.declared.Shape.{Shape}
+use Rattle.std.proofs.Common.{◌≡◌, Bool, List, sym, ap, ◌∙◌, subst}
 use Rattle.hierarchy.specs.Shape.{wires_of}
 use Rattle.config_set.specs.Configuration.{Configuration}
 use Rattle.repair.specs.Making.{IsOnPin, IsPinOf}

@@ -1,4 +1,4 @@
-use Rattle.std.proofs.Common.{◌≡◌, ◌<◌, ℕ, sym, ap, ◌∙◌, subst, arith}
+use Rattle.std.proofs.Common.{◌≡◌, ◌<◌, sym, ◌∙◌, subst, arith}
 use Rattle.repair.specs.Making.{IsTablePin}
 use Rattle.repair.specs.Marks.{IsMarked}
 use Rattle.repair.proofs.Marking.{marked_none, none_below}
