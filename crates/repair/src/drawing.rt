@@ -108,6 +108,7 @@ pub fn draw(
     let mut config = join_nets(alloc, old.shape(), nets, ports, visits)?;
     keep_crosses(&mut config, old, plan)?;
     seat_all(&mut config, old, plan);
-    config.set_ticks(old.ticks());
+    let ticks = old.ticks();
+    config.set_ticks(ticks);
     Ok(config)
 }

@@ -18,10 +18,10 @@ seat_all-requires-clause-shape c =
     ap (λ (g : Configuration). g.shape) c.in_ok-keep_crosses.ensures.rest ∙ ap (λ (g : Configuration). g.shape) joined.closed.rest ∙ c.shape.ensures.shape
 
 pub set_ticks-requires-clause-some : goal.set_ticks-requires-clause-some
-set_ticks-requires-clause-some c = subst (λ n. 1 ≤ n) (sym c.ticks.ensures) c.shape.ensures.right.some_ticks
+set_ticks-requires-clause-some c = subst (λ n. 1 ≤ n) (sym c.ticks-ticks.ensures) c.shape.ensures.right.some_ticks
 
 pub set_ticks-requires-clause-few : goal.set_ticks-requires-clause-few
-set_ticks-requires-clause-few c = subst (λ n. n ≤ 4096) (sym c.ticks.ensures) c.shape.ensures.right.few_ticks
+set_ticks-requires-clause-few c = subst (λ n. n ≤ 4096) (sym c.ticks-ticks.ensures) c.shape.ensures.right.few_ticks
 
 pub returns : goal.returns
 returns c = record {
@@ -31,5 +31,5 @@ returns c = record {
   closes = c.in_ok-keep_crosses.ensures;
   seated = c.seat_all.new.config.config;
   seats = c.seat_all.ensures;
-  whole = ap (λ r. r.config) c.set_ticks.ensures ∙ ap (with_ticks c.seat_all.new.config.config) c.ticks.ensures;
+  whole = ap (λ r. r.config) c.set_ticks.ensures ∙ ap (with_ticks c.seat_all.new.config.config) c.ticks-ticks.ensures;
 }
