@@ -10,7 +10,7 @@ use crate::answer::Answer;
 use config_image::Image;
 use config_set::Config;
 use defect_db::Defects;
-use hierarchy::{Cross, Table, Wire};
+use hierarchy::{Cross, Table, Wire, tight_lists_are_fair};
 use self_test::{free_images_run_soundly, used_wires};
 use std::alloc::{AllocError, Global};
 use tm_bits::BitSet;
@@ -110,6 +110,7 @@ pub fn answer_of(alloc: Global, image: &Image, list: &Defects) -> Result<Answer,
     ensures answer { IfOk result (IsAnswer list.now image.now) }
 {
     free_images_run_soundly();
+    tight_lists_are_fair();
     let used = used_wires(alloc, image)?;
     let config = image.config();
     // Says that what is set is of the machine.
