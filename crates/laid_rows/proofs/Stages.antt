@@ -110,21 +110,19 @@ module _ {T : Type 0} (c : RunCase T) (right : Type 0) where
 
   -- ---- from the list on
 
+  stage-made : (h : HasMade c) → Stands (list_written (c.work h.what) c.begin c.new h.made)
+  stage-made h text next (inl at) = listing h at.0 at.1 (few h.shape h.made.loads h.read h.attached h.list.few (inl at.2.1))
+  stage-made h text next (inr (more, is, inl at)) =
+      let s = stopped ((c.work h.what).lays h.made.list) next at.1 in
+      unlaid h s.0 (is ∙ (ap (λ (t : List ℕ). text_of h.made.list ++ t) at.0 ∙ append-nil (text_of h.made.list))) s.1 s.2 (few h.shape h.made.loads h.read h.attached h.list.few (inl at.2.1))
+  stage-made h text next (inr (more, is, inr (i, gives, at))) = laid (record { has = h; image = i; gives = gives }) more is at
+
   pub stage-listed : (m : Shape) (x : T) → (reads_machine (machine-told c)).gives m → c.new.rig.machine.attached ≡ Some (record { shape = m; name = c.name }) → c.is_read x → Stands (machine_listed (c.work x) m c.old.rig.loads c.begin c.new)
   stage-listed m x read attached drawn text next (inl h) =
       let s = stopped (lists m c.old.rig.loads c.new.rig) next h.1 in
       early s.0 h.0 s.1 (λ _. rig-excused c.old c.new s.0 s.2.0) (few m c.new.rig.loads read attached s.2.1 (inl refl))
-  stage-listed m x read attached drawn text next (inr (l, list, at)) = listed-at at
-    where
-      abbrev made : HasMade c
-      made = record { shape = m; what = x; made = l; read = read; attached = attached; drawn = drawn; list = list }
-
-      listed-at : list_written (c.work x) c.begin c.new l text next → Stage c right text next
-      listed-at (inl h) = listing made h.0 h.1 (few m l.loads read attached list.few (inl h.2.1))
-      listed-at (inr (more, is, inl h)) =
-          let s = stopped ((c.work x).lays l.list) next h.1 in
-          unlaid made s.0 (is ∙ (ap (λ (t : List ℕ). text_of l.list ++ t) h.0 ∙ append-nil (text_of l.list))) s.1 s.2 (few m l.loads read attached list.few (inl h.2.1))
-      listed-at (inr (more, is, inr (i, gives, at))) = laid (record { has = made; image = i; gives = gives }) more is at
+  stage-listed m x read attached drawn text next (inr (l, list, at)) =
+      stage-made (record { shape = m; what = x; made = l; read = read; attached = attached; drawn = drawn; list = list }) text next at
 
 -- few loads were made, wherever it stands
 run-loads : {T : Type 0} (c : RunCase T) (h : HasLaid c) (more : List ℕ) (next : Next) → image_course (rows-of c h) (begin-of c h) c.new more next → LoadsOnce h.has.made.loads c.new.rig.loads
