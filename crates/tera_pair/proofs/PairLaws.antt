@@ -68,15 +68,15 @@ module _ (decided : AreDecided) (machine name first second vectors : List ℕ) (
 pub pair-lawful : AreDecided → AreNamed → (machine name first second vectors : List ℕ) → IsLawful (pair_job machine name first second vectors)
 pair-lawful decided named machine name first second vectors = record {
   right = λ old new text next fronts at.
-  ends.ends-well (case-of machine name first second vectors old new) (ArePairTexts (files-of machine name first second vectors old new)) (PairRight (files-of machine name first second vectors old new)) (λ front right. right.texts)
-  (right-room decided machine name first second vectors old new) (right-vectors decided machine name first second vectors old new) text next fronts
-  (stage-of machine name first second vectors old new text next at);
+      ends.ends-well (case-of machine name first second vectors old new) (ArePairTexts (files-of machine name first second vectors old new)) (PairRight (files-of machine name first second vectors old new)) (λ front right. right.texts)
+      (right-room decided machine name first second vectors old new) (right-vectors decided machine name first second vectors old new) text next fronts
+      (stage-of machine name first second vectors old new text next at);
   short = λ old new text next fronts at.
-  ends.ends-short (case-of machine name first second vectors old new) (ArePairTexts (files-of machine name first second vectors old new)) (PairShort (files-of machine name first second vectors old new)) (λ front short. short.texts)
-  (λ h refusal stops. both-short h.made.list h.what.one h.what.other old new refusal stops) (never-short decided machine name first second vectors old new) text next fronts
-  (stage-of machine name first second vectors old new text next at);
+      ends.ends-short (case-of machine name first second vectors old new) (ArePairTexts (files-of machine name first second vectors old new)) (PairShort (files-of machine name first second vectors old new)) (λ front short. short.texts)
+      (λ h refusal stops. both-short h.made.list h.what.one h.what.other old new refusal stops) (never-short decided machine name first second vectors old new) text next fronts
+      (stage-of machine name first second vectors old new text next at);
   few = λ old new few text begun at.
-  ends.never-lacks (case-of machine name first second vectors old new) (ArePairTexts (files-of machine name first second vectors old new)) named
-  (machine-file machine name first second vectors old new few.texts) (few-vectors decided machine name first second vectors old new few) text begun
-  (stage-of machine name first second vectors old new text (refuses refused.Memory) at);
+      ends.never-lacks (case-of machine name first second vectors old new) (ArePairTexts (files-of machine name first second vectors old new)) named
+      (machine-file machine name first second vectors old new few.texts) (few-vectors decided machine name first second vectors old new few) text begun
+      (stage-of machine name first second vectors old new text (refuses refused.Memory) at);
 }

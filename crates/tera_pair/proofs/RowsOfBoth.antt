@@ -34,9 +34,9 @@ module _ (n o : Network) (first second : Draft) (first_rows : HasRowsOf n first)
     first_rows = map (joint.part 0 (length n.outputs)) rows;
     second_rows = map (joint.part (length n.outputs) (length o.outputs)) rows;
     are_first = subst (λ (k : ℕ). netlist.AreRows first (map (take k) vectors) (map (joint.part 0 (length n.outputs)) rows)) first_inputs
-      ((first_rows (map (joint.part 0 n.inputs) vectors) (map (joint.part 0 (length n.outputs)) rows)).1 both.first);
+        ((first_rows (map (joint.part 0 n.inputs) vectors) (map (joint.part 0 (length n.outputs)) rows)).1 both.first);
     are_second = subst (λ (k : ℕ). netlist.AreRows second (map (drop k) vectors) (map (joint.part (length n.outputs) (length o.outputs)) rows)) first_inputs
-      (subst (λ (vs : List (List Bool)). netlist.AreRows second vs (map (joint.part (length n.outputs) (length o.outputs)) rows)) (rests-are n.inputs o.inputs vectors (recursion_from_All (λ v. length v ≡ n.inputs + o.inputs) vectors wide))
-      ((second_rows (map (joint.part n.inputs o.inputs) vectors) (map (joint.part (length n.outputs) (length o.outputs)) rows)).1 both.second));
+        (subst (λ (vs : List (List Bool)). netlist.AreRows second vs (map (joint.part (length n.outputs) (length o.outputs)) rows)) (rests-are n.inputs o.inputs vectors (recursion_from_All (λ v. length v ≡ n.inputs + o.inputs) vectors wide))
+        ((second_rows (map (joint.part n.inputs o.inputs) vectors) (map (joint.part (length n.outputs) (length o.outputs)) rows)).1 both.second));
     rows_are = parts-are (length n.outputs) (length o.outputs) rows (recursion_from_All (λ row. length row ≡ length n.outputs + length o.outputs) rows both.wide);
   }
