@@ -36,6 +36,12 @@ use Rattle.tera_bench.specs.Bench.{bench_job}
 use Rattle.tera_bench.specs.Headline.{IsBenched}
 use Rattle.tera_bench.proofs.BenchLaws.{IsOnly}
 use Rattle.tera_bench.proofs.Headlines.{benched}
+use Rattle.tera_check.specs.Check.{check_job}
+use Rattle.tera_check.specs.Headline.{IsChecked}
+use Rattle.tera_check.proofs.Headlines.{checked}
+use Rattle.tera_repair.specs.Repair.{repair_job}
+use Rattle.tera_repair.specs.Headline.{IsRepaired}
+use Rattle.tera_repair.proofs.Headlines.{repaired}
 use Rattle.tera_top.specs.Words.{Asked, no_job, a_job, HasNoJob, job_of, commands, asked_in, asked_by, is_dashed}
 use Rattle.tera_top.proofs.WordLemmas.{some_number}
 use Rattle.tera_top.proofs.AskedLemmas.{refused-some}
@@ -139,3 +145,9 @@ module _ (words : List (List ℕ)) (old new : Outside) (status : ℕ) (ended : E
         let number = some_number (decimal n) n refl (omega (arith, less)) in
         let w = done-as (bench_job n) (rw (is, ← number) refl) in
         benched tables nets n only old new w.0 w.2 w.1
+
+    pub check-checked : (machine name image : List ℕ) → words ≡ codes "check" ∷ machine ∷ name ∷ image ∷ [] → IsChecked machine name image old new
+    check-checked machine name image is = let w = done-as (check_job machine name image) (rw is refl) in checked machine name image old new w.0 w.3 w.2 w.1
+
+    pub repair-repaired : (machine defects image : List ℕ) → words ≡ codes "repair" ∷ machine ∷ defects ∷ image ∷ [] → IsRepaired machine defects image old new
+    repair-repaired machine defects image is = let w = done-as (repair_job machine defects image) (rw is refl) in repaired machine defects image old new w.0 w.3 w.2 w.1

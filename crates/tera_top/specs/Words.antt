@@ -13,6 +13,8 @@ use Rattle.tera_run.specs.Run.{run_job}
 use Rattle.tera_diagnose.specs.Diagnose.{diagnose_job}
 use Rattle.tera_go.specs.Go.{go_job}
 use Rattle.tera_bench.specs.Bench.{bench_job}
+use Rattle.tera_check.specs.Check.{check_job}
+use Rattle.tera_repair.specs.Repair.{repair_job}
 
 -- what words ask for: a job, or none where they are wrong
 pub data Asked : Type 1 where
@@ -66,6 +68,8 @@ commands =
     ∷ named 3 (codes "diagnose") (λ w. diagnose_job (w 1) (w 2))
     ∷ named 5 (codes "go") (λ w. go_job (w 1) (w 2) (w 3) (w 4))
     ∷ numbered (codes "bench") (λ n. bench_job n)
+    ∷ named 4 (codes "check") (λ w. check_job (w 1) (w 2) (w 3))
+    ∷ named 4 (codes "repair") (λ w. repair_job (w 1) (w 2) (w 3))
     ∷ []
 
 -- ---- what words ask for

@@ -14,16 +14,20 @@ ghost use Rattle.tera_diagnose.specs.Headline.{IsDiagnosed};
 ghost use Rattle.tera_go.specs.Headline.{BeginsWithList, IsGone, HasRoomLeft};
 ghost use Rattle.tera_bench.specs.Headline.{IsBenched};
 ghost use Rattle.tera_bench.specs.Bench.{bench_job};
+ghost use Rattle.tera_check.specs.Headline.{IsChecked};
+ghost use Rattle.tera_repair.specs.Headline.{IsRepaired};
 
 use crate::words::{begins, number_of, some_begins_dashed, word};
 use rig::Rig;
 use std::alloc::Global;
 use steps::{Refusal, Stop, finish};
 use tera_bench::bench;
+use tera_check::check;
 use tera_compile::compile;
 use tera_diagnose::diagnose;
 use tera_eval::eval;
 use tera_go::go;
+use tera_repair::repair;
 use tera_run::run;
 use tm_outside::{Sink, Store};
 
@@ -80,6 +84,12 @@ fn work_in<S: Store, K: Sink>(
     if begins(words, 2, "bench") {
         return bench_word(alloc, first, rig, sink);
     }
+    if begins(words, 4, "check") {
+        return check(alloc, first, second, third, store, rig, sink);
+    }
+    if begins(words, 4, "repair") {
+        return repair(alloc, first, second, third, store, sink);
+    }
     Err(Stop::Refused(Refusal::Words))
 }
 
@@ -125,7 +135,7 @@ fn end<S: Store, K: Sink>(
 /// - 0: all is done;
 /// - 1: a text isn't in its grammar, or is beyond its limit;
 /// - 2: the words aren't right;
-/// - 3: there is no room for the design;
+/// - 3: there is no room for the design, or for the repair of the image;
 /// - 4: the rig failed;
 /// - 5: the store or the sink failed;
 /// - 6: memory was wanting.
@@ -195,6 +205,18 @@ pub fn teramac<S: Store, K: Sink>(
     ensures benched { let old = outside (S.store_state store.old) (rig_state rig.old) (K.sink_state sink.old) in
         let new = outside (S.store_state store.new) (rig_state rig.new) (K.sink_state sink.new) in
         (n : ℕ) → n < 2 ^ 32 → map string_bytes words.now ≡ codes "bench" ∷ decimal n ∷ [] → result ≡ 0 → IsBenched n old new }
+    // A `check` at status 0 wrote that the image runs soundly, or the first part of it that a list of the machine's defects doesn't
+    // leave free; and neither without cause.
+    ensures checked { let old = outside (S.store_state store.old) (rig_state rig.old) (K.sink_state sink.old) in
+        let new = outside (S.store_state store.new) (rig_state rig.new) (K.sink_state sink.new) in
+        (machine name image : List ℕ) → map string_bytes words.now ≡ codes "check" ∷ machine ∷ name ∷ image ∷ [] →
+        result ≡ 0 → IsChecked machine name image old new }
+    // A `repair` at status 0 wrote an image that keeps what is free of the old one, uses nothing listed, and reads what the old one reads
+    // without faults.
+    ensures repaired { let old = outside (S.store_state store.old) (rig_state rig.old) (K.sink_state sink.old) in
+        let new = outside (S.store_state store.new) (rig_state rig.new) (K.sink_state sink.new) in
+        (machine defects image : List ℕ) → map string_bytes words.now ≡ codes "repair" ∷ machine ∷ defects ∷ image ∷ [] →
+        result ≡ 0 → IsRepaired machine defects image old new }
 {
     bench_laws::the_bench_design_is_a_design();
     bench_laws::generated_faults_leave_room();

@@ -1,5 +1,5 @@
 use Rattle.std.proofs.Common.{map, string_bytes}
-use Rattle.tera_top.proofs.DoneLemmas.{go-listed, go-loads, go-gone, go-room, eval-evaled, compile-compiled, run-ran, diagnose-diagnosed, diagnose-loads, bench-benched}
+use Rattle.tera_top.proofs.DoneLemmas.{go-listed, go-loads, go-gone, go-room, eval-evaled, compile-compiled, run-ran, diagnose-diagnosed, diagnose-loads, bench-benched, check-checked, repair-repaired}
 use Rattle.tera_top.proofs.program.teramac.Goals as goal
 
 pub returns-clause-listed : goal.returns-clause-listed
@@ -39,3 +39,11 @@ pub returns-clause-benched : goal.returns-clause-benched
 returns-clause-benched g c = λ n less is zero.
     let laws = c.generated_faults_leave_room.ensures in
     bench-benched (map string_bytes c.args.words.now) _ _ c.end.result c.end.ensures zero laws.tables laws.nets c.the_bench_design_is_a_design.ensures.only n less is
+
+pub returns-clause-checked : goal.returns-clause-checked
+returns-clause-checked g c = λ machine name image is zero.
+    check-checked (map string_bytes c.args.words.now) _ _ c.end.result c.end.ensures zero machine name image is
+
+pub returns-clause-repaired : goal.returns-clause-repaired
+returns-clause-repaired g c = λ machine defects image is zero.
+    repair-repaired (map string_bytes c.args.words.now) _ _ c.end.result c.end.ensures zero machine defects image is

@@ -5,6 +5,8 @@ use Rattle.tera_compile.specs.Compile.{compile_job}
 use Rattle.tera_run.specs.Run.{run_job}
 use Rattle.tera_diagnose.specs.Diagnose.{diagnose_job}
 use Rattle.tera_go.specs.Go.{go_job}
+use Rattle.tera_check.specs.Check.{check_job}
+use Rattle.tera_repair.specs.Repair.{repair_job}
 use Rattle.tera_top.proofs.AskedLemmas.{does-none, does-job, this-line, further}
 use Rattle.tera_top.proofs.program.work_in.Goals as goal
 
@@ -82,6 +84,39 @@ returns-then-begins-6 g c =
     (further _ _ _ _ _ _ (sym c.begins-5.ensures ∙ c.if-begins-5.false)
     (this-line _ _ _ _ _ _ (sym c.begins-6.ensures ∙ c.if-begins-6.true) (rw (c.word-first.ensures) at done))))))
 
+pub returns-then-begins-7 : goal.returns-then-begins-7
+returns-then-begins-7 g c =
+    let box0 = c.args.rig.now in
+    let rig0 = (goal.Rig-dyn g (box0.vtable, box0.value)).rig_state box0.value in
+    let old = outside (g.S.Store.store_state c.args.store.now) rig0 (g.K.Sink.sink_state c.args.sink.now) in
+    let box = c.check.new.rig in
+    let rig = (goal.Rig-dyn g (box.vtable, box.value)).rig_state box.value in
+    let new = outside (g.S.Store.store_state c.check.new.store) rig (g.K.Sink.sink_state c.check.new.sink) in
+    let done = does-job (check_job c.word-first.result.now c.word-second.result.now c.word-third.result.now) c.check.result old new c.check.ensures.lawful c.check.ensures.does in
+    further _ _ _ _ _ _ (sym c.begins.ensures ∙ c.if-begins.false)
+    (further _ _ _ _ _ _ (sym c.begins-2.ensures ∙ c.if-begins-2.false)
+    (further _ _ _ _ _ _ (sym c.begins-3.ensures ∙ c.if-begins-3.false)
+    (further _ _ _ _ _ _ (sym c.begins-4.ensures ∙ c.if-begins-4.false)
+    (further _ _ _ _ _ _ (sym c.begins-5.ensures ∙ c.if-begins-5.false)
+    (further _ _ _ _ _ _ (sym c.begins-6.ensures ∙ c.if-begins-6.false)
+    (this-line _ _ _ _ _ _ (sym c.begins-7.ensures ∙ c.if-begins-7.true) (rw (c.word-first.ensures, c.word-second.ensures, c.word-third.ensures) at done)))))))
+
+pub returns-then-begins-8 : goal.returns-then-begins-8
+returns-then-begins-8 g c =
+    let box0 = c.args.rig.now in
+    let rig0 = (goal.Rig-dyn g (box0.vtable, box0.value)).rig_state box0.value in
+    let old = outside (g.S.Store.store_state c.args.store.now) rig0 (g.K.Sink.sink_state c.args.sink.now) in
+    let new = outside (g.S.Store.store_state c.repair.new.store) rig0 (g.K.Sink.sink_state c.repair.new.sink) in
+    let done = does-job (repair_job c.word-first.result.now c.word-second.result.now c.word-third.result.now) c.repair.result old new c.repair.ensures.lawful (c.repair.ensures.does rig0) in
+    further _ _ _ _ _ _ (sym c.begins.ensures ∙ c.if-begins.false)
+    (further _ _ _ _ _ _ (sym c.begins-2.ensures ∙ c.if-begins-2.false)
+    (further _ _ _ _ _ _ (sym c.begins-3.ensures ∙ c.if-begins-3.false)
+    (further _ _ _ _ _ _ (sym c.begins-4.ensures ∙ c.if-begins-4.false)
+    (further _ _ _ _ _ _ (sym c.begins-5.ensures ∙ c.if-begins-5.false)
+    (further _ _ _ _ _ _ (sym c.begins-6.ensures ∙ c.if-begins-6.false)
+    (further _ _ _ _ _ _ (sym c.begins-7.ensures ∙ c.if-begins-7.false)
+    (this-line _ _ _ _ _ _ (sym c.begins-8.ensures ∙ c.if-begins-8.true) (rw (c.word-first.ensures, c.word-second.ensures, c.word-third.ensures) at done))))))))
+
 pub returns : goal.returns
 returns g c =
     let box0 = c.args.rig.now in
@@ -93,4 +128,6 @@ returns g c =
     (further _ _ _ _ _ _ (sym c.begins-4.ensures ∙ c.if-begins-4.false)
     (further _ _ _ _ _ _ (sym c.begins-5.ensures ∙ c.if-begins-5.false)
     (further _ _ _ _ _ _ (sym c.begins-6.ensures ∙ c.if-begins-6.false)
-    ((does-none old)))))))
+    (further _ _ _ _ _ _ (sym c.begins-7.ensures ∙ c.if-begins-7.false)
+    (further _ _ _ _ _ _ (sym c.begins-8.ensures ∙ c.if-begins-8.false)
+    (does-none old))))))))

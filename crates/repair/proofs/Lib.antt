@@ -1,0 +1,1 @@
+-- For the proofs of this crate.

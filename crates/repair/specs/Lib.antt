@@ -1,0 +1,4 @@
+-- Repairs of images.
+pub mod Nets
+pub mod Plans
+pub mod Repairs

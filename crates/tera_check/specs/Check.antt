@@ -1,0 +1,118 @@
+-- What the command `check` is.
+use Rattle.std.specs.Prelude.{◌≡◌, ℕ, ◌≤◌, Bool, true, false, List, [], ◌∷◌, length}
+use Rattle.tm_outside.specs.Told.{Told, holds}
+use Rattle.tm_outside.specs.Store.{StoreState}
+use Rattle.hierarchy.specs.declared.Shape.{Shape}
+use Rattle.machine_file.specs.Machine.{IsMachine}
+use Rattle.defect_db.specs.Lists.{DefectList}
+use Rattle.config_image.specs.Images.{ImageValue, IsImage, image_bytes}
+use Rattle.rig.specs.Rig.{RigState}
+use Rattle.tm_text.specs.Size.{most_bytes}
+use Rattle.steps.specs.Outside.{Around, StandsIn}
+use Rattle.steps.specs.Courses.{Course, Step, after, write, done}
+use Rattle.steps.specs.Texts.{reads_machine, reads_image, attaches, AsksMachine}
+use Rattle.steps.specs.Jobs.{Job, quiet}
+use Rattle.steps.specs.declared.refusal.Refusal.{Refusal}
+use Rattle.steps.specs.declared.refusal.Refusal.TheVariants as refused
+use Rattle.listing.specs.Lists.{Listed, Unloaded, lists}
+use Rattle.tera_check.specs.Answers.{IsAnswer, answer_line}
+use Rattle.tera_check.specs.Testing.{Tried, tests}
+use Rattle.tera_check.specs.declared.answer.Answer.{Answer}
+use Rattle.tera_check.specs.declared.answer.Answer.TheVariants.{Sound}
+
+-- ---- the steps
+
+-- memory is wanting
+abbrev pub Lacks : Refusal → Type 0
+Lacks refused.Memory = Unit {0}
+Lacks refusal = ⊥
+
+-- it is looked what the list says of the image
+abbrev pub answers : DefectList → ImageValue → Step Answer
+answers d i = record { stops = Lacks; gives = IsAnswer d i }
+
+-- the store stands in one of these files, and so many loads were made
+abbrev pub StandsLoaded : (files : List (List ℕ)) → (begun ended : StoreState) → RigState → ℕ → Type 0
+StandsLoaded files begun ended rig loads = StandsIn files begun ended × (rig.loads ≡ loads)
+
+-- The answer is written, and no load follows
+abbrev pub answer_written : (files : List (List ℕ)) → (begun ended : StoreState) → RigState → ℕ → ImageValue → Answer → Course
+answer_written files begun ended rig loads i a =
+    write (answer_line i.config.shape a) (StandsLoaded files begun ended rig loads) (done (StandsLoaded files begun ended rig loads))
+
+-- By the list the answer is found and written
+abbrev pub image_looked_at : (files : List (List ℕ)) → (begun ended : StoreState) → RigState → ImageValue → Listed → Course
+image_looked_at files begun ended rig i l =
+    after (answers l.list i) (StandsLoaded files begun ended rig l.loads) (answer_written files begun ended rig l.loads i)
+
+-- The defects of the machine are listed, and the image is looked at by the list
+abbrev pub machine_listed : (files : List (List ℕ)) → (begun ended : StoreState) → RigState → ImageValue → Tried → Course
+machine_listed files begun ended rig i t =
+    after (lists i.config.shape t.loads rig) (StandsIn files begun ended) (image_looked_at files begun ended rig i)
+
+-- by what the test found
+abbrev pub by_test : (sound : Bool) → (this that : Course) → Course
+by_test true this that = this
+by_test false this that = that
+
+-- What is found sound is answered so. Otherwise the machine is listed
+abbrev pub image_tried : (files : List (List ℕ)) → (begun ended : StoreState) → RigState → ImageValue → Tried → Course
+image_tried files begun ended rig i t =
+    by_test t.sound (answer_written files begun ended rig t.loads i Sound) (machine_listed files begun ended rig i t)
+
+-- The image is tested, from so many loads on
+abbrev pub image_tested : (files : List (List ℕ)) → (begun ended : StoreState) → RigState → (before : ℕ) → ImageValue → Course
+image_tested files begun ended rig before i =
+    after (tests i before rig) (StandsIn files begun ended) (image_tried files begun ended rig i)
+
+-- The image is read and tested
+abbrev pub image_read : (machine image : List ℕ) → Around → Around → Shape → Course
+image_read machine image old new m =
+    after (reads_image (old.store.contents image) m) (Unloaded (image ∷ machine ∷ []) old new)
+    (image_tested (image ∷ machine ∷ []) old.store new.store new.rig old.rig.loads)
+
+-- The machine is attached, and the image is read and tested
+abbrev pub machine_attached : (machine name image : List ℕ) → Around → Around → Shape → Course
+machine_attached machine name image old new m =
+    after (attaches (record { shape = m; name = name }) old.rig new.rig) (Unloaded (machine ∷ []) old new)
+    (λ _. image_read machine image old new m)
+
+-- The machine is read and attached, and the image is read and tested. No load is made before
+abbrev pub check_course : (machine name image : List ℕ) → Around → Around → Course
+check_course machine name image old new =
+    after (reads_machine (old.store.contents machine)) (Unloaded (machine ∷ []) old new) (machine_attached machine name image old new)
+
+-- ---- the files
+
+-- what is told of the files
+pub record CheckFiles : Type 0 where
+  pub machine : Told
+  pub image : Told
+
+abbrev pub check_files : StoreState → (machine image : List ℕ) → CheckFiles
+check_files old machine image = record { machine = old.contents machine; image = old.contents image }
+
+-- both files are told and right
+pub record CheckRight (t : CheckFiles) : Type 0 where
+  pub shape : Shape
+  pub image : ImageValue
+  -- the bytes of the two files
+  pub machine_file : List ℕ
+  pub image_file : List ℕ
+  pub machine_told : t.machine ≡ holds machine_file
+  pub machine : IsMachine machine_file shape.counts
+  pub machine_within : length machine_file ≤ most_bytes
+  pub image_told : t.image ≡ holds image_file
+  pub image_right : IsImage image
+  pub image_shape : image.config.shape ≡ shape
+  pub image_is : image_bytes image ≡ image_file
+  pub image_within : length image_file ≤ most_bytes
+
+-- ---- the command
+
+abbrev pub check_job : (machine name image : List ℕ) → Job
+check_job machine name image =
+    quiet (machine ∷ image ∷ [])
+    (λ old new. AsksMachine (reads_machine (old.store.contents machine)).gives name old.rig.machine.asked new.rig.machine.asked)
+    (check_course machine name image)
+    (λ old. CheckRight (check_files old.store machine image))

@@ -1,0 +1,24 @@
+use Rattle.std.proofs.Common.{refl, sym, subst}
+use Rattle.std.proofs.lemmas.Result.{err_from_is_err_and}
+use Rattle.steps.specs.declared.refusal.Refusal.TheVariants.{Memory}
+use Rattle.steps.specs.declared.refusal.Stop.TheVariants.{Refused}
+use Rattle.steps.proofs.Taking.{took-stop, took-value}
+use Rattle.tera_repair.specs.Repairing.{repairs}
+use Rattle.tera_repair.proofs.Rights.{right-too}
+use Rattle.tera_repair.proofs.Rooms.{short-node}
+use Rattle.tera_repair.proofs.repairing.repaired.Goals as goal
+
+pub returns-in-Ok : goal.returns-in-Ok
+returns-in-Ok c =
+    let d = c.args.list.now in
+    let i = c.args.image.now in
+    let e = c.in-Ok.ensures in
+    record {
+      took = λ o. took-value (repairs d i) c.in-Ok.repaired o (record {
+        image = c.config-2.ensures.right;
+        repair = e.repair;
+        free = e.free;
+        rows = e.rows;
+        right = right-too c.runs_are_one.ensures.exists d i c.in-Ok.repaired c.config.ensures.right c.requires.shape e.repair e.rows;
+      });
+    }
