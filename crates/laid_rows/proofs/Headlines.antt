@@ -1,7 +1,7 @@
 -- What such a command has done, from where its course stands.
 use Rattle.std.proofs.Common.{◌≡◌, ◌∙◌, ℕ, List, [], ◌∷◌, ◌++◌, Bool, length, sym, ap, subst, inl, inr, append_assoc, append-nil, Option, Some, IfSome}
 use Rattle.tm_outside.specs.Counts.{next_count}
-use Rattle.tm_outside.specs.Told.{IfTold}
+use Rattle.tm_outside.specs.Told.{Told, IfTold}
 use Rattle.tm_outside.specs.Sink.{Wrote}
 use Rattle.hierarchy.specs.declared.Shape.{Shape}
 use Rattle.hierarchy.specs.Faults.{Faults}
@@ -101,7 +101,8 @@ module _ {T : Type 0} (machine name : List ℕ) (begin : RunBegin) (is_read : T 
       pub written-done : begin.begun.contents ≡ old.store.contents → IsWrittenWhole begin.vectors list-done (work done.laid_is.has.what).width vectors-done rows-done old new
       written-done same = record {
         is_list = done.laid_is.has.list.kept;
-        are_all = rw same at (subst (λ (w : ℕ). AreAll w (begin.begun.contents begin.vectors) vectors-done) on.inputs done.run.all);
+        are_all = subst (λ (contents : List ℕ → Told). AreAll (work done.laid_is.has.what).width (contents begin.vectors) vectors-done) same
+            (subst (λ (w : ℕ). AreAll w (begin.begun.contents begin.vectors) vectors-done) on.inputs done.run.all);
         count = done.run.rows.has.are.read.count;
         written = wrote-as text _ (done.text_is ∙ ap (λ (s : List ℕ). text_of list-done ++ s) done.run.text_is) wrote;
       }

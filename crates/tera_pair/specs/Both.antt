@@ -1,5 +1,5 @@
 -- Two designs side by side on what a list of defects leaves free.
-use Rattle.std.specs.Prelude.{◌≡◌, ℕ, ◌+◌, Bool, List, [], ◌∷◌, ◌++◌, map, length, take, drop}
+use Rattle.std.specs.Prelude.{◌≡◌, ℕ, ◌+◌, ◌<◌, Bool, List, [], ◌∷◌, ◌++◌, map, length, take, drop}
 use Rattle.hierarchy.specs.Defects.{Covers}
 use Rattle.hierarchy.specs.Faults.{Faults}
 use Rattle.defect_db.specs.Lists.{DefectList}
@@ -38,6 +38,10 @@ pub record AreBothRows (first second : Draft) (vectors rows : List (List Bool)) 
   pub rows_are : rows ≡ side_by_side first_rows second_rows
 
 -- ---- room
+
+-- the inputs of two networks can be numbered together, and so can their tables
+abbrev pub CanBeNumbered : Network → Network → Type 0
+CanBeNumbered n o = (n.inputs + o.inputs < 4294967296) × (length n.tables + length o.tables < 4294967296)
 
 -- the joint network of the plain networks of the two designs
 abbrev pub joint_of : Draft → Draft → Network

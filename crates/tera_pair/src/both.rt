@@ -1,9 +1,9 @@
 //! Two designs as what is laid on a machine.
-ghost use Rattle.std.specs.Prelude.{◌≡◌, ◌+◌, ◌<◌, ◌↔◌, IsTrue, [], IfOk, IfErr, length};
+ghost use Rattle.std.specs.Prelude.{◌≡◌, ◌↔◌, IsTrue, [], IfOk, IfErr};
 ghost use Rattle.steps.specs.Outside.{Outside};
 ghost use Rattle.steps.specs.Stops.{StepStops};
 ghost use Rattle.steps.specs.Took.{Took};
-ghost use Rattle.tera_pair.specs.Both.{both_laid, lays_both};
+ghost use Rattle.tera_pair.specs.Both.{CanBeNumbered, both_laid, lays_both};
 
 use config_image::Image;
 use defect_db::Defects;
@@ -27,7 +27,7 @@ pub struct TwoDesigns {
 
 // Whether the inputs and the tables of two networks can be numbered together.
 fn are_few(first: &Network, second: &Network) -> bool
-    ensures { IsTrue result ↔ ((first.now.inputs + second.now.inputs < 4294967296) × (length first.now.tables + length second.now.tables < 4294967296)) }
+    ensures { IsTrue result ↔ CanBeNumbered first.now second.now }
 {
     let inputs = u64::from(first.inputs) + u64::from(second.inputs);
     let tables = first.tables.as_slice().len() as u64;

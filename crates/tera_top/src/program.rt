@@ -227,23 +227,27 @@ pub fn teramac<S: Store, K: Sink>(
     // What a `pair` wrote begins with a list that covers every fault and is tight, so far as it goes.
     ensures pair_listed { let old = outside (S.store_state store.old) (rig_state rig.old) (K.sink_state sink.old) in
         let new = outside (S.store_state store.new) (rig_state rig.new) (K.sink_state sink.new) in
-        (machine name first second vectors : List ℕ) → map string_bytes words.now ≡ codes "pair" ∷ machine ∷ name ∷ first ∷ second ∷ vectors ∷ [] →
+        (machine name first second vectors : List ℕ) →
+        map string_bytes words.now ≡ codes "pair" ∷ machine ∷ name ∷ first ∷ second ∷ vectors ∷ [] →
         BeginsWithList machine name old new }
     // A `pair` at status 0 listed every fault, loaded an image of both designs that uses nothing listed, and wrote their rows side
     // by side.
     ensures paired { let old = outside (S.store_state store.old) (rig_state rig.old) (K.sink_state sink.old) in
         let new = outside (S.store_state store.new) (rig_state rig.new) (K.sink_state sink.new) in
-        (machine name first second vectors : List ℕ) → map string_bytes words.now ≡ codes "pair" ∷ machine ∷ name ∷ first ∷ second ∷ vectors ∷ [] →
+        (machine name first second vectors : List ℕ) →
+        map string_bytes words.now ≡ codes "pair" ∷ machine ∷ name ∷ first ∷ second ∷ vectors ∷ [] →
         result ≡ 0 → IsPaired machine name first second vectors old new }
     // And the joint network of their plain networks fits, in order, on the list.
     ensures pair_room { let old = outside (S.store_state store.old) (rig_state rig.old) (K.sink_state sink.old) in
         let new = outside (S.store_state store.new) (rig_state rig.new) (K.sink_state sink.new) in
-        (machine name first second vectors : List ℕ) → map string_bytes words.now ≡ codes "pair" ∷ machine ∷ name ∷ first ∷ second ∷ vectors ∷ [] →
+        (machine name first second vectors : List ℕ) →
+        map string_bytes words.now ≡ codes "pair" ∷ machine ∷ name ∷ first ∷ second ∷ vectors ∷ [] →
         result ≡ 0 → HaveRoomLeft machine first second old new }
     // Whatever the status, a `pair` made few loads for its list, and one more at most.
     ensures pair_loads { let old = outside (S.store_state store.old) (rig_state rig.old) (K.sink_state sink.old) in
         let new = outside (S.store_state store.new) (rig_state rig.new) (K.sink_state sink.new) in
-        (machine name first second vectors : List ℕ) → map string_bytes words.now ≡ codes "pair" ∷ machine ∷ name ∷ first ∷ second ∷ vectors ∷ [] →
+        (machine name first second vectors : List ℕ) →
+        map string_bytes words.now ≡ codes "pair" ∷ machine ∷ name ∷ first ∷ second ∷ vectors ∷ [] →
         MadeFewLoads machine name LoadsOnce (around old) (around new) }
 {
     bench_laws::the_bench_design_is_a_design();
