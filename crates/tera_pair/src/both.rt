@@ -50,14 +50,13 @@ fn image_for(
     if !are_few(&one, &other) {
         return Err(Stop::Refused(Refusal::Memory));
     }
-    match lay_pair(alloc, &one, &other, list) {
-        Ok(pair) => {
-            // Its contract says that the value is an image.
-            pair.whole.config();
-            Ok(pair.whole)
-        }
-        Err(fail) => Err(no_place(alloc, list.shape(), fail)),
-    }
+    let pair = match lay_pair(alloc, &one, &other, list) {
+        Ok(pair) => pair,
+        Err(fail) => return Err(no_place(alloc, list.shape(), fail)),
+    };
+    // Its contract says that the value is an image.
+    pair.whole.config();
+    Ok(pair.whole)
 }
 
 // An image of both designs on what the list leaves free, by the in-order plan of the joint network of their plain networks. More

@@ -7,8 +7,8 @@ lay_pair-requires-clause-inputs c = (c.are_few.ensures.0 c.if-not-are_few.false)
 pub lay_pair-requires-clause-tables : goal.lay_pair-requires-clause-tables
 lay_pair-requires-clause-tables c = (c.are_few.ensures.0 c.if-not-are_few.false).1
 
-pub returns-in-Ok-clause-found : goal.returns-in-Ok-clause-found
-returns-in-Ok-clause-found c =
+pub returns-clause-found : goal.returns-clause-found
+returns-clause-found c =
     let one = c.in_ok-one.ensures in
     let other = c.in_ok-other.ensures in
     let e = c.in-Ok.ensures in
