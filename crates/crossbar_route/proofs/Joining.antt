@@ -75,7 +75,7 @@ closes_same A B a b old new p le to from = record {
     by x (inl on) = inl on
     by x (inr j) = inr (to x j)
 
-closes_one : (joint : ℕ → Type 0) (x : ℕ) (old new : Configuration) → new ≡ with_closed old x → joint x → ((y : ℕ) → joint y → y ≡ x) → Closes joint 1 old new
+pub closes_one : (joint : ℕ → Type 0) (x : ℕ) (old new : Configuration) → new ≡ with_closed old x → joint x → ((y : ℕ) → joint y → y ≡ x) → Closes joint 1 old new
 closes_one joint x old new e is one = record {
   only = λ y on. by y (closed_which old x y (subst (λ g. is_closed g y ≡ true) e on));
   each = λ y j. subst (λ g. is_closed g y ≡ true) (sym e) (subst (λ z. is_closed (with_closed old x) z ≡ true) (sym (one y j)) (closed_now old x));
