@@ -3,6 +3,7 @@ pub mod Terminals
 pub mod OnTree
 pub mod Routed
 pub mod Ported
+pub mod Drawn
 pub mod Joining
 pub mod Whole
 pub mod Making

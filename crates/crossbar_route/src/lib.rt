@@ -14,4 +14,4 @@ pub use laws::{
     nets_on_the_tree_read_rows,
 };
 pub use owners::owners_of;
-pub use routing::{route, route_laid};
+pub use routing::{join_nets, route, route_laid};
