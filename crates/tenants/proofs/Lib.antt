@@ -8,3 +8,4 @@ mod Keeping
 mod Letting
 mod Halving
 mod Seating
+mod Cutting

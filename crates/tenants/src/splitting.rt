@@ -77,6 +77,14 @@ fn some_pins(alloc: Global, pins: &[u32], from: usize, count: usize) -> Result<V
     pins[from..from + count].to_vec(alloc)
 }
 
+// So many seats, from a place on.
+fn some_seats(seats: &[Table], from: usize, count: usize) -> &[Table]
+    requires { from + count ≤ length seats.now }
+    ensures { result.now ≡ part from count seats.now }
+{
+    &seats[from..from + count]
+}
+
 /// The image of one of two networks that were laid as one: what its nets, its tables and its pins have of the whole, with as
 /// many ticks.
 ///
@@ -99,8 +107,8 @@ pub fn tenant(
     requires apart { AllPairs (λ t u. t.0 ≢ u.0) plan.now.tables }
     ensures { IfOk result (IsTenant site.now network.now plan.now owners.now whole.now) }
 {
-    let end = site.table + network.tables.as_slice().len();
-    let seats = &plan.tables.as_slice()[site.table..end];
+    let tables = network.tables.as_slice().len();
+    let seats = some_seats(plan.tables.as_slice(), site.table, tables);
     let config = config_of(alloc, network, whole.config(), seats, owners, site)?;
     let inputs = some_pins(alloc, whole.inputs(), site.input, network.inputs as usize)?;
     let shown = network.outputs.as_slice().len();
