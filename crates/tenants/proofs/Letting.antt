@@ -310,7 +310,7 @@ module _ (m : Shape) (d : Defects) (joint : Network) (p : Plan) (l : Layout) (ow
     its_terminal {k} t = let f = there t in (f.0, owns_net s n joint stands k f.0 f.1, as_terminal f.2)
 
     -- a pin of a table of its own is of one of its nets, or of none
-    table_pin : (j c : ℕ) → j < length n.tables → c < 7 → ((k : ℕ) × Owns s n k × Has k (table_wire m (place_of p (s.table + j)) c)) ⊎ ((k : ℕ) → ¬ Has k (table_wire m (place_of p (s.table + j)) c))
+    pub table_pin : (j c : ℕ) → j < length n.tables → c < 7 → ((k : ℕ) × Owns s n k × Has k (table_wire m (place_of p (s.table + j)) c)) ⊎ ((k : ℕ) → ¬ Has k (table_wire m (place_of p (s.table + j)) c))
     table_pin j c h b = by (cases_lt c (length (table_at n j).ins)) (cases_lt c 6)
       where
         to : {k : ℕ} → IsTerminal m n (plan_of s n p) k (table_wire m (place_of (plan_of s n p) j) c) → (k : ℕ) × Owns s n k × Has k (table_wire m (place_of p (s.table + j)) c)

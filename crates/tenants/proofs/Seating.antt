@@ -1,5 +1,5 @@
 -- What a plan of a joint network gives to each of the two.
-use Rattle.std.proofs.Common.{◌≡◌, ◌≢◌, ℕ, ◌+◌, ◌<◌, ◌≤◌, length, get_or, sym, ap, ◌∙◌, subst, arith}
+use Rattle.std.proofs.Common.{◌≡◌, ◌≢◌, ℕ, ◌+◌, ◌<◌, ◌≤◌, List, Option, length, get_or, sym, ap, ◌∙◌, subst, arith}
 use Rattle.std.specs.List.{All, AllPairs}
 use Rattle.std.proofs.lemmas.List.{get_or-map, length-map}
 use Rattle.hierarchy.specs.declared.Shape.{Shape}
@@ -16,6 +16,7 @@ use Rattle.place.specs.declared.plan.Plan.{Plan}
 use Rattle.place.specs.declared.short.Port.{Port}
 use Rattle.place.specs.Laying.{IsLayout}
 use Rattle.place.specs.Plans.{number_of, places, IsPlan}
+use Rattle.crossbar_route.specs.Owners.{AreOwners}
 use Rattle.crossbar_route.specs.Routed.{IsRouteOf}
 use Rattle.crossbar_route.proofs.Making.{numbering, laid_by}
 use Rattle.crossbar_route.proofs.Whole.{wires_are}
@@ -51,3 +52,7 @@ pub ports_within : ((m : Shape) → IsNumbered m) → ((m : Shape) → IsTree m)
     (m : Shape) (d : Defects) (joint : Network) (p : Plan) (l : Layout) → IsNetwork joint → IsPlan m d joint p → IsLayout m d joint p l → All (λ (q : Port). q.wire < wires_of m) l.ports.items
 ports_within numbered tree parents meanings taps crosses sites m d joint p l network plan layout =
     (wires_are m d joint p l.nets.items l.ports.items l.visits.items (numbering numbered tree parents meanings taps crosses sites m) network plan (laid_by m d joint p l layout)).ports_are
+
+-- so many owners as the whole's machine has wires
+pub owners_for : (m : Shape) (d : Defects) (joint : Network) (p : Plan) (nets : List (List ℕ)) (ports : List Port) (owners : List (Option ℕ)) (whole : ImageValue) → AreOwners m nets ports owners → IsRouteOf m d joint p whole → length owners ≡ wires_of whole.config.shape
+owners_for m d joint p nets ports owners whole are route = are.sized ∙ ap wires_of (sym route.routed.shape)
