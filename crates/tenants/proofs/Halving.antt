@@ -63,10 +63,10 @@ module _ (m : Shape) (d : Defects) (joint : Network) (p : Plan) (l : Layout) (ow
       ∙ sym (rows.2 (map (image_row i) alone) (subst (λ vs. AreRows n vs (map (image_row i) alone)) (sym same) theirs))
 
 module _ (n o : Network) (first : IsNetwork n) (second : IsNetwork o) where
-  pub one_stands : StandsIn (first_site n o) n (joint_network n o)
+  one_stands : StandsIn (first_site n o) n (joint_network n o)
   one_stands = first_stands n o first second (n.inputs + o.inputs) refl
 
-  pub two_stands : StandsIn (second_site n o) o (joint_network n o)
+  two_stands : StandsIn (second_site n o) o (joint_network n o)
   two_stands = second_stands n o first second (n.inputs + o.inputs + length n.tables) refl
 
   owned_once : (q : ℕ) → Owns (first_site n o) n q → Owns (second_site n o) o q → ⊥
@@ -219,7 +219,13 @@ module _ (n o : Network) (first : IsNetwork n) (second : IsNetwork o) where
         rows = both_rows;
       }
 
-  -- so where the network is equal to the joint one
+  -- so where the network is equal to the joint one, and the places are equal to theirs
+  pub first_in : (joint : Network) (s : Site) → joint ≡ joint_network n o → s ≡ first_site n o → StandsIn s n joint
+  first_in joint s e at = subst (λ z. StandsIn s n z) (sym e) (subst (λ z. StandsIn z n (joint_network n o)) (sym at) one_stands)
+
+  pub second_in : (joint : Network) (s : Site) → joint ≡ joint_network n o → s ≡ second_site n o → StandsIn s o joint
+  second_in joint s e at = subst (λ z. StandsIn s o z) (sym e) (subst (λ z. StandsIn z o (joint_network n o)) (sym at) two_stands)
+
   pub split_of : (m : Shape) (d : Defects) (p : Plan) (l : Layout) (owners : List (Option ℕ)) (whole : ImageValue) (joint : Network) → joint ≡ joint_network n o → Ground m d joint p l owners whole → (i k : ImageValue) →
       IsTenant (first_site n o) n p owners whole i → IsTenant (second_site n o) o p owners whole k → IsFreeImage d whole → ((f : Faults) → Covers m d f → IsRightForNetwork f whole joint) → HaveOneRows → IsSplit m d n o whole i k
   split_of m d p l owners whole joint e ground i k its theirs free reading one =

@@ -1,5 +1,5 @@
 -- What a tenant has of a routed whole: a plan and a layout of its own network.
-use Rattle.std.proofs.Common.{◌≡◌, ◌≢◌, ◌⊎◌, ℕ, ◌+◌, ◌-◌, ◌<◌, ◌≤◌, ◌++◌, true, Some, None, Option, List, length, get_or, map, refl, sym, ap, ◌∙◌, subst, inl, inr, arith}
+use Rattle.std.proofs.Common.{◌≡◌, ◌≢◌, ◌⊎◌, ℕ, ◌+◌, ◌-◌, ◌<◌, ◌≤◌, ◌++◌, true, Some, None, Option, List, length, get_or, refl, sym, ap, ◌∙◌, subst, inl, inr, arith}
 use Rattle.std.specs.Prelude.{IsSome}
 use Rattle.std.specs.List.{All, AllPairs, Contains}
 use Rattle.std.proofs.lemmas.Bool.{cases_lt, cases_order}
@@ -11,15 +11,13 @@ use Rattle.hierarchy.specs.Shape.{nodes_of, tables_of, pins_of, crosses_of, ends
 use Rattle.hierarchy.specs.Laws.{IsNumbered, IsTree}
 use Rattle.hierarchy.specs.Faults.{Faults}
 use Rattle.hierarchy.specs.Defects.{Defects, IsFreeWire, IsFreeCross, IsFreeTable, Covers}
-use Rattle.config_set.specs.declared.Setting.{Setting}
 use Rattle.config_set.specs.Configuration.{is_closed, setting_of}
 use Rattle.config_image.specs.Images.{ImageValue}
 use Rattle.config_image.specs.Parts.{IsFreeImage, Uses, at_pin, at_tap, at_line, at_table}
-use Rattle.table_map.specs.declared.source.Source.{Source}
 use Rattle.table_map.specs.declared.source.Source.TheVariants.{Input, Table}
 use Rattle.table_map.specs.declared.network.NetTable.{NetTable}
 use Rattle.table_map.specs.declared.network.Network.{Network}
-use Rattle.table_map.specs.Networks.{no_table, table_at, IsNetwork, IsDeepest}
+use Rattle.table_map.specs.Networks.{table_at, IsNetwork, IsDeepest}
 use Rattle.place.specs.declared.layout.Layout.{Layout}
 use Rattle.place.specs.declared.plan.Plan.{Plan}
 use Rattle.place.specs.declared.short.Port.{Port}
@@ -27,7 +25,7 @@ use Rattle.place.specs.declared.short.Visit.{Visit}
 use Rattle.place.specs.Laying.{IsLayout}
 use Rattle.place.specs.Layouts.{AreHeld}
 use Rattle.place.specs.Lists.{IsNth, nth_of}
-use Rattle.place.specs.Plans.{number_of, places, place_of, net_of, nets_in, IsTerminal, drives, reads, shows, IsPlan}
+use Rattle.place.specs.Plans.{number_of, places, place_of, nets_in, IsTerminal, drives, reads, shows, IsPlan}
 use Rattle.place.specs.Room.{HasPort, CrossesAt, VisitsAt, IsFreePort, Serves}
 use Rattle.place.specs.Strands.{Crosses, Visits}
 use Rattle.place.proofs.Those.{those_unique, same_place}
@@ -37,7 +35,7 @@ use Rattle.crossbar_route.specs.Owners.{AreOwners, Holds, HasLine}
 use Rattle.crossbar_route.specs.RightImages.{IsRightForNetwork}
 use Rattle.crossbar_route.specs.Routed.{HasPortIn, IsRouteOf}
 use Rattle.crossbar_route.specs.Trees.{IsNetTap, by_terminal, by_child, by_port, IsLaidOnTree, IsOfNet, as_terminal, as_line, as_port}
-use Rattle.crossbar_route.proofs.OnTree.{one_net, nets_apart}
+use Rattle.crossbar_route.proofs.OnTree.{nets_apart}
 use Rattle.crossbar_route.proofs.Reading.{ticks_enough}
 use Rattle.crossbar_route.proofs.Routed.{set_is_free, tree_reads_rows}
 use Rattle.crossbar_route.proofs.Terminals.{plan_terminals, no_idle_terminal}

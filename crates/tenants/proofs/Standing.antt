@@ -1,6 +1,6 @@
 -- Each of two networks stands in their joint network.
-use Rattle.std.proofs.Common.{◌≡◌, ◌⊎◌, ℕ, ◌+◌, ◌-◌, ◌<◌, ◌≤◌, ◌++◌, List, length, get_or, map, take, drop, refl, sym, ap, ◌∙◌, subst, inl, inr, arith}
-use Rattle.std.specs.List.{All, Contains}
+use Rattle.std.proofs.Common.{◌≡◌, ◌⊎◌, ℕ, ◌+◌, ◌-◌, ◌<◌, ◌≤◌, ◌++◌, List, length, get_or, map, take, refl, sym, ap, ◌∙◌, subst, inl, inr, arith}
+use Rattle.std.specs.List.{Contains}
 use Rattle.std.proofs.lemmas.Bool.{cases_lt}
 use Rattle.std.proofs.lemmas.List.{get_or_append_left, get_or-append_right, get_or-map, length-map, take_at, drop_at, take_all}
 use Rattle.table_map.specs.declared.source.Source.{Source}
@@ -20,9 +20,6 @@ behind : {A : Type 0} (xs ys : List A) (n : ℕ) → length ys ≡ n → part (l
 behind xs ys n e = ap (take n) (drop_at xs ys (length xs) refl) ∙ take_all n ys (omega (arith, e))
 
 module _ (n o : Network) (first : IsNetwork n) (second : IsNetwork o) where
-  first_site : ℕ → Site
-  first_site net = record { input = 0; table = 0; output = 0; net = net }
-
   -- a source that was moved is none of the first's
   not_first : (net : ℕ) (y x : Source) → moved n.inputs (length n.tables) y ≡ x → IsOwnSource (record { input = 0; table = 0; output = 0; net = net }) n x → ⊥
   not_first net (Input k) (Input a) e own = let f : n.inputs + k ≡ a = number e in let l = own.1 in omega (arith, f, l)

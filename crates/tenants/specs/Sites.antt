@@ -1,6 +1,6 @@
 -- Where a network stands in a joint one, and what its tenant takes over from the whole.
 use Rattle.std.specs.Prelude.{◌≡◌, ◌⊎◌, ℕ, ◌+◌, ◌<◌, ◌≤◌, true, Some, IsSome, List, Option, map, length, slice_index_or}
-use Rattle.std.specs.List.{All, Contains}
+use Rattle.std.specs.List.{Contains}
 use Rattle.std.specs.FinSet as set
 use Rattle.hierarchy.specs.declared.Shape.{Shape}
 use Rattle.hierarchy.specs.declared.Cross.{Cross}
@@ -29,7 +29,12 @@ abbrev pub first_site : Network → Network → Site
 first_site n o = record { input = 0; table = 0; output = 0; net = n.inputs + o.inputs }
 
 abbrev pub second_site : Network → Network → Site
-second_site n o = record { input = n.inputs; table = length n.tables; output = length n.outputs; net = n.inputs + o.inputs + length n.tables }
+second_site n o = record {
+  input = n.inputs;
+  table = length n.tables;
+  output = length n.outputs;
+  net = n.inputs + o.inputs + length n.tables;
+}
 
 -- the number is one of so many from the first on
 abbrev pub IsFrom : ℕ → ℕ → ℕ → Type 0
@@ -49,8 +54,10 @@ pub record StandsIn (s : Site) (n joint : Network) : Type 0 where
   pub tables : part s.table (length n.tables) joint.tables ≡ map (moved_table s.input s.table) n.tables
   pub outputs : part s.output (length n.outputs) joint.outputs ≡ map (moved s.input s.table) n.outputs
   pub net : s.net ≡ joint.inputs + s.table
-  pub others : (j : ℕ) (x : Source) → j < length joint.tables → ¬ IsFrom s.table (length n.tables) j → Contains (table_at joint j).ins x → ¬ IsOwnSource s n x
-  pub other_outputs : (o : ℕ) (x : Source) → o < length joint.outputs → ¬ IsFrom s.output (length n.outputs) o → slice_index_or joint.outputs o x ≡ x →
+  pub others : (j : ℕ) (x : Source) → j < length joint.tables → ¬ IsFrom s.table (length n.tables) j →
+      Contains (table_at joint j).ins x → ¬ IsOwnSource s n x
+  pub other_outputs : (o : ℕ) (x : Source) → o < length joint.outputs → ¬ IsFrom s.output (length n.outputs) o →
+      slice_index_or joint.outputs o x ≡ x →
       ¬ IsOwnSource s n x
 
 -- the net of the joint network is one of the network's
@@ -66,7 +73,8 @@ abbrev pub IsHeldAmong : Shape → Site → Network → List (Option ℕ) → Li
 IsHeldAmong m s n owners closed x = Contains closed (record { 0 = x }) × IsHeldBy s n owners (ends_of m x).0
 
 -- Of the whole's crosspoints those whose taps the network's nets have, the network's tables on these seats, and as many ticks.
-pub record IsShare (s : Site) (n : Network) (owners : List (Option ℕ)) (seats : List hierarchy.Table) (whole g : Configuration) : Type 0 where
+pub record IsShare (s : Site) (n : Network) (owners : List (Option ℕ)) (seats : List hierarchy.Table)
+    (whole g : Configuration) : Type 0 where
   pub shape : g.shape ≡ whole.shape
   pub ticks : g.ticks ≡ whole.ticks
   pub only : (x : ℕ) → is_closed g x ≡ true → (is_closed whole x ≡ true) × IsHeldBy s n owners (ends_of whole.shape x).0

@@ -21,7 +21,8 @@ pub record AreTenants (whole first second : ImageValue) : Type 0 where
   pub first_shape : first.config.shape ≡ whole.config.shape
   pub second_shape : second.config.shape ≡ whole.config.shape
   pub closed : (x : ℕ) → (is_closed whole.config x ≡ true) ↔ ((is_closed first.config x ≡ true) ⊎ (is_closed second.config x ≡ true))
-  pub tables : (t : ℕ) (s : Setting) → (setting_of whole.config t ≡ Some s) ↔ ((setting_of first.config t ≡ Some s) ⊎ (setting_of second.config t ≡ Some s))
+  pub tables : (t : ℕ) (s : Setting) → (setting_of whole.config t ≡ Some s)
+      ↔ ((setting_of first.config t ≡ Some s) ⊎ (setting_of second.config t ≡ Some s))
   pub inputs : whole.inputs ≡ first.inputs ++ second.inputs
   pub outputs : whole.outputs ≡ first.outputs ++ second.outputs
   pub apart : (w : ℕ) → Uses first w → Uses second w → ⊥
@@ -31,8 +32,10 @@ pub record AreTenants (whole first second : ImageValue) : Type 0 where
 -- For every list of vectors of the whole, what is read at the tenant's output pins is what the tenant's image alone gives for its
 -- part of the vectors, from this bit on.
 abbrev pub RunsAsAlone : Faults → (whole tenant : ImageValue) → ℕ → Type 0
-RunsAsAlone f whole tenant from = (vectors : List (List Bool)) (reads alone : List Pins) → All (λ v. length v ≡ length whole.inputs) vectors →
-    IsRun f whole.config (map (drive_of whole) vectors) reads → IsRun f tenant.config (map (drive_of tenant) (map (part from (length tenant.inputs)) vectors)) alone →
+RunsAsAlone f whole tenant from = (vectors : List (List Bool)) (reads alone : List Pins) →
+    All (λ v. length v ≡ length whole.inputs) vectors →
+    IsRun f whole.config (map (drive_of whole) vectors) reads →
+    IsRun f tenant.config (map (drive_of tenant) (map (part from (length tenant.inputs)) vectors)) alone →
     map (image_row tenant) reads ≡ map (image_row tenant) alone
 
 -- Neither tenant sees the other: each runs in the whole as it does alone.

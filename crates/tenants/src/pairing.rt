@@ -8,6 +8,7 @@ ghost use Rattle.table_map.specs.Networks.{IsNetwork};
 ghost use Rattle.table_map.specs.Rows.{HasRowsOf};
 ghost use Rattle.place.specs.Laying.{IsLayout};
 ghost use Rattle.place.specs.Plans.{IsPlaceFail, IsPlan};
+ghost use Rattle.crossbar_route.specs.Owners.{AreOwners};
 ghost use Rattle.crossbar_route.specs.RightImages.{IsRightImage, ReadsRows};
 ghost use Rattle.tenants.specs.JointNetworks.{AreBothRows, joint_network};
 ghost use Rattle.tenants.specs.Sites.{IsSplit, first_site, second_site};
@@ -60,6 +61,25 @@ fn second_of(first: &Network, second: &Network) -> Site
     }
 }
 
+// For each wire the net that has it in a layout of a plan, if there is one.
+fn owners_by(
+    alloc: Global,
+    network: &Network,
+    placed: &Placed,
+    defects: &Defects,
+) -> Result<Vec<Option<u32>>, AllocError>
+    requires network { IsNetwork network.now }
+    requires plan { IsPlan defects.now.shape defects.now.list network.now placed.now.plan }
+    requires layout { IsLayout defects.now.shape defects.now.list network.now placed.now.plan placed.now.layout }
+    ensures { IfOk result (λ o. AreOwners defects.now.shape placed.now.layout.nets.items placed.now.layout.ports.items o.items) }
+{
+    hierarchy::the_numbering_is_sound();
+    hierarchy::the_crosspoints_are_sound();
+    hierarchy::ports_and_lines_ascend();
+    let layout = &placed.layout;
+    owners_of(alloc, defects.shape(), &layout.nets, &layout.ports)
+}
+
 // The image of both on a plan of their joint network with this layout, and the image of each.
 fn split(
     alloc: Global,
@@ -80,12 +100,10 @@ fn split(
     ensures { IfOk result (λ p. IsSplit defects.now.shape defects.now.list first.now second.now p.whole p.first p.second) }
 {
     hierarchy::the_numbering_is_sound();
-    hierarchy::the_crosspoints_are_sound();
-    hierarchy::ports_and_lines_ascend();
     table_map::laws::networks_have_one_list_of_rows();
     let Placed { plan, layout } = placed;
     let whole = route_laid(alloc, network, plan, layout, defects)?;
-    let owners = owners_of(alloc, defects.shape(), &layout.nets, &layout.ports)?;
+    let owners = owners_by(alloc, network, placed, defects)?;
     let one = first_of(first, second);
     let two = second_of(first, second);
     let first = tenant(alloc, first, &whole, plan, &owners, &one)?;
@@ -126,10 +144,14 @@ pub fn lay_pair(
     ensures second_free { IfOk result (λ p. IsFreeImage defects.now.list p.second) }
     ensures first_pins { IfOk result (λ p. HasPinsOf first.now p.first) }
     ensures second_pins { IfOk result (λ p. HasPinsOf second.now p.second) }
-    ensures apart { IfOk result (λ p. (f : Faults) → Covers defects.now.shape defects.now.list f → StandApart f p.whole p.first p.second) }
-    ensures first_right { IfOk result (λ p. (netlist : Draft) (f : Faults) → HasRowsOf first.now netlist → Covers defects.now.shape defects.now.list f → IsRightImage f p.first netlist) }
-    ensures second_right { IfOk result (λ p. (netlist : Draft) (f : Faults) → HasRowsOf second.now netlist → Covers defects.now.shape defects.now.list f → IsRightImage f p.second netlist) }
-    ensures rows { IfOk result (λ p. (f : Faults) → Covers defects.now.shape defects.now.list f → ReadsRows f p.whole (AreBothRows first.now second.now)) }
+    ensures apart { IfOk result (λ p. (f : Faults) → Covers defects.now.shape defects.now.list f →
+        StandApart f p.whole p.first p.second) }
+    ensures first_right { IfOk result (λ p. (netlist : Draft) (f : Faults) → HasRowsOf first.now netlist →
+        Covers defects.now.shape defects.now.list f → IsRightImage f p.first netlist) }
+    ensures second_right { IfOk result (λ p. (netlist : Draft) (f : Faults) → HasRowsOf second.now netlist →
+        Covers defects.now.shape defects.now.list f → IsRightImage f p.second netlist) }
+    ensures rows { IfOk result (λ p. (f : Faults) → Covers defects.now.shape defects.now.list f →
+        ReadsRows f p.whole (AreBothRows first.now second.now)) }
     ensures fail { IfErr result (IsPlaceFail defects.now.shape defects.now.list (joint_network first.now second.now)) }
 {
     let network = match joint(alloc, first, second) {

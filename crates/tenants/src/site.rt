@@ -1,5 +1,5 @@
 //! Where one of two networks stands in their joint network.
-ghost use Rattle.std.specs.Prelude.{◌≡◌, ◌↔◌, ◌<◌, ◌+◌, ℕ, IsTrue, Some, length};
+ghost use Rattle.std.specs.Prelude.{◌≡◌, ◌↔◌, ◌<◌, ℕ, IsTrue, Some};
 ghost use Rattle.tenants.specs.Sites.{IsFrom, Owns};
 
 use table_map::Network;

@@ -36,7 +36,8 @@ fn close_held(
 ) -> Result<(), AllocError>
     requires owners { length owners.now ≡ wires_of config.old.config.shape }
     requires within { All (λ c. c.0 < crosses_of config.old.config.shape) closed.now }
-    ensures { OnOk result (Closes (IsHeldAmong config.old.config.shape site.now network.now owners.now closed.now) (length closed.now) config.old.config config.new.config) }
+    ensures { OnOk result (Closes (IsHeldAmong config.old.config.shape site.now network.now owners.now closed.now)
+        (length closed.now) config.old.config config.new.config) }
 {
     let shape = config.shape();
     for cross in closed {

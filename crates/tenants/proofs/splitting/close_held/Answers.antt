@@ -1,5 +1,5 @@
-use Rattle.std.proofs.Common.{◌≡◌, ℕ, Some, None, List, Option, get_or, take, sym, ap, ◌∙◌, subst, true}
-use Rattle.std.specs.Prelude.{◌↔◌, if◌then◌else◌}
+use Rattle.std.proofs.Common.{◌≡◌, ℕ, get_or, take, ap, ◌∙◌, subst, true}
+use Rattle.std.specs.Prelude.{◌↔◌}
 use Rattle.std.proofs.lemmas.List.{take_more}
 use Rattle.hierarchy.specs.declared.Cross.{Cross}
 use Rattle.hierarchy.specs.declared.Shape.{Shape}

@@ -1,5 +1,4 @@
-use Rattle.std.proofs.Common.{◌≡◌, ℕ, List, length, sym, ap, ◌∙◌, subst}
-use Rattle.hierarchy.specs.declared.Shape.{Shape}
+use Rattle.std.proofs.Common.{◌≡◌, length, sym, ap, ◌∙◌, subst}
 use Rattle.config_set.specs.Configuration.{Configuration}
 use Rattle.tenants.specs.JointNetworks.{part}
 use Rattle.tenants.specs.Sites.{IsShare, IsTenant}
