@@ -8,7 +8,6 @@ use Rattle.table_map.specs.declared.source.Source.TheVariants.{Input, Table}
 use Rattle.table_map.specs.declared.network.NetTable.{NetTable}
 use Rattle.table_map.specs.declared.network.Network.{Network}
 use Rattle.table_map.specs.Networks.{no_table, table_at, IsSourceOf, IsNetwork}
-use Rattle.tenants.specs.declared.site.Site.{Site}
 use Rattle.tenants.specs.JointNetworks.{part, moved, moved_table, joint_network}
 use Rattle.tenants.specs.Sites.{IsFrom, IsOwnSource, StandsIn}
 use Rattle.tenants.proofs.Lists.{contains_unmap, all_has}
