@@ -25,7 +25,7 @@ module _ (machine name design vectors : List ℕ) (old new : Around) where
     work = design_laid;
   }
 
-  pub machine-file : AreGoTexts files-of → HasMachine files-of.machine
+  abbrev pub machine-file : AreGoTexts files-of → HasMachine files-of.machine
   machine-file texts = record { shape = texts.shape; file = texts.machine_file; is_told = texts.machine_told; is = texts.machine; within = texts.machine_within }
 
   design-right : (refusal : Refusal) → NoDesign Design files-of.design refusal → AreGoTexts files-of → IsExcused refusal old new

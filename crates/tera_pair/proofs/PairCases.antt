@@ -39,7 +39,7 @@ module _ (machine name first second vectors : List ℕ) (old new : Around) where
     work = laid-of;
   }
 
-  pub machine-file : ArePairTexts files-of → HasMachine files-of.machine
+  abbrev pub machine-file : ArePairTexts files-of → HasMachine files-of.machine
   machine-file texts = record { shape = texts.shape; file = texts.machine_file; is_told = texts.machine_told; is = texts.machine; within = texts.machine_within }
 
   first-right : (refusal : Refusal) → NoDesign First files-of.first refusal → ArePairTexts files-of → IsExcused refusal old new
