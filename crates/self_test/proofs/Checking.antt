@@ -1,0 +1,102 @@
+-- The test of an image, step by step.
+use Rattle.std.proofs.Common.{◌≡◌, ◌≢◌, ◌⊎◌, ℕ, ◌+◌, ◌*◌, ◌<◌, ◌≤◌, Bool, true, false, Some, None, Option, List, length, refl, sym, ap, ◌∙◌, subst, inl, inr, arith}
+use Rattle.std.specs.Prelude.{IsSome, IsTrue, Contains}
+use Rattle.tm_bits.specs.Numbers.{size_of}
+use Rattle.hierarchy.specs.declared.Shape.{Shape}
+use Rattle.hierarchy.specs.Laws.{IsNumbered, IsTree, HasMeetings, HasParents}
+use Rattle.hierarchy.specs.Faults.{Faults, IsFaultless}
+use Rattle.hierarchy.specs.Sound.{IsSoundWire, IsSoundTable}
+use Rattle.hierarchy.specs.Served.{HasHomes}
+use Rattle.hierarchy.specs.Standing.{HasStandingParts}
+use Rattle.config_image.specs.Images.{ImageValue, IsImage}
+use Rattle.config_image.specs.Parts.{IsWideEnough}
+use Rattle.evidence.specs.Kept.{Kept, HoldsFor, IsMore}
+use Rattle.growth.specs.Field.{IsFieldOf, ClosedIf}
+use Rattle.growth.specs.declared.field.Field.{Field}
+use Rattle.growth.specs.declared.step.Step.{Step}
+use Rattle.self_test.specs.Fields.{IsFewFor}
+use Rattle.self_test.specs.Looks.{AreRoutesKnown, AreSeated, FieldIf, RoutesIf, TablesIf, WholeIf, TakesInField, TakesAtMost, HasClosed, HasTablesOn}
+use Rattle.self_test.specs.Skeleton.{HasSkeleton}
+use Rattle.self_test.specs.Soundly.{KeepsRoutes, KeepsTables, KeepsParts, SoundIf, YesIf, RunsSoundly}
+use Rattle.self_test.specs.Used.{AreUsed, AreInvolved}
+use Rattle.self_test.proofs.Covering.{on_within, used_within}
+use Rattle.self_test.proofs.Looking.{routes_stay}
+use Rattle.self_test.proofs.Wholly.{routes_known, seated}
+
+-- what the laws say of a machine
+pub record AreLaws (m : Shape) : Type 0 where
+  pub numbered : IsNumbered m
+  pub tree : IsTree m
+  pub parents : HasParents m
+  pub meetings : HasMeetings m
+  pub homes : HasHomes m
+  pub wires : (f : Faults) → IsFaultless f → (w : ℕ) → IsSoundWire m f w
+  pub tables : (f : Faults) → IsFaultless f → (t : ℕ) → IsSoundTable m f t
+  pub standing : (f : Faults) → HasStandingParts m f
+
+-- without faults growth reaches all that the image needs
+pub routes_if : (told : Option Faults) (old new : Kept) (ss : List Step) (i : ImageValue) (used : List Bool) (a : Field) (yes : Bool) → AreLaws i.config.shape → IsImage i → AreUsed i used → IsFieldOf i.config.shape a → new.shape ≡ i.config.shape →
+    ClosedIf told new a ss → ((f : Faults) → told ≡ Some f → HoldsFor old f → HoldsFor new f) → (AreRoutesKnown new ss i → IsTrue yes) → RoutesIf told old new ss i a yes
+routes_if told old new ss i used a yes laws right are fits shape closed holds_on known = record { at = at }
+  where
+    at : (f : Faults) → told ≡ Some f → HoldsFor old f → IsFaultless f → IsWideEnough i.config.shape i → HasSkeleton i a → IsTrue yes × AreSeated new ss i
+    at f is holds none wide sk =
+        let grown = closed.at f is (holds_on f is holds) in
+        let within = used_within i used right are in (
+          known (routes_known i laws.numbered laws.tree laws.parents laws.meetings laws.homes within f none (laws.wires f none) (laws.tables f none) (laws.standing f) wide a fits sk new shape ss grown),
+          λ t on. seated i laws.numbered laws.tree laws.parents laws.meetings laws.homes within f none (laws.wires f none) (laws.tables f none) (laws.standing f) wide a fits sk new shape ss grown t on (on_within i right t on),
+        )
+
+-- ---- in one field
+
+pub found_true : (told : Option Faults) (old mid : Kept) (ss : List Step) (i : ImageValue) (a : Field) (yes : Bool) → RoutesIf told old mid ss i a true → ((f : Faults) → told ≡ Some f → HoldsFor old f → HoldsFor mid f) → TablesIf told mid ss i yes → FieldIf told old i a (Some yes)
+found_true told old mid ss i a yes routes holds_on tables = record {
+  at = λ f is holds none wide sk. ap Some (is_true yes (tables.at f is (holds_on f is holds) none (routes.at f is holds none wide sk).1));
+}
+  where
+    is_true : (b : Bool) → IsTrue b → b ≡ true
+    is_true true h = refl
+    is_true false h = absurd h
+
+pub found_none : (told : Option Faults) (old mid : Kept) (ss : List Step) (i : ImageValue) (a : Field) → RoutesIf told old mid ss i a false → FieldIf told old i a None
+found_none told old mid ss i a routes = record { at = λ f is holds none wide sk. absurd (routes.at f is holds none wide sk).0 }
+
+pub parts_found : (k l : Kept) (i : ImageValue) (yes : Bool) → IsMore k l → KeepsRoutes k i → (IsTrue yes → KeepsTables l i) → Some yes ≡ Some true → KeepsParts l i
+parts_found k l i yes more routes tables e = record { routes = routes_stay more routes; tables = tables (let same : yes ≡ true = cc in subst IsTrue (sym same) tt) }
+
+-- ---- in both fields
+
+pub whole_found : (told : Option Faults) (k : Kept) (i : ImageValue) (a : Field) (yes : Bool) → FieldIf told k i a (Some yes) → (IsWideEnough i.config.shape i → HasSkeleton i a) → WholeIf told k i yes
+whole_found told k i a yes field sk = record { at = λ f is holds none wide. (let e = field.at f is holds none wide (sk wide) in let same : yes ≡ true = cc in subst IsTrue (sym same) tt) }
+
+pub whole_none : (told : Option Faults) (k : Kept) (i : ImageValue) (a : Field) (yes : Bool) → FieldIf told k i a None → (IsWideEnough i.config.shape i → HasSkeleton i a) → WholeIf told k i yes
+whole_none told k i a yes field sk = record { at = λ f is holds none wide. absurd (let e = field.at f is holds none wide (sk wide) in let no : ⊥ = cc in no) }
+
+pub loads_one : (i : ImageValue) (nodes used : List Bool) (a : Field) (before after : ℕ) → IsFewFor i nodes used 2 a → TakesInField i a before after → TakesAtMost i nodes used before after
+loads_one i nodes used a before after few takes = record { few = by }
+  where
+    by : (xs ts : List ℕ) → HasClosed i xs → HasTablesOn i ts → after ≤ before + (238 * size_of nodes + 86 * size_of used + 16 * length xs + 130 * length ts)
+    by xs ts closed on =
+        let wires = few.wires in
+        let crosses = few.crosses xs closed in
+        let loads = takes.few ts on in omega (arith, wires, crosses, loads)
+
+pub loads_two : (i : ImageValue) (nodes used : List Bool) (a b : Field) (before mid after : ℕ) → IsFewFor i nodes used 2 a → IsFewFor i nodes used 3 b → mid ≤ before + (8 * size_of a.crosses + 3 * size_of a.wires) → TakesInField i b mid after → TakesAtMost i nodes used before after
+loads_two i nodes used a b before mid after few_a few_b first takes = record { few = by }
+  where
+    by : (xs ts : List ℕ) → HasClosed i xs → HasTablesOn i ts → after ≤ before + (238 * size_of nodes + 86 * size_of used + 16 * length xs + 130 * length ts)
+    by xs ts closed on =
+        let wires = few_a.wires in
+        let crosses = few_a.crosses xs closed in
+        let more_wires = few_b.wires in
+        let more_crosses = few_b.crosses xs closed in
+        let loads = takes.few ts on in omega (arith, wires, crosses, more_wires, more_crosses, loads, first)
+
+-- ---- the answer
+
+pub sound_if : (told : Option Faults) (k l : Kept) (i : ImageValue) (yes : Bool) → ((f : Faults) → HoldsFor k f) → ((f : Faults) → told ≡ Some f → HoldsFor k f → HoldsFor l f) → (IsTrue yes → KeepsParts l i) →
+    ((f : Faults) → HoldsFor l f → KeepsParts l i → RunsSoundly f i) → SoundIf told i yes
+sound_if told k l i yes nothing holds_on keeps law = record { at = λ f is answer. law f (holds_on f is (nothing f)) (keeps answer) }
+
+pub yes_if : (told : Option Faults) (k : Kept) (i : ImageValue) (yes : Bool) → ((f : Faults) → HoldsFor k f) → WholeIf told k i yes → YesIf told i yes
+yes_if told k i yes nothing whole = record { at = λ f is none wide. whole.at f is (nothing f) none wide }
