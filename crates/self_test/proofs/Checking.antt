@@ -1,6 +1,7 @@
 -- The test of an image, step by step.
 use Rattle.std.proofs.Common.{◌≡◌, ◌≢◌, ◌⊎◌, ℕ, ◌+◌, ◌*◌, ◌<◌, ◌≤◌, Bool, true, false, Some, None, Option, List, length, refl, sym, ap, ◌∙◌, subst, inl, inr, arith}
 use Rattle.std.specs.Prelude.{IsSome, IsTrue, Contains}
+use Rattle.std.proofs.lemmas.Bool.{false≢true}
 use Rattle.tm_bits.specs.Numbers.{size_of}
 use Rattle.hierarchy.specs.declared.Shape.{Shape}
 use Rattle.hierarchy.specs.Laws.{IsNumbered, IsTree, HasMeetings, HasParents}
@@ -35,11 +36,11 @@ pub record AreLaws (m : Shape) : Type 0 where
   pub standing : (f : Faults) → HasStandingParts m f
 
 -- without faults growth reaches all that the image needs
-pub routes_if : (told : Option Faults) (old new : Kept) (ss : List Step) (i : ImageValue) (used : List Bool) (a : Field) (yes : Bool) → AreLaws i.config.shape → IsImage i → AreUsed i used → IsFieldOf i.config.shape a → new.shape ≡ i.config.shape →
-    ClosedIf told new a ss → ((f : Faults) → told ≡ Some f → HoldsFor old f → HoldsFor new f) → (AreRoutesKnown new ss i → IsTrue yes) → RoutesIf told old new ss i a yes
-routes_if told old new ss i used a yes laws right are fits shape closed holds_on known = record { at = at }
+pub routes_if : (told : Option Faults) (old new : Kept) (ss : List Step) (i : ImageValue) (used : List Bool) (a : Field) (answer : Bool) → AreLaws i.config.shape → IsImage i → AreUsed i used → IsFieldOf i.config.shape a → new.shape ≡ i.config.shape →
+    ClosedIf told new a ss → ((f : Faults) → told ≡ Some f → HoldsFor old f → HoldsFor new f) → (AreRoutesKnown new ss i → IsTrue answer) → RoutesIf told old new ss i a answer
+routes_if told old new ss i used a answer laws right are fits shape closed holds_on known = record { at = at }
   where
-    at : (f : Faults) → told ≡ Some f → HoldsFor old f → IsFaultless f → IsWideEnough i.config.shape i → HasSkeleton i a → IsTrue yes × AreSeated new ss i
+    at : (f : Faults) → told ≡ Some f → HoldsFor old f → IsFaultless f → IsWideEnough i.config.shape i → HasSkeleton i a → IsTrue answer × AreSeated new ss i
     at f is holds none wide sk =
         let grown = closed.at f is (holds_on f is holds) in
         let within = used_within i used right are in (
@@ -49,28 +50,24 @@ routes_if told old new ss i used a yes laws right are fits shape closed holds_on
 
 -- ---- in one field
 
-pub found_true : (told : Option Faults) (old mid : Kept) (ss : List Step) (i : ImageValue) (a : Field) (yes : Bool) → RoutesIf told old mid ss i a true → ((f : Faults) → told ≡ Some f → HoldsFor old f → HoldsFor mid f) → TablesIf told mid ss i yes → FieldIf told old i a (Some yes)
-found_true told old mid ss i a yes routes holds_on tables = record {
-  at = λ f is holds none wide sk. ap Some (is_true yes (tables.at f is (holds_on f is holds) none (routes.at f is holds none wide sk).1));
+pub found_true : (told : Option Faults) (old mid : Kept) (ss : List Step) (i : ImageValue) (a : Field) (answer : Bool) → RoutesIf told old mid ss i a true → ((f : Faults) → told ≡ Some f → HoldsFor old f → HoldsFor mid f) → TablesIf told mid ss i answer → FieldIf told old i a (Some answer)
+found_true told old mid ss i a answer routes holds_on tables = record {
+  at = λ f is holds none wide sk. ap Some (tables.at f is (holds_on f is holds) none (routes.at f is holds none wide sk).1);
 }
-  where
-    is_true : (b : Bool) → IsTrue b → b ≡ true
-    is_true true h = refl
-    is_true false h = absurd h
 
 pub found_none : (told : Option Faults) (old mid : Kept) (ss : List Step) (i : ImageValue) (a : Field) → RoutesIf told old mid ss i a false → FieldIf told old i a None
-found_none told old mid ss i a routes = record { at = λ f is holds none wide sk. absurd (routes.at f is holds none wide sk).0 }
+found_none told old mid ss i a routes = record { at = λ f is holds none wide sk. absurd (false≢true (routes.at f is holds none wide sk).0) }
 
-pub parts_found : (k l : Kept) (i : ImageValue) (yes : Bool) → IsMore k l → KeepsRoutes k i → (IsTrue yes → KeepsTables l i) → Some yes ≡ Some true → KeepsParts l i
-parts_found k l i yes more routes tables e = record { routes = routes_stay more routes; tables = tables (let same : yes ≡ true = cc in subst IsTrue (sym same) tt) }
+pub parts_found : (k l : Kept) (i : ImageValue) (answer : Bool) → IsMore k l → KeepsRoutes k i → (IsTrue answer → KeepsTables l i) → Some answer ≡ Some true → KeepsParts l i
+parts_found k l i answer more routes tables e = record { routes = routes_stay more routes; tables = tables (let same : answer ≡ true = cc in same) }
 
 -- ---- in both fields
 
-pub whole_found : (told : Option Faults) (k : Kept) (i : ImageValue) (a : Field) (yes : Bool) → FieldIf told k i a (Some yes) → (IsWideEnough i.config.shape i → HasSkeleton i a) → WholeIf told k i yes
-whole_found told k i a yes field sk = record { at = λ f is holds none wide. (let e = field.at f is holds none wide (sk wide) in let same : yes ≡ true = cc in subst IsTrue (sym same) tt) }
+pub whole_found : (told : Option Faults) (k : Kept) (i : ImageValue) (a : Field) (answer : Bool) → FieldIf told k i a (Some answer) → (IsWideEnough i.config.shape i → HasSkeleton i a) → WholeIf told k i answer
+whole_found told k i a answer field sk = record { at = λ f is holds none wide. (let e = field.at f is holds none wide (sk wide) in let same : answer ≡ true = cc in same) }
 
-pub whole_none : (told : Option Faults) (k : Kept) (i : ImageValue) (a : Field) (yes : Bool) → FieldIf told k i a None → (IsWideEnough i.config.shape i → HasSkeleton i a) → WholeIf told k i yes
-whole_none told k i a yes field sk = record { at = λ f is holds none wide. absurd (let e = field.at f is holds none wide (sk wide) in let no : ⊥ = cc in no) }
+pub whole_none : (told : Option Faults) (k : Kept) (i : ImageValue) (a : Field) (answer : Bool) → FieldIf told k i a None → (IsWideEnough i.config.shape i → HasSkeleton i a) → WholeIf told k i answer
+whole_none told k i a answer field sk = record { at = λ f is holds none wide. absurd (let e = field.at f is holds none wide (sk wide) in let no : ⊥ = cc in no) }
 
 pub loads_one : (i : ImageValue) (nodes used : List Bool) (a : Field) (before after : ℕ) → IsFewFor i nodes used 2 a → TakesInField i a before after → TakesAtMost i nodes used before after
 loads_one i nodes used a before after few takes = record { few = by }
@@ -94,9 +91,9 @@ loads_two i nodes used a b before mid after few_a few_b first takes = record { f
 
 -- ---- the answer
 
-pub sound_if : (told : Option Faults) (k l : Kept) (i : ImageValue) (yes : Bool) → ((f : Faults) → HoldsFor k f) → ((f : Faults) → told ≡ Some f → HoldsFor k f → HoldsFor l f) → (IsTrue yes → KeepsParts l i) →
-    ((f : Faults) → HoldsFor l f → KeepsParts l i → RunsSoundly f i) → SoundIf told i yes
-sound_if told k l i yes nothing holds_on keeps law = record { at = λ f is answer. law f (holds_on f is (nothing f)) (keeps answer) }
+pub sound_if : (told : Option Faults) (k l : Kept) (i : ImageValue) (answer : Bool) → ((f : Faults) → HoldsFor k f) → ((f : Faults) → told ≡ Some f → HoldsFor k f → HoldsFor l f) → (IsTrue answer → KeepsParts l i) →
+    ((f : Faults) → HoldsFor l f → KeepsParts l i → RunsSoundly f i) → SoundIf told i answer
+sound_if told k l i answer nothing holds_on keeps law = record { at = λ f is so. law f (holds_on f is (nothing f)) (keeps so) }
 
-pub yes_if : (told : Option Faults) (k : Kept) (i : ImageValue) (yes : Bool) → ((f : Faults) → HoldsFor k f) → WholeIf told k i yes → YesIf told i yes
-yes_if told k i yes nothing whole = record { at = λ f is none wide. whole.at f is (nothing f) none wide }
+pub yes_if : (told : Option Faults) (k : Kept) (i : ImageValue) (answer : Bool) → ((f : Faults) → HoldsFor k f) → WholeIf told k i answer → YesIf told i answer
+yes_if told k i answer nothing whole = record { at = λ f is none wide. whole.at f is (nothing f) none wide }

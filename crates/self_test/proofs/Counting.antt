@@ -31,8 +31,8 @@ nothing_marked (b ∷ marks) none =
     let first : ◌≡◌ {A = ℕ} (cond b 1 0) 0 = by b (none 0) in omega (arith, rest, split, first)
   where
     by : (c : Bool) → (c ≡ true → ⊥) → ◌≡◌ {A = ℕ} (cond c 1 0) 0
-    by true no = absurd (no refl)
-    by false no = refl
+    by true never = absurd (never refl)
+    by false never = refl
 
 tail_of : (x : ℕ) (xs : List ℕ) (y : ℕ) → (y ≡ x → ⊥) → Contains (x ∷ xs) y → Contains xs y
 tail_of x xs y other (zero, lt, e) = absurd (other (sym e))
@@ -41,19 +41,19 @@ tail_of x xs y other (suc k, lt, e) = (k, omega arith, e)
 -- as many are marked as the list has, if it has each of them
 pub marks_fit : (xs : List ℕ) (marks : List Bool) → ((n : ℕ) → has_number marks n ≡ true → Contains xs n) → size_of marks ≤ length xs
 marks_fit [] marks each = omega (arith, nothing_marked marks (λ n h. let c = each n h in let l = c.1 in let no : ⊥ = omega (arith, l) in no))
-marks_fit (x ∷ xs) marks each = by (has_number marks x) refl
+marks_fit (x ∷ xs) marks each = by (λ ms h. marks_fit xs ms h) (has_number marks x) refl
   where
-    by : (b : Bool) → has_number marks x ≡ b → size_of marks ≤ length (x ∷ xs)
-    by true e =
+    by_number : x < length marks → (n : ℕ) → has_number (set marks x false) n ≡ true → (n ≡ x) ⊎ (n ≡ x → ⊥) → Contains xs n
+    by_number within n h (inl same) = absurd (false≢true (sym (ap (has_number (set marks x false)) same ∙ get_or-set_same marks x false false within) ∙ h))
+    by_number within n h (inr other) = tail_of x xs n other (each n (sym (get_or-set_other marks x n false false other) ∙ h))
+
+    by : ((ms : List Bool) → ((n : ℕ) → has_number ms n ≡ true → Contains xs n) → size_of ms ≤ length xs) → (b : Bool) → has_number marks x ≡ b → size_of marks ≤ length (x ∷ xs)
+    by again true e =
         let within = marked_within marks x e in
-        let rest = marks_fit xs (set marks x false) (λ n h. by_number within n h (cases_eq n x)) in
+        let rest = again (set marks x false) (λ n h. by_number within n h (cases_eq n x)) in
         omega (arith, rest, size_of-taken marks x within e)
-      where
-        by_number : x < length marks → (n : ℕ) → has_number (set marks x false) n ≡ true → (n ≡ x) ⊎ (n ≡ x → ⊥) → Contains xs n
-        by_number within n h (inl same) = absurd (false≢true (sym (ap (has_number (set marks x false)) same ∙ get_or-set_same marks x false false within) ∙ h))
-        by_number within n h (inr other) = tail_of x xs n other (each n (sym (get_or-set_other marks x n false false other) ∙ h))
-    by false e =
-        let rest = marks_fit xs marks (λ n h. tail_of x xs n (λ same. false≢true (sym e ∙ ap (has_number marks) (sym same) ∙ h)) (each n h)) in
+    by again false e =
+        let rest = again marks (λ n h. tail_of x xs n (λ same. false≢true (sym e ∙ ap (has_number marks) (sym same) ∙ h)) (each n h)) in
         omega (arith, rest)
 
 -- ---- lists in which each stands once
@@ -71,6 +71,7 @@ module _ {X : Type 0} (key : X → ℕ) where
       by (inr other) = grind (arith, nat_tests, other)
 
   distinct_once : (xs : List X) → ((q : ℕ) → count_by (λ y. key y == q) xs ≤ 1) → IsDistinct eqb (map key xs)
+  unfolding IsDistinct
   distinct_once [] few = tt
   distinct_once (x ∷ xs) few = (
     none_equal (key x) xs (let one : ◌≡◌ {A = ℕ} (if key x == key x then 1 else 0) 1 = (let t : (key x == key x) ≡ true = grind (arith, nat_tests) in ap {B = ℕ} (λ b. if b then 1 else 0) t) in let h = counted_head x xs (key x) in let f = few (key x) in omega (arith, h, f, one)),
@@ -88,13 +89,13 @@ module _ {X : Type 0} (key : X → ℕ) where
 
     counted_member : (ys : List X) (q : ℕ) → is_member eqb (map key ys) q ≡ true → 0 < count_by (λ x. key x == q) ys
     counted_member [] q h = absurd (false≢true h)
-    counted_member (y ∷ ys) q h = by (cases_eq (key y) q)
+    counted_member (y ∷ ys) q h = by (λ g. counted_member ys q g) (cases_eq (key y) q)
       where
-        by : (key y ≡ q) ⊎ (key y ≡ q → ⊥) → 0 < count_by (λ x. key x == q) (y ∷ ys)
-        by (inl same) = let one : ◌≡◌ {A = ℕ} (if key y == q then 1 else 0) 1 = (let t : (key y == q) ≡ true = grind (arith, nat_tests, same) in ap {B = ℕ} (λ b. if b then 1 else 0) t) in let e = counted_head y ys q in omega (arith, e, one)
-        by (inr other) =
+        by : (is_member eqb (map key ys) q ≡ true → 0 < count_by (λ x. key x == q) ys) → (key y ≡ q) ⊎ (key y ≡ q → ⊥) → 0 < count_by (λ x. key x == q) (y ∷ ys)
+        by again (inl same) = let one : ◌≡◌ {A = ℕ} (if key y == q then 1 else 0) 1 = (let t : (key y == q) ≡ true = grind (arith, nat_tests, same) in ap {B = ℕ} (λ b. if b then 1 else 0) t) in let e = counted_head y ys q in omega (arith, e, one)
+        by again (inr other) =
             let out : eqb q (key y) ≡ false = grind (arith, nat_tests, other) in
-            let rest = counted_member ys q (sym (ap (λ b. b || is_member eqb (map key ys) q) out) ∙ h) in
+            let rest = again (sym (ap (λ b. b || is_member eqb (map key ys) q) out) ∙ h) in
             let e = counted_head y ys q in omega (arith, e, rest)
 
     counted : (ys : List X) (j : ℕ) (d : X) → j < length ys → 0 < count_by (λ x. key x == key (get_or ys j d)) ys
@@ -104,14 +105,14 @@ module _ {X : Type 0} (key : X → ℕ) where
 
     found : (q : ℕ) (P : ℕ → Type 0) (ys : List X) → All (λ x. P (key x)) ys → 0 < count_by (λ x. key x == q) ys → P q
     found q P [] all l = absurd (let no : ⊥ = omega (arith, l) in no)
-    found q P (y ∷ ys) all l = by (cases_eq (key y) q)
+    found q P (y ∷ ys) all l = by (λ g. found q P ys (λ j d k. all (suc j) d (omega (arith, k))) g) (cases_eq (key y) q)
       where
-        by : (key y ≡ q) ⊎ (key y ≡ q → ⊥) → P q
-        by (inl same) = subst P same (all 0 y (omega arith))
-        by (inr other) =
+        by : (0 < count_by (λ x. key x == q) ys → P q) → (key y ≡ q) ⊎ (key y ≡ q → ⊥) → P q
+        by again (inl same) = subst P same (all 0 y (omega arith))
+        by again (inr other) =
             let none : ◌≡◌ {A = ℕ} (if key y == q then 1 else 0) 0 = (let t : (key y == q) ≡ false = grind (arith, nat_tests, other) in ap {B = ℕ} (λ b. if b then 1 else 0) t) in
             let e = counted_head y ys q in
-            found q P ys (λ j d k. all (suc j) d (omega (arith, k))) (omega (arith, e, none, l))
+            again (omega (arith, e, none, l))
 
     told : (q : ℕ) → 0 < count_by (λ x. key x == q) xs → f q ≡ true
     told q l = by (f q) (counts q)

@@ -70,7 +70,7 @@ module _ (m : Shape) where
       from y p = inr (let at : ends_of m y ≡ (t, l) = λ j. (p.tap j, p.line j) in crosses.one y c p.within below (at ∙ sym e))
 
   pub meet_none : (t l : ℕ) {marks : List Bool} → ((c : ℕ) → c < crosses_of m → ends_of m c ≢ (t, l)) → Gets (IsCrossOf m t l) 1 marks marks
-  meet_none t l no = gets_fewer {P = IsCrossOf m t l} (gets_none (λ y p. no y p.within (λ j. (p.tap j, p.line j)))) (λ y p. p) (omega arith)
+  meet_none t l never = gets_fewer {P = IsCrossOf m t l} (gets_none (λ y p. never y p.within (λ j. (p.tap j, p.line j)))) (λ y p. p) (omega arith)
 
   module _ (t : ℕ) (ls : List Wire) where
     pub lines_none : {marks : List Bool} → Gets (IsOnLines m t ls 0) 0 marks marks

@@ -47,7 +47,7 @@ none_marked len x h =
 -- ---- marks of which each is told
 
 pub adds_none : {P : ℕ → Type 0} {marks : List Bool} → ((x : ℕ) → P x → ⊥) → Adds P marks marks
-adds_none no = record { len = refl; stays = λ x h. h; all = λ x p. absurd (no x p); only = λ x h. inl h }
+adds_none never = record { len = refl; stays = λ x h. h; all = λ x p. absurd (never x p); only = λ x h. inl h }
 
 pub adds_one : {P Q : ℕ → Type 0} {old mid : List Bool} (x : ℕ) → Adds P old mid → x < length mid → ((y : ℕ) → P y → Q y) → Q x → ((y : ℕ) → Q y → P y ⊎ (y ≡ x)) → Adds Q old (set mid x true)
 adds_one {P} {Q} {old} {mid} x a within more here from = record {
@@ -99,7 +99,7 @@ adds_same {P} {Q} {old} {new} a to from = record { len = a.len; stays = a.stays;
 -- ---- marks that are counted
 
 pub gets_none : {P : ℕ → Type 0} {marks : List Bool} → ((x : ℕ) → P x → ⊥) → Gets P 0 marks marks
-gets_none no = record { len = refl; stays = λ x h. h; all = λ x p. absurd (no x p); few = omega arith }
+gets_none never = record { len = refl; stays = λ x h. h; all = λ x p. absurd (never x p); few = omega arith }
 
 pub gets_one : {P Q : ℕ → Type 0} {n m : ℕ} {old mid : List Bool} (x : ℕ) → Gets P n old mid → x < length mid → ((y : ℕ) → Q y → P y ⊎ (y ≡ x)) → n + 1 ≤ m → Gets Q m old (set mid x true)
 gets_one {P} {Q} {n} {m} {old} {mid} x a within from fits = record {

@@ -41,11 +41,11 @@ known_or (s ∷ ss) w = by (cases_eq s.wire.0 w) (known_or ss w)
   where
     by : (s.wire.0 ≡ w) ⊎ (s.wire.0 ≡ w → ⊥) → HasWire ss w ⊎ (HasWire ss w → ⊥) → HasWire (s ∷ ss) w ⊎ (HasWire (s ∷ ss) w → ⊥)
     by (inl e) other = inl (record { place = 0; at = record { step = s; here = refl; wire = e } })
-    by (inr no) (inl h) = inl (record { place = suc h.place; at = record { step = h.at.step; here = h.at.here; wire = h.at.wire } })
-    by (inr no) (inr none) = inr (λ h. at_place h.place h.at.step h.at.here h.at.wire)
+    by (inr differs) (inl h) = inl (record { place = suc h.place; at = record { step = h.at.step; here = h.at.here; wire = h.at.wire } })
+    by (inr differs) (inr none) = inr (λ h. at_place h.place h.at.step h.at.here h.at.wire)
       where
         at_place : (j : ℕ) (t : Step) → slice_get (s ∷ ss) j ≡ Some t → t.wire.0 ≡ w → ⊥
-        at_place zero t here e = no (let same : s ≡ t = cc in ap (λ (z : Step). z.wire.0) same ∙ e)
+        at_place zero t here e = differs (let same : s ≡ t = cc in ap (λ (z : Step). z.wire.0) same ∙ e)
         at_place (suc j) t here e = none (record { place = j; at = record { step = t; here = here; wire = e } })
 
 -- closed, over the shape of the image
@@ -79,33 +79,33 @@ module _ (i : ImageValue) (numbered : IsNumbered i.config.shape) (tree : IsTree 
   clear w u s = none.wires u
 
   alone : (w : ℕ) → (known w → ⊥) → IsAlone m f known w
-  alone w no u h s = no (subst known ((sound w).alone u s) h)
+  alone w never u h s = never (subst known ((sound w).alone u s) h)
 
   known_pin : (j : ℕ) → j < pins_of m → has_number a.wires (pin_wire m j) ≡ true → known (pin_wire m j)
   known_pin j l h = by (known_or ss (pin_wire m j))
     where
       by : known (pin_wire m j) ⊎ (known (pin_wire m j) → ⊥) → known (pin_wire m j)
       by (inl is) = is
-      by (inr no) = over.pins j l h (clear (pin_wire m j)) (alone (pin_wire m j) no)
+      by (inr never) = over.pins j l h (clear (pin_wire m j)) (alone (pin_wire m j) never)
 
   known_on : (w : ℕ) → has_number a.wires w ≡ true → HasFeet m f (λ x. has_number a.crosses x ≡ true) known w → known w
   known_on w h feet = by (known_or ss w)
     where
       by : known w ⊎ (known w → ⊥) → known w
       by (inl is) = is
-      by (inr no) = over.wires w h (clear w) (alone w no) feet
+      by (inr never) = over.wires w h (clear w) (alone w never) feet
 
-  ends_are : {x t l : ℕ} → ends_of m x ≡ (t, l) → Ends (ends_of m x) t l
-  ends_are e = in_order (ap (λ p. p.0) e) (ap (λ p. p.1) e)
+  ends_are : (x t l : ℕ) → ends_of m x ≡ (t, l) → Ends (ends_of m x) t l
+  ends_are x t l e = in_order (ap (λ p. p.0) e) (ap (λ p. p.1) e)
 
-  ends_turn : {x t l : ℕ} → ends_of m x ≡ (t, l) → Ends (ends_of m x) l t
-  ends_turn e = turned (ap (λ p. p.0) e) (ap (λ p. p.1) e)
+  ends_turn : (x t l : ℕ) → ends_of m x ≡ (t, l) → Ends (ends_of m x) l t
+  ends_turn x t l e = turned (ap (λ p. p.0) e) (ap (λ p. p.1) e)
 
   line_known : (l p q : ℕ) → has_number a.wires l ≡ true → IsMet m a.crosses p l → IsMet m a.crosses q l → p ≢ q → known p → known q → known l
-  line_known l p q h x y differ kp kq = known_on l h (two x.cross y.cross p q x.marked y.marked (ends_are x.ends) (ends_are y.ends) differ kp kq (none.crosses x.cross) (none.crosses y.cross))
+  line_known l p q h x y differ kp kq = known_on l h (two x.cross y.cross p q x.marked y.marked (ends_are _ _ _ x.ends) (ends_are _ _ _ y.ends) differ kp kq (none.crosses x.cross) (none.crosses y.cross))
 
   tap_known : (t p q : ℕ) → has_number a.wires t ≡ true → IsMet m a.crosses t p → IsMet m a.crosses t q → p ≢ q → known p → known q → known t
-  tap_known t p q h x y differ kp kq = known_on t h (two x.cross y.cross p q x.marked y.marked (ends_turn x.ends) (ends_turn y.ends) differ kp kq (none.crosses x.cross) (none.crosses y.cross))
+  tap_known t p q h x y differ kp kq = known_on t h (two x.cross y.cross p q x.marked y.marked (ends_turn _ _ _ x.ends) (ends_turn _ _ _ y.ends) differ kp kq (none.crosses x.cross) (none.crosses y.cross))
 
   record AreKnownAt (n : ℕ) : Type 0 where
     port_one : known (sk.ports n).0
@@ -139,16 +139,16 @@ module _ (i : ImageValue) (numbered : IsNumbered i.config.shape) (tree : IsTree 
 
   known_by : (bound n : ℕ) → n < bound → IsInvolved i n → AreKnownAt n
   known_by zero n l is = absurd (let no : ⊥ = omega (arith, l) in no)
-  known_by (suc bound) n l is = by (zero_or n)
+  known_by (suc bound) n l is = by (λ p b j. known_by bound p b j) (zero_or n)
     where
-      by : (n ≡ 0) ⊎ (0 < n) → AreKnownAt n
-      by (inl z) =
+      by : ((p : ℕ) → p < bound → IsInvolved i p → AreKnownAt p) → (n ≡ 0) ⊎ (0 < n) → AreKnownAt n
+      by again (inl z) =
           let own = sk.two_ports n is in
           with_lines n is (root_known n (sk.ports n).0 z own.0.first own.1) (root_known n (sk.ports n).1 z own.0.second own.2)
-      by (inr above) =
+      by again (inr above) =
           let p = parents.others n above (node_within n is) in
           let up = involved_too i (below itself p.1) is in
-          let there = known_by bound p.0 (let before = parents.before n p.0 p.1 in omega (arith, before, l)) up in
+          let there = again p.0 (let before = parents.before n p.0 p.1 in omega (arith, before, l)) up in
           let own = sk.two_ports n is in
           let lines = (sk.two_lines p.0 up).0 in
           let met = sk.above n p.0 is p.1 in
@@ -251,13 +251,13 @@ module _ (i : ImageValue) (numbered : IsNumbered i.config.shape) (tree : IsTree 
     line_stands l p q is x y differ kp kq sp sq =
         let one = met_kept x kp is.0 in
         let other = met_kept y kq is.0 in
-        on_two l one.0 other.0 p q is one.1 other.1 (ends_are one.2) (ends_are other.2) differ sp sq
+        on_two l one.0 other.0 p q is one.1 other.1 (ends_are _ _ _ one.2) (ends_are _ _ _ other.2) differ sp sq
 
     tap_stands : (w p q : ℕ) → W w → IsMet m a.crosses w p → IsMet m a.crosses w q → p ≢ q → known p → known q → Stand p → Stand q → Stand w
     tap_stands w p q is x y differ kp kq sp sq =
         let one = met_kept x is.0 kp in
         let other = met_kept y is.0 kq in
-        on_two w one.0 other.0 p q is one.1 other.1 (ends_turn one.2) (ends_turn other.2) differ sp sq
+        on_two w one.0 other.0 p q is one.1 other.1 (ends_turn _ _ _ one.2) (ends_turn _ _ _ other.2) differ sp sq
 
     record TwoStand (n : ℕ) : Type 0 where
       first : Stand (sk.lines n).0
@@ -299,17 +299,17 @@ module _ (i : ImageValue) (numbered : IsNumbered i.config.shape) (tree : IsTree 
 
     stand_by : (bound n : ℕ) → n < bound → n < H → IsInvolved i n → TwoStand n
     stand_by zero n l lt is = absurd (let no : ⊥ = omega (arith, l) in no)
-    stand_by (suc bound) n l lt is = by (zero_or n)
+    stand_by (suc bound) n l lt is = by (λ p b c j. stand_by bound p b c j) (zero_or n)
       where
-        by : (n ≡ 0) ⊎ (0 < n) → TwoStand n
-        by (inl z) =
+        by : ((p : ℕ) → p < bound → p < H → IsInvolved i p → TwoStand p) → (n ≡ 0) ⊎ (0 < n) → TwoStand n
+        by again (inl z) =
             let own = sk.two_ports n is in
             let at = known_at n is in
             lines_stand n lt is (root_stands n (sk.ports n).0 z at.port_one own.1) (root_stands n (sk.ports n).1 z at.port_two own.2)
-        by (inr above) =
+        by again (inr above) =
             let p = parents.others n above (node_within n is) in
             let before = parents.before n p.0 p.1 in
-            let there = stand_by bound p.0 (omega (arith, before, l)) (omega (arith, before, lt)) (involved_too i (below itself p.1) is) in
+            let there = again p.0 (omega (arith, before, l)) (omega (arith, before, lt)) (involved_too i (below itself p.1) is) in
             let ports = ports_on n p.0 is p.1 there in
             lines_stand n lt is ports.first ports.second
 

@@ -1,5 +1,5 @@
 -- What the looks at an image's parts say.
-use Rattle.std.specs.Prelude.{◌≡◌, ℕ, ◌+◌, ◌*◌, ◌≤◌, Bool, true, Option, Some, IsSome, IsTrue, List, length, Contains}
+use Rattle.std.specs.Prelude.{◌≡◌, ℕ, ◌+◌, ◌*◌, ◌<◌, ◌≤◌, Bool, true, Option, Some, IsSome, IsTrue, List, length, Contains}
 use Rattle.tm_bits.specs.Numbers.{size_of}
 use Rattle.hierarchy.specs.Faults.{Faults, IsFaultless}
 use Rattle.hierarchy.specs.Standing.{IsSeated}
