@@ -72,7 +72,7 @@ module _ (i : ImageValue) (used : List Bool) (is : IsImage i) (are : AreUsed i u
   used_within w uses = let within = marked_within used w (are.all w uses) in let len = are.len in omega (arith, within, len)
 
   -- all but the image's parts
-  abbrev others : Defects
+  abbrev pub others : Defects
   others = record {
     wires = listed (λ w. not (has_number used w)) (wires_of m);
     crosses = listed (λ x. not (is_closed i.config x)) (crosses_of m);

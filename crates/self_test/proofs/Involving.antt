@@ -116,3 +116,11 @@ module _ (i : ImageValue) (used nodes marks : List Bool) (is : IsImage i) (are :
         by n (by_cross x closed above) =
             let line = meetings.line x (is.config.crosses x closed) in
             marked_above (ends_of m x).1 n (at_line x closed refl) (subst (IsAbove m n) (sym (tree.line_node (node_of_cross m x) (ends_of m x).1 line)) above)
+
+-- the marks of the code, over the shape that it was lent
+pub involved_of : (i : ImageValue) (m : Shape) (e : m ≡ i.config.shape) (used start nodes marks : List Bool) → IsImage i → AreUsed i used → start ≡ replicate (nodes_of i.config.shape) false → Adds (IsNodeAmong m used (wires_of m)) start nodes → Rises m nodes marks 0 →
+    IsTree i.config.shape → HasMeetings i.config.shape → AreInvolved i marks
+involved_of i m e used start nodes marks is are nothing adds r tree meetings = involved i used nodes marks is are
+    (adds.len ∙ ap length nothing ∙ length-replicate (nodes_of i.config.shape) false)
+    (subst (λ (s : Shape). Adds (IsNodeAmong s used (wires_of s)) (replicate (nodes_of i.config.shape) false) nodes) e (subst (λ (z : List Bool). Adds (IsNodeAmong m used (wires_of m)) z nodes) nothing adds))
+    (subst (λ (s : Shape). Rises s nodes marks 0) e r) tree meetings

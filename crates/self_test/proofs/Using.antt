@@ -2,20 +2,21 @@
 use Rattle.std.proofs.Common.{◌≡◌, ◌≢◌, ◌⊎◌, ℕ, ◌+◌, ◌<◌, ◌≤◌, ◌++◌, if◌then◌else◌, Bool, true, false, Some, List, All, length, get_or, refl, sym, ap, ◌∙◌, subst, inl, inr, arith}
 use Rattle.std.specs.Prelude.{◌==◌, slice_get, replicate, Contains, IsSome, is_some}
 use Rattle.std.specs.List.{count_by}
-use Rattle.std.proofs.lemmas.List.{get_or_default, length-replicate}
+use Rattle.std.proofs.lemmas.List.{get_or_append_left, get_or-append-add, get_or_default, length-append, length-replicate}
 use Rattle.std.proofs.lemmas.List.Elements.{Contains-get_or, Contains-append_left, Contains-append_right, Contains-append_cases}
 use Rattle.std.proofs.lemmas.Option.{slice_get-get_or}
 use Rattle.tm_bits.specs.Numbers.{has_number}
 use Rattle.hierarchy.specs.declared.Shape.{Shape}
 use Rattle.hierarchy.specs.declared.Cross.{Cross}
 use Rattle.hierarchy.specs.declared.Table.{Table}
-use Rattle.hierarchy.specs.Shape.{wires_of, pin_wire, table_wire, ends_of}
-use Rattle.config_set.specs.Configuration.{is_closed, setting_of}
-use Rattle.config_image.specs.Images.{ImageValue}
+use Rattle.hierarchy.specs.Shape.{wires_of, pins_of, crosses_of, tables_of, pin_wire, table_wire, ends_of}
+use Rattle.config_set.specs.Configuration.{Configuration, is_closed, setting_of}
+use Rattle.config_image.specs.Images.{ImageValue, IsImage}
 use Rattle.config_image.specs.Parts.{Uses, at_pin, at_tap, at_line, at_table}
 use Rattle.self_test.specs.Marks.{Adds, IsPinAmong, IsEndAmong, tap_among, line_among, IsPinOfTable, IsTablePinAmong}
 use Rattle.self_test.specs.Used.{AreUsed}
 use Rattle.self_test.proofs.Counting.{of_told, to_told}
+use Rattle.self_test.proofs.Covering.{on_within}
 use Rattle.self_test.proofs.Fielding.{all_at}
 use Rattle.self_test.proofs.Getting.{none_marked}
 use Rattle.self_test.proofs.Looking.{on_of, true_of}
@@ -88,3 +89,48 @@ module _ (i : ImageValue) (closed : List Cross) (tables : List Table)
 
   pub are_used : AreUsed i last
   are_used = record { len = pins.len ∙ ends.len ∙ outputs.len ∙ inputs.len ∙ length-replicate (wires_of m) false; only = only_last; all = all_last }
+
+-- ---- what the code lends, of the image
+
+module _ (i : ImageValue) (g : Configuration) (same : g ≡ i.config) where
+  module _ (xs : List Cross) (counts : (x : ℕ) → count_by (λ (y : Cross). y.0 == x) xs ≡ (if is_closed g x then 1 else 0)) where
+    pub closed_counts : (x : ℕ) → count_by (λ (y : Cross). y.0 == x) xs ≡ (if is_closed i.config x then 1 else 0)
+    closed_counts x = counts x ∙ ap {B = ℕ} (λ (z : Configuration). if is_closed z x then 1 else 0) same
+
+    pub closed_within : IsImage i → (m : Shape) → m ≡ i.config.shape → All (λ x. x.0 < crosses_of m) xs
+    closed_within is m e = subst (λ (s : Shape). All (λ x. x.0 < crosses_of s) xs) (sym e) (of_told (λ (y : Cross). y.0) xs (is_closed i.config) closed_counts (λ q. q < crosses_of i.config.shape) is.config.crosses)
+
+  module _ (ts : List Table) (counts : (t : ℕ) → count_by (λ (y : Table). y.0 == t) ts ≡ (if is_some (setting_of g t) then 1 else 0)) where
+    pub table_counts : (t : ℕ) → count_by (λ (y : Table). y.0 == t) ts ≡ (if is_some (setting_of i.config t) then 1 else 0)
+    table_counts t = counts t ∙ ap {B = ℕ} (λ (z : Configuration). if is_some (setting_of z t) then 1 else 0) same
+
+    pub tables_within : IsImage i → (m : Shape) → m ≡ i.config.shape → All (λ t. t.0 < tables_of m) ts
+    tables_within is m e = subst (λ (s : Shape). All (λ t. t.0 < tables_of s) ts) (sym e)
+        (of_told (λ (y : Table). y.0) ts (λ q. is_some (setting_of i.config q)) table_counts (λ q. q < tables_of i.config.shape) (λ q on. on_within i is q (on_of i q on)))
+
+module _ (i : ImageValue) (is : IsImage i) (m : Shape) (e : m ≡ i.config.shape) (ps : List ℕ) where
+  pub first_pins : ps ≡ i.inputs → All (λ k. k < pins_of m) ps
+  first_pins same k d l =
+      let at : k < length i.inputs = omega (arith, l, ap length same) in
+      let within = is.within k d (let sum = length-append i.inputs i.outputs in omega (arith, at, sum)) in
+      let this = subst (λ p. p < pins_of i.config.shape) (get_or_append_left i.inputs i.outputs d k at) within in
+      subst (λ (s : Shape). get_or ps k d < pins_of s) (sym e) (subst (λ (qs : List ℕ). get_or qs k d < pins_of i.config.shape) (sym same) this)
+
+  pub last_pins : ps ≡ i.outputs → All (λ k. k < pins_of m) ps
+  last_pins same k d l =
+      let at : k < length i.outputs = omega (arith, l, ap length same) in
+      let within = is.within (length i.inputs + k) d (let sum = length-append i.inputs i.outputs in omega (arith, at, sum)) in
+      let this = subst (λ p. p < pins_of i.config.shape) (get_or-append-add i.inputs i.outputs k d) within in
+      subst (λ (s : Shape). get_or ps k d < pins_of s) (sym e) (subst (λ (qs : List ℕ). get_or qs k d < pins_of i.config.shape) (sym same) this)
+
+-- the marks of the code, over what it was lent
+pub used_of : (i : ImageValue) (m : Shape) (e : m ≡ i.config.shape) (ins outs : List ℕ) (closed : List Cross) (tables : List Table) (start first second third last : List Bool) → ins ≡ i.inputs → outs ≡ i.outputs →
+    start ≡ replicate (wires_of i.config.shape) false →
+    ((x : ℕ) → count_by (λ (y : Cross). y.0 == x) closed ≡ (if is_closed i.config x then 1 else 0)) → ((t : ℕ) → count_by (λ (y : Table). y.0 == t) tables ≡ (if is_some (setting_of i.config t) then 1 else 0)) →
+    Adds (IsPinAmong m ins (length ins)) start first → Adds (IsPinAmong m outs (length outs)) first second → Adds (IsEndAmong m closed (length closed)) second third → Adds (IsTablePinAmong m tables (length tables)) third last → AreUsed i last
+used_of i m e ins outs closed tables start first second third last same_ins same_outs nothing closed_ok tables_ok inputs outputs ends pins = are_used i closed tables closed_ok tables_ok first second third last
+    (subst (λ (s : Shape). Adds (IsPinAmong s i.inputs (length i.inputs)) (replicate (wires_of i.config.shape) false) first) e
+      (subst (λ (qs : List ℕ). Adds (IsPinAmong m qs (length qs)) (replicate (wires_of i.config.shape) false) first) same_ins (subst (λ (z : List Bool). Adds (IsPinAmong m ins (length ins)) z first) nothing inputs)))
+    (subst (λ (s : Shape). Adds (IsPinAmong s i.outputs (length i.outputs)) first second) e (subst (λ (qs : List ℕ). Adds (IsPinAmong m qs (length qs)) first second) same_outs outputs))
+    (subst (λ (s : Shape). Adds (IsEndAmong s closed (length closed)) second third) e ends)
+    (subst (λ (s : Shape). Adds (IsTablePinAmong s tables (length tables)) third last) e pins)

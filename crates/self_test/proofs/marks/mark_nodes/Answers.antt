@@ -19,5 +19,5 @@ wires-preserved-then-not-has c = nodes_pass c.args.shape.now c.args.used.now c.w
 
 pub returns : goal.returns
 returns c =
-    let e : c.wires.w ≡ wires_of c.args.shape.now = (let a = c.wires.ensures.wires in omega arith) in
+    let e : c.wires.w ≡ wires_of c.args.shape.now = (let a = c.wires-w-end.ensures.wires in omega (arith, a)) in
     subst (λ n. Adds (IsNodeAmong c.args.shape.now c.args.used.now n) c.args.nodes.now c.wires.nodes) e c.wires.invariant

@@ -19,7 +19,7 @@ crosses-preserved c =
     let tap : c.ends.result.0.0 < length c.crosses.used = (let b = c.ends.ensures.tap in omega (arith, b, len, marks)) in
     let line : c.ends.result.1.0 < length c.crosses.used = (let b = c.ends.ensures.line in omega (arith, b, len, marks)) in
     let here : slice_get xs c.crosses.i ≡ Some x = slice_get-get_or xs c.crosses.i (record { 0 = 0 }) c.crosses-test.true in
-    rw (c.insert-2.ensures, c.insert.ensures) (ends_next c.args.shape.now xs c.crosses.i c.ends.result.0.0 c.ends.result.1.0 x a here c.ends.ensures.ends tap line)
+    rw (c.insert-in-crosses.ensures, c.insert.ensures) (ends_next c.args.shape.now xs c.crosses.i c.ends.result.0.0 c.ends.result.1.0 x a here c.ends.ensures.ends tap line)
 
 pub returns : goal.returns
 returns c =
