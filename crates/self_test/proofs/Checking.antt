@@ -1,27 +1,32 @@
 -- The test of an image, step by step.
 use Rattle.std.proofs.Common.{◌≡◌, ◌≢◌, ◌⊎◌, ℕ, ◌+◌, ◌*◌, ◌<◌, ◌≤◌, Bool, true, false, Some, None, Option, List, length, refl, sym, ap, ◌∙◌, subst, inl, inr, arith}
-use Rattle.std.specs.Prelude.{IsSome, IsTrue, Contains}
+use Rattle.std.specs.Prelude.{◌==◌, if◌then◌else◌, IsSome, is_some, IsTrue, Contains}
+use Rattle.std.specs.List.{count_by}
 use Rattle.std.proofs.lemmas.Bool.{false≢true}
 use Rattle.tm_bits.specs.Numbers.{size_of}
 use Rattle.hierarchy.specs.declared.Shape.{Shape}
+use Rattle.hierarchy.specs.declared.Table.{Table}
 use Rattle.hierarchy.specs.Laws.{IsNumbered, IsTree, HasMeetings, HasParents}
 use Rattle.hierarchy.specs.Faults.{Faults, IsFaultless}
 use Rattle.hierarchy.specs.Sound.{IsSoundWire, IsSoundTable}
 use Rattle.hierarchy.specs.Served.{HasHomes}
 use Rattle.hierarchy.specs.Standing.{HasStandingParts}
+use Rattle.config_set.specs.Configuration.{setting_of}
 use Rattle.config_image.specs.Images.{ImageValue, IsImage}
 use Rattle.config_image.specs.Parts.{IsWideEnough}
 use Rattle.evidence.specs.Kept.{Kept, HoldsFor, IsMore}
 use Rattle.growth.specs.Field.{IsFieldOf, ClosedIf}
+use Rattle.growth.specs.Tables.{SeatedAreKept}
 use Rattle.growth.specs.declared.field.Field.{Field}
 use Rattle.growth.specs.declared.step.Step.{Step}
 use Rattle.self_test.specs.Fields.{IsFewFor}
-use Rattle.self_test.specs.Looks.{AreRoutesKnown, AreSeated, FieldIf, RoutesIf, TablesIf, WholeIf, TakesInField, TakesAtMost, HasClosed, HasTablesOn}
+use Rattle.self_test.specs.Looks.{AreRoutesKnown, KeepsTableOf, AreSeated, FieldIf, RoutesIf, TablesIf, WholeIf, TakesInField, TakesAtMost, HasClosed, HasTablesOn}
 use Rattle.self_test.specs.Skeleton.{HasSkeleton}
 use Rattle.self_test.specs.Soundly.{KeepsRoutes, KeepsTables, KeepsParts, SoundIf, YesIf, RunsSoundly}
 use Rattle.self_test.specs.Used.{AreUsed, AreInvolved}
 use Rattle.self_test.proofs.Covering.{on_within, used_within}
-use Rattle.self_test.proofs.Looking.{routes_stay}
+use Rattle.self_test.proofs.Counting.{list_fits, of_told, to_told}
+use Rattle.self_test.proofs.Looking.{on_of, routes_stay, tables_kept, tests_keep}
 use Rattle.self_test.proofs.Wholly.{routes_known, seated}
 
 -- what the laws say of a machine
@@ -48,7 +53,39 @@ routes_if told old new ss i used a answer laws right are fits shape closed holds
           λ t on. seated i laws.numbered laws.tree laws.parents laws.meetings laws.homes within f none (laws.wires f none) (laws.tables f none) (laws.standing f) wide a fits sk new shape ss grown t on (on_within i right t on),
         )
 
+-- the tests of the tables that are on keep what the image needs of them, where they are seated
+pub tables_if : (told : Option Faults) (k l : Kept) (ss : List Step) (i : ImageValue) (tables : List Table) (answer : Bool) → ((t : ℕ) → count_by (λ (y : Table). y.0 == t) tables ≡ (if is_some (setting_of i.config t) then 1 else 0)) →
+    SeatedAreKept told k l ss tables → (KeepsTables l i → IsTrue answer) → TablesIf told k ss i answer
+tables_if told k l ss i tables answer counts kept known = record {
+  at = λ f is holds none seated_all. known (tables_kept l i (to_told (λ (t : Table). t.0) tables (λ q. is_some (setting_of i.config q)) counts (KeepsTableOf l i)
+      (tests_keep told k l ss i f tables kept is holds none seated_all (of_told (λ (t : Table). t.0) tables (λ q. is_some (setting_of i.config q)) counts (λ q. is_some (setting_of i.config q) ≡ true) (λ q e. e)))));
+}
+
+-- so many loads for each of them are so many for any list that has them
+pub loads_tables : (i : ImageValue) (tables : List Table) (before after : ℕ) → ((t : ℕ) → count_by (λ (y : Table). y.0 == t) tables ≡ (if is_some (setting_of i.config t) then 1 else 0)) → after ≤ before + 130 * length tables →
+    (ts : List ℕ) → HasTablesOn i ts → after ≤ before + 130 * length ts
+loads_tables i tables before after counts loads ts on =
+    let fits = list_fits (λ (t : Table). t.0) tables (λ q. is_some (setting_of i.config q)) counts ts (λ q e. on q (on_of i q e)) in
+    omega (arith, loads, fits)
+
 -- ---- in one field
+
+pub loads_grown : (i : ImageValue) (a : Field) (before after : ℕ) → after ≤ before + (8 * size_of a.crosses + 3 * size_of a.wires) → TakesInField i a before after
+loads_grown i a before after grown = record { few = λ ts on. omega (arith, grown) }
+
+pub loads_in : (i : ImageValue) (a : Field) (before mid after : ℕ) → mid ≤ before + (8 * size_of a.crosses + 3 * size_of a.wires) → ((ts : List ℕ) → HasTablesOn i ts → after ≤ mid + 130 * length ts) → TakesInField i a before after
+loads_in i a before mid after grown tested = record { few = λ ts on. (let more = tested ts on in omega (arith, grown, more)) }
+
+-- of the faults that were told at first
+pub tables_told : {told other : Option Faults} {k : Kept} {ss : List Step} {i : ImageValue} {answer : Bool} → told ≡ other → TablesIf told k ss i answer → TablesIf other k ss i answer
+tables_told {k = k} {ss = ss} {i = i} {answer = answer} e = subst (λ (z : Option Faults). TablesIf z k ss i answer) e
+
+pub field_told : {told other : Option Faults} {k : Kept} {i : ImageValue} {a : Field} {found : Option Bool} → told ≡ other → FieldIf told k i a found → FieldIf other k i a found
+field_told {k = k} {i = i} {a = a} {found = found} e = subst (λ (z : Option Faults). FieldIf z k i a found) e
+
+-- what holds of a field with what was kept later holds with what was kept before
+pub field_earlier : {told : Option Faults} {k l : Kept} {i : ImageValue} {a : Field} {found : Option Bool} → ((f : Faults) → told ≡ Some f → HoldsFor k f → HoldsFor l f) → FieldIf told l i a found → FieldIf told k i a found
+field_earlier holds_on field = record { at = λ f is holds none wide sk. field.at f is (holds_on f is holds) none wide sk }
 
 pub found_true : (told : Option Faults) (old mid : Kept) (ss : List Step) (i : ImageValue) (a : Field) (answer : Bool) → RoutesIf told old mid ss i a true → ((f : Faults) → told ≡ Some f → HoldsFor old f → HoldsFor mid f) → TablesIf told mid ss i answer → FieldIf told old i a (Some answer)
 found_true told old mid ss i a answer routes holds_on tables = record {

@@ -207,3 +207,6 @@ for_parts i nodes used before after are involved takes = record { few = few }
 -- no loads are few
 pub no_loads : (i : ImageValue) (nodes used : List Bool) (n : ℕ) → TakesAtMost i nodes used n n
 no_loads i nodes used n = record { few = λ xs ts a b. omega arith }
+
+pub no_loads_for : (i : ImageValue) (n : ℕ) → TakesForParts i n n
+no_loads_for i n = record { few = λ parts nodes all. omega arith }
