@@ -1,5 +1,5 @@
 //! The test of an image.
-ghost use Rattle.std.specs.Prelude.{◌≡◌, ◌≤◌, ◌+◌, ◌*◌, ℕ, Some, IsSome, IfOk, IfNone, IsErrOf, IsTrue, true, length, Contains};
+ghost use Rattle.std.specs.Prelude.{◌≡◌, ◌≤◌, ◌+◌, ◌*◌, ℕ, List, Some, IsSome, IfOk, IfNone, IsErrOf, IsTrue, true, length, Contains};
 ghost use Rattle.tm_bits.specs.Numbers.{size_of};
 ghost use Rattle.tm_outside.specs.Counts.{Rose};
 ghost use Rattle.config_set.specs.Configuration.{setting_of};

@@ -9,7 +9,7 @@ use Rattle.self_test.proofs.Using.{table_counts, tables_within}
 use Rattle.self_test.proofs.look.keeps_tables.Goals as goal
 
 pub keeps_each-requires-clause-tables : goal.keeps_each-requires-clause-tables
-keeps_each-requires-clause-tables c = tables_within c.args.image.now c.config-config.result.now.config c.config-config.ensures.config c.tables_on.result.now c.tables_on.ensures c.config-config.ensures.right c.args.proof.now.shape (sym c.requires)
+keeps_each-requires-clause-tables c = tables_within c.args.image.now c.config-config.result.now.config c.config-config.ensures.config c.tables_on.result.now c.tables_on.ensures c.config-config.ensures.right c.args.proof.now.shape (sym c.requires.shape)
 
 pub returns : goal.returns
 returns c =
