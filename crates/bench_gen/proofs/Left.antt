@@ -20,7 +20,8 @@ use Rattle.hierarchy.proofs.Totals.{ports_within}
 use Rattle.fault_model.specs.declared.fault.Fault.{Fault}
 use Rattle.fault_model.specs.declared.fault.Fault.TheVariants.{Stuck, CrossStuck, Cell, Register, Bridge}
 use Rattle.fault_model.specs.Adding.{no_faults, with_fault, lower_first}
-use Rattle.fault_model.proofs.Keeping.{pairs_total, pairs_exact, all_added}
+use Rattle.hierarchy.proofs.Pairs.{pairs_total, pairs_exact}
+use Rattle.fault_model.proofs.Keeping.{all_added}
 use Rattle.bench_gen.specs.Faults.{table_position, MayBeHit, IsAllowed, IsOneMore, added, refused, Takes, allowed, not_allowed, AfterTurns, none, turn}
 use Rattle.bench_gen.specs.Left.{LeavesSound}
 use Rattle.bench_gen.proofs.Hitting.{Both, both_in_order, hit_by_meaning}

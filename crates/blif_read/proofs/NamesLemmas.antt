@@ -1,10 +1,11 @@
 -- The names of a set of borrowed words.
-use Rattle.std.proofs.Common.{◌&&◌, ◌≡◌, ℕ, ◌+◌, ◌<◌, ◌≤◌, Bool, true, false, not, cond, List, [], ◌∷◌, ◌++◌, Some, None, position, length, map, refl, sym, ap, ◌∙◌, arith, ◌||◌, nat_lt, append_assoc, length-append, drop, get_or, take, add-one, add-zero, eqb, inl, inr, ◌⊎◌}
+use Rattle.std.proofs.Common.{◌≡◌, ℕ, ◌+◌, ◌<◌, ◌≤◌, Bool, true, false, not, cond, List, [], ◌∷◌, ◌++◌, Some, None, position, length, map, refl, sym, ap, ◌∙◌, arith, ◌||◌, nat_lt, append_assoc, length-append, drop, get_or, take, add-one, add-zero, eqb, inl, inr, ◌⊎◌}
 use Rattle.std.specs.Borrow.{Bor}
 use Rattle.std.specs.List.{list_any, list_all, position_or_len}
 use Rattle.std.specs.Str.{bytes_eq}
 use Rattle.std.proofs.Math.Seq.{drop-cons}
 use Rattle.std.proofs.lemmas.Bool.{lt-ltb, ltb-true, le-ltb, eqb-true}
+use Rattle.std.proofs.Math.Bool.{or-true, or-false, and-false}
 use Rattle.std.proofs.lemmas.List.Folds.{position_or_len_push}
 use Rattle.std.proofs.lemmas.List.{length-map, append-nil, take-append-drop, take_more, map-append}
 use Rattle.netlist.specs.declared.fault.DesignKind.{DesignKind}
@@ -13,7 +14,6 @@ use Rattle.blif_read.specs.declared.kind.Refusal.{Refusal}
 use Rattle.blif_read.specs.declared.kind.Refusal.TheVariants.{Memory, Kind}
 use Rattle.blif_read.specs.Refusals.{IsRefusedAs}
 use Rattle.blif_read.specs.Names.{with_name, names_after, name_number, numbers, is_long, limit_at}
-use Rattle.flatten.proofs.TestLemmas.{or_true}
 use Rattle.flatten.proofs.NameLemmas.{now, same, any_keys, place_keys, some_is, same_name, inserted_key}
 
 module _ (w : List ℕ) (ks : List (Bor (List ℕ))) (names : List (List ℕ)) (view : map now ks ≡ names) where
@@ -64,7 +64,7 @@ limit_cases false false k e = absurd cc
 
 any_later : (w : List ℕ) (front words : List (List ℕ)) → is_long w ≡ true → list_any is_long (front ++ w ∷ words) ≡ true
 any_later w [] words h = rw h refl
-any_later w (v ∷ front) words h = rw (any_later w front words h) (or_true (is_long v))
+any_later w (v ∷ front) words h = rw (any_later w front words h) (or-true (is_long v))
 
 -- a limit that is passed at a word is passed at the end
 pub full_after : (e : Refusal) (start names : List (List ℕ)) (w : List ℕ) (front words : List (List ℕ)) → names_after names (w ∷ words) ≡ names_after start (front ++ w ∷ words) → IsRefusedAs (limit_at names (w ∷ [])) e → IsRefusedAs (limit_at start (front ++ w ∷ words)) e
@@ -72,16 +72,12 @@ full_after Memory start names w front words e h = tt
 full_after (Kind k) start names w front words e h =
     let p = limit_cases (is_long w || false) (nat_lt 65535 (length (with_name names w))) k h in
     rw (← p.0) (elim p.1 [
-      | inl long ↦ rw (any_later w front words (or_false (is_long w) long)) refl
+      | inl long ↦ rw (any_later w front words (sym (or-false (is_long w)) ∙ long)) refl
       | inr full ↦
           let past : nat_lt 65535 (length (names_after start (front ++ w ∷ words))) ≡ true = lt-ltb _ _ (omega (arith, ltb-true _ _ full, ap length e, names_after-longer words (with_name names w))) in
           rw past (by_test (list_any is_long (front ++ w ∷ words)))
     ])
   where
-    or_false : (b : Bool) → (b || false) ≡ true → b ≡ true
-    or_false true h = refl
-    or_false false h = h
-
     by_test : (b : Bool) → cond (b || true) (Some Limit) None ≡ Some Limit
     by_test true = refl
     by_test false = refl
@@ -105,7 +101,7 @@ numbers_more ns names w words total h = append_assoc ns (name_number names w ∷
 
 any-push : (w x : List ℕ) (names : List (List ℕ)) → bytes_eq w x ≡ true → list_any (bytes_eq w) (names ++ x ∷ []) ≡ true
 any-push w x [] h = rw h refl
-any-push w x (n ∷ names) h = rw (any-push w x names h) (or_true (bytes_eq w n))
+any-push w x (n ∷ names) h = rw (any-push w x names h) (or-true (bytes_eq w n))
 
 known-with : (names : List (List ℕ)) (w : List ℕ) → list_any (bytes_eq w) (with_name names w) ≡ true
 known-with names w = by (list_any (bytes_eq w) names) refl
@@ -160,11 +156,7 @@ numbers_are (w ∷ words) names more =
 -- one that fails
 pub some_wrong : (p : List ℕ → Bool) (front : List (List ℕ)) (w : List ℕ) (rest : List (List ℕ)) → p w ≡ false → list_all p (front ++ w ∷ rest) ≡ false
 some_wrong p [] w rest h = rw h refl
-some_wrong p (v ∷ front) w rest h = rw (some_wrong p front w rest h) (and_false (p v))
-  where
-    and_false : (b : Bool) → (b && false) ≡ false
-    and_false true = refl
-    and_false false = refl
+some_wrong p (v ∷ front) w rest h = rw (some_wrong p front w rest h) (and-false (p v))
 
 -- ---- names of models
 

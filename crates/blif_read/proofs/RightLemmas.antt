@@ -4,7 +4,7 @@ use Rattle.std.specs.Prelude.{nat_lt, nat_le, codes}
 use Rattle.std.specs.List.{All, list_any, list_all}
 use Rattle.std.specs.Option.{option_or}
 use Rattle.std.specs.Str.{bytes_eq}
-use Rattle.std.proofs.lemmas.Bool.{ltb-true, ltb-false, le-ltb, lt-ltb, leb-false, lt-leb, eqb-true, eq-eqb}
+use Rattle.std.proofs.lemmas.Bool.{ltb-true, ltb-false, le-ltb, lt-ltb, leb-false, lt-leb, eqb-true, eq-eqb, or_parts, not-false}
 use Rattle.std.proofs.lemmas.List.Elements.{All-nil, All-cons, All-head, All-tail}
 use Rattle.std.proofs.lemmas.Slice.Eq.{bytes_eq-Decides}
 use Rattle.tm_text.specs.Lines.{LogicalLine, is_bad_line}
@@ -20,7 +20,6 @@ use Rattle.blif_read.specs.Parts.{word, is_pair, actual_of, row_words, is_right_
 use Rattle.blif_read.specs.Faults.{row_fault, same_bool, names_fault, is_other, latch_parts_fault, latch_fault, pairs_fault, subckt_fault, line_fault, model_fault, head_fault, fault_of, first_fault}
 use Rattle.blif_read.specs.Right.{AreSignals, IsRow, IsNames, IsSame, IsLatch, IsSubckt, IsModel, IsRight, IsRightLine}
 use Rattle.blif_read.specs.Grammar.{above_by, models_of, AreRight}
-use Rattle.flatten.proofs.TestLemmas.{neither, not_true}
 use Rattle.blif_read.proofs.StateLemmas.{same_bool-is}
 
 -- ---- tests
@@ -59,7 +58,7 @@ IsShort w = length w ≤ 255
 all_short : (words : List (List ℕ)) → list_any is_long words ≡ false → All IsShort words
 all_short [] h = All-nil IsShort
 all_short (w ∷ words) h =
-    let p = neither (is_long w) (list_any is_long words) h in
+    let p = or_parts (is_long w) (list_any is_long words) h in
     All-cons IsShort w words (ltb-false 255 (length w) p.0) (all_short words p.1)
 
 none_long : (words : List (List ℕ)) → All IsShort words → list_any is_long words ≡ false
@@ -69,7 +68,7 @@ none_long (w ∷ words) h = neither_is (is_long w) (list_any is_long words) (le-
 signals_right : (names words : List (List ℕ)) → limit_at names words ≡ None → AreSignals names words
 signals_right names words h =
     let p = none_if (list_any is_long words || nat_lt 65535 (length (names_after names words))) kind.Limit None h in
-    let q = neither (list_any is_long words) (nat_lt 65535 (length (names_after names words))) p.0 in
+    let q = or_parts (list_any is_long words) (nat_lt 65535 (length (names_after names words))) p.0 in
     record { short = all_short words q.0; few = ltb-false 65535 (length (names_after names words)) q.1 }
 
 signals_free : (names words : List (List ℕ)) → AreSignals names words → limit_at names words ≡ None
@@ -105,9 +104,9 @@ module _ (c : Cover) (words : List (List ℕ)) where
       let r = none_if mixed kind.RowMixed last q.1 in
       let s = none_if (nat_le 4096 (length c.rows)) kind.Limit None r.1 in
       record {
-        words_are = eqb-true _ _ (not_true (length words == row_words n) p.0);
-        shape = not_true (is_right_row n words) q.0;
-        side = λ some. same_bool-is c.off (is_off n words) (not_true (same_bool c.off (is_off n words)) (not_both (nat_lt 0 (length c.rows)) (not (same_bool c.off (is_off n words))) r.0 (lt-ltb 0 (length c.rows) some)));
+        words_are = eqb-true _ _ (not-false (length words == row_words n) p.0);
+        shape = not-false (is_right_row n words) q.0;
+        side = λ some. same_bool-is c.off (is_off n words) (not-false (same_bool c.off (is_off n words)) (not_both (nat_lt 0 (length c.rows)) (not (same_bool c.off (is_off n words))) r.0 (lt-ltb 0 (length c.rows) some)));
         few = leb-false 4096 (length c.rows) s.0;
       }
 
@@ -123,7 +122,7 @@ module _ (c : Cover) (words : List (List ℕ)) where
 same_control : (now earlier : Option (List ℕ)) → is_other now earlier ≡ false → IsSame now earlier
 same_control None earlier h = tt
 same_control (Some c) None h = tt
-same_control (Some c) (Some d) h = (bytes_eq-Decides c d).0 (not_true (bytes_eq c d) h)
+same_control (Some c) (Some d) h = (bytes_eq-Decides c d).0 (not-false (bytes_eq c d) h)
 
 no_other : (now earlier : Option (List ℕ)) → IsSame now earlier → is_other now earlier ≡ false
 no_other None earlier h = refl
@@ -148,15 +147,15 @@ module _ (seen : Seen) (words : List (List ℕ)) where
   latch_right h =
       let a = no_first (latch_parts_fault words) behind h in
       let p = none_if (nat_lt (length words) 3 || nat_lt 6 (length words)) kind.Word on_type a.0 in
-      let size = neither (nat_lt (length words) 3) (nat_lt 6 (length words)) p.0 in
+      let size = or_parts (nat_lt (length words) 3) (nat_lt 6 (length words)) p.0 in
       let q = none_if (has_type words && not (bytes_eq (word 3 words) (codes "re"))) kind.LatchType on_init p.1 in
       let r = none_if (has_init words && not (is_init (init_word words))) kind.LatchInit None q.1 in
       let b = none_if (is_other (control_of words) seen.control) kind.Control (limit_at seen.names ends) a.1 in
       record {
         least = ltb-false (length words) 3 size.0;
         most = ltb-false 6 (length words) size.1;
-        edge = λ t. (bytes_eq-Decides (word 3 words) (codes "re")).0 (not_true (bytes_eq (word 3 words) (codes "re")) (not_both (has_type words) (not (bytes_eq (word 3 words) (codes "re"))) q.0 t));
-        init = λ t. not_true (is_init (init_word words)) (not_both (has_init words) (not (is_init (init_word words))) r.0 t);
+        edge = λ t. (bytes_eq-Decides (word 3 words) (codes "re")).0 (not-false (bytes_eq (word 3 words) (codes "re")) (not_both (has_type words) (not (bytes_eq (word 3 words) (codes "re"))) q.0 t));
+        init = λ t. not-false (is_init (init_word words)) (not_both (has_init words) (not (is_init (init_word words))) r.0 t);
         control = same_control (control_of words) seen.control b.0;
         signals = signals_right seen.names ends b.1;
       }
@@ -226,7 +225,7 @@ module _ (seen : Seen) (words : List (List ℕ)) where
   in_place fault says h =
       let p = none_if seen.ended kind.Word (cond (not seen.begun) (Some kind.NoModel) fault) h in
       let q = none_if (not seen.begun) kind.NoModel fault p.1 in
-      (not_true seen.begun q.0, p.0, says q.1)
+      (not-false seen.begun q.0, p.0, says q.1)
 
   placed_free : (fault : Option DesignKind) {P : Type 0} → (P → fault ≡ None) → (seen.begun ≡ true) × (seen.ended ≡ false) × P → placed fault ≡ None
   placed_free fault said h =
@@ -241,7 +240,7 @@ other_name w v h e = let same : bytes_eq w v ≡ true = (bytes_eq-Decides w v).1
 all_other : (w : List ℕ) (names : List (List ℕ)) → list_any (bytes_eq w) names ≡ false → All (IsOther w) names
 all_other w [] h = All-nil (IsOther w)
 all_other w (v ∷ names) h =
-    let p = neither (bytes_eq w v) (list_any (bytes_eq w) names) h in
+    let p = or_parts (bytes_eq w v) (list_any (bytes_eq w) names) h in
     All-cons (IsOther w) v names (other_name w v p.0) (all_other w names p.1)
 
 differ : (w v : List ℕ) → IsOther w v → (b : Bool) → bytes_eq w v ≡ b → b ≡ false
@@ -259,7 +258,7 @@ module _ (above : Above) (words : List (List ℕ)) where
   model_right : model_fault above words ≡ None → IsModel above words
   model_right h =
       let p = none_if (nat_lt 2 (length words) || (above.this.begun && nat_lt (length words) 2)) kind.Word later h in
-      let size = neither (nat_lt 2 (length words)) (above.this.begun && nat_lt (length words) 2) p.0 in
+      let size = or_parts (nat_lt 2 (length words)) (above.this.begun && nat_lt (length words) 2) p.0 in
       let q = none_if (list_any (bytes_eq (word 1 words)) above.models) kind.SameModel None p.1 in
       record {
         most = ltb-false 2 (length words) size.0;

@@ -1,5 +1,5 @@
 -- The outputs of the models that are read are no more than the bytes of their text.
-use Rattle.std.proofs.Common.{◌≡◌, ℕ, ◌+◌, ◌-◌, ◌≤◌, ◌&&◌, ◌==◌, Bool, true, false, cond, nat_lt, List, [], ◌∷◌, ◌++◌, Option, Some, None, Result, Ok, Err, length, map, filter, take, drop, slice_index, refl, ap, arith, inl, inr, ◌⊎◌}
+use Rattle.std.proofs.Common.{◌≡◌, ℕ, ◌+◌, ◌-◌, ◌≤◌, ◌&&◌, ◌==◌, Bool, true, false, cond, nat_lt, List, [], ◌∷◌, ◌++◌, Option, Some, None, Result, Ok, Err, length, map, filter, take, drop, slice_index, refl, ap, arith, inl, inr}
 use Rattle.std.specs.Prelude.{IfOk}
 use Rattle.std.specs.Global.{Vec}
 use Rattle.std.specs.List.{slice_split, onto_first, position_or_len, suffix_len}
@@ -7,6 +7,7 @@ use Rattle.std.proofs.lemmas.Bool.{ltb-true}
 use Rattle.std.proofs.lemmas.List.{length-take, length-drop, length-map, length-append}
 use Rattle.tm_text.specs.Bytes.{is_blank, physical_lines, uncommented, joining_part, words_of}
 use Rattle.tm_text.specs.Lines.{Text, LogicalLine, line_of, texts_of, in_front, onto_next, with_words, logical_lines}
+use Rattle.tm_text.proofs.LinesLemmas.{cases_part}
 use Rattle.netlist.specs.declared.draft.PortDef.{PortDef}
 use Rattle.netlist.specs.declared.fault.DesignFault.{DesignFault}
 use Rattle.netlist.specs.declared.fault.DesignKind.{DesignKind}
@@ -76,10 +77,6 @@ joins_size text part e = by (nat_lt (suffix_len is_blank text) (length text)) (s
         omega (arith, ap length is, length-take (length text - suffix_len is_blank text - 1) text)
     by true false lt h = absurd cc
     by false b lt h = absurd cc
-
-cases_part : (o : Option (List ℕ)) → (o ≡ None) ⊎ ((part : List ℕ) × (o ≡ Some part))
-cases_part None = inl refl
-cases_part (Some part) = inr (part, refl)
 
 onto_next_size : (n : ℕ) (part : List ℕ) (texts : List Text) → size (onto_next (record { number = n; bytes = part }) texts) ≤ length part + 1 + size texts
 onto_next_size n part [] = omega arith

@@ -5,6 +5,7 @@ use Rattle.std.specs.List.{flat_map, list_any}
 use Rattle.std.specs.Cmp.{nat_cmp_total}
 use Rattle.std.specs.FinSet as set_
 use Rattle.std.specs.FinSet.{len-insert}
+use Rattle.std.proofs.Math.Bool.{or-false, or-true}
 use Rattle.std.proofs.lemmas.Bool.Decides.{nat_tests}
 use Rattle.std.proofs.lemmas.List.{drop_more, take_more, take_all, drop_all, length-append, length-set, get_or-set_same, get_or-set_other}
 use Rattle.std.proofs.lemmas.List.Elements.{All-push}
@@ -89,21 +90,13 @@ marks_step count pins marks n are h = record {
   told = λ k l. by_place k l (ℕ_discrete k n);
 }
   where
-    or_false : (b : Bool) → (b || false) ≡ b
-    or_false true = refl
-    or_false false = refl
-
-    or_true : (b : Bool) → (b || true) ≡ true
-    or_true true = refl
-    or_true false = refl
-
     by_place : (k : ℕ) → k < count → Dec (k ≡ n) → get_or (set marks n true) k false ≡ list_any (λ p. p == k) (pins ++ n ∷ [])
     by_place k l (yes e) =
         ap (λ j. get_or (set marks n true) j false) e ∙ get_or-set_same marks n true false (omega (arith, are.len, h))
-        ∙ sym (list_any-append (λ p. p == k) pins (n ∷ []) ∙ ap (λ b. list_any (λ p. p == k) pins || (b || false)) (let t : (n == k) ≡ true = grind (arith, nat_tests, e) in t) ∙ or_true _)
+        ∙ sym (list_any-append (λ p. p == k) pins (n ∷ []) ∙ ap (λ b. list_any (λ p. p == k) pins || (b || false)) (let t : (n == k) ≡ true = grind (arith, nat_tests, e) in t) ∙ or-true _)
     by_place k l (no d) =
         get_or-set_other marks n k true false d ∙ are.told k l
-        ∙ sym (list_any-append (λ p. p == k) pins (n ∷ []) ∙ ap (λ b. list_any (λ p. p == k) pins || (b || false)) (let t : (n == k) ≡ false = grind (arith, nat_tests, d) in t) ∙ or_false _)
+        ∙ sym (list_any-append (λ p. p == k) pins (n ∷ []) ∙ ap (λ b. list_any (λ p. p == k) pins || (b || false)) (let t : (n == k) ≡ false = grind (arith, nat_tests, d) in t) ∙ or-false _)
 
 -- ---- tables
 

@@ -2,12 +2,13 @@
 use Rattle.std.proofs.Common.{◌≡◌, ℕ, ◌<◌, Bool, true, false, not, ◌||◌, ◌&&◌, None, refl, sym, ap, ◌∙◌, subst, arith}
 use Rattle.std.specs.Ordering.{nat_cmp, eq_by_cmp}
 use Rattle.std.specs.Prelude.{◌==◌, if◌then◌else◌}
-use Rattle.std.specs.Cmp.{nat_cmp_total, unsigned_tied, Equal-is}
+use Rattle.std.specs.Cmp.{nat_cmp_total, Equal-is}
 use Rattle.std.specs.FinSet as set_
 use Rattle.std.specs.FinSet.{contains-insert, contains-remove, contains-empty, same_set, nat_cmp-IsAntisymmetric}
 use Rattle.std.proofs.lemmas.Bool.{false≢true}
 use Rattle.std.proofs.lemmas.List.{length-replicate}
 use Rattle.std.proofs.lemmas.List.Elements.{All-replicate}
+use Rattle.tm_bits.proofs.SetsLemmas.{contains_more, contains_less}
 use Rattle.hierarchy.specs.declared.Shape.{Shape}
 use Rattle.hierarchy.specs.Shape.{tables_of}
 use Rattle.config_set.specs.Configuration.{Configuration, CellsFit, IsConfiguration, is_closed, cleared, with_closed, with_open}
@@ -80,15 +81,7 @@ IsConfiguration-cleared m = record { crosses = λ x is. absurd (false≢true (sy
 
 -- what is closed after a change
 pub is_closed-closed : (g : Configuration) (x y : ℕ) → is_closed (with_closed g x) y ≡ (if y == x then true else is_closed g y)
-is_closed-closed g x y = contains-insert nat_cmp_total g.closed x y ∙ ap (λ t. t || is_closed g y) (unsigned_tied y x) ∙ or_if (y == x) (is_closed g y)
-  where
-    or_if : (t b : Bool) → (t || b) ≡ (if t then true else b)
-    or_if true b = refl
-    or_if false b = refl
+is_closed-closed g x y = contains_more g.closed x y
 
 pub is_closed-open : (g : Configuration) (x y : ℕ) → is_closed (with_open g x) y ≡ (if y == x then false else is_closed g y)
-is_closed-open g x y = contains-remove nat_cmp_total g.closed x y ∙ ap (λ t. not t && is_closed g y) (unsigned_tied y x) ∙ and_if (y == x) (is_closed g y)
-  where
-    and_if : (t b : Bool) → (not t && b) ≡ (if t then false else b)
-    and_if true b = refl
-    and_if false b = refl
+is_closed-open g x y = contains_less g.closed x y

@@ -1,19 +1,18 @@
 -- Lists in which each member stands once.
-use Rattle.std.proofs.Common.{◌≡◌, ℕ, suc, ◌+◌, All, ◌<◌, ◌≤◌, Bool, true, false, not, ◌||◌, ◌&&◌, Some, None, Option, List, [], ◌∷◌, ◌++◌, map, length, get_or, set, refl, sym, ap, ◌∙◌, subst, replicate, eqb-true, arith}
+use Rattle.std.proofs.Common.{◌≡◌, ℕ, suc, ◌+◌, All, ◌<◌, ◌≤◌, Bool, true, false, ◌||◌, Some, None, Option, List, [], ◌∷◌, ◌++◌, map, length, get_or, set, refl, sym, ap, ◌∙◌, subst, replicate, eqb-true, arith}
 use Rattle.std.specs.Prelude.{◌==◌, if◌then◌else◌, is_some, count_by}
 use Rattle.std.specs.List.{list_any, swap_remove}
 use Rattle.std.specs.Ordering.{nat_cmp}
-use Rattle.std.specs.Cmp.{nat_cmp_total, unsigned_tied}
+use Rattle.std.specs.Cmp.{nat_cmp_total}
 use Rattle.std.specs.FinSet as set_
-use Rattle.std.specs.FinSet.{len-empty, len-insert, contains-from_list_nat, contains-insert, contains-remove, same_set, nat_cmp-IsAntisymmetric}
-use Rattle.std.specs.Prelude.{Vec}
-use Rattle.std.specs.Vec.{with_items}
-use Rattle.std.proofs.lemmas.List.{with_items_is, get_or_default, get_or-set_same, get_or-set_other, get_or_past, length-set, ext_get_or, length-replicate, get_or-replicate}
+use Rattle.std.specs.FinSet.{len-empty, len-insert, contains-from_list_nat, same_set, nat_cmp-IsAntisymmetric}
+use Rattle.std.proofs.lemmas.List.{get_or_default, get_or-set_same, get_or-set_other, get_or_past, length-set, ext_get_or, length-replicate, get_or-replicate}
 use Rattle.std.proofs.lemmas.List.Sums.{sum_by-cons, sum_by_push, sum_by-swap_remove, sum_by-set, count_by-le-length}
 use Rattle.std.proofs.lemmas.List.Folds.{sum_by-replicate}
 use Rattle.std.proofs.lemmas.Bool.Decides.{nat_tests}
 use Rattle.std.proofs.lemmas.Bool.{false≢true}
 use native.Mathlib.Decide.{ℕ_discrete, dec_lt}
+use Rattle.tm_bits.proofs.SetsLemmas.{contains_more, contains_less}
 use Rattle.hierarchy.specs.declared.Cross.{Cross}
 use Rattle.hierarchy.specs.declared.Table.{Table}
 use Rattle.config_set.specs.declared.Setting.{Setting}
@@ -46,25 +45,17 @@ contains_times xs q b e = contains-from_list_nat (map (λ x. x.0) xs) q ∙ any_
 pub contains_marked : (marks : List Bool) (xs : List Cross) → AreMarked marks xs → (q : ℕ) → set_.contains (set_of xs) q ≡ has_mark marks q
 contains_marked marks xs are q = contains_times xs q (has_mark marks q) (are q)
 
-or_if : (t b : Bool) → (t || b) ≡ (if t then true else b)
-or_if true b = refl
-or_if false b = refl
-
-and_if : (t b : Bool) → (not t && b) ≡ (if t then false else b)
-and_if true b = refl
-and_if false b = refl
-
 -- two lists of which the second has one more, or one less
 module _ (marks more : List Bool) (xs ys : List Cross) (c : ℕ) (are : AreMarked marks xs) (also : AreMarked more ys) where
   pub set_inserted : ((q : ℕ) → has_mark more q ≡ (if q == c then true else has_mark marks q)) → set_of ys ≡ set_.insert (set_of xs) c
   set_inserted h = same_set nat_cmp_total nat_cmp-IsAntisymmetric _ _ (λ q.
       contains_marked more ys also q ∙ h q ∙ ap (λ b. if q == c then true else b) (sym (contains_marked marks xs are q))
-      ∙ sym (contains-insert nat_cmp_total (set_of xs) c q ∙ ap (λ t. t || set_.contains (set_of xs) q) (unsigned_tied q c) ∙ or_if (q == c) _))
+      ∙ sym (contains_more (set_of xs) c q))
 
   pub set_removed : ((q : ℕ) → has_mark more q ≡ (if q == c then false else has_mark marks q)) → set_of ys ≡ set_.remove (set_of xs) c
   set_removed h = same_set nat_cmp_total nat_cmp-IsAntisymmetric _ _ (λ q.
       contains_marked more ys also q ∙ h q ∙ ap (λ b. if q == c then false else b) (sym (contains_marked marks xs are q))
-      ∙ sym (contains-remove nat_cmp_total (set_of xs) c q ∙ ap (λ t. not t && set_.contains (set_of xs) q) (unsigned_tied q c) ∙ and_if (q == c) _))
+      ∙ sym (contains_less (set_of xs) c q))
 
 -- a crosspoint more, and one less
 pub AreMarked-push : (marks more : List Bool) (xs : List Cross) (c : Cross) → AreMarked marks xs → has_mark marks c.0 ≡ false →
@@ -219,10 +210,6 @@ unmarked n q = by_place (dec_lt q n)
     by_place : Dec (q < n) → has_mark (replicate n false) q ≡ false
     by_place (yes h) = get_or-replicate n q false false h
     by_place (no k) = get_or_past (replicate n false) q false (let long = length-replicate n false in omega (arith, long))
-
--- what a slice of the vector was left with
-pub items_after : {X Z : Type 0} (v : Vec X Z) (ws : List X) → length ws ≡ length v.items → (with_items v ws).items ≡ ws
-items_after v ws e = with_items_is v ws (e ∙ sym v.ok.0)
 
 -- what has a mark, or is on, stands somewhere
 no_times : {X : Type 0} (p : X → Bool) (xs : List X) → ((k : ℕ) (d : X) → k < length xs → p (get_or xs k d) ≡ false) → count_by p xs ≡ 0

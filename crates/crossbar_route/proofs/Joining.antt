@@ -1,10 +1,11 @@
 -- What closing crosspoints one after another comes to.
-use Rattle.std.proofs.Common.{◌≡◌, ◌≢◌, ◌⊎◌, ℕ, ◌+◌, ◌*◌, ◌<◌, ◌≤◌, Bool, true, false, cond, ◌||◌, Some, None, Option, List, refl, sym, ap, ◌∙◌, subst, inl, inr, arith}
+use Rattle.std.proofs.Common.{◌≡◌, ◌≢◌, ◌⊎◌, ℕ, ◌+◌, ◌*◌, ◌<◌, ◌≤◌, Bool, true, false, cond, Some, None, Option, List, refl, sym, ap, ◌∙◌, subst, inl, inr, arith}
 use Rattle.std.specs.BTreeMap.{BTreeMap}
 use Rattle.std.specs.FinSet as set
 use Rattle.std.specs.FinSet.{contains, contains-insert, len-insert, nat_cmp-IsAntisymmetric}
 use Rattle.std.specs.Cmp.{nat_cmp_total, Equal-is, unsigned_tied}
 use Rattle.std.specs.Ordering.{nat_cmp, eq_by_cmp}
+use Rattle.std.proofs.Math.Bool.{or-true}
 use Rattle.std.proofs.lemmas.Bool.{or_cases, eq-eqb, cases_eq}
 use Rattle.hierarchy.specs.declared.Shape.{Shape}
 use Rattle.hierarchy.specs.Shape.{crosses_of, ends_of, node_of, parent_of}
@@ -22,11 +23,7 @@ module _ (g : Configuration) (x : ℕ) where
       by (inr e) = inl e
 
   closed_then : (y : ℕ) → is_closed g y ≡ true → is_closed (with_closed g x) y ≡ true
-  closed_then y on = contains-insert nat_cmp_total g.closed x y ∙ rw on (cases (eq_by_cmp nat_cmp y x))
-    where
-      cases : (b : Bool) → (b || true) ≡ true
-      cases true = refl
-      cases false = refl
+  closed_then y on = contains-insert nat_cmp_total g.closed x y ∙ rw on (or-true (eq_by_cmp nat_cmp y x))
 
   closed_now : is_closed (with_closed g x) x ≡ true
   closed_now = contains-insert nat_cmp_total g.closed x x ∙ rw (unsigned_tied x x ∙ eq-eqb x x refl) refl
@@ -75,7 +72,7 @@ closes_same A B a b old new p le to from = record {
     by x (inl on) = inl on
     by x (inr j) = inr (to x j)
 
-closes_one : (joint : ℕ → Type 0) (x : ℕ) (old new : Configuration) → new ≡ with_closed old x → joint x → ((y : ℕ) → joint y → y ≡ x) → Closes joint 1 old new
+pub closes_one : (joint : ℕ → Type 0) (x : ℕ) (old new : Configuration) → new ≡ with_closed old x → joint x → ((y : ℕ) → joint y → y ≡ x) → Closes joint 1 old new
 closes_one joint x old new e is one = record {
   only = λ y on. by y (closed_which old x y (subst (λ g. is_closed g y ≡ true) e on));
   each = λ y j. subst (λ g. is_closed g y ≡ true) (sym e) (subst (λ z. is_closed (with_closed old x) z ≡ true) (sym (one y j)) (closed_now old x));

@@ -1,14 +1,17 @@
+-- What is cited above.
+pub mod Terminals
+pub mod OnTree
+pub mod Routed
+pub mod Ported
+pub mod Drawn
+pub mod Joining
+pub mod Whole
+pub mod Making
+pub mod Reading
+-- For the proofs of this crate alone.
 mod PinValues
 mod Turns
-mod OnTree
-mod Terminals
-mod Routed
 mod Marking
 mod Lining
-mod Joining
-mod Ported
 mod Seats
-mod Whole
 mod Deep
-mod Reading
-mod Making

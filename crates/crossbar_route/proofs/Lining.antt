@@ -4,21 +4,13 @@ use Rattle.std.specs.List.{Contains}
 use Rattle.std.specs.Map.{lookup}
 use Rattle.std.specs.BTreeMap as tree
 use Rattle.std.specs.BTreeMap.{BTreeMap, is_at}
-use Rattle.std.specs.Cmp.{IsTotalOrder, eq_by_cmp_equiv, nat_cmp_total}
-use Rattle.std.specs.Ordering.{nat_cmp}
-use Rattle.std.proofs.lemmas.Cmp.{on_total, then_total}
+use Rattle.std.specs.Cmp.{eq_by_cmp_equiv}
 use Rattle.std.proofs.lemmas.List.Elements.{Contains-append_left, Contains-push, Contains-push_cases}
-use Rattle.std.proofs.lemmas.Map.Lookups.{CmpEqualImpliesEq, exact_pairs, exact_unsigned}
 use Rattle.std.proofs.lemmas.Map.Views.{tells_apart}
 use Rattle.hierarchy.specs.Faults.{pair_cmp}
+use Rattle.hierarchy.proofs.Pairs.{pairs_total, pairs_exact}
 use Rattle.place.specs.declared.short.Visit.{Visit}
 use Rattle.crossbar_route.specs.Owners.{line_in, HasLine, AreLines, IsPut}
-
-pairs_total : IsTotalOrder pair_cmp
-pairs_total = then_total (on_total (λ (p : ℕ × ℕ). p.0) nat_cmp_total) (on_total (λ (p : ℕ × ℕ). p.1) nat_cmp_total)
-
-pairs_exact : CmpEqualImpliesEq pair_cmp
-pairs_exact = exact_pairs nat_cmp nat_cmp exact_unsigned exact_unsigned
 
 abbrev Lines : Type 0
 Lines = BTreeMap (ℕ × ℕ) ℕ

@@ -10,7 +10,7 @@ use Rattle.place.specs.declared.layout.Layout.{Layout}
 use Rattle.place.specs.declared.plan.Plan.{Plan}
 use Rattle.place.specs.Laying.{FitsWith, IsLayout}
 use Rattle.crossbar_route.specs.Routed.{IsLaidBy}
-use Rattle.crossbar_route.proofs.Whole.{Numbering}
+use Rattle.crossbar_route.proofs.Drawn.{Numbering}
 
 pub numbering : ((m : Shape) → IsNumbered m) → ((m : Shape) → IsTree m) → ((m : Shape) → HasParents m) → ((m : Shape) → HasMeanings m) → ((m : Shape) → HasTaps m) → ((m : Shape) → HasCrosses m) → ((m : Shape) → HasSites m) → (m : Shape) → Numbering m
 numbering numbered tree parents meanings taps crosses sites m = record { numbered = numbered m; tree = tree m; parents = parents m; taps = taps m; crosses = crosses m; sites = sites m; meanings = meanings m }

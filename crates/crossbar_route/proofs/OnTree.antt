@@ -49,7 +49,7 @@ module _ (m : Shape) where
       outside_strand n k crosses = record { wire = crosses.outer; is = crosses.outer_is; at = at_outside crosses.not_inside }
 
       -- each terminal inside a node is joined to the net's port of it
-      to_port : (k w : ℕ) → terminal k w → {n : ℕ} → IsUp m (node_of m w) n → Crosses m (terminal k) n → (t : ℕ) → port n k t → Joined (plain_net m closed) w t
+      pub to_port : (k w : ℕ) → terminal k w → {n : ℕ} → IsUp m (node_of m w) n → Crosses m (terminal k) n → (t : ℕ) → port n k t → Joined (plain_net m closed) w t
       to_port k w is stay crosses t has = meet (node_of m w) k (Own w) Outside (λ e. cc) (own_strand _ k w is refl) (outside_strand _ k crosses) w t itself_ (from_outside has)
       to_port k w is (up {c} {n} a e) crosses t has =
           let below : Crosses m (terminal k) c = record { inner = w; outer = crosses.outer; inner_is = is; outer_is = crosses.outer_is; inside = above_of m a; not_inside = λ i. crosses.not_inside (higher m e i) } in

@@ -27,6 +27,15 @@ module _ (m : Shape) (d : Defects) (count : ℕ) (terminal : ℕ → ℕ → Typ
       let same : p.place ≡ q.place = same_place q.ports p.place q.place w q.are_ports.ascending at q.port_is in
       sym p.net_is.1 ∙ (λ i. get_or (crossing i) (same i) 0) ∙ q.net_is.1
 
+  -- a net has one port of a node
+  pub same_port : (n k v w : ℕ) → HasPort m d count terminal n k v → HasPort m d count terminal n k w → v ≡ w
+  same_port n k v w p q =
+      let ports : p.ports ≡ q.ports = those_unique (IsFreePort m d n) p.ports q.ports p.are_ports q.are_ports in
+      let crossing : p.crossing ≡ q.crossing = those_unique (CrossesAt m count terminal n) p.crossing q.crossing p.are_crossing q.are_crossing in
+      let at : IsNth q.crossing p.place k = subst (λ xs. IsNth xs p.place k) crossing p.net_is in
+      let same : p.place ≡ q.place = same_place q.crossing p.place q.place k q.are_crossing.ascending at q.net_is in
+      sym p.port_is.1 ∙ (λ i. get_or (ports i) (same i) 0) ∙ q.port_is.1
+
   pub port_is_port : (n k w : ℕ) → HasPort m d count terminal n k w → IsPort m n w
   port_is_port n k w p = subst (IsPort m n) p.port_is.1 (p.are_ports.only p.place 0 p.port_is.0).0
 

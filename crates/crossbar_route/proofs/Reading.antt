@@ -22,7 +22,7 @@ use Rattle.crossbar_route.specs.Ticks.{AreTicks}
 use Rattle.crossbar_route.specs.Routed.{HasPortIn, IsRouteOf}
 use Rattle.crossbar_route.proofs.Routed.{set_is_free, tree_reads_rows}
 
-ticks_enough : (n : Network) (ticks : ℕ) → AreTicks n ticks → IsDeepest n ticks
+pub ticks_enough : (n : Network) (ticks : ℕ) → AreTicks n ticks → IsDeepest n ticks
 ticks_enough n ticks r j k path = by (nat_lt 0 r.0) refl (r.1.longest j k path) r.2
   where
     by : (b : Bool) → nat_lt 0 r.0 ≡ b → k ≤ r.0 → ticks ≡ (if b then r.0 else 1) → k ≤ ticks

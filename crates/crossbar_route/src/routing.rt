@@ -38,8 +38,12 @@ fn counts_are_few(shape: &Shape)
     let _wires = shape.wires();
 }
 
-// A configuration with the crosspoints of the nets' lines and taps closed.
-fn joined(
+/// A configuration with the crosspoints of the nets' lines and taps closed, and no table on.
+///
+/// # Errors
+///
+/// Want of memory.
+pub fn join_nets(
     alloc: Global,
     shape: Shape,
     nets: &[Items<u32>],
@@ -79,7 +83,7 @@ fn configure(
     let shape = defects.shape();
     counts_are_few(&shape);
     let ticks = ticks_of(alloc, network)?;
-    let mut config = joined(alloc, shape, nets, ports, visits)?;
+    let mut config = join_nets(alloc, shape, nets, ports, visits)?;
     switch_all_on(
         &mut config,
         plan.tables.as_slice(),

@@ -2,6 +2,7 @@
 use Rattle.std.proofs.Common.{◌≡◌, ◌≢◌, ◌⊎◌, inl, inr, ⊎_elim, ℕ, ◌+◌, ◌<◌, ◌≤◌, Bool, true, false, ◌||◌, ◌&&◌, Option, Some, None, IsSome, List, [], ◌∷◌, map, length, get_or, take, refl, sym, ap, ◌∙◌, subst, arith, eqb, ltb}
 use Rattle.std.specs.Prelude.{unwrap_or}
 use Rattle.std.specs.FinSet as set
+use Rattle.std.proofs.Math.Bool.{and-false, or-false}
 use Rattle.std.proofs.lemmas.Bool.{false≢true, cases_eq, cases_lt, ne_eqb, or_cases, or_left, or_right, eqb-true, eq-eqb, ltb-true, lt-ltb, le-ltb, and_parts, and_from}
 use Rattle.std.proofs.lemmas.List.{take_more, map-append, get_or-map, length-map}
 use Rattle.std.proofs.lemmas.List.Folds.{list_any_more, list_any_at}
@@ -16,7 +17,7 @@ use Rattle.hierarchy.specs.Shape.{Ends, in_order, ends_of, crosses_of}
 use Rattle.hierarchy.specs.Faults.{Faults, AreFaultsOf, stuck_cross, is_bridge, pair_cmp}
 use Rattle.hierarchy.specs.Joined.{Net, Linked, crossed, bridged}
 use Rattle.fault_model.specs.Stored.{pair_of}
-use Rattle.fault_model.proofs.Keeping.{pairs_total, pairs_exact}
+use Rattle.hierarchy.proofs.Pairs.{pairs_total, pairs_exact}
 use Rattle.cycle_sim.specs.Classes.{HasLink, HaveSameLinks}
 use Rattle.cycle_sim.specs.Building.{bridged_net, stuck_net, closed_net, is_among}
 
@@ -122,12 +123,8 @@ module _ (m : Shape) (f : Faults) where
           (λ l. rw (le-ltb y n b, le-ltb y (n + 1) l) refl)
           (at_or_above y b)
         where
-          and_no : (p : Bool) → (p && false) ≡ false
-          and_no true = refl
-          and_no false = refl
-
           at_n : (p q : Bool) {z : Bool} → z ≡ false → (p && z) ≡ (q && z)
-          at_n p q e = ap (λ b. p && b) e ∙ and_no p ∙ sym (and_no q) ∙ ap (λ b. q && b) (sym e)
+          at_n p q e = ap (λ b. p && b) e ∙ and-false p ∙ sym (and-false q) ∙ ap (λ b. q && b) (sym e)
 
           at_or_above : (y : ℕ) → n ≤ y → (y ≡ n) ⊎ (n + 1 ≤ y)
           at_or_above y b = ⊎_elim (λ l. inl (omega (arith, l, b))) (λ l. inr l) (cases_lt y (n + 1))
@@ -181,11 +178,7 @@ module _ (m : Shape) (f : Faults) where
 
         by_same : (y : ℕ) → (x ≡ y) ⊎ (x ≢ y) → unwrap_or (stuck_cross f y) (is_among (take i crosses) y) ≡ unwrap_or (stuck_cross f y) (is_among (take (i + 1) crosses) y)
         by_same y (inl e) = rw (← e, is) refl
-        by_same y (inr n) = ap (unwrap_or (stuck_cross f y)) (sym (among_more y ∙ rw (ne_eqb x y n) (or_false (is_among (take i crosses) y))))
-          where
-            or_false : (b : Bool) → (b || false) ≡ b
-            or_false true = refl
-            or_false false = refl
+        by_same y (inr n) = ap (unwrap_or (stuck_cross f y)) (sym (among_more y ∙ rw (ne_eqb x y n) (or-false (is_among (take i crosses) y))))
 
         same : (y : ℕ) → unwrap_or (stuck_cross f y) (is_among (take i crosses) y) ≡ unwrap_or (stuck_cross f y) (is_among (take (i + 1) crosses) y)
         same y = by_same y (cases_eq x y)

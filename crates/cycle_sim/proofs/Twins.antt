@@ -6,6 +6,7 @@ use Rattle.std.proofs.lemmas.Bool.{false≢true, cases_Bool, cases_eq, not-false
 use Rattle.std.proofs.lemmas.List.{get_or-map, length-map, length-set, get_or-set_other, get_or-set_same, get_or_default, set-get_or, same_lists}
 use Rattle.std.proofs.lemmas.List.Elements.{All-map}
 use Rattle.std.proofs.lemmas.List.Edits.{map_over_more}
+use Rattle.tm_bits.proofs.SetsLemmas.{same_bits}
 use Rattle.hierarchy.specs.Faults.{Faults}
 use Rattle.config_set.specs.Run.{number_of}
 use Rattle.cycle_sim.specs.declared.classes.Knot.{Knot}
@@ -251,16 +252,10 @@ marked_at low gates place d x at h out r e = ⊎_elim
     (λ n. at r (sym (get_or-set_other low x r true false n) ∙ e))
     (cases_eq r x)
 
-pub beq_same : (a b : Bool) → beq a b ≡ true → a ≡ b
-beq_same true true e = refl
-beq_same false false e = refl
-beq_same true false e = absurd (false≢true e)
-beq_same false true e = absurd (false≢true e)
-
 -- a table that gives what it gave needn't be written
 pub unwritten : (step : Gate → Gate) → ((x : Gate) → step x ≡ record x { output = (step x).output }) → (xs ys : List Gate) (i : ℕ) (d new : Gate) → i < length xs → i < length ys →
     ys ≡ map step (take i xs) ++ drop i xs → new ≡ step (get_or ys i d) → not (beq new.output (get_or ys i d).output) ≡ false → ys ≡ map step (take (i + 1) xs) ++ drop (i + 1) xs
 unwritten step only xs ys i d new hx hy front is h =
     let x : Gate = get_or ys i d in
-    let gives : (step x).output ≡ x.output = sym (ap (λ (y : Gate). y.output) is) ∙ beq_same new.output x.output (not-false (beq new.output x.output) h) in
+    let gives : (step x).output ≡ x.output = sym (ap (λ (y : Gate). y.output) is) ∙ same_bits new.output x.output (not-false (beq new.output x.output) h) in
     sym (set-get_or ys i d) ∙ ap (set ys i) (sym (twin_is x (step x) (only x) gives)) ∙ map_over_more step xs ys i x hx front (get_or_default ys i d x hy)

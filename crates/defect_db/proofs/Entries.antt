@@ -9,6 +9,7 @@ use Rattle.std.proofs.lemmas.List.{map-append}
 use Rattle.std.proofs.lemmas.Bool.{eq-eqb, and_parts}
 use Rattle.std.proofs.lemmas.Bool.Decides.{nat_tests}
 use native.Mathlib.Decide.{ℕ_discrete, dec_lt}
+use Rattle.tm_bits.proofs.SetsLemmas.{or_more}
 use Rattle.hierarchy.specs.declared.Shape.{Shape}
 use Rattle.hierarchy.specs.Shape.{wires_of, crosses_of, tables_of}
 use Rattle.defect_db.specs.declared.entry.Entry.{Entry}
@@ -17,7 +18,6 @@ use Rattle.defect_db.specs.Lists.{DefectList, IsDefectList, IsWithWire, no_defec
 use Rattle.hierarchy.specs.Defects.{IsFreeCross, IsFreeTable}
 use Rattle.defect_db.proofs.Telling.{cross_tells, table_tells}
 use Rattle.defect_db.specs.Text.{IsEntryOf, IsFreeEntry, kind_of, number_of, is_before, as_wire, as_cross, as_table, entries_of}
-use Rattle.defect_db.proofs.Marks.{contains_more, or_if}
 use Rattle.defect_db.specs.Steps.{is_listed, is_same, is_behind, IsLast, IsBeyond, IsAdded}
 
 -- ---- numbers that pass a test
@@ -327,14 +327,11 @@ none_listed m = (λ i. (map as_wire (those_none (sets.contains no_defects.wires)
 
 -- ---- what listing makes
 
-or_from : (s : sets.FinSet nat_cmp) (i q : ℕ) → sets.contains (sets.insert s i) q ≡ ((q == i) || sets.contains s q)
-or_from s i q = contains_more s i q ∙ sym (or_if (q == i) (sets.contains s q))
-
 pub added_wire : (d d2 : DefectList) (w : ℕ) → IsWithWire d w d2 → IsBeyond d (as_wire w) → IsAdded d (as_wire w) d2
 added_wire d d2 w h beyond = record { shape = h.shape; more = more }
   where
     more : (a : Entry) → is_listed d2 a ≡ (is_same a (as_wire w) || is_listed d a)
-    more (Wire u) = ap (λ s. sets.contains s u.0) h.wires ∙ or_from d.list.wires w u.0
+    more (Wire u) = ap (λ s. sets.contains s u.0) h.wires ∙ or_more d.list.wires w u.0
     more (Cross x) = h.crosses x.0 ∙ ap (λ b. b && not (touches_cross d.shape w x.0)) (off d (as_wire w) (Cross x) beyond refl (is_listed d (Cross x)) refl) ∙ sym (off d (as_wire w) (Cross x) beyond refl (is_listed d (Cross x)) refl)
     more (Table t) = h.tables t.0 ∙ ap (λ b. b && not (touches_table d.shape w t.0)) (off d (as_wire w) (Table t) beyond refl (is_listed d (Table t)) refl) ∙ sym (off d (as_wire w) (Table t) beyond refl (is_listed d (Table t)) refl)
 
@@ -343,7 +340,7 @@ added_cross d d2 x e free = record { shape = ap (λ (v : DefectList). v.shape) e
   where
     more : (a : Entry) → is_listed (record { shape = d.shape; list = record d.list { crosses = sets.insert d.list.crosses x } }) a ≡ (is_same a (as_cross x) || is_listed d a)
     more (Wire u) = refl
-    more (Cross y) = or_from d.list.crosses x y.0
+    more (Cross y) = or_more d.list.crosses x y.0
     more (Table t) = refl
 
 pub added_table : (d d2 : DefectList) (t : ℕ) → d2 ≡ record { shape = d.shape; list = with_table d.shape d.list t } → has_free_pins d.shape d.list t ≡ true → IsAdded d (as_table t) d2
@@ -352,7 +349,7 @@ added_table d d2 t e free = record { shape = ap (λ (v : DefectList). v.shape) e
     more : (a : Entry) → is_listed (record { shape = d.shape; list = record d.list { tables = sets.insert d.list.tables t } }) a ≡ (is_same a (as_table t) || is_listed d a)
     more (Wire u) = refl
     more (Cross y) = refl
-    more (Table u) = or_from d.list.tables t u.0
+    more (Table u) = or_more d.list.tables t u.0
 
 -- a crosspoint that is free has free ends, and a table free pins
 pub free_ends : (d : DefectList) (x : ℕ) → IsFreeCross d.shape d.list x → has_free_ends d.shape d.list x ≡ true

@@ -1,26 +1,21 @@
 -- Marks and the set of the numbers that have one.
 use Rattle.std.proofs.Common.{◌≡◌, ℕ, zero, suc, ◌<◌, ◌≤◌, Bool, true, false, ◌&&◌, ◌||◌, if◌then◌else◌, List, [], ◌∷◌, length, set, replicate, refl, sym, ap, ◌∙◌, arith}
 use Rattle.std.specs.Prelude.{◌==◌}
-use Rattle.std.specs.Prelude.{Vec}
-use Rattle.std.specs.Vec.{with_items}
 use Rattle.std.specs.List.{list_any}
 use Rattle.std.specs.Ordering.{nat_cmp}
-use Rattle.std.specs.Cmp.{nat_cmp_total, unsigned_tied}
+use Rattle.std.specs.Cmp.{nat_cmp_total}
 use Rattle.std.specs.FinSet as sets
-use Rattle.std.specs.FinSet.{contains-from_list_nat, contains-insert, contains-empty, same_set, nat_cmp-IsAntisymmetric}
-use Rattle.std.proofs.lemmas.List.{get_or-set_same, get_or-set_other, get_or_past, get_or-replicate, length-replicate, with_items_is}
+use Rattle.std.specs.FinSet.{contains-from_list_nat, contains-empty, same_set, nat_cmp-IsAntisymmetric}
+use Rattle.std.proofs.lemmas.List.{get_or-set_same, get_or-set_other, get_or_past, get_or-replicate, length-replicate}
 use Rattle.std.proofs.lemmas.List.Folds.{list_any-append}
 use Rattle.std.proofs.lemmas.Bool.Decides.{nat_tests}
 use Rattle.std.proofs.Math.Bool.{or-false}
 use Rattle.std.proofs.lemmas.Bool.{and_parts}
 use native.Mathlib.Decide.{ℕ_discrete, dec_lt}
 use Rattle.tm_bits.specs.Numbers.{has_number}
+use Rattle.tm_bits.proofs.SetsLemmas.{contains_more}
 use Rattle.defect_db.specs.Kept.{marked}
 use Rattle.defect_db.specs.Lists.{those, all_below}
-
-pub or_if : (t b : Bool) → (t || b) ≡ (if t then true else b)
-or_if true b = refl
-or_if false b = refl
 
 -- ---- what a list of numbers contains
 
@@ -87,9 +82,6 @@ has_set marks i q b lt = by_place (ℕ_discrete q i)
         let apart : (q == i) ≡ false = grind (arith, nat_tests, ne) in
         get_or-set_other marks i q b false ne ∙ sym (ap (λ c. if c then b else has_number marks q) apart)
 
-pub contains_more : (s : sets.FinSet nat_cmp) (i q : ℕ) → sets.contains (sets.insert s i) q ≡ (if q == i then true else sets.contains s q)
-contains_more s i q = contains-insert nat_cmp_total s i q ∙ ap (λ t. t || sets.contains s q) (unsigned_tied q i) ∙ or_if (q == i) _
-
 pub same_members : (s t : sets.FinSet nat_cmp) → ((q : ℕ) → sets.contains s q ≡ sets.contains t q) → s ≡ t
 same_members s t h = same_set nat_cmp_total nat_cmp-IsAntisymmetric s t h
 
@@ -132,7 +124,3 @@ each_all f (suc n) h = (λ i. each_all f n (λ k lt. h k (omega (arith, lt))) i 
 pub all_same : (f g : ℕ → Bool) (n : ℕ) → ((k : ℕ) → k < n → f k ≡ g k) → all_below n f ≡ all_below n g
 all_same f g zero h = refl
 all_same f g (suc n) h = (λ i. all_same f g n (λ k lt. h k (omega (arith, lt))) i && h n (omega arith) i)
-
--- what a slice of a vector was left with
-pub items_after : {X Z : Type 0} (v : Vec X Z) (ws : List X) → length ws ≡ length v.items → (with_items v ws).items ≡ ws
-items_after v ws e = with_items_is v ws (e ∙ sym v.ok.0)

@@ -10,7 +10,7 @@ use Rattle.hierarchy.specs.declared.Shape.{Shape}
 use Rattle.hierarchy.specs.Shape.{ends_of, table_wire, wires_of, crosses_of, tables_of}
 use Rattle.hierarchy.specs.Defects.{IsFreeWire, IsFreeTable}
 use Rattle.defect_db.specs.Lists.{DefectList, IsDefectList, IsWithWire, no_defects, with_cross, with_table, has_free_ends, has_free_pins, all_below}
-use Rattle.defect_db.proofs.Marks.{contains_more}
+use Rattle.tm_bits.proofs.SetsLemmas.{contains_more}
 use Rattle.evidence.specs.Kept.{Kept, keeps_cross, keeps_cell, keeps_register}
 use Rattle.growth.specs.Known.{HasWire}
 use Rattle.growth.specs.declared.step.Step.{Step}

@@ -22,12 +22,6 @@ use Rattle.evidence.specs.Readings.{Reads, ReadsPins, ReadsTwice, IsReady}
 use Rattle.evidence.proofs.KeptLemmas.{GainHoldsFor, more_by_gain, holds_by_gain, cross_holds, cell_holds, register_holds, wires_hold, pairs_hold}
 use Rattle.evidence.proofs.Shown.{differ, differ_turned}
 
-pub equal_bits : (a b : Bool) → beq a b ≡ true → a ≡ b
-equal_bits true true e = refl
-equal_bits false false e = refl
-equal_bits true false e = cc
-equal_bits false true e = cc
-
 pub different_bits : (a b : Bool) → beq a b ≡ false → a ≢ b
 different_bits true true e = cc
 different_bits false false e = cc

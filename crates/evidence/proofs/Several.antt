@@ -4,6 +4,7 @@ use Rattle.std.specs.Prelude.{◌==◌, ◌||◌, All}
 use Rattle.std.proofs.lemmas.Bool.{false≢true, or_cases, or_left, or_right}
 use Rattle.std.proofs.lemmas.List.{take_more, flat_map_more}
 use Rattle.std.proofs.lemmas.List.Folds.{list_any-append}
+use Rattle.tm_bits.specs.Numbers.{has_number}
 use Rattle.hierarchy.specs.Shape.{pins_of}
 use Rattle.hierarchy.specs.Circuit.{Pins}
 use Rattle.hierarchy.specs.Faults.{Faults}
@@ -16,7 +17,7 @@ use Rattle.config_set.proofs.Passing.{apart_passes}
 use Rattle.config_set.proofs.Readings.{apart_separates}
 use Rattle.config_set.proofs.Runs.{Runs-unique}
 use Rattle.test_configs.specs.Routes.{Walk}
-use Rattle.evidence.specs.Kept.{Kept, HoldsFor, is_between, these_pairs}
+use Rattle.evidence.specs.Kept.{Kept, HoldsFor, is_between, is_across, these_pairs}
 use Rattle.evidence.specs.Readings.{ReadsOnce, TellsFromAll, AllApartPasses, IsReady, wires_over}
 use Rattle.evidence.proofs.Advancing.{ready_joined}
 use Rattle.evidence.proofs.KeptLemmas.{GainHoldsFor, pairs_hold}
@@ -30,40 +31,22 @@ over_more rs k s below at =
 among_more : (rs : List Walk) (k y : ℕ) (s : Walk) → k < length rs → s ≡ get_or rs k s → among (wires_over (take (k + 1) rs)) y ≡ (among (wires_over (take k rs)) y || among s.wires y)
 among_more rs k y s below at = ap (λ ws. among ws y) (over_more rs k s below at) ∙ list_any-append (λ z. z == y) (wires_over (take k rs)) s.wires
 
--- one route more is marked with each wire of another
-pub all_next : (ws : List ℕ) (rs : List Walk) (k a b : ℕ) (s : Walk) (o : Bool) → k < length rs → s ≡ get_or rs k s →
-    (is_between ws s.wires a b || (is_between ws (wires_over (take k rs)) a b || o)) ≡ (is_between ws (wires_over (take (k + 1) rs)) a b || o)
-all_next ws rs k a b s o below at =
-    rw (among_more rs k a s below at, among_more rs k b s below at) (by_parts (among ws a) (among ws b) (among s.wires a) (among s.wires b) (among (wires_over (take k rs)) a) (among (wires_over (take k rs)) b))
+-- one route more is in a set
+pub gathered_next : (rs : List Walk) (k w : ℕ) (s : Walk) (t : Bool) → k < length rs → s ≡ get_or rs k s → t ≡ among (wires_over (take k rs)) w →
+    (among s.wires w || t) ≡ among (wires_over (take (k + 1) rs)) w
+gathered_next rs k w s t below at is =
+    ap (λ x. among s.wires w || x) is ∙ turned (among s.wires w) (among (wires_over (take k rs)) w) ∙ sym (among_more rs k w s below at)
   where
-    by_parts : (wa wb sa sb ta tb : Bool) → (((wa && sb) || (wb && sa)) || (((wa && tb) || (wb && ta)) || o)) ≡ (((wa && (tb || sb)) || (wb && (ta || sa))) || o)
-    by_parts true true sa true ta true = refl
-    by_parts true true sa true ta false = refl
-    by_parts true true true false ta true = refl
-    by_parts true true true false true false = refl
-    by_parts true true true false false false = refl
-    by_parts true true false false ta true = refl
-    by_parts true true false false true false = refl
-    by_parts true true false false false false = refl
-    by_parts true false sa true ta true = refl
-    by_parts true false sa true ta false = refl
-    by_parts true false sa false ta true = refl
-    by_parts true false sa false ta false = refl
-    by_parts false true true sb true tb = refl
-    by_parts false true true sb false tb = refl
-    by_parts false true false sb true tb = refl
-    by_parts false true false sb false tb = refl
-    by_parts false false sa sb ta tb = refl
+    turned : (x y : Bool) → (x || y) ≡ (y || x)
+    turned true true = refl
+    turned true false = refl
+    turned false true = refl
+    turned false false = refl
 
--- none is marked yet
-pub none_next : (ws : List ℕ) (a b : ℕ) (o : Bool) → o ≡ (is_between ws [] a b || o)
-none_next ws a b o = by_parts (among ws a) (among ws b)
-  where
-    by_parts : (x y : Bool) → o ≡ (((x && false) || (y && false)) || o)
-    by_parts true true = refl
-    by_parts true false = refl
-    by_parts false true = refl
-    by_parts false false = refl
+-- a set of the wires of a list serves as the list does
+pub across_between : (ws us : List ℕ) (numbers : List Bool) (a b : ℕ) → ((w : ℕ) → has_number numbers w ≡ among us w) → is_across ws numbers a b ≡ is_between ws us a b
+across_between ws us numbers a b same =
+    ap (λ t. (among ws a && t) || (among ws b && has_number numbers a)) (same b) ∙ ap (λ t. (among ws a && among us b) || (among ws b && t)) (same a)
 
 -- a wire of one of the routes
 pub over_has : (rs : List Walk) (k w : ℕ) (d : Walk) → k < length rs → among (get_or rs k d).wires w ≡ true → among (wires_over rs) w ≡ true
@@ -84,14 +67,6 @@ over_of (r ∷ rs) w is = by (or_cases (among r.wires w) (among (wires_over rs) 
     by : (among r.wires w ≡ true) ⊎ (among (wires_over rs) w ≡ true) → (among (wires_over rs) w ≡ true → IsOver rs w) → IsOver (r ∷ rs) w
     by (inl h) more = record { place = 0; below = omega arith; has = λ d. h }
     by (inr h) more = let p = more h in record { place = suc p.place; below = omega (arith, p.below); has = p.has }
-
--- a wire of none of the routes is of no one
-pub apart_from_one : (ws : List ℕ) (rs : List Walk) (k : ℕ) (s : Walk) → ((w : ℕ) → among ws w ≡ true → among (wires_over rs) w ≡ false) → k < length rs → s ≡ get_or rs k s → (w : ℕ) → among ws w ≡ true → among s.wires w ≡ false
-apart_from_one ws rs k s apart below at w is = by (among s.wires w) refl
-  where
-    by : (b : Bool) → among s.wires w ≡ b → b ≡ false
-    by false e = refl
-    by true e = absurd (false≢true (sym (apart w is) ∙ over_has rs k w s below (subst (λ (r : Walk). among r.wires w ≡ true) at e)))
 
 first_of : {r q : Pins} → ◌≡◌ {A = List Pins} (r ∷ []) (q ∷ []) → r ≡ q
 first_of e = ap (λ xs. get_or xs 0 []) e

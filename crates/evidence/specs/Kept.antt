@@ -97,6 +97,10 @@ these_wires ws = record nothing { wires = among ws }
 abbrev pub is_between : List ℕ → List ℕ → ℕ → ℕ → Bool
 is_between ws us a b = (among ws a && among us b) || (among ws b && among us a)
 
+-- each of a list with each number of a set
+abbrev pub is_across : List ℕ → List Bool → ℕ → ℕ → Bool
+is_across ws numbers a b = (among ws a && has_number numbers b) || (among ws b && has_number numbers a)
+
 abbrev pub these_pairs : List ℕ → List ℕ → Gain
 these_pairs ws us = record nothing { pairs = is_between ws us }
 

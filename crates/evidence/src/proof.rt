@@ -5,7 +5,7 @@ ghost use Rattle.tm_bits.specs.Pairs.{has_pair};
 ghost use Rattle.hierarchy.specs.Shape.{crosses_of, wires_of, tables_of};
 ghost use Rattle.config_set.specs.Groups.{among};
 ghost use Rattle.test_configs.specs.Routes.{IsRoute};
-ghost use Rattle.evidence.specs.Kept.{KeepsNothing, Gains, keeps_cross, keeps_wire, keeps_pair, keeps_cell, keeps_register, one_cross, these_wires, these_pairs, one_cell, one_register, is_between};
+ghost use Rattle.evidence.specs.Kept.{KeepsNothing, Gains, keeps_cross, keeps_wire, keeps_pair, keeps_cell, keeps_register, one_cross, these_wires, these_pairs, one_cell, one_register, is_between, is_across};
 ghost use Rattle.evidence.specs.Readings.{wires_over};
 
 use crate::pins::Pins;
@@ -31,11 +31,13 @@ pub struct Proof {
     pairs: PairSet,
     cells: BitSet,
     registers: BitSet,
+    // The wires of the routes that were last told apart from one.
+    others: BitSet,
 }
 
 impl Model for Proof {
-    ghost use Rattle.std.specs.Prelude.{◌≡◌, IfSome};
-    ghost use Rattle.hierarchy.specs.Shape.{pins_of};
+    ghost use Rattle.std.specs.Prelude.{◌≡◌, length, IfSome};
+    ghost use Rattle.hierarchy.specs.Shape.{pins_of, wires_of};
     ghost use Rattle.evidence.specs.Kept.{Kept, coded_kept, AreMarksOf};
 
     ghost Value = { Kept };
@@ -44,7 +46,7 @@ impl Model for Proof {
 
     ghost view = { λ p. record { shape = p.shape; crosses = p.crosses; wires = p.wires; pairs = p.pairs; cells = p.cells; registers = p.registers } };
 
-    ghost invariant = { λ p. AreMarksOf (record { shape = p.shape; crosses = p.crosses; wires = p.wires; pairs = p.pairs; cells = p.cells; registers = p.registers }) × IfSome p.done (λ g. g.config.shape ≡ p.shape) × (p.pins ≡ pins_of p.shape) };
+    ghost invariant = { λ p. AreMarksOf (record { shape = p.shape; crosses = p.crosses; wires = p.wires; pairs = p.pairs; cells = p.cells; registers = p.registers }) × IfSome p.done (λ g. g.config.shape ≡ p.shape) × (p.pins ≡ pins_of p.shape) × (length p.others ≡ wires_of p.shape) };
 }
 
 impl Proof {
@@ -63,6 +65,7 @@ impl Proof {
             pairs: PairSet::new(alloc, shape.wires())?,
             cells: BitSet::new(alloc, 64 * shape.tables())?,
             registers: BitSet::new(alloc, shape.tables())?,
+            others: BitSet::new(alloc, shape.wires())?,
         })
     }
 
@@ -160,7 +163,7 @@ impl Proof {
         requires apart { (w : ℕ) → among left.now.wires w ≡ true → among (wires_over rights.now) w ≡ false }
         ensures { Gains (these_pairs left.now.wires (wires_over rights.now)) self.old self.new }
     {
-        mark_all(&mut self.pairs, left, rights);
+        mark_all(&mut self.pairs, &mut self.others, left, rights);
     }
 }
 
@@ -201,15 +204,41 @@ fn mark_pairs(pairs: &mut PairSet, left: &Route, right: &Route)
     }
 }
 
-// Marks each wire of one route with each of the others.
-fn mark_all(pairs: &mut PairSet, left: &Route, rights: &[Route])
+// Puts the wires of some routes into a set, and no other.
+fn gather(wires: &mut BitSet, routes: &[Route])
+    requires { All (λ s. (w : ℕ) → among s.wires w ≡ true → w < length wires.old) routes.now }
+    ensures marked { (w : ℕ) → has_number wires.new w ≡ among (wires_over routes.now) w }
+    ensures len { length wires.new ≡ length wires.old }
+{
+    wires.clear();
+    'routes: for k in 0..routes.len() {
+        mark_wires(wires, &routes[k]);
+    }
+}
+
+// Marks each wire of a route with each of a set.
+fn mark_each(pairs: &mut PairSet, route: &Route, others: &BitSet)
+    requires wires { (w : ℕ) → among route.now.wires w ≡ true → w < pairs.old.n }
+    requires others { length others.now ≡ pairs.old.n }
+    requires apart { (w : ℕ) → among route.now.wires w ≡ true → has_number others.now w ≡ false }
+    ensures marked { (a b : ℕ) → has_pair pairs.new a b ≡ (is_across route.now.wires others.now a b || has_pair pairs.old a b) }
+    ensures n { pairs.new.n ≡ pairs.old.n }
+{
+    'wires: for k in 0..=route.len() {
+        pairs.mark_with(route.wire_at(k).0, others);
+    }
+}
+
+// Marks each wire of one route with each of the others, which go over many wires more than once: so by a set of these.
+fn mark_all(pairs: &mut PairSet, others: &mut BitSet, left: &Route, rights: &[Route])
     requires left { (w : ℕ) → among left.now.wires w ≡ true → w < pairs.old.n }
     requires rights { All (λ s. (w : ℕ) → among s.wires w ≡ true → w < pairs.old.n) rights.now }
     requires apart { (w : ℕ) → among left.now.wires w ≡ true → among (wires_over rights.now) w ≡ false }
+    requires others { length others.old ≡ pairs.old.n }
     ensures marked { (a b : ℕ) → has_pair pairs.new a b ≡ (is_between left.now.wires (wires_over rights.now) a b || has_pair pairs.old a b) }
     ensures n { pairs.new.n ≡ pairs.old.n }
+    ensures len { length others.new ≡ length others.old }
 {
-    'routes: for k in 0..rights.len() {
-        mark_pairs(pairs, left, &rights[k]);
-    }
+    gather(others, rights);
+    mark_each(pairs, left, others);
 }

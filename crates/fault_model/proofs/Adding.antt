@@ -13,7 +13,8 @@ use Rattle.fault_model.specs.declared.fault.Fault.{Fault}
 use Rattle.fault_model.specs.declared.fault.Fault.TheVariants.{Stuck, CrossStuck, Cell, Register, Bridge}
 use Rattle.fault_model.specs.declared.fault.AddFault.TheVariants.{Same, Limit}
 use Rattle.fault_model.specs.Adding.{Faulty, IsFaultSet, CanHave, no_faults, with_fault, value_at, value_of, is_loop, lower_first, refusal_at, refusal_of, count_of}
-use Rattle.fault_model.proofs.Keeping.{pairs_total, pairs_exact, all_put, all_added, len_put, len_added}
+use Rattle.hierarchy.proofs.Pairs.{pairs_total, pairs_exact}
+use Rattle.fault_model.proofs.Keeping.{all_put, all_added, len_put, len_added}
 
 -- ---- what it is not to be refused
 

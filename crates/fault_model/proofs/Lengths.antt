@@ -1,13 +1,12 @@
 -- How long the lines of a text are at most.
 use Rattle.std.proofs.Common.{◌<◌, ◌≤◌, ◌-◌, ◌*◌, ◌==◌, ℕ, Bool, true, false, List, [], ◌∷◌, length, map, ap, arith, if◌then◌else◌, nat_lt, length-append, suc}
 use Rattle.std.specs.Prelude.{All}
-use Rattle.std.specs.Fmt.{decimal}
 use Rattle.std.specs.List.{AllByRecursion, flat_map}
-use Rattle.std.proofs.lemmas.Fmt.{length-decimal-le}
 use Rattle.hierarchy.specs.declared.Shape.{Shape}
 use Rattle.hierarchy.specs.Shape.{levels_of, ends_of, place_of, way_to_table, wires_of, tables_of}
 use Rattle.hierarchy.specs.Names.{numbered, inner_letters, steps_name, way_name, port_letter, part_name, wire_name, table_name}
 use Rattle.hierarchy.specs.Walk.{Levels, Path, rest}
+use Rattle.hierarchy.proofs.Decimals.{five_digits}
 use Rattle.hierarchy.proofs.Naming.{wire_steps, table_steps, wire_name-place, table_name-way}
 use Rattle.tm_text.specs.Written.{spaced, written, written_line}
 use Rattle.fault_model.specs.declared.fault.Fault.{Fault}
@@ -18,9 +17,6 @@ use Rattle.fault_model.specs.Adding.{CanHave}
 use Rattle.fault_model.specs.Heads.{word_of}
 use Rattle.fault_model.specs.Text.{bit_word, head_of, rest_of, words_of}
 use Rattle.fault_model.proofs.Words.{IsTold, tap_in, line_in}
-
-five_digits : (n : ℕ) → n < 100000 → length (decimal n) ≤ 5
-five_digits n h = length-decimal-le 5 n (omega arith) (omega arith) (omega arith)
 
 short_steps : (letters : List ℕ) (p : Path) → All (λ i. i < 100000) p → length (steps_name letters p) ≤ 7 * length letters
 short_steps letters [] small = omega arith

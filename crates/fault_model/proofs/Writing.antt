@@ -19,7 +19,7 @@ use Rattle.tm_text.specs.Size.{most_bytes}
 use Rattle.fault_model.specs.Text.{words_of, with_all, AreAdded, IsFaultText}
 use Rattle.fault_model.specs.Written.{Kinds, AreAscending, AreInOrder, grouped, faults_of, stuck_wire_at, stuck_cross_at, wrong_cell_at, stuck_register_at, bridge_of}
 use Rattle.fault_model.proofs.Adding.{count_more, count_none}
-use Rattle.fault_model.proofs.Keeping.{pairs_total, pairs_exact}
+use Rattle.hierarchy.proofs.Pairs.{pairs_total, pairs_exact}
 use Rattle.hierarchy.proofs.PlainNames.{AllPlain}
 use Rattle.fault_model.proofs.Names.{AreWords, entry_words}
 use Rattle.fault_model.proofs.Words.{IsTold}

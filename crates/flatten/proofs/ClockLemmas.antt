@@ -2,7 +2,7 @@
 use Rattle.std.proofs.Common.{◌≡◌, ℕ, ◌+◌, ◌<◌, ◌||◌, Bool, true, false, cond, not, nat_lt, List, [], ◌∷◌, ◌++◌, Option, Some, None, length, length-append, refl, ap, sym, ◌∙◌, subst, arith, inl, inr, ◌⊎◌, is_some, get_or}
 use Rattle.std.proofs.Math.Dec.{eqb}
 use Rattle.std.proofs.Math.Seq.{get_or-append_seam}
-use Rattle.std.proofs.lemmas.Bool.{eqb-true, cases_eq, cases_lt}
+use Rattle.std.proofs.lemmas.Bool.{eqb-true, cases_eq, cases_lt, and_parts}
 use Rattle.std.proofs.lemmas.List.{get_or_append_left}
 use Rattle.std.specs.List.{list_any, position_or_len}
 use Rattle.std.specs.Option.{option_or}
@@ -20,7 +20,6 @@ use Rattle.flatten.specs.Clocks.{same_control, clocked_in, control_in, number_in
 use Rattle.flatten.proofs.FirstLemmas.{before_before, before_to, first_to}
 use Rattle.flatten.proofs.KnownLemmas.{same_self, place_stays}
 use Rattle.flatten.proofs.NameLemmas.{name_is, same_name}
-use Rattle.flatten.proofs.TestLemmas.{and_true}
 use Rattle.flatten.proofs.UseLemmas.{swapped}
 
 -- ---- places of names
@@ -72,7 +71,7 @@ absent_place (Some k) h = absurd cc
 
 signal_is : (s t : Signal) → same_signal s t ≡ true → s ≡ t
 signal_is s t h =
-    let both = and_true (eqb s.used t.used) (eqb s.own t.own) h in
+    let both = and_parts (eqb s.used t.used) (eqb s.own t.own) h in
     λ i. record { used = eqb-true s.used t.used both.0 i; own = eqb-true s.own t.own both.1 i }
 
 control_eq : (a b : Control Signal) → same_control a b ≡ true → a ≡ b

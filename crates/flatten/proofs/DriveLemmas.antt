@@ -1,7 +1,7 @@
 -- The words that drive, with a word more.
 use Rattle.std.proofs.Common.{◌≡◌, ℕ, zero, suc, ◌+◌, ◌<◌, ◌≤◌, ◌==◌, ◌&&◌, nat_lt, cond, eqb, Bool, true, false, List, [], ◌∷◌, ◌++◌, Option, None, Some, length, length-append, refl, sym, ap, subst, ◌∙◌, arith, inl, inr, ◌⊎◌, set}
 use Rattle.std.specs.Prelude.{option_map}
-use Rattle.std.proofs.lemmas.Bool.{cases_eq, cases_lt, ltb-true, ltb-false, eqb-true, eq-eqb}
+use Rattle.std.proofs.lemmas.Bool.{cases_eq, cases_lt, ltb-true, ltb-false, eqb-true, eq-eqb, or_parts, or_cases, and_parts}
 use Rattle.std.proofs.lemmas.List.{get_or_append_left, get_or-set_same, get_or-set_other}
 use Rattle.std.proofs.Math.Seq.{get_or-append_seam}
 use Rattle.netlist.specs.declared.draft.PortDef.{PortDef}
@@ -13,7 +13,6 @@ use Rattle.flatten.specs.declared.drives.Driver.{Driver}
 use Rattle.flatten.specs.declared.drives.Drives.{Drives}
 use Rattle.netlist.specs.Words.{place_at, AreFirstWords}
 use Rattle.flatten.specs.Drives.{IsFirstWord, first_at, AreDrives, places_of, is_nearer, nearest, first_with, doubled_with}
-use Rattle.flatten.proofs.TestLemmas.{neither, or_cases, and_true}
 use Rattle.flatten.proofs.FirstLemmas.{Comes, comes_comes, before_to, before_from, first_to}
 
 -- ---- the table
@@ -52,13 +51,13 @@ module _ (line : ℕ → ℕ) where
   nearer_is a b at_a at_b h = elim (or_cases (nat_lt a.word.line b.word.line) ((a.word.line == b.word.line) && nat_lt a.place b.place) h) [
     | inl lt ↦ inl (omega (arith, ltb-true _ _ lt, at_a, at_b))
     | inr both ↦
-        let two = and_true (a.word.line == b.word.line) (nat_lt a.place b.place) both in
+        let two = and_parts (a.word.line == b.word.line) (nat_lt a.place b.place) both in
         inr (sym at_a ∙ eqb-true a.word.line b.word.line two.0 ∙ at_b, ltb-true _ _ two.1)
   ]
 
   not_nearer : (a b : Driver) → IsOn a → IsOn b → is_nearer a b ≡ false → Comes line b.place a.place
   not_nearer a b at_a at_b h =
-      let two = neither (nat_lt a.word.line b.word.line) ((a.word.line == b.word.line) && nat_lt a.place b.place) h in
+      let two = or_parts (nat_lt a.word.line b.word.line) ((a.word.line == b.word.line) && nat_lt a.place b.place) h in
       elim (cases_eq a.word.line b.word.line) [
         | inr n ↦ elim (cases_lt b.word.line a.word.line) [
           | inl lt ↦ inr (inl (omega (arith, lt, at_a, at_b)))

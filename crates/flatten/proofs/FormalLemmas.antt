@@ -3,6 +3,7 @@ use Rattle.std.proofs.Common.{◌≡◌, ℕ, ◌+◌, ◌<◌, true, false, not
 use Rattle.std.specs.Str.{bytes_eq}
 use Rattle.std.specs.Option.{option_or}
 use Rattle.std.proofs.Math.Seq.{drop-cons}
+use Rattle.std.proofs.Math.Bool.{or_comm}
 use Rattle.flatten.specs.declared.model.PairDef.{PairDef}
 use Rattle.flatten.specs.Lines.{pair_of}
 use Rattle.flatten.specs.declared.model.Model.{Model}
@@ -11,7 +12,7 @@ use Rattle.flatten.specs.UseFaults.{first_wrong, first_missing}
 use Rattle.std.proofs.lemmas.List.{take_more, map-append}
 use Rattle.flatten.specs.NameSets.{with_name, with_names}
 use Rattle.flatten.specs.UseLines.{formals_in}
-use Rattle.flatten.proofs.NameLemmas.{among-push, among_set, or_swap, with_names-append}
+use Rattle.flatten.proofs.NameLemmas.{among-push, among_set, with_names-append}
 
 -- lists with the same names have the same wrong formal
 pub same_wrong : (ports others earlier sooner formals : List (List ℕ)) → ((w : List ℕ) → is_among ports w ≡ is_among others w) → ((w : List ℕ) → is_among earlier w ≡ is_among sooner w) → first_wrong ports earlier formals ≡ first_wrong others sooner formals
@@ -26,7 +27,7 @@ same_missing formals others (i ∷ inputs) e = λ j. cond (e i j) (same_missing 
 -- one formal more that is right
 pub right_one : (ports set : List (List ℕ)) (f : List ℕ) (formals : List (List ℕ)) → is_among ports f ≡ true → is_among set f ≡ false → first_wrong ports (with_name set f) formals ≡ first_wrong ports set (f ∷ formals)
 right_one ports set f formals p e =
-    rw (p, e) (same_wrong ports ports (set ++ f ∷ []) (f ∷ set) formals (λ w. refl) (λ w. among-push set f w ∙ or_swap (is_among set w) (bytes_eq w f)))
+    rw (p, e) (same_wrong ports ports (set ++ f ∷ []) (f ∷ set) formals (λ w. refl) (λ w. among-push set f w ∙ or_comm (is_among set w) (bytes_eq w f)))
 
 pub wrong_one : (ports set : List (List ℕ)) (f : List ℕ) (formals : List (List ℕ)) → (not (is_among ports f) || is_among set f) ≡ true → first_wrong ports set (f ∷ formals) ≡ Some f
 wrong_one ports set f formals h = ap (λ b. cond b (Some f) (first_wrong ports (f ∷ set) formals)) h

@@ -2,6 +2,7 @@
 use Rattle.std.proofs.Common.{◌≡◌, ◌+◌, ◌<◌, Bool, true, false, not, cond, ◌||◌, List, [], ◌∷◌, ◌++◌, length, map, refl, ap, ◌∙◌, arith}
 use Rattle.std.specs.List.{list_any, flat_map, position_or_len, All}
 use Rattle.std.proofs.lemmas.Bool.{eq-eqb, and_from}
+use Rattle.std.proofs.Math.Bool.{or-true}
 use Rattle.std.proofs.lemmas.List.Elements.{All-nil, All-cons}
 use Rattle.std.proofs.lemmas.List.Folds.{list_any-append}
 use Rattle.flatten.specs.declared.model.Signal.{Signal}
@@ -12,7 +13,6 @@ use Rattle.flatten.specs.Lines.{Part, InputPart, OutputPart, CoverPart, LatchPar
 use Rattle.flatten.specs.Signals.{same_signal, with_signal, with_signals, number_of, words_in, words_on, signals_of}
 use Rattle.flatten.specs.Words.{drive_on, drives_in}
 use Rattle.flatten.proofs.SignalsLemmas.{signals_one}
-use Rattle.flatten.proofs.TestLemmas.{or_true}
 
 -- a place that is known stays
 pub place_stays : {X : Type 0} (p : X → Bool) (xs : List X) (y : X) → list_any p xs ≡ true → position_or_len p (xs ++ y ∷ []) ≡ position_or_len p xs
@@ -56,7 +56,7 @@ newly signals s = by (list_any (same_signal s) signals) refl
   where
     by : (b : Bool) → list_any (same_signal s) signals ≡ b → IsKnown (cond b signals (signals ++ s ∷ [])) s
     by true h = h
-    by false h = list_any-append (same_signal s) signals (s ∷ []) ∙ ap (λ b. list_any (same_signal s) signals || (b || false)) (same_self s) ∙ or_true (list_any (same_signal s) signals)
+    by false h = list_any-append (same_signal s) signals (s ∷ []) ∙ ap (λ b. list_any (same_signal s) signals || (b || false)) (same_self s) ∙ or-true (list_any (same_signal s) signals)
 
 number_one : (signals : List Signal) (x s : Signal) → IsKnown signals s → number_of (with_signal signals x) s ≡ number_of signals s
 number_one signals x s h = by (list_any (same_signal x) signals)

@@ -1,5 +1,4 @@
 -- Lines that use models, their replacement, and what is read from the lines then.
-pub mod TestLemmas
 pub mod NameLemmas
 pub mod SubstitutionLemmas
 mod FirstLemmas

@@ -3,13 +3,13 @@ use Rattle.std.proofs.Common.{◌≡◌, ℕ, ◌+◌, ◌<◌, Bool, true, fals
 use Rattle.std.specs.Borrow.{Bor}
 use Rattle.std.specs.List.{list_any, position_or_len}
 use Rattle.std.specs.Str.{bytes_eq}
-use Rattle.std.proofs.lemmas.Bool.{ltb-false}
+use Rattle.std.proofs.lemmas.Bool.{ltb-false, or_cases}
+use Rattle.std.proofs.Math.Bool.{or-true, or-false, or_assoc}
 use Rattle.std.proofs.lemmas.List.{map_push}
 use Rattle.std.proofs.lemmas.List.Folds.{list_any-append}
 use Rattle.std.proofs.lemmas.Slice.Eq.{bytes_eq-Decides}
 use Rattle.flatten.specs.Uses.{is_among}
 use Rattle.flatten.specs.NameSets.{with_name, with_names, number_in}
-use Rattle.flatten.proofs.TestLemmas.{or_true, or_cases}
 
 abbrev pub now : Bor (List ℕ) → List ℕ
 now k = k.now
@@ -70,16 +70,6 @@ same_name w = (bytes_eq-Decides w w).1 refl
 pub name_is : (v w : List ℕ) → bytes_eq v w ≡ true → v ≡ w
 name_is v w e = (bytes_eq-Decides v w).0 e
 
-or_false : (b : Bool) → (b || false) ≡ b
-or_false true = refl
-or_false false = refl
-
-pub or_swap : (a b : Bool) → (a || b) ≡ (b || a)
-or_swap true true = refl
-or_swap true false = refl
-or_swap false true = refl
-or_swap false false = refl
-
 -- a name that is among them changes nothing
 or_same : (names : List (List ℕ)) (n w : List ℕ) → is_among names n ≡ true → (is_among names w || bytes_eq w n) ≡ is_among names w
 or_same names n w h = by (bytes_eq w n) refl
@@ -90,10 +80,10 @@ or_same names n w h = by (bytes_eq w n) refl
 
     by : (b : Bool) → bytes_eq w n ≡ b → (is_among names w || b) ≡ is_among names w
     by true e = true_or (is_among names w) (ap (is_among names) (name_is w n e) ∙ h)
-    by false e = or_false (is_among names w)
+    by false e = or-false (is_among names w)
 
 pub among-push : (names : List (List ℕ)) (n w : List ℕ) → is_among (names ++ n ∷ []) w ≡ (is_among names w || bytes_eq w n)
-among-push names n w = list_any-append (bytes_eq w) names (n ∷ []) ∙ ap (λ b. is_among names w || b) (or_false (bytes_eq w n))
+among-push names n w = list_any-append (bytes_eq w) names (n ∷ []) ∙ ap (λ b. is_among names w || b) (or-false (bytes_eq w n))
 
 among-with : (names : List (List ℕ)) (n w : List ℕ) → is_among (with_name names n) w ≡ (is_among names w || bytes_eq w n)
 among-with names n w = by (is_among names n) refl
@@ -102,12 +92,8 @@ among-with names n w = by (is_among names n) refl
     by true e = sym (or_same names n w e)
     by false e = among-push names n w
 
-or_assoc : (a b c : Bool) → ((a || b) || c) ≡ (a || (b || c))
-or_assoc true b c = refl
-or_assoc false b c = refl
-
 among-with_names : (words names : List (List ℕ)) (w : List ℕ) → is_among (with_names names words) w ≡ (is_among names w || is_among words w)
-among-with_names [] names w = sym (or_false (is_among names w))
+among-with_names [] names w = sym (or-false (is_among names w))
 among-with_names (n ∷ words) names w =
     among-with_names words (with_name names n) w ∙ ap (λ b. b || is_among words w) (among-with names n w)
     ∙ or_assoc (is_among names w) (bytes_eq w n) (is_among words w)
@@ -131,4 +117,4 @@ pub still_among : (names : List (List ℕ)) (n w : List ℕ) → is_among names 
 still_among names n w h = among-with names n w ∙ ap (λ b. b || bytes_eq w n) h
 
 pub now_among : (names : List (List ℕ)) (n : List ℕ) → is_among (with_name names n) n ≡ true
-now_among names n = among-with names n n ∙ ap (λ b. is_among names n || b) (same_name n) ∙ or_true (is_among names n)
+now_among names n = among-with names n n ∙ ap (λ b. is_among names n || b) (same_name n) ∙ or-true (is_among names n)

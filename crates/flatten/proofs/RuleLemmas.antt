@@ -4,6 +4,7 @@ use Rattle.std.specs.Prelude.{IsSome}
 use Rattle.std.specs.List.{All, AllPairs}
 use Rattle.std.specs.Option.{option_or}
 use Rattle.std.specs.Str.{bytes_eq}
+use Rattle.std.proofs.lemmas.Bool.{or_parts, not-false, true_from_ne_false}
 use Rattle.std.proofs.lemmas.List.Elements.{All-nil, All-cons, All-head, All-tail}
 use Rattle.std.proofs.lemmas.List.Kept.{AllPairs-cons}
 use Rattle.std.proofs.lemmas.Slice.Eq.{bytes_eq-Decides}
@@ -12,7 +13,6 @@ use Rattle.flatten.specs.Lines.{Pair}
 use Rattle.flatten.specs.Substitution.{model_named}
 use Rattle.flatten.specs.Uses.{use_at, is_among, input_names, port_names, formals_of, IsRightlyGiven, IsRecursive, KeepsRules}
 use Rattle.flatten.specs.UseFaults.{IsUnknown, first_wrong, first_missing, formal_fault, wrong_formal, IsWronglyGiven, IsFirstUse}
-use Rattle.flatten.proofs.TestLemmas.{neither, not_true}
 
 abbrev Differ : List ℕ → List ℕ → Type 0
 Differ f g = f ≡ g → ⊥
@@ -42,7 +42,7 @@ apart : (f : List ℕ) (earlier fs : List (List ℕ)) → All (λ g. is_among (f
 apart f earlier [] h = (All-nil (Differ f), All-nil (λ g. is_among earlier g ≡ false))
 apart f earlier (g ∷ fs) h =
     let P = λ (x : List ℕ). is_among (f ∷ earlier) x ≡ false in
-    let first = neither (bytes_eq g f) (is_among earlier g) (All-head P g fs h) in
+    let first = or_parts (bytes_eq g f) (is_among earlier g) (All-head P g fs h) in
     let rest = apart f earlier fs (All-tail P g fs h) in
     (All-cons (Differ f) g fs (unequal f g first.0) rest.0, All-cons (λ x. is_among earlier x ≡ false) g fs first.1 rest.1)
 
@@ -68,11 +68,11 @@ module _ (ports : List (List ℕ)) where
   formals_right [] earlier h = record { ports_are = All-nil IsPort; fresh = All-nil (λ f. is_among earlier f ≡ false); once = no_pairs }
   formals_right (f ∷ fs) earlier h =
       let p = none_if (not (is_among ports f) || is_among earlier f) f (first_wrong ports (f ∷ earlier) fs) h in
-      let q = neither (not (is_among ports f)) (is_among earlier f) p.0 in
+      let q = or_parts (not (is_among ports f)) (is_among earlier f) p.0 in
       let rest = formals_right fs (f ∷ earlier) p.1 in
       let r = apart f earlier fs rest.fresh in
       record {
-        ports_are = All-cons IsPort f fs (not_true (is_among ports f) q.0) rest.ports_are;
+        ports_are = All-cons IsPort f fs (not-false (is_among ports f) q.0) rest.ports_are;
         fresh = All-cons (λ g. is_among earlier g ≡ false) f fs q.1 r.1;
         once = AllPairs-cons Differ f fs r.0 rest.once;
       }
@@ -138,14 +138,10 @@ not_some : (o : Option (List ℕ)) → o ≡ None → IsSome o → ⊥
 not_some None e h = absurd cc
 not_some (Some f) e h = absurd cc
 
-is_true : (b : Bool) → (b ≡ false → ⊥) → b ≡ true
-is_true true h = refl
-is_true false h = absurd (h refl)
-
 module _ (models : List Model) where
   pub keeps : IsFirstUse models (IsUnknown models) None → IsFirstUse models (IsWronglyGiven models) None → IsFirstUse models (IsRecursive models) None → KeepsRules models
   keeps known given ends = record {
-    known = λ k lt. is_true (is_among (map (λ m. m.name) models) (use_at models k).model) (known k lt);
+    known = λ k lt. true_from_ne_false (is_among (map (λ m. m.name) models) (use_at models k).model) (known k lt);
     given = λ k lt. given_right (model_named models (use_at models k).model) (use_at models k).pairs (is_none (wrong_formal models k) (given k lt));
     ends = ends;
   }

@@ -3,14 +3,14 @@ use Rattle.std.proofs.Common.{◌≡◌, ℕ, ◌+◌, ◌<◌, ◌≤◌, Bool,
 use Rattle.std.specs.List.{list_any, flat_map}
 use Rattle.std.proofs.lemmas.List.{append-nil}
 use Rattle.std.proofs.lemmas.List.Sums.{sum_by-append}
-use Rattle.std.proofs.lemmas.Bool.{lt-ltb, ltb-true, ltb-false}
+use Rattle.std.proofs.lemmas.Bool.{lt-ltb, ltb-true, ltb-false, or_cases}
+use Rattle.std.proofs.Math.Bool.{or-true}
 use Rattle.flatten.specs.declared.model.Signal.{Signal}
 use Rattle.flatten.specs.declared.refusal.Refusal.{Refusal}
 use Rattle.flatten.specs.declared.refusal.Refusal.TheVariants.{Memory, Limit}
 use Rattle.flatten.specs.Lines.{Line}
 use Rattle.flatten.specs.Refusals.{IsPast, IsOver}
 use Rattle.flatten.specs.Signals.{same_signal, with_signal, with_signals, words_on, signals_of, size_in, size_of, is_over, number_of}
-use Rattle.flatten.proofs.TestLemmas.{or_true, or_cases}
 
 with_signal-longer : (signals : List Signal) (s : Signal) → length signals ≤ length (with_signal signals s)
 with_signal-longer signals s = by (list_any (same_signal s) signals)
@@ -41,7 +41,7 @@ pub over_by_signals : (xs : List (Line Signal)) → 65535 < length (signals_of x
 over_by_signals xs lt = let t : nat_lt 65535 (length (signals_of xs)) ≡ true = lt-ltb _ _ lt in rw t refl
 
 pub over_by_size : (xs : List (Line Signal)) → 16777216 < size_of xs → is_over xs ≡ true
-over_by_size xs lt = let t : nat_lt 16777216 (size_of xs) ≡ true = lt-ltb _ _ lt in rw t (or_true (nat_lt 65535 (length (signals_of xs))))
+over_by_size xs lt = let t : nat_lt 16777216 (size_of xs) ≡ true = lt-ltb _ _ lt in rw t (or-true (nat_lt 65535 (length (signals_of xs))))
 
 -- more lines don't bring it back
 pub over_more : (xs ys : List (Line Signal)) → is_over xs ≡ true → is_over (xs ++ ys) ≡ true

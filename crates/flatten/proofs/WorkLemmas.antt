@@ -3,7 +3,7 @@ use Rattle.std.proofs.Common.{◌≡◌, ℕ, zero, suc, ◌+◌, ◌-◌, ◌<�
 use Rattle.std.specs.Option.{option_or}
 use Rattle.std.specs.Str.{bytes_eq}
 use Rattle.std.proofs.Math.Seq.{drop-cons, get_or-append_seam}
-use Rattle.std.proofs.lemmas.Bool.{cases_lt}
+use Rattle.std.proofs.lemmas.Bool.{cases_lt, or_parts}
 use Rattle.std.proofs.lemmas.List.{length-map, map_push, take_more, append-nil, drop-map, get_or_append_left}
 use Rattle.flatten.specs.declared.model.Signal.{Signal}
 use Rattle.flatten.specs.declared.model.PairDef.{PairDef}
@@ -28,7 +28,6 @@ use Rattle.flatten.specs.Frames.{way_to, left_from, left_in, left_of, AreFrames,
 use Rattle.flatten.specs.Origins.{IsOrigin, AreOrigins, IsRefused}
 use Rattle.flatten.proofs.SignalsLemmas.{over_more}
 use Rattle.flatten.proofs.SubstitutionLemmas.{stays_after}
-use Rattle.flatten.proofs.TestLemmas.{neither}
 
 -- ---- what is given
 
@@ -124,7 +123,7 @@ first_of ms (l ∷ front) n m pairs way rest h = by l.part h (first_of ms front 
 pub left_after : (front lines : List (Line Signal)) → is_left front ≡ false → is_left (front ++ lines) ≡ is_left lines
 left_after [] lines h = refl
 left_after (l ∷ front) lines h =
-    let both = neither (is_use l.part) (is_left front) h in
+    let both = or_parts (is_use l.part) (is_left front) h in
     ap (λ b. b || is_left (front ++ lines)) both.0 ∙ left_after front lines both.1
 
 pub none_in : (p : PlacedPart) → is_use (part_of p) ≡ false

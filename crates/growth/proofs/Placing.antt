@@ -194,5 +194,5 @@ seat_over {k} {known} {without} t p {r} {far} {longer} is numbered tree out belo
     (end_is (hextant_of k.shape t.0) p.to_line.0 p.far.0 n.line longer.end tree place.far.port n.is_line place.to_line.ends at)
 
 -- the far route ends at the crosspoint to the line
-pub far_end : {k : Kept} {far line x : ℕ} (r : Walk) → r.end ≡ far → IsMeeting k far line x → HasEnd k.shape x r.end
-far_end r end meets = inl (ap (λ p. p.0) meets.ends ∙ sym end)
+pub far_end : {k : Kept} {far line end x : ℕ} (r : Walk) → r.end ≡ far → end ≡ line → IsMeeting k far line x → Ends (ends_of k.shape x) r.end end
+far_end r same is meets = in_order (ap (λ p. p.0) meets.ends ∙ sym same) (ap (λ p. p.1) meets.ends ∙ sym is)

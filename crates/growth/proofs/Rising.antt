@@ -7,7 +7,7 @@ use Rattle.hierarchy.specs.declared.Shape.{Shape}
 use Rattle.hierarchy.specs.Shape.{Ends, in_order, turned, ends_of, pin_wire, crosses_of, wires_of}
 use Rattle.config_set.specs.Groups.{among}
 use Rattle.config_set.proofs.Grouped.{LeadsTo-end}
-use Rattle.test_configs.specs.Routes.{Walk, IsRoute, HasEnd, other_end, Extends, at_pin}
+use Rattle.test_configs.specs.Routes.{Walk, IsRoute, other_end, Extends, at_pin}
 use Rattle.test_configs.proofs.Longer.{among-push, among_both, at_pin_is}
 use Rattle.evidence.specs.Kept.{Kept, keeps_cross}
 use Rattle.growth.specs.Known.{KnownWires, IsAt, IsKnown}
@@ -46,10 +46,6 @@ foot_end m x a w (turned s t) = by_test ((ends_of m x).0 == a) refl
     by_test : (b : Bool) → ((ends_of m x).0 == a) ≡ b → other_end m x a ≡ w
     by_test true e = let same : (ends_of m x).0 ≡ a = grind (arith, nat_tests, e) in rw e (t ∙ sym same ∙ s)
     by_test false e = rw e s
-
-pub has_end : (m : Shape) (x a w : ℕ) → Ends (ends_of m x) a w → HasEnd m x a
-has_end m x a w (in_order s t) = inl s
-has_end m x a w (turned s t) = inr t
 
 -- routes the other way round
 pub routes_turned : {k : Kept} {ss : List Step} {p q : Walk} → AreRoutes k ss p q → AreRoutes k ss q p
@@ -263,8 +259,11 @@ module _ {k : Kept} {known : KnownWires} (is : IsKnown k known) where
       pub left_within : d.foot.cross.0 < crosses_of k.shape
       left_within = left_step.stands.within
 
-      pub left_end : HasEnd k.shape d.foot.cross.0 p.end
-      left_end = subst (HasEnd k.shape d.foot.cross.0) (sym at_left) (has_end k.shape d.foot.cross.0 d.foot.wire.0 left_step.step.wire.0 left_step.stands.at)
+      over_left : d.over.0 ≡ left_step.step.wire.0
+      over_left = at_one (last.3.over.left e) (record { step = left_step.step; here = left_step.here; wire = refl })
+
+      pub left_end : Ends (ends_of k.shape d.foot.cross.0) p.end d.over.0
+      left_end = subst (λ a. Ends (ends_of k.shape d.foot.cross.0) a d.over.0) (sym at_left) (subst (λ w. Ends (ends_of k.shape d.foot.cross.0) d.foot.wire.0 w) (sym over_left) left_step.stands.at)
 
       pub left_up : {r : Walk} → Extends k.shape d.foot.cross.0 p r → IsRoute k.shape r → IsRising k known.steps i j ds r q
       left_up {r} longer route = record {
@@ -293,8 +292,11 @@ module _ {k : Kept} {known : KnownWires} (is : IsKnown k known) where
       pub right_within : d.foot.cross.0 < crosses_of k.shape
       right_within = right_step.stands.within
 
-      pub right_end : HasEnd k.shape d.foot.cross.0 q.end
-      right_end = subst (HasEnd k.shape d.foot.cross.0) (sym at_right) (has_end k.shape d.foot.cross.0 d.foot.wire.0 right_step.step.wire.0 right_step.stands.at)
+      over_right : d.over.0 ≡ right_step.step.wire.0
+      over_right = at_one (last.3.over.right e) (record { step = right_step.step; here = right_step.here; wire = refl })
+
+      pub right_end : Ends (ends_of k.shape d.foot.cross.0) q.end d.over.0
+      right_end = subst (λ a. Ends (ends_of k.shape d.foot.cross.0) a d.over.0) (sym at_right) (subst (λ w. Ends (ends_of k.shape d.foot.cross.0) d.foot.wire.0 w) (sym over_right) right_step.stands.at)
 
       pub right_up : {r : Walk} → Extends k.shape d.foot.cross.0 q r → IsRoute k.shape r → IsRising k known.steps i j ds p r
       right_up {r} longer route = record {

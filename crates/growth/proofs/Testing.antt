@@ -13,14 +13,15 @@ use Rattle.hierarchy.specs.Tight.{IsRightTable}
 use Rattle.hierarchy.proofs.Seats.{stands_also, seated_also}
 use Rattle.rig.specs.Rig.{RigState}
 use Rattle.evidence.specs.Kept.{Kept, IsMore, Advances}
-use Rattle.growth.specs.Known.{HasWire, IsKeptCrossOf, InSet}
+use Rattle.growth.specs.Known.{KnownWires, HasWire, IsKnown, IsKeptCrossOf, InSet}
 use Rattle.growth.specs.Grown.{AreLinks}
 use Rattle.growth.specs.Grounds.{AreAllLinks}
-use Rattle.growth.specs.Seating.{IsPlaceAt, IsWithout}
+use Rattle.growth.specs.Seating.{AreAllWithout, IsPlaceAt, IsWithout}
 use Rattle.growth.specs.Tables.{SeatedIsKept, SeatedAreKept}
 use Rattle.growth.specs.declared.field.Field.{Field}
 use Rattle.growth.specs.declared.links.Near.{Near}
 use Rattle.growth.specs.declared.step.Step.{Step}
+use Rattle.growth.proofs.Later.{known_later}
 use Rattle.growth.proofs.Placing.{seated_place}
 use Rattle.table_test.specs.Seats.{KeepsTable, TableIf, AddsOnlyTableFacts}
 
@@ -105,15 +106,37 @@ only_none = record { crosses = λ x. refl; wires = λ w. refl; pairs = λ a b. r
 pub only_then : {k l n : Kept} → AddsOnlyTableFacts k l → AddsOnlyTableFacts l n → AddsOnlyTableFacts k n
 only_then f g = record { crosses = λ x. g.crosses x ∙ f.crosses x; wires = λ w. g.wires w ∙ f.wires w; pairs = λ a b. g.pairs a b ∙ f.pairs a b }
 
--- the hextant of a table, and what is outside it, by the shape of what is known and by that of the proof
+-- What stands without a hextant, by the shape of what is known and by that of the proof.
+module _ {k : Kept} {known : KnownWires} (is : IsKnown k known) (h : ℕ) (set : List Bool) where
+  on_proof : {w : ℕ} → IsOutside known.shape h w → IsOutside k.shape h w
+  on_proof {w} out = subst (λ (m : Shape). IsOutside m h w) is.shape out
+
+  on_known : {w : ℕ} → IsOutside k.shape h w → IsOutside known.shape h w
+  on_known {w} out = subst (λ (m : Shape). IsOutside m h w) (sym is.shape) out
+
+  pub all_without : (without : KnownWires) → ((w : ℕ) → InSet set w → HasWire known.steps w) → ((w : ℕ) → InSet set w → IsOutside known.shape h w) →
+      ((w : ℕ) → HasWire known.steps w → IsOutside known.shape h w → InSet set w) → IsKnown k without → ((w : ℕ) → HasWire without.steps w → InSet set w) →
+      ((w : ℕ) → StandsBy k.shape (InSet set) (IsKeptCrossOf k) w → HasWire without.steps w) → AreAllWithout k known.steps h without
+  all_without without has outside whole stand within all = record {
+    known = stand;
+    within = record { known = λ w on. has w (within w on); outside = λ w on. on_proof (outside w (within w on)) };
+    whole = λ w s. all w (stands_within k known.steps h set (λ u on out. whole u on (on_known out)) w s);
+  }
+
+pub without_at : {k : Kept} {ss : List Step} {h n : ℕ} {without : KnownWires} → h ≡ n → AreAllWithout k ss h without → AreAllWithout k ss n without
+without_at {k} {ss} {without = without} e all = subst (λ i. AreAllWithout k ss i without) e all
+
+-- .. and once tables were tested
+pub without_later : {k l : Kept} {ss : List Step} {h : ℕ} {without : KnownWires} → IsMore k l → AddsOnlyTableFacts k l → AreAllWithout k ss h without → AreAllWithout l ss h without
+without_later {k} {l} {ss} {h} {without} more only all = record {
+  known = known_later more all.known;
+  within = subst (λ (m : Shape). IsWithout m ss without.steps h) (sym more.shape) all.within;
+  whole = λ w s. all.whole w (back w (subst (λ (m : Shape). StandsWithout m (HasWire ss) (IsKeptCrossOf l) h w) more.shape s));
+}
+  where
+    back : (w : ℕ) → StandsWithout k.shape (HasWire ss) (IsKeptCrossOf l) h w → StandsWithout k.shape (HasWire ss) (IsKeptCrossOf k) h w
+    back w s = stands_also (λ u is. is) (λ x a b is at p q. (subst (λ (m : Shape). x < crosses_of m) more.shape is.0, sym (only.crosses x) ∙ is.1)) s
+
+-- the hextant of a table, by the shape of what is known and by that of the proof
 pub hextant_is : {n m s : Shape} {h : ℕ} (t : ℕ) → n ≡ m → s ≡ n → h ≡ hextant_of s t → h ≡ hextant_of m t
 hextant_is {h = h} t e same node = subst (λ (z : Shape). h ≡ hextant_of z t) (same ∙ e) node
-
-pub outside_on : {n m : Shape} {h w : ℕ} (t : ℕ) → n ≡ m → h ≡ hextant_of m t → IsOutside n h w → IsOutside m (hextant_of m t) w
-outside_on {m = m} {h = h} {w = w} t e node out = subst (λ i. IsOutside m i w) node (subst (λ (z : Shape). IsOutside z h w) e out)
-
-pub outside_back : {n m : Shape} {h w : ℕ} (t : ℕ) → n ≡ m → h ≡ hextant_of m t → IsOutside m (hextant_of m t) w → IsOutside n h w
-outside_back {n} {m} {h} {w} t e node out = subst (λ (z : Shape). IsOutside z h w) (sym e) (subst (λ i. IsOutside m i w) (sym node) out)
-
-pub without_is : {m : Shape} {ss without : List Step} {h : ℕ} (set : List Bool) → ((w : ℕ) → HasWire without w → InSet set w) → ((w : ℕ) → InSet set w → HasWire ss w) → ((w : ℕ) → InSet set w → IsOutside m h w) → IsWithout m ss without h
-without_is set within known outside = record { known = λ w has. known w (within w has); outside = λ w has. outside w (within w has) }

@@ -8,13 +8,13 @@ use Rattle.hierarchy.specs.declared.Wire.{Wire}
 use Rattle.hierarchy.specs.Shape.{Ends, in_order, turned, ends_of, crosses_of, pin_wire}
 use Rattle.config_set.specs.Groups.{among}
 use Rattle.config_set.proofs.Grouped.{LeadsTo-end}
-use Rattle.test_configs.specs.Routes.{Walk, IsRoute, HasEnd, other_end, Extends, at_pin}
+use Rattle.test_configs.specs.Routes.{Walk, IsRoute, other_end, Extends, at_pin}
 use Rattle.test_configs.proofs.Longer.{among-push, among_both}
 use Rattle.evidence.specs.Kept.{Kept, keeps_cross}
 use Rattle.growth.specs.Known.{KnownWires, IsAt, IsBefore, HasWire, IsFoot, IsKnown}
 use Rattle.growth.specs.Routes.{IsPin}
 use Rattle.growth.specs.Descents.{IsPinAt, IsPinHere, Stays}
-use Rattle.growth.specs.Reaches.{reach_at, IsFrom, HangsOn, own, by_first, by_second, AreTrees, IsTie, HangsAt, IsFromAt, HangsAlong, Hangs, IsTreeWalk, GoesOn, GoesBelow, GoesTo, AreBefore, Leads, HasTree, IsWalkFrom, HasWalk, AreWalksFrom, AreWalks}
+use Rattle.growth.specs.Reaches.{reach_at, IsFrom, HangsOn, own, by_first, by_second, AreTrees, IsTie, HangsAt, IsFromAt, HangsAlong, Hangs, IsTreeWalk, GoesOn, GoesBelow, GoesTo, AreBefore, Leads, HasTree, IsWalkFrom, HasWalk, AreWalksFrom, AreWalks, upper_of}
 use Rattle.growth.specs.declared.beside.Reach.{Reach}
 use Rattle.growth.specs.declared.beside.Reach.TheVariants as reach
 use Rattle.growth.specs.declared.descents.Down.{Down}
@@ -24,7 +24,7 @@ use Rattle.growth.specs.declared.step.Stand.TheVariants as stand
 use Rattle.growth.specs.declared.step.Step.{Step}
 use Rattle.growth.proofs.Places.{one_place, some_same, before_has, feet_here, pin_here, at_one, both_pins, get_before, get_last, get_pushed}
 use Rattle.growth.proofs.Reaching.{from_same}
-use Rattle.growth.proofs.Rising.{foot_end, has_end, among_one}
+use Rattle.growth.proofs.Rising.{foot_end, among_one}
 
 -- one foot more, and one less
 pub hangs_more : {k : Kept} {rs : List Reach} {pin : ℕ} (u : ℕ) (feet : List Foot) {w : ℕ} {a : Foot} → Hangs k rs pin u feet w → IsTie k rs pin w a → Hangs k rs pin u (feet ++ a ∷ []) a.wire.0
@@ -130,11 +130,8 @@ module _ {k : Kept} {ss : List Step} {rs : List Reach} {old walk : Walk} {u i j 
   end_is : (e : d.left ≡ true) → (h.left e).step.wire.0 ≡ walk.end
   end_is e = at_one (record { step = (h.left e).step; here = (h.left e).here; wire = refl }) g.end
 
-  left_ends : (e : d.left ≡ true) → Ends (ends_of k.shape d.foot.cross.0) walk.end d.foot.wire.0
+  pub left_ends : (e : d.left ≡ true) → Ends (ends_of k.shape d.foot.cross.0) walk.end d.foot.wire.0
   left_ends e = subst (λ w. Ends (ends_of k.shape d.foot.cross.0) w d.foot.wire.0) (end_is e) (ends_turned (h.left e).tie.at)
-
-  pub down_end : d.left ≡ true → HasEnd k.shape d.foot.cross.0 walk.end
-  down_end e = has_end k.shape d.foot.cross.0 walk.end d.foot.wire.0 (left_ends e)
 
   pub went_left : {new : Walk} {feet : List Foot} {v z : ℕ} → d.left ≡ true → Extends k.shape d.foot.cross.0 walk new → IsRoute k.shape new → feet ≡ ups → Leads ss d i j v z → GoesDown k ss rs old u new feet v z
   went_left {new} {feet} {v} {z} e longer route same to =
@@ -172,6 +169,18 @@ module _ {k : Kept} {ss : List Step} {rs : List Reach} {old walk : Walk} {u i j 
       by_side true e = let l = left e in went_left e l.0 l.1 l.2 to
       by_side false e = let r = right e in went_right e r.0 r.1 to
 
+-- the wire at the end of feet that are left, as a walk that goes up takes it
+upper_is : (k : Kept) (rs : List Reach) (pin u : ℕ) (feet : List Foot) {w : ℕ} → Hangs k rs pin u feet w → upper_of u feet ≡ w
+upper_is k rs pin u [] h = h
+upper_is k rs pin u (b ∷ feet) h = upper_is k rs pin b.wire.0 feet h.1
+
+pub upper_last : (u : ℕ) (feet : List Foot) (i : ℕ) (a : Foot) → i + 1 ≡ length feet → slice_get feet i ≡ Some a → upper_of u feet ≡ a.wire.0
+upper_last u [] i a e at = absurd (let no : ⊥ = omega (arith, e) in no)
+upper_last u (b ∷ []) zero a e at = ap (λ (x : Foot). x.wire.0) (some_same at)
+upper_last u (b ∷ []) (suc i) a e at = absurd (let no : ⊥ = omega (arith, e) in no)
+upper_last u (b ∷ c ∷ feet) zero a e at = absurd (let no : ⊥ = omega (arith, e) in no)
+upper_last u (b ∷ c ∷ feet) (suc i) a e at = upper_last b.wire.0 (c ∷ feet) i a (omega (arith, e)) at
+
 -- up over feet that are left
 pub record GoesUp (k : Kept) (rs : List Reach) (old : Walk) (u : ℕ) (walk : Walk) (ups : List Foot) : Type 0 where
   pub on : GoesOn k rs old walk
@@ -186,18 +195,18 @@ module _ {k : Kept} {rs : List Reach} {old walk : Walk} {u : ℕ} (ups feet : Li
   less : HangsLess k rs old.pin u feet a walk.end
   less = hangs_less u feet a (subst (λ fs. Hangs k rs old.pin u fs walk.end) split g.hangs)
 
-  up_ends : Ends (ends_of k.shape a.cross.0) walk.end less.upper
-  up_ends = subst (λ w. Ends (ends_of k.shape a.cross.0) w less.upper) less.lower less.tie.at
+  ends_up : Ends (ends_of k.shape a.cross.0) walk.end less.upper
+  ends_up = subst (λ w. Ends (ends_of k.shape a.cross.0) w less.upper) less.lower less.tie.at
+
+  pub up_ends : Ends (ends_of k.shape a.cross.0) walk.end (upper_of u feet)
+  up_ends = subst (λ w. Ends (ends_of k.shape a.cross.0) walk.end w) (sym (upper_is k rs old.pin u feet less.hangs)) ends_up
 
   pub up_within : a.cross.0 < crosses_of k.shape
   up_within = less.tie.within
 
-  pub up_end : HasEnd k.shape a.cross.0 walk.end
-  up_end = has_end k.shape a.cross.0 walk.end less.upper up_ends
-
   pub went_up : {new : Walk} → Extends k.shape a.cross.0 walk new → IsRoute k.shape new → GoesUp k rs old u new feet
   went_up {new} longer route =
-      let end = foot_end k.shape a.cross.0 walk.end less.upper up_ends in
+      let end = foot_end k.shape a.cross.0 walk.end less.upper ends_up in
       let from : IsFrom rs walk.pin less.upper = subst (λ p. IsFrom rs p less.upper) (sym g.on.pin) less.tie.here in
       record {
         on = goes_then g.on (step_on g.on.walk a.cross.0 less.upper longer route less.tie.kept end from);

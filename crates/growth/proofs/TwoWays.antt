@@ -3,9 +3,9 @@ use Rattle.std.proofs.Common.{◌≡◌, ◌≢◌, ◌⊎◌, ℕ, true, false,
 use Rattle.std.proofs.lemmas.Bool.{false≢true}
 use Rattle.std.specs.Prelude.{slice_get}
 use Rattle.hierarchy.specs.declared.Shape.{Shape}
-use Rattle.hierarchy.specs.Shape.{pin_wire}
+use Rattle.hierarchy.specs.Shape.{Ends, ends_of, pin_wire}
 use Rattle.config_set.specs.Groups.{among}
-use Rattle.test_configs.specs.Routes.{Walk, IsRoute, HasEnd, Extends, at_pin, other_end}
+use Rattle.test_configs.specs.Routes.{Walk, IsRoute, Extends, at_pin, other_end}
 use Rattle.test_configs.proofs.Longer.{among_both, among-push}
 use Rattle.evidence.specs.Kept.{Kept, keeps_cross}
 use Rattle.growth.specs.Known.{KnownWires, IsAt, IsFoot, HasWire, IsKnown}
@@ -16,14 +16,14 @@ use Rattle.growth.specs.declared.step.Stand.{Stand}
 use Rattle.growth.specs.declared.step.Stand.TheVariants as stand
 use Rattle.growth.specs.declared.step.Step.{Step}
 use Rattle.growth.proofs.Places.{at_one, before_has, feet_here, StandsOn}
-use Rattle.growth.proofs.Rising.{foot_end, has_end, among_one, not_early, routes_to_turned}
+use Rattle.growth.proofs.Rising.{foot_end, among_one, not_early, routes_to_turned}
 
 -- the feet are known
 pub feet_known : {k : Kept} {ss : List Step} {w : ℕ} {a b : Foot} → AreFeetOf k ss w a b → HasWire ss a.wire.0 × HasWire ss b.wire.0
 feet_known f = (before_has f.one.before, before_has f.other.before)
 
-pub foot_at_end : {k : Kept} {ss : List Step} {n w e : ℕ} {a : Foot} → IsFoot k ss n w a → e ≡ a.wire.0 → HasEnd k.shape a.cross.0 e
-foot_at_end {k} {ss} {n} {w} {e} {a} foot same = subst (HasEnd k.shape a.cross.0) (sym same) (has_end k.shape a.cross.0 a.wire.0 w foot.at)
+pub foot_at_end : {k : Kept} {ss : List Step} {n w e : ℕ} {a : Foot} → IsFoot k ss n w a → e ≡ a.wire.0 → Ends (ends_of k.shape a.cross.0) e w
+foot_at_end {k} {ss} {n} {w} {e} {a} foot same = subst (λ x. Ends (ends_of k.shape a.cross.0) x w) (sym same) foot.at
 
 -- a way over the first foot
 module _ {k : Kept} {ss : List Step} {w : ℕ} {a b : Foot} (feet : AreFeetOf k ss w a b) {p q r : Walk} (routes : AreRoutesTo k ss a.wire.0 b.wire.0 p q) (longer : Extends k.shape a.cross.0 p r) (route : IsRoute k.shape r) where

@@ -36,15 +36,22 @@ pub record IsPinHere (ss : List Step) (i : ℕ) : Type 0 where
   pub here : slice_get ss i ≡ Some step
   pub pin : IsPin step.stand
 
+-- the wire that steps down, from one of two places
+pub record IsOver (ss : List Step) (i j : ℕ) (d : Down) : Type 0 where
+  pub left : d.left ≡ true → IsAt ss i d.over.0
+  pub right : d.left ≡ false → IsAt ss j d.over.0
+
 -- the left wire steps down, or the right one
 pub record StepsAlong (k : Kept) (ss : List Step) (i j : ℕ) (d : Down) : Type 0 where
   pub left : d.left ≡ true → StepsDown k ss i j d.foot
   pub right : d.left ≡ false → StepsDown k ss j i d.foot
+  pub over : IsOver ss i j d
 
 -- .. from i to u, or from j to v
 pub record Goes (k : Kept) (ss : List Step) (d : Down) (i j u v : ℕ) : Type 0 where
   pub left : d.left ≡ true → StepsDown k ss i j d.foot × IsAt ss u d.foot.wire.0 × (v ≡ j)
   pub right : d.left ≡ false → StepsDown k ss j i d.foot × IsAt ss v d.foot.wire.0 × (u ≡ i)
+  pub over : IsOver ss i j d
 
 -- these steps lead from the wires at two places to those at two others
 abbrev pub Descends : Kept → List Step → ℕ → ℕ → List Down → ℕ → ℕ → Type 0

@@ -69,6 +69,11 @@ abbrev pub Hangs : Kept → List Reach → ℕ → ℕ → List Foot → ℕ →
 Hangs k rs pin u [] w = (u ≡ w)
 Hangs k rs pin u (a ∷ feet) w = IsTie k rs pin u a × Hangs k rs pin a.wire.0 feet w
 
+-- the wire at the end of these feet, from the wire u on
+abbrev pub upper_of : ℕ → List Foot → ℕ
+upper_of u [] = u
+upper_of u (a ∷ feet) = upper_of a.wire.0 feet
+
 -- a route by kept crosspoints over wires that are reached from its pin
 pub record IsTreeWalk (k : Kept) (rs : List Reach) (r : Walk) : Type 0 where
   pub route : IsRoute k.shape r

@@ -2,9 +2,9 @@
 use Rattle.std.specs.Prelude.{◌≡◌, ◌≢◌, ◌⊎◌, ℕ, ◌<◌, Bool, Some, List, length, slice_get}
 use Rattle.hierarchy.specs.declared.Shape.{Shape}
 use Rattle.hierarchy.specs.Shape.{ends_of, table_wire, hextant_of, IsLine, IsPort}
-use Rattle.hierarchy.specs.Standing.{IsOutside, Meets}
+use Rattle.hierarchy.specs.Standing.{IsOutside, Meets, StandsWithout}
 use Rattle.evidence.specs.Kept.{Kept}
-use Rattle.growth.specs.Known.{KnownWires, IsAt, HasWire, IsKeptCrossOf, InSet}
+use Rattle.growth.specs.Known.{KnownWires, IsAt, HasWire, IsKeptCrossOf, InSet, IsKnown}
 use Rattle.growth.specs.declared.seats.Place.{Place}
 use Rattle.growth.specs.declared.step.Step.{Step}
 use Rattle.table_test.specs.declared.seat.Arm.{Arm}
@@ -85,6 +85,12 @@ pub record IsPlaceFor (k : Kept) (ss without : List Step) (t : ℕ) (p : Place) 
 pub record IsWithout (m : Shape) (ss without : List Step) (h : ℕ) : Type 0 where
   pub known : (w : ℕ) → HasWire without w → HasWire ss w
   pub outside : (w : ℕ) → HasWire without w → IsOutside m h w
+
+-- These are known by a proof, and are those of the known wires that stand by kept crosspoints without the hextant.
+pub record AreAllWithout (k : Kept) (ss : List Step) (h : ℕ) (without : KnownWires) : Type 0 where
+  pub known : IsKnown k without
+  pub within : IsWithout k.shape ss without.steps h
+  pub whole : (w : ℕ) → StandsWithout k.shape (HasWire ss) (IsKeptCrossOf k) h w → HasWire without.steps w
 
 -- The set has gained the known wire at this place, if that is outside the hextant.
 pub record PutsOutside (known : KnownWires) (h place : ℕ) (old new : List Bool) : Type 0 where

@@ -9,11 +9,12 @@ use evidence::Proof;
 use hierarchy::Wire;
 use std::alloc::AllocError;
 
-/// A step of the left one or the right one of two wires to a foot of it.
+/// A step of the left one or the right one of two wires to a foot of it, with the wire that stepped down.
 #[derive(Clone, Copy, Debug)]
 pub(crate) struct Down {
     pub left: bool,
     pub foot: Foot,
+    pub over: Wire,
 }
 
 /// Steps down to two pins.
@@ -61,10 +62,20 @@ fn next_down(known: &Known, proof: &Proof, i: usize, j: usize) -> Option<Down>
     ensures right_pin { IfNone result (IsPinHere known.now.steps j) }
 {
     if let Some(foot) = foot_down(known, proof, i, j) {
-        return Some(Down { left: true, foot });
+        let over = known.wire_at(i);
+        return Some(Down {
+            left: true,
+            foot,
+            over,
+        });
     }
+    let over = known.wire_at(j);
     match foot_down(known, proof, j, i) {
-        Some(foot) => Some(Down { left: false, foot }),
+        Some(foot) => Some(Down {
+            left: false,
+            foot,
+            over,
+        }),
         None => None,
     }
 }

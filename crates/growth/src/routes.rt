@@ -28,9 +28,9 @@ impl Known {
         let mut right = route_at(self.alloc(), &shape, descent.right)?;
         'up: while let Some(down) = descent.downs.pop() {
             if down.left {
-                left.push(&shape, down.foot.cross)?;
+                left.push_to(&shape, down.foot.cross, down.over)?;
             } else {
-                right.push(&shape, down.foot.cross)?;
+                right.push_to(&shape, down.foot.cross, down.over)?;
             }
         }
         Ok((left, right))

@@ -280,7 +280,7 @@ pub(crate) fn seat_of(
 {
     the_numbering_is_sound();
     let (near, mut far) = without.routes(proof, place.near, place.far)?;
-    far.push(&proof.shape(), place.to_line)?;
+    far.push_to(&proof.shape(), place.to_line, place.line)?;
     Ok(Seat {
         table: t,
         near,

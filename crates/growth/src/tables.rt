@@ -8,6 +8,7 @@ ghost use Rattle.evidence.specs.Kept.{Advances};
 ghost use Rattle.table_test.specs.Seats.{AddsOnlyTableFacts, IsSeat};
 ghost use Rattle.growth.specs.Known.{IsKeptCrossOf, IsKnown, HasWire};
 ghost use Rattle.growth.specs.Grounds.{AreAllLinks};
+ghost use Rattle.growth.specs.Seating.{AreAllWithout};
 ghost use Rattle.growth.specs.Tables.{SeatedAreKept, SeatedIsKept};
 
 use crate::known::Known;
@@ -16,7 +17,7 @@ use crate::outside::outside_of;
 use crate::seats::{find_place, seat_of};
 use crate::stands::{all_links, stand_on};
 use evidence::Proof;
-use hierarchy::Table;
+use hierarchy::{Node, Table};
 use rig::{Rig, RigFail};
 use std::alloc::AllocError;
 use table_test::{Seat, test_table};
@@ -36,29 +37,79 @@ fn has_pins(known: &Known, t: Table) -> bool
     true
 }
 
+// What stands without a hextant.
+#[derive(Drop)]
+struct Without {
+    hextant: Node,
+    known: Known,
+}
+
+// What stands without a hextant, over all links.
+fn without_of(
+    known: &Known,
+    proof: &Proof,
+    near: &Vec<Near>,
+    hextant: Node,
+) -> Result<Without, AllocError>
+    requires known { IsKnown proof.now known.now }
+    requires links { AreAllLinks proof.now.shape near.now.items }
+    ensures hextant { IfOk result (λ without. without.hextant.0 ≡ hextant.0) }
+    ensures stands { IfOk result (λ without. AreAllWithout proof.now known.now.steps hextant.0 without.known) }
+{
+    let outside = outside_of(known, hextant)?;
+    let stands = stand_on(known.alloc(), proof, outside, near)?;
+    Ok(Without {
+        hextant,
+        known: stands,
+    })
+}
+
+// Makes it what stands without this hextant, unless it is.
+fn renew(
+    without: &mut Without,
+    known: &Known,
+    proof: &Proof,
+    near: &Vec<Near>,
+    hextant: Node,
+) -> Result<(), AllocError>
+    requires known { IsKnown proof.now known.now }
+    requires links { AreAllLinks proof.now.shape near.now.items }
+    requires stands { AreAllWithout proof.now known.now.steps without.old.hextant.0 without.old.known }
+    ensures hextant { OnOk result (without.new.hextant.0 ≡ hextant.0) }
+    ensures stands { OnOk result (AreAllWithout proof.now known.now.steps without.new.hextant.0 without.new.known) }
+{
+    if without.hextant.0 == hextant.0 {
+        return Ok(());
+    }
+    *without = without_of(known, proof, near, hextant)?;
+    Ok(())
+}
+
 // Where a table is tested, if it is seated.
 fn seat_for(
     known: &Known,
     proof: &Proof,
     near: &Vec<Near>,
+    without: &mut Without,
     t: Table,
 ) -> Result<Option<Seat>, AllocError>
     requires known { IsKnown proof.now known.now }
     requires links { AreAllLinks proof.now.shape near.now.items }
+    requires stands { AreAllWithout proof.now known.now.steps without.old.hextant.0 without.old.known }
     requires table { t.0 < tables_of proof.now.shape }
     ensures seat { IfOk result (λ found. IfSome found (λ seat. IsSeat proof.now seat × (seat.table.0 ≡ t.0))) }
     ensures none { IfOk result (λ found. IfNone found
         (¬ IsSeated proof.now.shape (HasWire known.now.steps) (IsKeptCrossOf proof.now) t.0)) }
+    ensures stands { OnOk result (AreAllWithout proof.now known.now.steps without.new.hextant.0 without.new.known) }
 {
     if !has_pins(known, t) {
         return Ok(None);
     }
-    let outside = outside_of(known, known.shape().hextant_of(t))?;
-    let without = stand_on(known.alloc(), proof, outside, near)?;
-    let Some(place) = find_place(known, &without, proof, t)? else {
+    renew(without, known, proof, near, known.shape().hextant_of(t))?;
+    let Some(place) = find_place(known, &without.known, proof, t)? else {
         return Ok(None);
     };
-    let seat = seat_of(known, &without, proof, t, place)?;
+    let seat = seat_of(known, &without.known, proof, t, place)?;
     Ok(Some(seat))
 }
 
@@ -68,19 +119,22 @@ fn test_seated(
     proof: &mut Proof,
     known: &Known,
     near: &Vec<Near>,
+    without: &mut Without,
     t: Table,
 ) -> Result<(), RigFail>
     requires attached { shape_of (rig_state rig.old) ≡ Some proof.old.shape }
     requires known { IsKnown proof.old known.now }
     requires links { AreAllLinks proof.old.shape near.now.items }
+    requires stands { AreAllWithout proof.old known.now.steps without.old.hextant.0 without.old.known }
     requires table { t.0 < tables_of proof.old.shape }
     ensures table { OnOk result (SeatedIsKept (rig_state rig.old).machine.faults proof.old proof.new known.now.steps t.0) }
+    ensures stands { OnOk result (AreAllWithout proof.old known.now.steps without.new.hextant.0 without.new.known) }
     ensures advances { Advances (rig_state rig.old) (rig_state rig.new) proof.old proof.new }
     ensures only { AddsOnlyTableFacts proof.old proof.new }
     ensures loads { (rig_state rig.new).loads ≤ (rig_state rig.old).loads + 130 }
     ensures cause { IsErrOf result RigFail.Failed → Rose (rig_state rig.old).failures (rig_state rig.new).failures }
 {
-    let Ok(found) = seat_for(known, proof, near, t) else {
+    let Ok(found) = seat_for(known, proof, near, without, t) else {
         return Err(RigFail::Memory);
     };
     let Some(seat) = found else {
@@ -110,8 +164,12 @@ pub fn test_tables(
     let Ok(near) = all_links(known.alloc(), &known.shape()) else {
         return Err(RigFail::Memory);
     };
+    // That of no hextant yet.
+    let Ok(mut without) = without_of(known, proof, &near, Node(0)) else {
+        return Err(RigFail::Memory);
+    };
     'tables: for i in 0..tables.len() {
-        test_seated(rig, proof, known, &near, tables[i])?;
+        test_seated(rig, proof, known, &near, &mut without, tables[i])?;
     }
     Ok(())
 }

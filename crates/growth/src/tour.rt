@@ -1,11 +1,11 @@
 //! Walks over what is reached beside a route.
 ghost use Rattle.std.specs.Prelude.{◌≡◌, ◌⊎◌, ◌<◌, ◌+◌, ◌++◌, [], ◌∷◌, ℕ, true, false, IfOk, OnOk, IfSome, IfNone, IsTrue, Some, length, slice_get};
-ghost use Rattle.hierarchy.specs.Shape.{crosses_of};
+ghost use Rattle.hierarchy.specs.Shape.{Ends, ends_of, crosses_of};
 ghost use Rattle.config_set.specs.Groups.{among};
-ghost use Rattle.test_configs.specs.Routes.{IsRoute, HasEnd, Extends};
+ghost use Rattle.test_configs.specs.Routes.{IsRoute, Extends};
 ghost use Rattle.growth.specs.Known.{IsKnown};
 ghost use Rattle.growth.specs.Descents.{Stays};
-ghost use Rattle.growth.specs.Reaches.{AreBefore, AreTrees, AreWalks, AreWalksFrom, GoesBelow, GoesOn, GoesTo, Hangs, HangsAlong, HangsAt, HangsOn, HasTree, HasWalk, IsFrom, IsFromAt, IsTreeWalk, IsWalkFrom, Leads};
+ghost use Rattle.growth.specs.Reaches.{AreBefore, AreTrees, AreWalks, AreWalksFrom, GoesBelow, GoesOn, GoesTo, Hangs, HangsAlong, HangsAt, HangsOn, HasTree, HasWalk, IsFrom, IsFromAt, IsTreeWalk, IsWalkFrom, Leads, upper_of};
 ghost use Rattle.growth.specs.declared.step.Stand.TheVariants as stand;
 
 use crate::beside::{Reach, reach_at};
@@ -89,10 +89,20 @@ fn next_below(
         return None;
     }
     if let Some(foot) = foot_below(known, proof, reaches, pin, i, j) {
-        return Some(Down { left: true, foot });
+        let over = known.wire_at(i);
+        return Some(Down {
+            left: true,
+            foot,
+            over,
+        });
     }
+    let over = known.wire_at(j);
     match foot_below(known, proof, reaches, pin, j, i) {
-        Some(foot) => Some(Down { left: false, foot }),
+        Some(foot) => Some(Down {
+            left: false,
+            foot,
+            over,
+        }),
         None => None,
     }
 }
@@ -101,12 +111,12 @@ fn next_below(
 fn take(shape: &Shape, walk: &mut Route, ups: &mut Vec<Foot>, down: Down) -> Result<(), AllocError>
     requires route { IsRoute shape.now walk.old }
     requires cross { down.foot.cross.0 < crosses_of shape.now }
-    requires at { down.left ≡ true → HasEnd shape.now down.foot.cross.0 walk.old.end }
+    requires at { down.left ≡ true → Ends (ends_of shape.now down.foot.cross.0) walk.old.end down.foot.wire.0 }
     ensures left { OnOk result (down.left ≡ true → Extends shape.now down.foot.cross.0 walk.old walk.new × IsRoute shape.now walk.new × (ups.new.items ≡ ups.old.items)) }
     ensures right { OnOk result (down.left ≡ false → (walk.new ≡ walk.old) × (ups.new.items ≡ ups.old.items ++ down.foot ∷ [])) }
 {
     if down.left {
-        walk.push(shape, down.foot.cross)?;
+        walk.push_to(shape, down.foot.cross, down.foot.wire)?;
         return Ok(());
     }
     ups.push(down.foot)?;
@@ -152,6 +162,17 @@ fn go_down(
     Ok(())
 }
 
+// The wire that hangs on the last foot behind these, over which this wire hangs.
+fn upper(ups: &Vec<Foot>, w: Wire) -> Wire
+    ensures { result.0 ≡ upper_of w.0 ups.now.items }
+{
+    if ups.is_empty() {
+        return w;
+    }
+    let last = ups[ups.len() - 1];
+    last.wire
+}
+
 // Goes up over listed feet, the last one first.
 fn go_up(
     walk: &mut Route,
@@ -166,7 +187,7 @@ fn go_up(
 {
     let shape = proof.shape();
     'up: while let Some(foot) = ups.pop() {
-        walk.push(&shape, foot.cross)?;
+        walk.push_to(&shape, foot.cross, upper(ups, w))?;
     }
     Ok(())
 }

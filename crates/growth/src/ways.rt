@@ -27,8 +27,8 @@ impl Known {
     {
         let shape = self.shape();
         let (mut left, mut right) = self.routes(proof, first.wire, second.wire)?;
-        left.push(&shape, first.cross)?;
-        right.push(&shape, second.cross)?;
+        left.push_to(&shape, first.cross, w)?;
+        right.push_to(&shape, second.cross, w)?;
         Ok((left, right))
     }
 

@@ -13,6 +13,9 @@ pub mod Faultless
 pub mod Covered
 pub mod Serving
 pub mod Seats
+pub mod Pairs
+pub mod Halves
+pub mod Decimals
 -- For the proofs of this crate alone.
 mod Walks
 mod Ways
@@ -26,7 +29,6 @@ mod Weighing
 mod Barred
 mod Whereabouts
 mod Meeting
-mod Decimals
 mod Dotted
 mod Readable
 mod Called

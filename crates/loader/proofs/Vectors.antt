@@ -1,9 +1,9 @@
 -- A vector on distinct pins, pin by pin.
-use Rattle.std.proofs.Common.{◌≡◌, ◌≢◌, ℕ, suc, ◌+◌, ◌<◌, Bool, true, List, [], ◌∷◌, ◌++◌, length, replicate, get_or, refl, sym, ap, ◌∙◌, subst, arith}
+use Rattle.std.proofs.Common.{◌≡◌, ◌≢◌, ℕ, suc, ◌<◌, Bool, true, List, [], ◌∷◌, length, replicate, get_or, refl, sym, ap, ◌∙◌, subst, arith}
 use Rattle.std.proofs.Math.Logic.{⊎_elim}
 use Rattle.std.specs.Prelude.{All, AllPairs, ◌==◌, if◌then◌else◌, slice_set}
 use Rattle.std.proofs.lemmas.Bool.{cases_eq, eq-eqb, ne_eqb}
-use Rattle.std.proofs.lemmas.List.{get_or-replicate, get_or-set_same, get_or-set_other, get_or-append-add, length-set, length-replicate, length-append}
+use Rattle.std.proofs.lemmas.List.{get_or-replicate, get_or-set_same, get_or-set_other, length-set, length-replicate}
 use Rattle.std.proofs.lemmas.List.FromFn.{fill_by_all}
 use Rattle.hierarchy.specs.Circuit.{Pins}
 use Rattle.config_image.specs.Images.{bit_for, drive_on}
@@ -52,7 +52,3 @@ driven_is pins ps bits n =
     let e : length (replicate pins true) ≡ pins = length-replicate pins true in
     fill_by_all (bit_for ps bits) (driven ps bits (replicate pins true)) pins true (length-driven ps bits (replicate pins true) ∙ e)
     (λ k h. driven_at ps bits (replicate pins true) k (omega arith) n ∙ ap (λ d. bit_or d ps bits k) (get_or-replicate pins k true true h) ∙ bit_or-true ps bits k)
-
--- what holds of all of two lists holds of all of the second
-pub All-right : (P : ℕ → Type 0) (xs ys : List ℕ) → All P (xs ++ ys) → All P ys
-All-right P xs ys f k d h = subst P (get_or-append-add xs ys k d) (f (length xs + k) d (let e = length-append xs ys in omega arith))

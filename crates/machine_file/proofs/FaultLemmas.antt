@@ -4,7 +4,7 @@ use Rattle.std.specs.Fmt.{decimal}
 use Rattle.std.specs.List.{list_all, All, AllByRecursion}
 use Rattle.std.specs.Prelude.{IfErr}
 use Rattle.std.specs.Str.{bytes_eq}
-use Rattle.std.proofs.lemmas.Bool.{ltb-true, ltb-false, eq-eqb, eqb-true, not-false, false≢true}
+use Rattle.std.proofs.lemmas.Bool.{ltb-true, ltb-false, eq-eqb, eqb-true, not-true, not-false, false≢true}
 use Rattle.std.proofs.lemmas.List.{nil_from_length, take_more, map-append, append-nil, append_assoc}
 use Rattle.std.proofs.lemmas.Fmt.{decimal_digit}
 use Rattle.std.proofs.lemmas.Slice.Eq.{bytes_eq-Decides}
@@ -175,16 +175,12 @@ module _ (s : State) (above : List LogicalLine) (st : Standing s above) where
       some_none e = cc
   headed_fault ws k low (Some h) is e = by_place (if_some (not (place_of h == s.read)) kind.Order k (if not (length (drop 1 ws) == follow_of h) then Some kind.Word else words_fault s.counts h (drop 1 ws)) e)
     where
-      not_true : (b : Bool) → not b ≡ true → b ≡ false
-      not_true true e = absurd cc
-      not_true false e = refl
-
       by_size : place_of h ≡ length above → ((not (length (drop 1 ws) == follow_of h) ≡ true) × (kind.Word ≡ k)) ⊎ ((not (length (drop 1 ws) == follow_of h) ≡ false) × (words_fault s.counts h (drop 1 ws) ≡ Some k)) → IsWordsFault s.counts (length above) ws k
-      by_size at (inl (off, same)) = subst (IsWordsFault s.counts (length above) ws) same (due h (drop 1 ws) (word_first ws h is) at (size (λ q. false≢true (sym (not_true _ off) ∙ eq-eqb _ _ q))))
+      by_size at (inl (off, same)) = subst (IsWordsFault s.counts (length above) ws) same (due h (drop 1 ws) (word_first ws h is) at (size (λ q. false≢true (sym (not-true _ off) ∙ eq-eqb _ _ q))))
       by_size at (inr (on, fault)) = due h (drop 1 ws) (word_first ws h is) at (rest_fault s.counts h (drop 1 ws) k (eqb-true _ _ (not-false _ on)) (subst (λ n. AllByRecursion (HasCounts s.counts) (take n heads)) (sym at) st.first.counts) fault)
 
       by_place : ((not (place_of h == s.read) ≡ true) × (kind.Order ≡ k)) ⊎ ((not (place_of h == s.read) ≡ false) × ((if not (length (drop 1 ws) == follow_of h) then Some kind.Word else words_fault s.counts h (drop 1 ws)) ≡ Some k)) → IsWordsFault s.counts (length above) ws k
-      by_place (inl (off, same)) = subst (IsWordsFault s.counts (length above) ws) same (not_due low h (drop 1 ws) (word_first ws h is) (λ q. false≢true (sym (not_true _ off) ∙ eq-eqb _ _ (q ∙ sym st.read))))
+      by_place (inl (off, same)) = subst (IsWordsFault s.counts (length above) ws) same (not_due low h (drop 1 ws) (word_first ws h is) (λ q. false≢true (sym (not-true _ off) ∙ eq-eqb _ _ (q ∙ sym st.read))))
       by_place (inr (on, rest)) = by_size (eqb-true _ _ (not-false _ on) ∙ st.read) (if_some (not (length (drop 1 ws) == follow_of h)) kind.Word k (words_fault s.counts h (drop 1 ws)) rest)
 
   spoken_fault : (ws : List (List ℕ)) (k : MachineKind) → said_fault s ws ≡ Some k → IsWordsFault s.counts (length above) ws k

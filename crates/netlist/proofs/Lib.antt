@@ -8,6 +8,7 @@ pub mod WordLemmas
 pub mod CheckLemmas
 pub mod RightLemmas
 pub mod MadeLemmas
+pub mod BitLemmas
 -- For the proofs of this crate alone.
 mod SearchLemmas
 mod StepLemmas

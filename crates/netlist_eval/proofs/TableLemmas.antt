@@ -11,16 +11,9 @@ use Rattle.netlist.specs.declared.draft.Cover.{Cover}
 use Rattle.netlist.specs.declared.draft.Lit.{Lit}
 use Rattle.netlist.specs.Covers.{no_cover, cover_at, truth, IsCoverOver, cover_of}
 use Rattle.netlist.specs.Valuations.{bit_at}
+use Rattle.netlist.proofs.BitLemmas.{halved, lowest}
 use Rattle.netlist_eval.specs.Bits.{AreBelow}
 use Rattle.netlist_eval.specs.Tables.{truth_at, address, six_bits, AreCells, AreWires, IsTable}
-
-halved : (b : Bool) (n : ℕ) → ((if b then 1 else 0) + 2 * n) / 2 ≡ n
-halved true n = omega arith
-halved false n = omega arith
-
-lowest : (b : Bool) (n : ℕ) → (((if b then 1 else 0) + 2 * n) % 2 == 1) ≡ b
-lowest true n = let e : (1 + 2 * n) % 2 ≡ 1 = omega arith in rw e refl
-lowest false n = let e : (0 + 2 * n) % 2 ≡ 0 = omega arith in rw e refl
 
 pub address-half : (given : ℕ → Bool) (s : ℕ) (ss : List ℕ) → address given (s ∷ ss) / 2 ≡ address given ss
 unfolding address

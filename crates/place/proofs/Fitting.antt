@@ -8,6 +8,7 @@ use Rattle.hierarchy.specs.Shape.{nodes_of, tables_of, pins_of, node_of, pin_wir
 use Rattle.hierarchy.specs.Defects.{Defects, IsFreeWire, IsFreeTable}
 use Rattle.hierarchy.specs.Laws.{IsNumbered, IsTree, HasParents, HasTaps, HasCrosses}
 use Rattle.hierarchy.specs.Sites.{HasSites}
+use Rattle.hierarchy.proofs.Halves.{All-left, All-right}
 use Rattle.table_map.specs.declared.network.Network.{Network}
 use Rattle.table_map.specs.declared.source.Source.TheVariants as source
 use Rattle.table_map.specs.Networks.{table_at, no_table, IsNetwork}
@@ -26,12 +27,9 @@ use Rattle.place.specs.Room.{HasTerminal, Suffices, IsShortOf, IsFirstShort}
 use Rattle.place.specs.Terminals.{ArePlanNets}
 use Rattle.place.proofs.Choosing.{choice_is}
 use Rattle.place.proofs.Decided.{never_both}
-use Rattle.place.proofs.PlanNets.{terminal_within, left_all, right_all}
+use Rattle.place.proofs.PlanNets.{terminal_within}
 use Rattle.place.proofs.Those.{those_unique}
 use Rattle.place.proofs.Transfer.{suffices_on, first_on, visits_are_on, held_are_on}
-
-left_of : (P : ℕ → Type 0) (xs ys : List ℕ) → All P (xs ++ ys) → All P xs
-left_of P xs ys all = left_all P xs ys all
 
 joined : (a b : ℕ) (xs us vs : List ℕ) → us ≡ take a xs → vs ≡ take b (drop a xs) → us ++ vs ≡ take (a + b) xs
 joined a b xs us vs e f =
@@ -71,10 +69,10 @@ module _ (m : Shape) (d : Defects) (n : Network) (p : Plan) (nets : List (List �
     own_tap k w x (drives (source.Input i) is) e = pin_tap (p.inputs) i x (left plan.pins_within) (let l : i < n.inputs = is in let f = plan.inputs in omega arith) e
       where
         left : All (λ k. k < pins_of m) (p.inputs ++ p.outputs) → All (λ k. k < pins_of m) p.inputs
-        left all = left_of (λ k. k < pins_of m) p.inputs p.outputs all
+        left all = All-left (λ k. k < pins_of m) p.inputs p.outputs all
     own_tap k w x (drives (source.Table j) is) e = table_tap j 6 x is (omega arith) e
     own_tap k w x (reads j i s l b q) e = table_tap j i x l (let f : length (table_at n j).ins ≤ 6 = network.narrow j no_table l in omega arith) e
-    own_tap k w x (shows o s l q) e = pin_tap p.outputs o x (right_all (λ k. k < pins_of m) p.inputs p.outputs plan.pins_within) (let f = plan.outputs in omega arith) e
+    own_tap k w x (shows o s l q) e = pin_tap p.outputs o x (All-right (λ k. k < pins_of m) p.inputs p.outputs plan.pins_within) (let f = plan.outputs in omega arith) e
 
     pub plan_choice : (ports : List Port) (vs : List Visit) → AreHeld m d (length nets) (HasTerminal nets) (nodes_of m) ports → AreVisits m d (length nets) (HasTerminal nets) (nodes_of m) vs → IsChoice m d (nets_in n) (IsTerminal m n p) ports vs
     plan_choice ports vs held visits = choice_is m d (nets_in n) (IsTerminal m n p) tree parents taps crosses sites (terminal_within m d n p network plan numbered) own_tap ports vs (plan_held ports held) (plan_visited vs visits)

@@ -2,13 +2,14 @@
 use Rattle.std.proofs.Common.{◌≡◌, ◌≢◌, ℕ, ◌+◌, ◌^◌, ◌<◌, ◌≤◌, List, [], ◌++◌, length, get_or, sym, ◌∙◌, subst, arith, length-append}
 use Rattle.std.specs.Prelude.{◌↔◌}
 use Rattle.std.specs.List.{All, AllPairs, Contains, range_with_len}
-use Rattle.std.proofs.lemmas.List.{get_or_append_left, get_or-append-add, get_or_default, length-map}
+use Rattle.std.proofs.lemmas.List.{get_or_default, length-map}
 use Rattle.std.proofs.lemmas.List.Elements.{All-weaker, All-contains_itself, Contains-get_or}
 use Rattle.std.proofs.lemmas.List.FromFn.{length-range_with_len}
 use Rattle.hierarchy.specs.declared.Shape.{Shape}
 use Rattle.hierarchy.specs.Shape.{wires_of, tables_of, pins_of, pin_wire, table_wire}
 use Rattle.hierarchy.specs.Defects.{Defects}
 use Rattle.hierarchy.specs.Laws.{IsNumbered}
+use Rattle.hierarchy.proofs.Halves.{All-left, All-right}
 use Rattle.table_map.specs.declared.network.Network.{Network}
 use Rattle.table_map.specs.declared.source.Source.{Source}
 use Rattle.table_map.specs.declared.source.Source.TheVariants as source
@@ -27,12 +28,6 @@ use Rattle.place.proofs.Ranges.{in_range}
 pub few_below : (xs : List ℕ) (count : ℕ) → All (λ x. x < count) xs → AllPairs (λ x y. x ≢ y) xs → length xs ≤ count
 few_below xs count all apart = subst (λ z. length xs ≤ z) (length-range_with_len 0 count) (pigeon xs (range_with_len 0 count) apart (All-weaker (λ x. x < count) (Contains (range_with_len 0 count)) (λ x l. in_range count x l) xs all))
 
-pub left_all : (P : ℕ → Type 0) (xs ys : List ℕ) → All P (xs ++ ys) → All P xs
-left_all P xs ys all i d l = subst P (get_or_append_left xs ys d i l) (all i d (let e : length (xs ++ ys) ≡ length xs + length ys = length-append xs ys in omega arith))
-
-pub right_all : (P : ℕ → Type 0) (xs ys : List ℕ) → All P (xs ++ ys) → All P ys
-right_all P xs ys all i d l = subst P (get_or-append-add xs ys i d) (all (length xs + i) d (let e : length (xs ++ ys) ≡ length xs + length ys = length-append xs ys in omega arith))
-
 module _ (m : Shape) (d : Defects) (n : Network) (p : Plan) (network : IsNetwork n) (plan : IsPlan m d n p) where
   net_below : (s : Source) → IsSourceOf n s → net_of n s < nets_in n
   net_below (source.Input k) is = let l : k < n.inputs = is in omega arith
@@ -44,8 +39,8 @@ module _ (m : Shape) (d : Defects) (n : Network) (p : Plan) (network : IsNetwork
     inputs = sym plan.inputs;
     outputs = plan.outputs;
     tables_within = plan.tables_within;
-    inputs_within = left_all (λ k. k < pins_of m) p.inputs p.outputs plan.pins_within;
-    outputs_within = right_all (λ k. k < pins_of m) p.inputs p.outputs plan.pins_within;
+    inputs_within = All-left (λ k. k < pins_of m) p.inputs p.outputs plan.pins_within;
+    outputs_within = All-right (λ k. k < pins_of m) p.inputs p.outputs plan.pins_within;
     numbers = small;
     nets = λ j x l. All-weaker (IsSourceOf n) (λ s. net_by n.inputs s < 2 ^ 32) (λ s is. let b : net_of n s < nets_in n = net_below s is in let e = plan.tables in omega (arith, small)) (get_or n.tables j x).ins (network.sources j x l);
     shown = All-weaker (IsSourceOf n) (λ s. net_by n.inputs s < 2 ^ 32) (λ s is. let b : net_of n s < nets_in n = net_below s is in let e = plan.tables in omega (arith, small)) n.outputs network.outputs;
@@ -71,10 +66,10 @@ module _ (m : Shape) (d : Defects) (n : Network) (p : Plan) (network : IsNetwork
     source_in j k s l b e = subst (IsSourceOf n) e (network.sources j no_table l k s b)
 
     pub terminal_within : (k w : ℕ) → IsTerminal m n p k w → w < wires_of m
-    terminal_within k w (drives (source.Input i) is) = pin_within p.inputs i (left_all (λ x. x < pins_of m) p.inputs p.outputs plan.pins_within) (let l : i < n.inputs = is in let e = plan.inputs in omega arith)
+    terminal_within k w (drives (source.Input i) is) = pin_within p.inputs i (All-left (λ x. x < pins_of m) p.inputs p.outputs plan.pins_within) (let l : i < n.inputs = is in let e = plan.inputs in omega arith)
     terminal_within k w (drives (source.Table j) is) = table_within j 6 is (omega arith)
     terminal_within k w (reads j i s l b e) = table_within j i l (let f : length (table_at n j).ins ≤ 6 = network.narrow j no_table l in omega arith)
-    terminal_within k w (shows o s l e) = pin_within p.outputs o (right_all (λ x. x < pins_of m) p.inputs p.outputs plan.pins_within) (let f = plan.outputs in omega arith)
+    terminal_within k w (shows o s l e) = pin_within p.outputs o (All-right (λ x. x < pins_of m) p.inputs p.outputs plan.pins_within) (let f = plan.outputs in omega arith)
 
     pub terminal_net : (k w : ℕ) → IsTerminal m n p k w → k < nets_in n
     terminal_net k w (drives s is) = net_below s is

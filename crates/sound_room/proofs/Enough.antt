@@ -28,7 +28,8 @@ use Rattle.place.specs.Room.{HasPort, IsTapOf, by_terminal, by_child, by_port, I
 use Rattle.place.specs.Plans.{IsPlan, IsInOrder, IsTerminal, drives, reads, shows, nets_in, number_of, place_of, IsFreeTableOf, IsFreePinOf, AreNeeds, InOrderIsShort, IsShortInOrder}
 use Rattle.place.proofs.Counting.{pigeon}
 use Rattle.place.proofs.Fitting.{plan_is}
-use Rattle.place.proofs.PlanNets.{terminal_within, left_all, right_all}
+use Rattle.hierarchy.proofs.Halves.{All-left, All-right}
+use Rattle.place.proofs.PlanNets.{terminal_within}
 use Rattle.sound_room.specs.Enough.{AtLeast, IsOpenLineOf, HasEnough, IsSoundTableOf, IsSoundPinOf, IsWholeLineOf, IsSoundPort, HasSoundParts, IsStandingTableOf, IsStandingLineOf, IsStandingPort, HasStandingRoom}
 
 -- ---- counts
@@ -78,11 +79,11 @@ module _ (m : Shape) (d : Defects) (n : Network) (network : IsNetwork n) (number
 
     terminal-free : (k w : ℕ) → terminal k w → IsFreeWire d w
     terminal-free k w (drives (source.Input i) is) =
-        pin-free p.inputs i (left_all (λ x. IsFreeWire d (pin_wire m x)) p.inputs p.outputs plan.pins_free) (let l : i < n.inputs = is in let e = plan.inputs in omega arith)
+        pin-free p.inputs i (All-left (λ x. IsFreeWire d (pin_wire m x)) p.inputs p.outputs plan.pins_free) (let l : i < n.inputs = is in let e = plan.inputs in omega arith)
     terminal-free k w (drives (source.Table j) is) = table-free j 6 is (omega arith)
     terminal-free k w (reads j i s l b e) = table-free j i l (let f : length (table_at n j).ins ≤ 6 = network.narrow j no_table l in omega arith)
     terminal-free k w (shows o s l e) =
-        pin-free p.outputs o (right_all (λ x. IsFreeWire d (pin_wire m x)) p.inputs p.outputs plan.pins_free) (let f = plan.outputs in omega arith)
+        pin-free p.outputs o (All-right (λ x. IsFreeWire d (pin_wire m x)) p.inputs p.outputs plan.pins_free) (let f = plan.outputs in omega arith)
 
     port-free : (c k t : ℕ) → HasPort m d (nets_in n) terminal c k t → IsFreeWire d t
     port-free c k t has =

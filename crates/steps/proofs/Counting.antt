@@ -1,8 +1,8 @@
 -- Counts that rose, and stops that need one.
-use Rattle.std.proofs.Common.{◌≡◌, ℕ, ◌≤◌, List, IsTrue, subst, arith}
+use Rattle.std.proofs.Common.{ℕ, List, IsTrue, subst, arith}
 use Rattle.std.specs.Prelude.{Result, Ok, Err, IfErr}
 use Rattle.tm_outside.specs.declared.sink.SinkFail.TheVariants.{Failed, Memory}
-use Rattle.steps.specs.Outside.{Outside}
+use Rattle.steps.specs.Outside.{Outside, IsLater}
 use Rattle.steps.specs.Stops.{IsCounted, WriteStops}
 use Rattle.steps.specs.declared.refusal.Refusal.TheVariants as refused
 use Rattle.steps.specs.declared.refusal.Stop.{Stop}
@@ -15,12 +15,6 @@ write-counted line (Sink Failed) old new stops = stops.0
 write-counted line (Sink Memory) old new stops = stops.0
 
 -- what was used before was counted before
-pub record IsLater (old new : Outside) : Type 0 where
-  pub store : old.store.failures ≤ new.store.failures
-  pub rig : old.rig.failures ≤ new.rig.failures
-  pub sink : old.sink.failures ≤ new.sink.failures
-  pub kind : new.sink.can_lack ≡ old.sink.can_lack
-
 counted-later : (stop : Stop) (old mid new : Outside) → IsLater old mid → IsCounted ⊥ stop mid new → IsCounted ⊥ stop old new
 counted-later (Refused refused.Words) old mid new later why = absurd why
 counted-later (Refused refused.Rig) old mid new later why = omega (arith, later.rig, why)

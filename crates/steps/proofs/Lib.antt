@@ -19,7 +19,6 @@ pub mod OpenedRows
 pub mod OpenedLaws
 pub mod Making
 pub mod Keeping
-pub mod AtEnd
 pub mod Well
 -- For the proofs of this crate alone.
 mod TextLemmas

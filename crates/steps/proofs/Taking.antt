@@ -1,6 +1,6 @@
 -- Steps that compose: a step that stops ends each course that begins with it, and one that gives is followed by the rest.
 use Rattle.std.proofs.Common.{◌≡◌, ℕ, List, [], ◌∷◌, ◌++◌, refl, sym, subst, ap, ◌∙◌, inl, inr, arith, append-nil}
-use Rattle.std.specs.Prelude.{Result, Ok, Err, IfErr}
+use Rattle.std.specs.Prelude.{Result, Ok, Err}
 use Rattle.tm_outside.specs.Store.{StoreState}
 use Rattle.tm_outside.specs.Sink.{SinkState}
 use Rattle.hierarchy.specs.declared.Shape.{Shape}
@@ -31,9 +31,6 @@ later-later old mid new first second = record {
   rig = omega (arith, first.rig, second.rig);
   sink = omega (arith, first.sink, second.sink);
 }
-
-pub rose-after : {T : Type 0} (result : Result T Stop) (old mid new : Outside) → IsLater old mid → IfErr result (λ stop. IsCounted ⊥ stop mid new) → IfErr result (λ stop. IsCounted ⊥ stop old new)
-rose-after result old mid new later why = counted-after result old mid new (record { store = later.store; rig = later.rig; sink = later.sink; kind = later.kind }) why
 
 -- where the store stands after two steps
 pub stands-then : (files more : List (List ℕ)) (old mid new : StoreState) → StandsIn files old mid → StandsIn more mid new → StandsIn (more ++ files) old new
@@ -94,7 +91,7 @@ module _ {T U : Type 0} (step : Step T) (here : Type 0) (rest : T → Course) wh
     asked = asks-after names more result old.store mid.store new.store took.asked.all rest_is.asked;
     machines = asked;
     written = after-gives step here rest x result old.sink new.sink gives (rw took.silent at rest_is.written);
-    counted = rose-after result old mid new took.later rest_is.counted;
+    counted = counted-after result old mid new took.later rest_is.counted;
   }
 
 puts-later : {T : Type 0} (line : List ℕ) (store : StoreState) (rig : RigState) (a b : SinkState) (result : Result T Stop) → Puts line result a b → IsLater (outside store rig a) (outside store rig b)
@@ -123,7 +120,7 @@ module _ {T : Type 0} (line : List ℕ) (here : Type 0) (rest : Course) (store :
         asked = rest_is.asked;
         machines = asked;
         written = write-then line here rest result a b new.sink puts.wrote rest_is.written;
-        counted = rose-after result (outside store rig a) (outside store rig b) new later rest_is.counted;
+        counted = counted-after result (outside store rig a) (outside store rig b) new later rest_is.counted;
       }
 
 -- the end

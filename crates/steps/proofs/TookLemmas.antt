@@ -8,7 +8,7 @@ use Rattle.tm_outside.specs.Sink.{SinkState}
 use Rattle.tm_outside.specs.declared.store.StoreFail.{StoreFail}
 use Rattle.tm_outside.specs.declared.store.StoreFail.TheVariants.{Failed, Memory}
 use Rattle.rig.specs.Rig.{RigState}
-use Rattle.steps.specs.Outside.{Outside, outside, StandsIn}
+use Rattle.steps.specs.Outside.{Outside, outside, IsLater, StandsIn}
 use Rattle.steps.specs.Courses.{Step}
 use Rattle.steps.specs.Stops.{Asks, AsksSome, StepStops, IsCounted, stop_of_store}
 use Rattle.steps.specs.Took.{Took}
@@ -28,9 +28,12 @@ module _ {T : Type 0} (step : Told → Step T) (of : IsOfFile step) (name : List
   abbrev ended : Outside
   ended = outside new rig sink
 
+  since : IsLater begun ended
+  since = record { contents = contents; texts = refl; kind = refl; store = later; rig = omega arith; sink = omega arith }
+
   read-took : (result : Result T Stop) → Asks (name ∷ []) result old new → IfOk result (step told).gives → IfErr result (StepStops (step told)) → IfErr result (λ stop. IsCounted ⊥ stop begun ended) → Took (name ∷ []) (step told) result begun ended
   read-took result asked gives stops counted = record {
-    later = record { contents = contents; texts = refl; kind = refl; store = later; rig = omega arith; sink = omega arith };
+    later = since;
     silent = refl;
     asked = asked;
     place = place;
@@ -77,4 +80,4 @@ module _ {T : Type 0} (step : Told → Step T) (of : IsOfFile step) (name : List
   file-text text result asked is takes =
       let took = takes ended in
       read-took result (asks-after (name ∷ []) [] result old new new asked took.asked) (text-gives text result is took.gives) (text-stops text result is took.stops)
-      (counted-after result begun ended ended (record { store = later; rig = omega arith; sink = omega arith; kind = refl }) took.counted)
+      (counted-after result begun ended ended since took.counted)

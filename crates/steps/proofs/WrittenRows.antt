@@ -17,8 +17,8 @@ use Rattle.steps.specs.Stops.{Asks, IsCounted, IsWritten, StopWrote, WriteStops,
 use Rattle.steps.specs.Took.{Puts, Follows}
 use Rattle.steps.specs.declared.refusal.Stop.{Stop}
 use Rattle.steps.specs.declared.refusal.Stop.TheVariants.{Refused, Sink}
-use Rattle.steps.proofs.Counting.{write-counted}
-use Rattle.steps.proofs.Taking.{later-same, later-later, rose-after}
+use Rattle.steps.proofs.Counting.{counted-after, write-counted}
+use Rattle.steps.proofs.Taking.{later-same, later-later}
 use Rattle.steps.proofs.VectorLemmas.{IsTaking, IsTaking-start, IsTaking-more, taken-first, taken-next, taken-all, taken-fault}
 use Rattle.steps.proofs.WriteLemmas.{Wrote-then, Wrote-none, row_lines-more}
 
@@ -87,7 +87,7 @@ module _ (w : RowWork) (begun now new : Outside) (reading : VectorReading) (vect
     asked = asks-none result begun.store new.store (asked ∙ so_far.taking.asked);
     machines = is;
     written = written;
-    counted = rose-after result begun now new so_far.later counted;
+    counted = counted-after result begun now new so_far.later counted;
   }
 
   -- no further vector is read, and the session has read these

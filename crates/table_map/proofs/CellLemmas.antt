@@ -1,5 +1,5 @@
 -- Cells as masks, and the cells of a function.
-use Rattle.std.proofs.Common.{◌≡◌, Bool, ℕ, zero, suc, ◌+◌, ◌-◌, ◌*◌, ◌^◌, ◌/◌, ◌%◌, ◌<◌, ◌≤◌, ◌&&◌, ◌||◌, List, [], ◌∷◌, true, false, length, drop, map, get_or, refl, sym, ap, subst, ◌∙◌, arith, bit_and, bit_or, w64, min, max}
+use Rattle.std.proofs.Common.{◌≡◌, Bool, ℕ, zero, suc, ◌+◌, ◌-◌, ◌*◌, ◌^◌, ◌<◌, ◌≤◌, ◌&&◌, ◌||◌, List, [], ◌∷◌, true, false, length, drop, map, get_or, refl, sym, ap, subst, ◌∙◌, arith, bit_and, bit_or, w64, min, max}
 use Rattle.std.specs.Prelude.{not, if◌then◌else◌, ◌==◌}
 use Rattle.std.specs.Int.{bit_at}
 use native.Mathlib.Numerals.{unary_clauses}
@@ -8,9 +8,10 @@ use Rattle.std.proofs.lemmas.Nat.Bits.{bit_at_and, bit_at_or, bit_at_not, bit_at
 use Rattle.std.proofs.lemmas.List.{drop_more, drop_all, ext_get_or, length-map, get_or-map}
 use Rattle.std.proofs.lemmas.List.FromFn.{get_or-map-range_with_len, length-map-range_with_len}
 use Rattle.std.proofs.lemmas.Bool.Decides.{nat_tests}
-use Rattle.std.proofs.Math.Bool.{or_assoc, or-false}
+use Rattle.std.proofs.Math.Bool.{and_assoc, and-true, or_assoc, or-false}
 use Rattle.netlist.specs.declared.draft.Lit.{Lit}
 use Rattle.netlist.specs.Covers.{fits, matches, some_matches}
+use Rattle.netlist.proofs.BitLemmas.{halved, lowest}
 use Rattle.table_map.specs.declared.want.Want.{Want}
 use Rattle.table_map.specs.Rows.{number_of, cell_at}
 use Rattle.table_map.specs.Plain.{six_bits, cells_where, every, any, met, pin_named}
@@ -54,30 +55,12 @@ cell_ones a la = ap (λ b. b == 1) (bit_at_ones 64 a la)
 pub cell_zero : (a : ℕ) → cell_at 0 a ≡ false
 cell_zero a = ap (λ b. b == 1) (bit_at-zero a)
 
--- Booleans
-
-pub and_assoc : (a b c : Bool) → ((a && b) && c) ≡ (a && (b && c))
-and_assoc true b c = refl
-and_assoc false b c = refl
-
-pub and_true : (a : Bool) → (a && true) ≡ a
-and_true true = refl
-and_true false = refl
-
 -- the bits of a number that is made of bits
-
-half : (b : Bool) (n : ℕ) → ((if b then 1 else 0) + 2 * n) / 2 ≡ n
-half true n = omega arith
-half false n = omega arith
-
-lowest : (b : Bool) (n : ℕ) → (((if b then 1 else 0) + 2 * n) % 2 == 1) ≡ b
-lowest true n = let e : (1 + 2 * n) % 2 ≡ 1 = omega arith in ap (λ m. m == 1) e
-lowest false n = let e : (0 + 2 * n) % 2 ≡ 0 = omega arith in ap (λ m. m == 1) e
 
 pub cell_of_number : (bs : List Bool) (i : ℕ) → cell_at (number_of bs) i ≡ get_or bs i false
 cell_of_number [] i = cell_zero i
 cell_of_number (b ∷ bs) zero = ap (λ m. m == 1) (bit_at_lowest (number_of (b ∷ bs))) ∙ lowest b (number_of bs)
-cell_of_number (b ∷ bs) (suc i) = ap (λ m. m == 1) (bit_at-suc (number_of (b ∷ bs)) i) ∙ ap (λ m. cell_at m i) (half b (number_of bs)) ∙ cell_of_number bs i
+cell_of_number (b ∷ bs) (suc i) = ap (λ m. m == 1) (bit_at-suc (number_of (b ∷ bs)) i) ∙ ap (λ m. cell_at m i) (halved b (number_of bs)) ∙ cell_of_number bs i
 
 pub number_fits : (bs : List Bool) → number_of bs < 2 ^ length bs
 number_fits [] = omega arith
@@ -168,7 +151,7 @@ module _ (ws : List Want) (a : ℕ) (few : length ws ≤ 6) (la : a < 64) where
       ∙ old
 
   pub all_ends : (k x : ℕ) → length ws ≤ k → (cell_at x a && every (met (drop k ws) (drop k (six_bits a)))) ≡ every (met ws (six_bits a)) → cell_at x a ≡ every (met ws (six_bits a))
-  all_ends k x le old = sym (and_true (cell_at x a)) ∙ ap (λ xs. cell_at x a && every (met xs (drop k (six_bits a)))) (sym (drop_all k ws le)) ∙ old
+  all_ends k x le old = sym (and-true (cell_at x a)) ∙ ap (λ xs. cell_at x a && every (met xs (drop k (six_bits a)))) (sym (drop_all k ws le)) ∙ old
 
   pub some_ends : (k x : ℕ) → length ws ≤ k → (cell_at x a || any (met (drop k ws) (drop k (six_bits a)))) ≡ any (met ws (six_bits a)) → cell_at x a ≡ any (met ws (six_bits a))
   some_ends k x le old = sym (or-false (cell_at x a)) ∙ ap (λ xs. cell_at x a || any (met xs (drop k (six_bits a)))) (sym (drop_all k ws le)) ∙ old
@@ -216,7 +199,7 @@ module _ (row : List Lit) (masks : List ℕ) (a : ℕ) (len : length row ≡ len
       ∙ old
 
   pub row_ends : (k x : ℕ) → length row ≤ k → (cell_at x a && matches (drop k row) (drop k (masks_at masks a))) ≡ matches row (masks_at masks a) → cell_at x a ≡ matches row (masks_at masks a)
-  row_ends k x le old = sym (and_true (cell_at x a)) ∙ ap (λ xs. cell_at x a && matches xs (drop k (masks_at masks a))) (sym (drop_all k row le)) ∙ old
+  row_ends k x le old = sym (and-true (cell_at x a)) ∙ ap (λ xs. cell_at x a && matches xs (drop k (masks_at masks a))) (sym (drop_all k row le)) ∙ old
 
 pub if_or : (b c : Bool) → (if b then true else c) ≡ (b || c)
 if_or true c = refl

@@ -4,7 +4,7 @@ use Rattle.std.specs.Prelude.{if◌then◌else◌, slice_index_or}
 use Rattle.std.proofs.lemmas.Bool.{cases_lt, cases_eq}
 use Rattle.std.proofs.lemmas.List.{length-append, length-map, length-drop, length-take, get_or-map, ext_get_or, take-append-drop, map-append}
 use Rattle.std.proofs.lemmas.List.FromFn.{get_or-map-range_with_len, length-map-range_with_len}
-use Rattle.std.proofs.Math.Bool.{or_assoc}
+use Rattle.std.proofs.Math.Bool.{and_assoc, or_assoc}
 use native.Mathlib.Numerals.{unary_clauses}
 use Rattle.netlist.specs.declared.draft.Cover.{Cover}
 use Rattle.netlist.specs.declared.draft.Lit.{Lit}
@@ -22,7 +22,7 @@ use Rattle.table_map.specs.Networks.{no_table}
 use Rattle.table_map.specs.Rows.{bit_of, pins_of, truth}
 use Rattle.table_map.specs.Plain.{flip, every, any, together, met, groups, sixes, want_table, wants_from, gate_table, levels, tree, trees, tree_ends, row_wants, rows_wants, wide_tables, narrow_table, is_narrow, cover_tables, cover_size, distinct, pin_named}
 use Rattle.table_map.specs.Cells.{is_among}
-use Rattle.table_map.proofs.CellLemmas.{gives_of, eqb_true, eqb_false, and_assoc, if_or}
+use Rattle.table_map.proofs.CellLemmas.{gives_of, eqb_true, eqb_false, if_or}
 use Rattle.table_map.proofs.NameLemmas.{among_distinct, among_other, no_both}
 use Rattle.table_map.proofs.TreeLemmas.{length-groups, length-wants_from, levels_low, levels_high, levels_some, tree_size_some, nat_lt_true}
 use Rattle.table_map.proofs.PlainLemmas.{AreRowsOf, narrow_tables, wide_are, true_or, narrow_size, length-cover}

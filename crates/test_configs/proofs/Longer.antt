@@ -1,5 +1,5 @@
 -- Routes that go on.
-use Rattle.std.proofs.Common.{◌≡◌, ◌<◌, ℕ, Bool, true, false, List, [], ◌∷◌, ◌++◌, refl, sym, subst, inl, inr, arith}
+use Rattle.std.proofs.Common.{◌≡◌, ◌<◌, ℕ, Bool, true, false, List, [], ◌∷◌, ◌++◌, refl, sym, ◌∙◌, subst, inl, inr, arith}
 use Rattle.std.specs.Prelude.{◌==◌, ◌||◌}
 use Rattle.std.proofs.lemmas.Bool.Decides.{nat_tests}
 use Rattle.hierarchy.specs.declared.Shape.{Shape}
@@ -37,6 +37,23 @@ both_ends m x w at = by_test ((ends_of m x).0 == w) refl
         by_end : HasEnd m x w → (ends_of m x).1 ≡ w
         by_end (inl h) = absurd (let no : ⊥ = grind (arith, nat_tests) in no)
         by_end (inr h) = h
+
+-- a wire at the end of a crosspoint, from the wire at its other end
+pub ends_back : {p : ℕ × ℕ} {a b : ℕ} → Ends p a b → Ends p b a
+ends_back (in_order s t) = turned s t
+ends_back (turned s t) = in_order s t
+
+pub an_end : (m : Shape) (x a w : ℕ) → Ends (ends_of m x) a w → HasEnd m x a
+an_end m x a w (in_order s t) = inl s
+an_end m x a w (turned s t) = inr t
+
+pub end_is_other : (m : Shape) (x a w : ℕ) → Ends (ends_of m x) a w → w ≡ other_end m x a
+end_is_other m x a w (in_order s t) = let same : ((ends_of m x).0 == a) ≡ true = grind (arith, nat_tests, s) in rw same (sym t)
+end_is_other m x a w (turned s t) = by_test ((ends_of m x).0 == a) refl
+  where
+    by_test : (b : Bool) → ((ends_of m x).0 == a) ≡ b → w ≡ other_end m x a
+    by_test true e = let same : (ends_of m x).0 ≡ a = grind (arith, nat_tests, e) in rw e (sym s ∙ same ∙ sym t)
+    by_test false e = rw e (sym s)
 
 pub at_pin_is : (m : Shape) (k : ℕ) → k < pins_of m → pin_wire m k < wires_of m → IsRoute m (at_pin m k)
 at_pin_is m k h within = record {

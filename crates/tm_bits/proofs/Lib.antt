@@ -1,5 +1,6 @@
 -- What is cited above.
 pub mod NumbersLemmas
 pub mod PairsLemmas
+pub mod SetsLemmas
 -- For the proofs of this crate alone.
 mod WordsLemmas

@@ -1,99 +1,44 @@
--- The places of pairs, and what one mark more says of each pair.
-use Rattle.std.proofs.Common.{◌≡◌, ◌≢◌, ℕ, zero, suc, ◌+◌, ◌-◌, ◌*◌, ◌/◌, ◌^◌, ◌<◌, ◌≤◌, Bool, true, false, List, length, get_or, refl, sym, ap, ◌∙◌, subst, arith, replicate, inl, inr, ◌⊎◌, ◌||◌, ◌&&◌, max, min}
+-- The places of pairs, and what a mark more, or the marks of a set, say of each pair.
+use Rattle.std.proofs.Common.{◌≡◌, ◌≢◌, ℕ, ◌+◌, ◌-◌, ◌*◌, ◌/◌, ◌^◌, ◌<◌, ◌≤◌, ◌==◌, Bool, true, false, not, List, length, get_or, refl, sym, ap, ◌∙◌, arith, replicate, inl, inr, ◌⊎◌, ◌||◌, ◌&&◌}
 use Rattle.std.proofs.Math.ListN.{set, get_or-eq_default}
-use Rattle.std.proofs.Math.Nat.{max_comm, min_comm, mul-div_cancel}
-use Rattle.std.proofs.lemmas.Nat.{mul-lt}
-use Rattle.std.proofs.lemmas.Bool.{cases_lt, cases_eq, cases_Bool}
+use Rattle.std.proofs.lemmas.Nat.{mul-le}
+use Rattle.std.proofs.lemmas.Bool.{cases_lt, cases_eq, cases_Bool, false≢true}
 use Rattle.std.proofs.lemmas.List.{get_or-set_same, get_or-set_other, get_or-replicate, length-replicate}
-use Rattle.tm_bits.specs.Pairs.{Pairs, pairs_below, place_of, is_pair, has_pair, is_same_pair}
-
--- there are half as many pairs as a number times the one before it
-twice_at : (m : ℕ) → (m + 1) * m ≡ pairs_below (m + 1) * 2
-twice_at zero = refl
-twice_at (suc m) = grind (arith, twice_at m)
-
-twice_pairs : (m : ℕ) → suc m * m ≡ pairs_below (suc m) * 2
-twice_pairs m =
-    let next : m + 1 ≡ suc m = omega arith in
-    subst (λ n. n * m ≡ pairs_below n * 2) next (twice_at m)
-
-pub pairs_order : (m n : ℕ) → m < n → pairs_below m + m ≤ pairs_below n
-pairs_order m zero lt = absurd (omega arith)
-pairs_order m (suc n) lt =
-    elim (cases_eq m n) [
-      | inl e ↦ rw e (omega arith)
-      | inr other ↦ omega (arith, pairs_order m n (omega arith))
-    ]
-
-pub half_the_product : (n : ℕ) → 0 < n → n * (n - 1) / 2 ≡ pairs_below n
-half_the_product zero some = absurd (omega arith)
-half_the_product (suc m) some =
-    let before : suc m - 1 ≡ m = omega arith in
-    ap (λ k. suc m * k / 2) before ∙ ap (λ k. k / 2) (twice_pairs m) ∙ mul-div_cancel (pairs_below (suc m)) (omega arith)
-
-pub pairs_fit : (n : ℕ) → n < 2 ^ 32 → pairs_below n < 2 ^ 63
-pairs_fit zero lt = omega arith
-pairs_fit (suc m) lt = omega (arith, twice_pairs m, mul-lt (suc m) m (2 ^ 32) (2 ^ 32) (omega arith) (omega arith))
+use Rattle.tm_bits.specs.Pairs.{Pairs, words_of, place_of, is_pair, has_pair, is_same_pair, is_with}
 
 -- ---- places
 
-place_below : (a b : ℕ) → a < b → place_of a b ≡ pairs_below b + a
-place_below a b lt =
-    let higher : max a b ≡ b = omega arith in
-    let lower : min a b ≡ a = omega arith in
-    ap (λ k. pairs_below k + min a b) higher ∙ ap (λ k. pairs_below b + k) lower
+pub row_after : (w a c : ℕ) → a < c → w * a + w ≤ w * c
+row_after w a c lt = omega (arith, mul-le w (a + 1) w c (omega arith) (omega arith))
 
-place_turned : (a b : ℕ) → place_of a b ≡ place_of b a
-place_turned a b = ap (λ k. pairs_below k + min a b) (max_comm a b) ∙ ap (λ k. pairs_below (max b a) + k) (min_comm a b)
+pub place_inside : (n a b : ℕ) → a < n → b < n → place_of n a b < 64 * (words_of n * n)
+place_inside n a b in_a in_b = omega (arith, row_after (words_of n) a n in_a)
 
-place_above : (a b : ℕ) → b < a → place_of a b ≡ pairs_below a + b
-place_above a b lt = place_turned a b ∙ place_below b a lt
+-- the bits before the row of a, of rows of w words
+pub rows_fit : (w a : ℕ) → w ≤ 2 ^ 26 → a < 2 ^ 32 → w * a ≤ 2 ^ 26 * (2 ^ 32 - 1)
+rows_fit w a few below = mul-le w a (2 ^ 26) (2 ^ 32 - 1) few (omega arith)
 
-pub place_inside : (n a b : ℕ) → a < n → b < n → a ≢ b → place_of a b < pairs_below n
-place_inside n a b in_a in_b differ =
-    elim (cases_lt a b) [
-      | inl lt ↦ omega (arith, place_below a b lt, pairs_order b n in_b)
-      | inr le ↦ let lt : b < a = omega arith in omega (arith, place_above a b lt, pairs_order a n in_a)
-    ]
-
-one_place : (a b c d : ℕ) → a < b → c < d → pairs_below b + a ≡ pairs_below d + c → (a ≡ c) × (b ≡ d)
-one_place a b c d low high e =
-    elim (cases_eq b d) [
-      | inl one ↦ (omega (arith, ap pairs_below one), one)
+one_place : (n a b c d : ℕ) → b < n → d < n → place_of n a b ≡ place_of n c d → (a ≡ c) × (b ≡ d)
+one_place n a b c d in_b in_d e =
+    elim (cases_eq a c) [
+      | inl one ↦ (one, omega (arith, e, ap (λ k. words_of n * k) one))
       | inr apart ↦
-          elim (cases_lt b d) [
-            | inl lt ↦ absurd (omega (arith, pairs_order b d lt))
-            | inr le ↦ let gt : d < b = omega arith in absurd (omega (arith, pairs_order d b gt))
+          elim (cases_lt a c) [
+            | inl lt ↦ absurd (omega (arith, e, row_after (words_of n) a c lt))
+            | inr le ↦ let gt : c < a = omega arith in absurd (omega (arith, e, row_after (words_of n) c a gt))
           ]
     ]
+
+-- ---- pairs in a set
 
 abbrev Same : ℕ → ℕ → ℕ → ℕ → Type 0
 Same a b c d = ((a ≡ c) × (b ≡ d)) ⊎ ((a ≡ d) × (b ≡ c))
 
-pub one_pair : (a b c d : ℕ) → a ≢ b → c ≢ d → place_of a b ≡ place_of c d → Same a b c d
-one_pair a b c d first second e =
-    elim (cases_lt a b) [
-      | inl up ↦
-          elim (cases_lt c d) [
-            | inl rise ↦ inl (one_place a b c d up rise (sym (place_below a b up) ∙ e ∙ place_below c d rise))
-            | inr le ↦ let fall : d < c = omega arith in inr (one_place a b d c up fall (sym (place_below a b up) ∙ e ∙ place_above c d fall))
-          ]
-      | inr le ↦
-          let down : b < a = omega arith in
-          elim (cases_lt c d) [
-            | inl rise ↦ let k = one_place b a c d down rise (sym (place_above a b down) ∙ e ∙ place_below c d rise) in inr (k.1, k.0)
-            | inr ge ↦ let fall : d < c = omega arith in let k = one_place b a d c down fall (sym (place_above a b down) ∙ e ∙ place_above c d fall) in inl (k.1, k.0)
-          ]
-    ]
-
-same_place : (a b c d : ℕ) → Same a b c d → place_of c d ≡ place_of a b
-same_place a b c d (inl h) = ap (λ k. place_of k d) (sym h.0) ∙ ap (place_of a) (sym h.1)
-same_place a b c d (inr h) = place_turned c d ∙ ap (λ k. place_of k c) (sym h.0) ∙ ap (place_of a) (sym h.1)
-
--- ---- pairs in a set
-
 cases_same : (a b c d : ℕ) → ((is_same_pair a b c d ≡ true) × Same a b c d) ⊎ ((is_same_pair a b c d ≡ false) × (Same a b c d → ⊥))
 cases_same a b c d = grind arith
+
+cases_both : (a b c d : ℕ) → ((((a == c) && (b == d)) ≡ true) × ((a ≡ c) × (b ≡ d))) ⊎ ((((a == c) && (b == d)) ≡ false) × ((a ≡ c) × (b ≡ d) → ⊥))
+cases_both a b c d = grind arith
 
 pub pair_of : (n a b : ℕ) → a < n → b < n → a ≢ b → is_pair n a b ≡ true
 pair_of n a b in_a in_b differ = grind arith
@@ -104,59 +49,165 @@ parts_of n a b h = grind arith
 is_pair_turned : (n a b : ℕ) → is_pair n a b ≡ is_pair n b a
 is_pair_turned n a b = grind arith
 
+either_turned : (x y : Bool) → (x || y) ≡ (y || x)
+either_turned true true = refl
+either_turned true false = refl
+either_turned false true = refl
+either_turned false false = refl
+
+-- two marks of two rows
+mixed : (p q x y : Bool) → ((p || x) || (q || y)) ≡ ((p || q) || (x || y))
+mixed true q x y = refl
+mixed false true true y = refl
+mixed false true false y = refl
+mixed false false x y = refl
+
+abbrev either : ℕ → List Bool → ℕ → ℕ → Bool
+either n marks a b = get_or marks (place_of n a b) false || get_or marks (place_of n b a) false
+
 pub has_pair_turned : (set : Pairs) (a b : ℕ) → has_pair set a b ≡ has_pair set b a
 unfolding has_pair
-has_pair_turned set a b = ap (λ t. t && get_or set.marks (place_of a b) false) (is_pair_turned set.n a b) ∙ ap (λ k. is_pair set.n b a && get_or set.marks k false) (place_turned a b)
+has_pair_turned set a b =
+    ap (λ t. t && either set.n set.marks a b) (is_pair_turned set.n a b)
+    ∙ ap (λ m. is_pair set.n b a && m) (either_turned (get_or set.marks (place_of set.n a b) false) (get_or set.marks (place_of set.n b a) false))
 
-pub has_pair_inside : (set : Pairs) (a b : ℕ) → a < set.n → b < set.n → a ≢ b → has_pair set a b ≡ get_or set.marks (place_of a b) false
+pub has_pair_is : (n : ℕ) (marks : List Bool) (a b : ℕ) → has_pair (record { n = n; marks = marks }) a b ≡ (is_pair n a b && either n marks a b)
 unfolding has_pair
-has_pair_inside set a b in_a in_b differ = ap (λ t. t && get_or set.marks (place_of a b) false) (pair_of set.n a b in_a in_b differ)
+has_pair_is n marks a b = refl
 
-has_no_pair : (set : Pairs) (a b : ℕ) → is_pair set.n a b ≡ false → has_pair set a b ≡ false
-unfolding has_pair
-has_no_pair set a b h = ap (λ t. t && get_or set.marks (place_of a b) false) h
+pub has_pair_inside : (n : ℕ) (marks : List Bool) (a b : ℕ) → a < n → b < n → a ≢ b → has_pair (record { n = n; marks = marks }) a b ≡ either n marks a b
+has_pair_inside n marks a b in_a in_b differ = has_pair_is n marks a b ∙ ap (λ t. t && either n marks a b) (pair_of n a b in_a in_b differ)
+
+has_no_pair : (n : ℕ) (marks : List Bool) (a b : ℕ) → is_pair n a b ≡ false → has_pair (record { n = n; marks = marks }) a b ≡ false
+has_no_pair n marks a b h = has_pair_is n marks a b ∙ ap (λ t. t && either n marks a b) h
 
 is_pair_same : (n a b c d : ℕ) → Same a b c d → is_pair n c d ≡ is_pair n a b
 is_pair_same n a b c d (inl h) = ap (λ k. is_pair n k d) (sym h.0) ∙ ap (is_pair n a) (sym h.1)
 is_pair_same n a b c d (inr h) = is_pair_turned n c d ∙ ap (λ k. is_pair n k c) (sym h.0) ∙ ap (is_pair n a) (sym h.1)
 
-module _ (n a b : ℕ) (marks : List Bool) (in_a : a < n) (in_b : b < n) (differ : a ≢ b) (size : length marks ≡ pairs_below n) where
-  abbrev old : Pairs
-  old = record { n = n; marks = marks }
-
-  abbrev new : Pairs
-  new = record { n = n; marks = set marks (place_of a b) true }
-
-  marked : (c d : ℕ) → Same a b c d → has_pair new c d ≡ true
-  unfolding has_pair
-  marked c d one =
-      let inside : place_of a b < length marks = omega (arith, place_inside n a b in_a in_b differ) in
-      ap (λ t. t && get_or (set marks (place_of a b) true) (place_of c d) false) (is_pair_same n a b c d one ∙ pair_of n a b in_a in_b differ)
-      ∙ ap (λ k. get_or (set marks (place_of a b) true) k false) (same_place a b c d one)
-      ∙ get_or-set_same marks (place_of a b) true false inside
-
-  kept : (c d : ℕ) → (Same a b c d → ⊥) → is_pair n c d ≡ true → has_pair new c d ≡ has_pair old c d
-  unfolding has_pair
-  kept c d other is =
-      let apart : place_of c d ≢ place_of a b = λ e. other (one_pair a b c d differ (parts_of n c d is).2 (sym e)) in
-      ap (λ m. is_pair n c d && m) (get_or-set_other marks (place_of a b) (place_of c d) true false apart)
-
-  pub has_pair-mark : (c d : ℕ) → has_pair new c d ≡ (is_same_pair a b c d || has_pair old c d)
-  has_pair-mark c d =
-      elim (cases_same a b c d) [
-        | inl same ↦ marked c d same.1 ∙ sym (ap (λ t. t || has_pair old c d) same.0)
-        | inr other ↦
-            elim (cases_Bool (is_pair n c d)) [
-              | inl is ↦ kept c d other.1 is
-              | inr out ↦ has_no_pair new c d out ∙ sym (has_no_pair old c d out)
-            ]
-            ∙ sym (ap (λ t. t || has_pair old c d) other.0)
+-- Pairs that are put in: those of a test, which is true of pairs alone, and which the two rows share.
+module _ (n : ℕ) (old new : List Bool) (put : ℕ → ℕ → Bool) (row : ℕ → ℕ → Bool)
+    (rows : (c d : ℕ) → c < n → d < n → get_or new (place_of n c d) false ≡ (row c d || get_or old (place_of n c d) false))
+    (inside : (c d : ℕ) → is_pair n c d ≡ true → put c d ≡ (row c d || row d c))
+    (outside : (c d : ℕ) → is_pair n c d ≡ false → put c d ≡ false) where
+  pub has_pair-put : (c d : ℕ) → has_pair (record { n = n; marks = new }) c d ≡ (put c d || has_pair (record { n = n; marks = old }) c d)
+  has_pair-put c d =
+      elim (cases_Bool (is_pair n c d)) [
+        | inl is ↦
+            let p = parts_of n c d is in
+            has_pair_inside n new c d p.0 p.1 p.2
+            ∙ ap (λ t. t || get_or new (place_of n d c) false) (rows c d p.0 p.1)
+            ∙ ap (λ t. (row c d || get_or old (place_of n c d) false) || t) (rows d c p.1 p.0)
+            ∙ mixed (row c d) (row d c) (get_or old (place_of n c d) false) (get_or old (place_of n d c) false)
+            ∙ sym (ap (λ t. t || has_pair (record { n = n; marks = old }) c d) (inside c d is) ∙ ap (λ t. (row c d || row d c) || t) (has_pair_inside n old c d p.0 p.1 p.2))
+        | inr out ↦ has_no_pair n new c d out ∙ sym (ap (λ t. t || has_pair (record { n = n; marks = old }) c d) (outside c d out) ∙ has_no_pair n old c d out)
       ]
+
+module _ (n a b : ℕ) (marks : List Bool) (in_a : a < n) (in_b : b < n) (differ : a ≢ b) (size : length marks ≡ 64 * (words_of n * n)) where
+  abbrev marked : List Bool
+  marked = set marks (place_of n a b) true
+
+  row_marked : (c d : ℕ) → c < n → d < n → get_or marked (place_of n c d) false ≡ (((a == c) && (b == d)) || get_or marks (place_of n c d) false)
+  row_marked c d in_c in_d =
+      elim (cases_both a b c d) [
+        | inl same ↦
+            let here : place_of n c d ≡ place_of n a b = ap (λ k. place_of n k d) (sym same.1.0) ∙ ap (place_of n a) (sym same.1.1) in
+            let within : place_of n a b < length marks = omega (arith, size, place_inside n a b in_a in_b) in
+            ap (λ k. get_or marked k false) here ∙ get_or-set_same marks (place_of n a b) true false within
+            ∙ sym (ap (λ t. t || get_or marks (place_of n c d) false) same.0)
+        | inr other ↦
+            let apart : place_of n c d ≢ place_of n a b = λ e. other.1 (one_place n a b c d in_b in_d (sym e)) in
+            get_or-set_other marks (place_of n a b) (place_of n c d) true false apart
+            ∙ sym (ap (λ t. t || get_or marks (place_of n c d) false) other.0)
+      ]
+
+  no_other : (c d : ℕ) → is_pair n c d ≡ false → is_same_pair a b c d ≡ false
+  no_other c d out =
+      elim (cases_same a b c d) [
+        | inl same ↦ absurd (false≢true (sym out ∙ is_pair_same n a b c d same.1 ∙ pair_of n a b in_a in_b differ))
+        | inr other ↦ other.0
+      ]
+
+  pub has_pair-mark : (c d : ℕ) → has_pair (record { n = n; marks = marked }) c d ≡ (is_same_pair a b c d || has_pair (record { n = n; marks = marks }) c d)
+  has_pair-mark = has_pair-put n marks marked (is_same_pair a b) (λ c d. (a == c) && (b == d)) row_marked (λ c d is. same_turned c d) no_other
+    where
+      same_turned : (c d : ℕ) → is_same_pair a b c d ≡ (((a == c) && (b == d)) || ((a == d) && (b == c)))
+      same_turned c d = refl
+
+module _ (n a : ℕ) (numbers old new : List Bool) (in_a : a < n) (size : length numbers ≡ n)
+    (joined : (i : ℕ) → i < 64 * words_of n → i < length numbers → get_or new (64 * (words_of n * a) + i) false ≡ (get_or old (64 * (words_of n * a) + i) false || get_or numbers i false))
+    (kept : (i : ℕ) → i < length old → (i < 64 * (words_of n * a)) ⊎ (64 * (words_of n * a + words_of n) ≤ i) → get_or new i false ≡ get_or old i false)
+    (square : length old ≡ 64 * (words_of n * n)) where
+  row_with : (c d : ℕ) → c < n → d < n → get_or new (place_of n c d) false ≡ (((a == c) && get_or numbers d false) || get_or old (place_of n c d) false)
+  row_with c d in_c in_d =
+      elim (cases_eq a c) [
+        | inl e ↦
+            let same : (a == c) ≡ true = grind arith in
+            ap (λ k. get_or new (place_of n k d) false) (sym e)
+            ∙ joined d (omega arith) (omega (arith, size))
+            ∙ either_turned (get_or old (place_of n a d) false) (get_or numbers d false)
+            ∙ ap (λ k. get_or numbers d false || get_or old (place_of n k d) false) e
+            ∙ ap (λ t. (t && get_or numbers d false) || get_or old (place_of n c d) false) (sym same)
+        | inr differ ↦
+            let other : (a == c) ≡ false = grind arith in
+            kept (place_of n c d) (omega (arith, square, place_inside n c d in_c in_d)) (elsewhere differ)
+            ∙ ap (λ t. (t && get_or numbers d false) || get_or old (place_of n c d) false) (sym other)
+      ]
+    where
+      elsewhere : a ≢ c → (place_of n c d < 64 * (words_of n * a)) ⊎ (64 * (words_of n * a + words_of n) ≤ place_of n c d)
+      elsewhere differ =
+          elim (cases_lt c a) [
+            | inl lt ↦ inl (omega (arith, row_after (words_of n) c a lt))
+            | inr le ↦ let gt : a < c = omega arith in inr (omega (arith, row_after (words_of n) a c gt))
+          ]
+
+  abbrev put : ℕ → ℕ → Bool
+  put c d = not (c == d) && is_with a numbers c d
+
+  none_past : (c d : ℕ) → n ≤ d → ((a == c) && get_or numbers d false) ≡ false
+  none_past c d past = ap (λ t. (a == c) && t) (get_or-eq_default numbers false (omega (arith, size))) ∙ and_none (a == c)
+    where
+      and_none : (t : Bool) → (t && false) ≡ false
+      and_none true = refl
+      and_none false = refl
+
+  not_past : (c d : ℕ) → n ≤ c → ((a == c) && get_or numbers d false) ≡ false
+  not_past c d past = let other : (a == c) ≡ false = grind arith in ap (λ t. t && get_or numbers d false) other
+
+  neither : (t p q : Bool) → p ≡ false → q ≡ false → (t && (p || q)) ≡ false
+  neither true p q no_p no_q = ap (λ x. x || q) no_p ∙ no_q
+  neither false p q no_p no_q = refl
+
+  put_outside : (c d : ℕ) → is_pair n c d ≡ false → put c d ≡ false
+  put_outside c d out =
+      elim (cases_eq c d) [
+        | inl e ↦ let same : not (c == d) ≡ false = grind arith in ap (λ t. t && is_with a numbers c d) same
+        | inr differ ↦
+            elim (cases_lt c n) [
+              | inl in_c ↦
+                  elim (cases_lt d n) [
+                    | inl in_d ↦ absurd (false≢true (sym out ∙ pair_of n c d in_c in_d differ))
+                    | inr past ↦ neither (not (c == d)) _ _ (none_past c d past) (not_past d c past)
+                  ]
+              | inr past ↦ neither (not (c == d)) _ _ (not_past c d past) (none_past d c past)
+            ]
+      ]
+
+  put_inside : (c d : ℕ) → is_pair n c d ≡ true → put c d ≡ is_with a numbers c d
+  put_inside c d is =
+      let apart = (parts_of n c d is).2 in
+      let differ : not (c == d) ≡ true = grind (arith, apart) in
+      ap (λ t. t && is_with a numbers c d) differ
+
+  pub has_pair-with : (c d : ℕ) → has_pair (record { n = n; marks = new }) c d ≡ (put c d || has_pair (record { n = n; marks = old }) c d)
+  has_pair-with = has_pair-put n old new put (λ c d. (a == c) && get_or numbers d false) row_with put_inside put_outside
 
 -- no bits are no pairs
 pub none_is_empty : (n count : ℕ) (a b : ℕ) → has_pair (record { n = n; marks = replicate count false }) a b ≡ false
-unfolding has_pair
-none_is_empty n count a b = ap (λ m. is_pair n a b && m) (nothing (place_of a b)) ∙ and_none (is_pair n a b)
+none_is_empty n count a b =
+    has_pair_is n (replicate count false) a b
+    ∙ ap (λ m. is_pair n a b && (m || get_or (replicate count false) (place_of n b a) false)) (nothing (place_of n a b))
+    ∙ ap (λ m. is_pair n a b && m) (nothing (place_of n b a)) ∙ and_none (is_pair n a b)
   where
     nothing : (k : ℕ) → get_or (replicate count false) k false ≡ false
     nothing k =

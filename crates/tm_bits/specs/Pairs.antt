@@ -1,27 +1,32 @@
 -- A set of unordered pairs of different numbers below n.
-use Rattle.std.specs.Prelude.{ℕ, zero, suc, ◌+◌, ◌==◌, nat_lt, Bool, false, not, ◌&&◌, ◌||◌, List, slice_index_or, max, min}
+use Rattle.std.specs.Prelude.{ℕ, ◌+◌, ◌*◌, ◌/◌, ◌==◌, nat_lt, Bool, false, not, ◌&&◌, ◌||◌, List, slice_index_or}
+use Rattle.tm_bits.specs.Numbers.{has_number}
 
--- the pairs go by their higher number, and then by the lower: for each, whether it is in the set
+-- the bits of a square: each number has a row, in which each number has a bit
 pub record Pairs : Type 0 where
   pub n : ℕ
   pub marks : List Bool
 
--- how many pairs of numbers below this one there are
-abbrev pub pairs_below : ℕ → ℕ
-pairs_below zero = 0
-pairs_below (suc n) = pairs_below n + n
+-- how many words of 64 bits a row has
+abbrev pub words_of : ℕ → ℕ
+words_of n = (n + 63) / 64
 
-abbrev pub place_of : ℕ → ℕ → ℕ
-place_of a b = pairs_below (max a b) + min a b
+-- the place of b in the row of a
+abbrev pub place_of : ℕ → ℕ → ℕ → ℕ
+place_of n a b = 64 * (words_of n * a) + b
 
 -- two different numbers below n
 abbrev pub is_pair : ℕ → ℕ → ℕ → Bool
 is_pair n a b = nat_lt a n && nat_lt b n && not (a == b)
 
--- whether the pair of these two numbers is in the set
+-- whether the pair of these two numbers is in the set: one of them has its bit in the row of the other
 unfoldable pub has_pair : Pairs → ℕ → ℕ → Bool
-has_pair set a b = is_pair set.n a b && slice_index_or set.marks (place_of a b) false
+has_pair set a b = is_pair set.n a b && (slice_index_or set.marks (place_of set.n a b) false || slice_index_or set.marks (place_of set.n b a) false)
 
 -- whether two pairs are one, in either order
 abbrev pub is_same_pair : ℕ → ℕ → ℕ → ℕ → Bool
 is_same_pair a b c d = ((a == c) && (b == d)) || ((a == d) && (b == c))
+
+-- whether one of two is this number, and the other is in a set of numbers
+abbrev pub is_with : ℕ → List Bool → ℕ → ℕ → Bool
+is_with a numbers c d = ((a == c) && has_number numbers d) || ((a == d) && has_number numbers c)

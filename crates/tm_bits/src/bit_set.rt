@@ -72,6 +72,21 @@ impl BitSet {
         self.bits.get(u64::from(i))
     }
 
+    /// Takes all numbers out.
+    pub fn clear(&mut self)
+        ensures { self.new ≡ replicate (length self.old) false }
+    {
+        self.bits.clear();
+        self.count = 0;
+    }
+
+    /// The set as bits.
+    pub(crate) fn bits(&self) -> &Bits
+        ensures { result.now ≡ self.now }
+    {
+        &self.bits
+    }
+
     /// How many numbers are in the set.
     pub fn count(&self) -> u32
         ensures { result ≡ size_of self.now }

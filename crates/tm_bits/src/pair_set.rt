@@ -1,13 +1,17 @@
 //! A set of unordered pairs of numbers.
 
-ghost use Rattle.std.specs.Prelude.{◌≡◌, ◌≢◌, ◌<◌, ◌||◌, ℕ, false, IfOk};
-ghost use Rattle.tm_bits.specs.Pairs.{Pairs, pairs_below, place_of, has_pair, is_same_pair};
+ghost use Rattle.std.specs.Prelude.{◌≡◌, ◌≢◌, ◌<◌, ◌&&◌, ◌||◌, ◌==◌, ℕ, false, not, length, IfOk};
+ghost use Rattle.tm_bits.specs.Pairs.{Pairs, words_of, place_of, has_pair, is_same_pair, is_with};
 
+use crate::bit_set::BitSet;
 use crate::bits::Bits;
 use std::alloc::{AllocError, Global};
 use std::marker::Model;
 
-/// A set of unordered pairs of different numbers below `n`, one bit a pair. Contracts see it by `has_pair`.
+/// A set of unordered pairs of different numbers below `n`. Contracts see it by `has_pair`.
+///
+/// Each number has a row of whole words, with a bit for each number, so that one is joined with many by words. A pair is
+/// in the set if its bit is set in one of its two rows.
 #[derive(Debug, Drop)]
 pub struct PairSet {
     n: u32,
@@ -15,29 +19,28 @@ pub struct PairSet {
 }
 
 impl Model for PairSet {
-    ghost use Rattle.std.specs.Prelude.{◌≡◌, length};
-    ghost use Rattle.tm_bits.specs.Pairs.{Pairs, pairs_below};
+    ghost use Rattle.std.specs.Prelude.{◌≡◌, ◌*◌, length};
+    ghost use Rattle.tm_bits.specs.Pairs.{Pairs, words_of};
 
     ghost Value = { Pairs };
 
     ghost view = { λ s. record { n = s.n; marks = s.bits } };
 
-    ghost invariant = { λ s. length s.bits ≡ pairs_below s.n };
+    ghost invariant = { λ s. length s.bits ≡ 64 * (words_of s.n * s.n) };
 }
 
-/// How many pairs of numbers below this one there are.
-fn pairs_below(n: u32) -> u64
-    ensures { result ≡ pairs_below n }
+/// How many words the row of a number has.
+fn words_of(n: u32) -> u64
+    ensures { result ≡ words_of n }
 {
-    let n = u64::from(n);
-    if n == 0 { 0 } else { n * (n - 1) / 2 }
+    (u64::from(n) + 63) / 64
 }
 
-/// The place of a pair among all.
-fn place_of(a: u32, b: u32) -> u64
-    ensures { result ≡ place_of a b }
+/// The place of a number in the row of another.
+fn place_of(n: u32, a: u32, b: u32) -> u64
+    ensures { result ≡ place_of n a b }
 {
-    pairs_below(a.max(b)) + u64::from(a.min(b))
+    64 * (words_of(n) * u64::from(a)) + u64::from(b)
 }
 
 impl PairSet {
@@ -46,7 +49,7 @@ impl PairSet {
         ensures size { IfOk result (λ set. set.n ≡ n) }
         ensures empty { IfOk result (λ set. (a b : ℕ) → has_pair set a b ≡ false) }
     {
-        let bits = Bits::new(alloc, pairs_below(n))?;
+        let bits = Bits::new(alloc, 64 * (words_of(n) * u64::from(n)))?;
         Ok(PairSet { n, bits })
     }
 
@@ -65,7 +68,19 @@ impl PairSet {
         ensures size { self.new.n ≡ self.old.n }
         ensures pairs { (c d : ℕ) → has_pair self.new c d ≡ (is_same_pair a b c d || has_pair self.old c d) }
     {
-        self.bits.put(place_of(a, b), true);
+        self.bits.put(place_of(self.n, a, b), true);
+    }
+
+    /// Puts a number in with each number of a set but itself. Every other pair is as it was.
+    pub fn mark_with(&mut self, a: u32, others: &BitSet)
+        requires a { a < self.old.n }
+        requires others { length others.now ≡ self.old.n }
+        ensures size { self.new.n ≡ self.old.n }
+        ensures pairs { (c d : ℕ) → has_pair self.new c d
+            ≡ ((not (c == d) && is_with a others.now c d) || has_pair self.old c d) }
+    {
+        let count = words_of(self.n) as usize;
+        self.bits.join(count * a as usize, count, others.bits());
     }
 
     /// Whether a pair is in the set, in either order.
@@ -75,7 +90,7 @@ impl PairSet {
         requires differ { a ≢ b }
         ensures { result ≡ has_pair self.now a b }
     {
-        self.bits.get(place_of(a, b))
+        self.bits.get(place_of(self.n, a, b)) || self.bits.get(place_of(self.n, b, a))
     }
 }
 

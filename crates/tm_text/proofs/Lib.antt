@@ -1,5 +1,5 @@
 -- What is cited above.
 pub mod WrittenLemmas
+pub mod LinesLemmas
 -- For the proofs of this crate alone.
 mod BytesLemmas
-mod LinesLemmas

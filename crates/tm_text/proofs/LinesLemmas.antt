@@ -66,7 +66,7 @@ pub line_goes_on : (joined : Bool) (first n : ℕ) (front : List (List ℕ)) (p 
 unfolding texts_of
 line_goes_on joined first n front p part ps e = rw e (joined_front first n front part (texts_of joined (n + 1) ps))
 
-cases_part : (o : Option (List ℕ)) → (o ≡ None) ⊎ ((part : List ℕ) × (o ≡ Some part))
+pub cases_part : (o : Option (List ℕ)) → (o ≡ None) ⊎ ((part : List ℕ) × (o ≡ Some part))
 cases_part None = inl refl
 cases_part (Some part) = inr (part, refl)
 

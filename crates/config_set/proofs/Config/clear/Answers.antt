@@ -2,10 +2,11 @@ use Rattle.std.proofs.Common.{rules, ◌≡◌, ◌+◌, ◌-◌, ◌≤◌, Non
 use Rattle.std.specs.Prelude.{count_by, is_some}
 use Rattle.std.specs.FinSet as set
 use Rattle.std.specs.Vec.{vec_capacity}
+use Rattle.tm_bits.proofs.SetsLemmas.{items_after}
 use Rattle.hierarchy.specs.Shape.{crosses_of, tables_of}
 use Rattle.config_set.specs.Configuration.{IsConfiguration}
 use Rattle.config_set.specs.Kept.{set_of, AreMarked, AreListed}
-use Rattle.config_set.proofs.Members.{AreMarked-none, AreListed-none, none_on, all_within, items_after, len-set_of}
+use Rattle.config_set.proofs.Members.{AreMarked-none, AreListed-none, none_on, all_within, len-set_of}
 use Rattle.config_set.proofs.Changes.{IsConfiguration-cleared}
 use Rattle.config_set.proofs.Config.clear.Goals as goal
 

@@ -16,15 +16,15 @@ ticks_of-requires-clause-few c =
     tables_few m c.args.defects.now.list c.args.network.now c.args.plan.now c.args.nets.now c.args.ports.now c.args.visits.now laws c.requires.network c.requires.plan c.requires.laid
     (subst (λ s. tables_of s ≤ 4096) c.shape-shape.ensures.shape c.counts_are_few.ensures.tables)
 
-pub joined-requires-clause-few : goal.joined-requires-clause-few
-joined-requires-clause-few c =
+pub join_nets-requires-clause-few : goal.join_nets-requires-clause-few
+join_nets-requires-clause-few c =
     let m = c.args.defects.now.shape in
     let laws = numbering c.the_numbering_is_sound.ensures.numbered c.the_numbering_is_sound.ensures.tree c.the_numbering_is_sound.ensures.parents c.the_numbering_is_sound.ensures.meanings c.the_crosspoints_are_sound.ensures.taps c.the_crosspoints_are_sound.ensures.crosses c.ports_and_lines_ascend.ensures m in
     nets_few m c.args.defects.now.list c.args.network.now c.args.plan.now c.args.nets.now c.args.ports.now c.args.visits.now laws c.requires.network c.requires.plan c.requires.laid
     (subst (λ s. tables_of s ≤ 4096) c.shape-shape.ensures.shape c.counts_are_few.ensures.tables) (subst (λ s. pins_of s ≤ 16384) c.shape-shape.ensures.shape c.counts_are_few.ensures.pins)
 
-pub joined-requires-clause-wires : goal.joined-requires-clause-wires
-joined-requires-clause-wires c =
+pub join_nets-requires-clause-wires : goal.join_nets-requires-clause-wires
+join_nets-requires-clause-wires c =
     let m = c.args.defects.now.shape in
     let laws = numbering c.the_numbering_is_sound.ensures.numbered c.the_numbering_is_sound.ensures.tree c.the_numbering_is_sound.ensures.parents c.the_numbering_is_sound.ensures.meanings c.the_crosspoints_are_sound.ensures.taps c.the_crosspoints_are_sound.ensures.crosses c.ports_and_lines_ascend.ensures m in
     subst (λ s. AreWiresOf s c.args.nets.now c.args.ports.now c.args.visits.now) (sym c.shape-shape.ensures.shape) (wires_are m c.args.defects.now.list c.args.network.now c.args.plan.now c.args.nets.now c.args.ports.now c.args.visits.now laws c.requires.network c.requires.plan c.requires.laid)

@@ -5,7 +5,7 @@ use Rattle.cycle_sim.specs.Gates.{level_at, ticked}
 use Rattle.cycle_sim.specs.Events.{IsStill}
 use Rattle.cycle_sim.proofs.Pulling.{plain}
 use Rattle.cycle_sim.proofs.Queueing.{count_within}
-use Rattle.cycle_sim.proofs.Twins.{beq_same}
+use Rattle.tm_bits.proofs.SetsLemmas.{same_bits}
 use Rattle.cycle_sim.proofs.Eventing.{due_still, due_flips, flips_more, still_if}
 use Rattle.cycle_sim.proofs.events.evaluate.Goals as goal
 
@@ -17,7 +17,7 @@ due-preserved-then-gate-gates c =
     let place = c.place_at-place.result in
     let x : Gate = get_or gates place plain in
     let within : place < length gates = (let w = c.place_at-place.ensures.within in omega (arith, w, c.requires.marks)) in
-    let same : (ticked f level x).output ≡ x.output = sym (ap (λ (y : Gate). y.output) c.ticked-gate.ensures) ∙ beq_same _ _ c.if-gate-gates.true in
+    let same : (ticked f level x).output ≡ x.output = sym (ap (λ (y : Gate). y.output) c.ticked-gate.ensures) ∙ same_bits _ _ c.if-gate-gates.true in
     record {
       len = c.due.invariant.len;
       few = (let h = c.due.invariant.few in omega (arith, h));

@@ -4,7 +4,7 @@ use Rattle.std.proofs.lemmas.List.{length-replicate}
 use Rattle.hierarchy.specs.Shape.{wires_of, crosses_of, tables_of, nodes_of}
 use Rattle.defect_db.specs.Kept.{AreRight, AreRecounted, marked}
 use Rattle.defect_db.specs.Lists.{DefectList}
-use Rattle.defect_db.proofs.Marks.{items_after}
+use Rattle.tm_bits.proofs.SetsLemmas.{items_after}
 use Rattle.defect_db.proofs.Nothing.{empty_right, empty_listed}
 use Rattle.defect_db.proofs.kept.nothing.Goals as goal
 

@@ -3,7 +3,7 @@ use Rattle.std.specs.Prelude.{◌==◌}
 use Rattle.std.specs.Vec.{with_items}
 use Rattle.hierarchy.specs.Shape.{ends_of, node_of_cross}
 use Rattle.defect_db.specs.Kept.{AreRight, listed_by, marks_in, count_at}
-use Rattle.defect_db.proofs.Marks.{items_after}
+use Rattle.tm_bits.proofs.SetsLemmas.{items_after}
 use Rattle.defect_db.proofs.Putting.{cross_as_it_is, cross_right, cross_listed, few_shut, few_crosses, some_open}
 use Rattle.defect_db.proofs.kept.put_cross.Goals as goal
 use Rattle.defect_db.proofs.kept.put_cross.Goals.{After-insert-2}

@@ -3,7 +3,7 @@ use Rattle.std.specs.Vec.{with_items}
 use Rattle.hierarchy.specs.Shape.{node_of}
 use Rattle.defect_db.specs.Kept.{AreRight, marks_in, listed_by, free_pins_in, IsRecounted, IsItOrAbove}
 use Rattle.defect_db.specs.Lists.{IsWithWire}
-use Rattle.defect_db.proofs.Marks.{items_after}
+use Rattle.tm_bits.proofs.SetsLemmas.{items_after}
 use Rattle.defect_db.proofs.PuttingWires.{wire_as_it_is, owner_read, owner_low, owner_free, wire_right, wire_listed}
 use Rattle.defect_db.proofs.kept.put_wire.Goals as goal
 

@@ -1,5 +1,6 @@
 use Rattle.std.proofs.Common.{◌∙◌, sym}
-use Rattle.fault_model.proofs.Keeping.{contains_is, pairs_total}
+use Rattle.hierarchy.proofs.Pairs.{pairs_total}
+use Rattle.fault_model.proofs.Keeping.{contains_is}
 use Rattle.fault_model.proofs.entries.is_in.Goals as goal
 
 pub returns : goal.returns

@@ -1,4 +1,5 @@
-use Rattle.fault_model.proofs.Keeping.{one_put, pairs_total, pairs_exact}
+use Rattle.hierarchy.proofs.Pairs.{pairs_total, pairs_exact}
+use Rattle.fault_model.proofs.Keeping.{one_put}
 use Rattle.fault_model.proofs.entries.put_cell.Goals as goal
 
 pub returns-clause-ok : goal.returns-clause-ok

@@ -1,4 +1,5 @@
-use Rattle.fault_model.proofs.Keeping.{one_added, pairs_total, pairs_exact}
+use Rattle.hierarchy.proofs.Pairs.{pairs_total, pairs_exact}
+use Rattle.fault_model.proofs.Keeping.{one_added}
 use Rattle.fault_model.proofs.entries.put_pair.Goals as goal
 
 pub returns-clause-ok : goal.returns-clause-ok

@@ -16,3 +16,6 @@ test_table-requires-clause-seat g c = let s = rw c.in-Some.is at c.in-Ok.ensures
 
 pub returns-clause-table : goal.returns-clause-table
 returns-clause-table g c = on_ok_weaker c.test_table.result (λ table. let s = rw c.in-Some.is at c.in-Ok.ensures.seat in kept_over s.1 table) c.test_table.ensures.table
+
+pub returns-clause-stands : goal.returns-clause-stands
+returns-clause-stands g c = on_ok_weaker c.test_table.result (λ table. c.in-Ok.ensures.stands) c.test_table.ensures.table

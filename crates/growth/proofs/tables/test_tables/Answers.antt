@@ -1,17 +1,24 @@
 use Rattle.std.proofs.Common.{◌∙◌, get_or, refl, sym, arith}
 use Rattle.evidence.proofs.Keeping.{advances_itself, advances_then}
 use Rattle.growth.proofs.Later.{known_later}
-use Rattle.growth.proofs.Testing.{tested_first, tested_next, tested_all, table_at, links_same, only_none, only_then, table_below}
+use Rattle.growth.proofs.Testing.{tested_first, tested_next, tested_all, table_at, links_same, only_none, only_then, table_below, without_at, without_later}
 use Rattle.growth.proofs.tables.test_tables.Goals as goal
 
 pub returns-in_default-clause-only : goal.returns-in_default-clause-only
 returns-in_default-clause-only g c = only_none
+
+pub without_of-requires-clause-links : goal.without_of-requires-clause-links
+without_of-requires-clause-links g c = links_same (sym c.requires.known.shape ∙ sym c.shape.ensures) c.in-Ok.ensures
+
+pub returns-in_default-without_of-clause-only : goal.returns-in_default-without_of-clause-only
+returns-in_default-without_of-clause-only g c = only_none
 
 pub tables-init : goal.tables-init
 tables-init g c = record {
   advances = advances_itself _ c.args.proof.now;
   only = only_none;
   tested = tested_first;
+  without = without_at (sym c.in-Ok-without_of.ensures.hextant) c.in-Ok-without_of.ensures.stands;
   loads = omega arith;
 }
 
@@ -37,6 +44,7 @@ tables-preserved g c =
       advances = advances_then old.advances new.advances;
       only = only_then old.only new.only;
       tested = tested_next old.advances old.only new.advances.more (table_at c.args.tables.now c.tables.i (get_or c.args.tables.now c.tables.i (record { 0 = 0 })) (record { 0 = 0 }) c.tables-test.true refl) old.tested c.in_ok-test_seated.ensures.table;
+      without = without_later new.advances.more new.only c.in_ok-test_seated.ensures.stands;
       loads = omega (arith, loads, was);
     }
 

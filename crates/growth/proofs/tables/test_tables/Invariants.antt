@@ -1,6 +1,7 @@
 use Rattle.std.proofs.Common.{◌≤◌, ◌+◌, ◌*◌}
 use Rattle.evidence.specs.Kept.{Advances}
 use Rattle.table_test.specs.Seats.{AddsOnlyTableFacts}
+use Rattle.growth.specs.Seating.{AreAllWithout}
 use Rattle.growth.proofs.Testing.{AreTested}
 use Rattle.growth.proofs.tables.test_tables.Given as goal
 
@@ -12,5 +13,6 @@ invariant-tables g l =
       advances : Advances rig0 rig l.fn.proof l.proof;
       only : AddsOnlyTableFacts l.fn.proof l.proof;
       tested : AreTested rig0.machine.faults l.fn.proof l.proof l.known.steps l.tables l.i;
+      without : AreAllWithout l.proof l.known.steps l.without.hextant.0 l.without.known;
       loads : rig.loads ≤ rig0.loads + 130 * l.i;
     }

@@ -1,5 +1,5 @@
 use Rattle.std.proofs.Common.{◌<◌, length}
-use Rattle.loader.proofs.Vectors.{All-right}
+use Rattle.hierarchy.proofs.Halves.{All-right}
 use Rattle.loader.proofs.run.Run.row.Goals as goal
 
 pub read_pins-requires-clause-below : goal.read_pins-requires-clause-below

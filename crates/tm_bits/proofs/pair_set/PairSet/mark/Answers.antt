@@ -7,7 +7,7 @@ use Rattle.tm_bits.proofs.pair_set.PairSet.mark.Goals as goal
 pub put-requires : goal.put-requires
 put-requires c =
     let n : c.self.inside.n ≡ c.args.self.now.n = ap (λ s. s.n) c.self.view_is in
-    omega (arith, place_inside c.self.inside.n c.args.a c.args.b (omega arith) (omega arith) c.requires.differ)
+    omega (arith, place_inside c.self.inside.n c.args.a c.args.b (omega arith) (omega arith))
 
 pub returns-clause-pairs : goal.returns-clause-pairs
 returns-clause-pairs c = λ x y.

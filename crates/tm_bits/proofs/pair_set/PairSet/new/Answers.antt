@@ -1,7 +1,13 @@
-use Rattle.std.proofs.Common.{◌∙◌, ap}
+use Rattle.std.proofs.Common.{◌∙◌, ap, arith}
 use Rattle.tm_bits.specs.Pairs.{has_pair}
-use Rattle.tm_bits.proofs.PairsLemmas.{none_is_empty}
+use Rattle.tm_bits.proofs.PairsLemmas.{rows_fit, none_is_empty}
 use Rattle.tm_bits.proofs.pair_set.PairSet.new.Goals as goal
 
+pub overflow_mul-words_of : goal.overflow_mul-words_of
+overflow_mul-words_of c = omega (arith, rows_fit c.words_of.result c.from.result (omega arith) (omega arith))
+
+pub overflow_mul-words_of-2 : goal.overflow_mul-words_of-2
+overflow_mul-words_of-2 c = omega (arith, rows_fit c.words_of.result c.from.result (omega arith) (omega arith))
+
 pub returns-clause-empty : goal.returns-clause-empty
-returns-clause-empty c = λ a b. ap (λ marks. has_pair (record { n = c.args.n; marks = marks }) a b) c.in_ok-bits.ensures ∙ none_is_empty c.args.n c.pairs_below.result a b
+returns-clause-empty c = λ a b. ap (λ marks. has_pair (record { n = c.args.n; marks = marks }) a b) c.in_ok-bits.ensures ∙ none_is_empty c.args.n _ a b

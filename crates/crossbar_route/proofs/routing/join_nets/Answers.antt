@@ -2,7 +2,7 @@ use Rattle.std.proofs.Common.{◌*◌, ℕ, List, Option, subst}
 use Rattle.hierarchy.specs.Shape.{wires_of}
 use Rattle.config_set.specs.Configuration.{Configuration}
 use Rattle.crossbar_route.specs.Closing.{Closes, IsOwnedJoint}
-use Rattle.crossbar_route.proofs.routing.joined.Goals as goal
+use Rattle.crossbar_route.proofs.routing.join_nets.Goals as goal
 
 pub join_all-requires-clause-lines : goal.join_all-requires-clause-lines
 join_all-requires-clause-lines c = λ n k w e. c.requires.wires.lines_are n k w (c.in_ok-lines.ensures.only n k w e)
