@@ -4,7 +4,8 @@ use Rattle.tm_outside.specs.Told.{IfTold}
 use Rattle.tm_outside.specs.Sink.{Wrote}
 use Rattle.hierarchy.specs.declared.Shape.{Shape}
 use Rattle.hierarchy.specs.Faults.{Faults, IsFaultless}
-use Rattle.hierarchy.specs.Defects.{Covers, IsFair}
+use Rattle.hierarchy.specs.Defects.{Covers}
+use Rattle.hierarchy.specs.Tight.{IsTight}
 use Rattle.config_image.specs.Images.{ImageValue}
 use Rattle.config_image.specs.Parts.{IsWideEnough}
 use Rattle.self_test.specs.Soundly.{TakesForParts}
@@ -69,7 +70,7 @@ module _ (files : List (List ℕ)) (old new : Outside) (i : ImageValue) where
           found = listed t l tried is list.1 said.1.by_list line.1;
           right = λ f told. said.1.right f
               (subst (λ (m : Shape). Covers m l.list.list f) (sym of_shape) (list.1.right.covers f told))
-              (subst (λ (m : Shape). IsFair m l.list.list f) (sym of_shape) (list.1.right.fair f told));
+              (subst (λ (m : Shape). IsTight m l.list.list f) (sym of_shape) (list.1.right.tight f told));
           whole = λ f told none wide. never-listed f is told none wide;
         }
 

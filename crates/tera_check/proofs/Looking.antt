@@ -8,9 +8,12 @@ use Rattle.hierarchy.specs.declared.Shape.{Shape}
 use Rattle.hierarchy.specs.declared.Wire.{Wire}
 use Rattle.hierarchy.specs.declared.Cross.{Cross}
 use Rattle.hierarchy.specs.declared.Table.{Table}
-use Rattle.hierarchy.specs.Shape.{wires_of, crosses_of, tables_of}
+use Rattle.hierarchy.specs.Shape.{wires_of, crosses_of, tables_of, ends_of}
 use Rattle.hierarchy.specs.Faults.{Faults}
 use Rattle.hierarchy.specs.Defects.{Defects, IsFreeWire, IsFreeCross, IsFreeTable, Covers, IsFair}
+use Rattle.hierarchy.specs.Sound.{IsSoundCross, IsSoundTable}
+use Rattle.hierarchy.specs.Standing.{IsSeated, IsSoundCrossOf, IsStanding}
+use Rattle.hierarchy.specs.Tight.{IsTight}
 use Rattle.defect_db.specs.Lists.{DefectList}
 use Rattle.config_set.specs.declared.Setting.{Setting}
 use Rattle.config_set.specs.Configuration.{is_closed, setting_of}
@@ -41,9 +44,19 @@ on-within tables t on = by (cases_lt t (length tables))
 abbrev pub FreeRunSoundly : Type 0
 FreeRunSoundly = (d : Defects) (f : Faults) (i : ImageValue) → IsImage i → IsFreeImage d i → Covers i.config.shape d f → RunsSoundly f i
 
-module _ (d : DefectList) (i : ImageValue) (shape : d.shape ≡ i.config.shape) where
-  fair-too : (f : Faults) → IsFair d.shape d.list f → IsFair i.config.shape d.list f
-  fair-too f fair = subst (λ (m : Shape). IsFair m d.list f) shape fair
+-- what tight lists leave free
+pub record TightLaws : Type 0 where
+  pub wires : (m : Shape) (d : Defects) (f : Faults) → IsTight m d f → (w : ℕ) → IsStanding m f w → IsFreeWire d w
+  pub between : (m : Shape) (d : Defects) (f : Faults) → IsTight m d f → (x : ℕ) → x < crosses_of m → IsSoundCross m f x → IsStanding m f (ends_of m x).0 → IsStanding m f (ends_of m x).1 → IsFreeCross m d x
+  pub tables : (m : Shape) (d : Defects) (f : Faults) → IsTight m d f → (t : ℕ) → t < tables_of m → IsSoundTable m f t → IsSeated m (IsStanding m f) (IsSoundCrossOf m f) t → IsFreeTable m d t
+  pub fair : (m : Shape) (d : Defects) (f : Faults) → IsTight m d f → IsFair m d f
+
+module _ (laws : TightLaws) (d : DefectList) (i : ImageValue) (shape : d.shape ≡ i.config.shape) where
+  tight-too : (f : Faults) → IsTight d.shape d.list f → IsTight i.config.shape d.list f
+  tight-too f tight = subst (λ (m : Shape). IsTight m d.list f) shape tight
+
+  fair-too : (f : Faults) → IsTight d.shape d.list f → IsFair i.config.shape d.list f
+  fair-too f tight = laws.fair i.config.shape d.list f (tight-too f tight)
 
   within-too : (size : Shape → ℕ) (n : ℕ) → n < size d.shape → n < size i.config.shape
   within-too size n l = subst (λ (m : Shape). n < size m) shape l
@@ -53,7 +66,10 @@ module _ (d : DefectList) (i : ImageValue) (shape : d.shape ≡ i.config.shape) 
     pub wire-answer : (w : Wire) → w.0 < wires_of d.shape → IsFirstOf (λ u. has_number used u ≡ true) (IsFreeWire d.list) w.0 → IsAnswer d i (answer.Wire w)
     wire-answer w within first =
         let of_image : IsFirstOf (Uses i) (IsFreeWire d.list) w.0 = record { itself = are.only w.0 first.itself; not_free = first.not_free; before = λ u l uses. first.before u l (are.all u uses) } in
-        record { by_list = of_image; right = λ f covers fair both. first.not_free ((fair-too f fair).wires w.0 (within-too wires_of w.0 within) both.1 both.0 both.2) }
+        record { by_list = of_image; right = λ f covers tight. record {
+          not_standing = λ stands. first.not_free (laws.wires i.config.shape d.list f (tight-too f tight) w.0 stands);
+          not_served = λ all. first.not_free ((fair-too f tight).wires w.0 (within-too wires_of w.0 within) all.1 all.0 all.2);
+        } }
 
     pub wires-free : ((u : ℕ) → u < wires_of d.shape → has_number used u ≡ true → IsFreeWire d.list u) → WiresAreFree d.list i
     wires-free none u uses =
@@ -68,11 +84,14 @@ module _ (d : DefectList) (i : ImageValue) (shape : d.shape ≡ i.config.shape) 
         let here = subst (λ (m : Shape). IsFirstOf (λ y. is_closed i.config y ≡ true) (IsFreeCross m d.list) x.0) shape first in
         record {
           by_list = (wires, here);
-          right = λ f covers fair both. here.not_free (record {
-            itself = (fair-too f fair).crosses x.0 (within-too crosses_of x.0 within) both.1 both.0;
-            tap = wires _ (at_tap x.0 here.itself refl);
-            line = wires _ (at_line x.0 here.itself refl);
-          });
+          right = λ f covers tight. record {
+            not_standing = λ all. here.not_free (laws.between i.config.shape d.list f (tight-too f tight) x.0 (within-too crosses_of x.0 within) all.0 all.1 all.2);
+            not_served = λ both. here.not_free (record {
+              itself = (fair-too f tight).crosses x.0 (within-too crosses_of x.0 within) both.1 both.0;
+              tap = wires _ (at_tap x.0 here.itself refl);
+              line = wires _ (at_line x.0 here.itself refl);
+            });
+          };
         }
 
     pub crosses-free : ((y : ℕ) → y < crosses_of d.shape → is_closed i.config y ≡ true → IsFreeCross d.shape d.list y) → CrossesAreFree d.list i
@@ -87,10 +106,13 @@ module _ (d : DefectList) (i : ImageValue) (shape : d.shape ≡ i.config.shape) 
           let here = subst (λ (m : Shape). IsFirstOf (λ u. IsSome (setting_of i.config u)) (IsFreeTable m d.list) t.0) shape first in
           record {
             by_list = (wires, crosses, here);
-            right = λ f covers fair both. here.not_free (record {
-              itself = (fair-too f fair).tables t.0 (within-too tables_of t.0 within) both.1 both.0;
-              pins = λ k l. wires _ (at_table t.0 k here.itself l refl);
-            });
+            right = λ f covers tight. record {
+              not_standing = λ both. here.not_free (laws.tables i.config.shape d.list f (tight-too f tight) t.0 (within-too tables_of t.0 within) both.0 both.1);
+              not_served = λ both. here.not_free (record {
+                itself = (fair-too f tight).tables t.0 (within-too tables_of t.0 within) both.1 both.0;
+                pins = λ k l. wires _ (at_table t.0 k here.itself l refl);
+              });
+            };
           }
 
       -- or none isn't free
@@ -103,4 +125,4 @@ module _ (d : DefectList) (i : ImageValue) (shape : d.shape ≡ i.config.shape) 
                 subst (λ (m : Shape). IsFreeTable m d.list t) shape (none t (subst (λ (m : Shape). t < tables_of m) (sym shape) within) on);
             pins = λ k e l. wires _ (at_pin (get_or (i.inputs ++ i.outputs) k e) (Contains-get_or (i.inputs ++ i.outputs) k e l) refl);
           } in
-          record { by_list = free; right = λ f covers fair. law d.list f i image free (subst (λ (m : Shape). Covers m d.list f) shape covers) }
+          record { by_list = free; right = λ f covers tight. law d.list f i image free (subst (λ (m : Shape). Covers m d.list f) shape covers) }

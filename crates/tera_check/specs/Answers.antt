@@ -5,7 +5,9 @@ use Rattle.hierarchy.specs.Shape.{wires_of, crosses_of, tables_of, ends_of, node
 use Rattle.hierarchy.specs.Names.{wire_name, table_name}
 use Rattle.hierarchy.specs.Faults.{Faults}
 use Rattle.hierarchy.specs.Sound.{IsSoundWire, IsSoundCross, IsSoundTable, IsServed}
-use Rattle.hierarchy.specs.Defects.{Defects, IsFreeWire, IsFreeCross, IsFreeTable, Covers, IsFair, IsOfUse}
+use Rattle.hierarchy.specs.Defects.{Defects, IsFreeWire, IsFreeCross, IsFreeTable, Covers, IsOfUse}
+use Rattle.hierarchy.specs.Standing.{IsSeated, IsSoundCrossOf, IsStanding}
+use Rattle.hierarchy.specs.Tight.{IsTight}
 use Rattle.defect_db.specs.Lists.{DefectList}
 use Rattle.config_set.specs.Configuration.{is_closed, setting_of}
 use Rattle.config_image.specs.Images.{ImageValue}
@@ -45,19 +47,32 @@ IsByList d i (Table t) = WiresAreFree d i × CrossesAreFree d i
 
 -- ---- what it is worth
 
--- Under these faults the image runs soundly; or the part that is named isn't sound, or is of a node that isn't served, or is a line with
--- fewer than two sound crosspoints
+-- the wire doesn't stand, and isn't a sound one of use of a served node
+pub record IsDoubtfulWire (m : Shape) (f : Faults) (w : ℕ) : Type 0 where
+  pub not_standing : ¬ IsStanding m f w
+  pub not_served : ¬ (IsSoundWire m f w × IsServed m f (node_of m w) × IsOfUse m f w)
+
+-- the crosspoint isn't a sound one between standing wires, nor of a served node
+pub record IsDoubtfulCross (m : Shape) (f : Faults) (x : ℕ) : Type 0 where
+  pub not_standing : ¬ (IsSoundCross m f x × IsStanding m f (ends_of m x).0 × IsStanding m f (ends_of m x).1)
+  pub not_served : ¬ (IsSoundCross m f x × IsServed m f (node_of_cross m x))
+
+-- the table isn't a sound one that is seated among standing wires, nor of a served node
+pub record IsDoubtfulTable (m : Shape) (f : Faults) (t : ℕ) : Type 0 where
+  pub not_standing : ¬ (IsSoundTable m f t × IsSeated m (IsStanding m f) (IsSoundCrossOf m f) t)
+  pub not_served : ¬ (IsSoundTable m f t × IsServed m f (hextant_of m t))
+
+-- Under these faults the image runs soundly; or the part that is named isn't sound, or is out of reach
 abbrev pub IsTrueUnder : Faults → ImageValue → Answer → Type 0
 IsTrueUnder f i Sound = RunsSoundly f i
-IsTrueUnder f i (Wire w) =
-    ¬ (IsSoundWire i.config.shape f w.0 × IsServed i.config.shape f (node_of i.config.shape w.0) × IsOfUse i.config.shape f w.0)
-IsTrueUnder f i (Cross x) = ¬ (IsSoundCross i.config.shape f x.0 × IsServed i.config.shape f (node_of_cross i.config.shape x.0))
-IsTrueUnder f i (Table t) = ¬ (IsSoundTable i.config.shape f t.0 × IsServed i.config.shape f (hextant_of i.config.shape t.0))
+IsTrueUnder f i (Wire w) = IsDoubtfulWire i.config.shape f w.0
+IsTrueUnder f i (Cross x) = IsDoubtfulCross i.config.shape f x.0
+IsTrueUnder f i (Table t) = IsDoubtfulTable i.config.shape f t.0
 
--- The list says so, and it is true under all faults that the list covers and is fair to
+-- The list says so, and it is true under all faults that the list covers and is tight to
 pub record IsAnswer (d : DefectList) (i : ImageValue) (a : Answer) : Type 0 where
   pub by_list : IsByList d.list i a
-  pub right : (f : Faults) → Covers d.shape d.list f → IsFair d.shape d.list f → IsTrueUnder f i a
+  pub right : (f : Faults) → Covers d.shape d.list f → IsTight d.shape d.list f → IsTrueUnder f i a
 
 -- ---- the line
 

@@ -10,7 +10,7 @@ use crate::answer::Answer;
 use config_image::Image;
 use config_set::Config;
 use defect_db::Defects;
-use hierarchy::{Cross, Table, Wire};
+use hierarchy::{Cross, Table, Wire, tight_lists_are_fair};
 use self_test::{free_images_run_soundly, used_wires};
 use std::alloc::{AllocError, Global};
 use tm_bits::BitSet;
@@ -60,8 +60,10 @@ fn cross_in_doubt(list: &Defects, config: &Config, cross: Cross) -> bool
 fn first_cross(list: &Defects, config: &Config) -> Option<Cross>
     requires { list.now.shape ≡ config.now.config.shape }
     ensures within { IfSome result (λ x. x.0 < crosses_of list.now.shape) }
-    ensures first { IfSome result (λ x. IsFirstOf (λ y. is_closed config.now.config y ≡ true) (IsFreeCross list.now.shape list.now.list) x.0) }
-    ensures none { IfNone result ((y : ℕ) → y < crosses_of list.now.shape → is_closed config.now.config y ≡ true → IsFreeCross list.now.shape list.now.list y) }
+    ensures first { IfSome result
+        (λ x. IsFirstOf (λ y. is_closed config.now.config y ≡ true) (IsFreeCross list.now.shape list.now.list) x.0) }
+    ensures none { IfNone result ((y : ℕ) → y < crosses_of list.now.shape → is_closed config.now.config y ≡ true →
+        IsFreeCross list.now.shape list.now.list y) }
 {
     'crosses: for x in 0..list.shape().crosses() {
         if cross_in_doubt(list, config, Cross(x)) {
@@ -88,8 +90,10 @@ fn table_in_doubt(list: &Defects, config: &Config, table: Table) -> bool
 fn first_table(list: &Defects, config: &Config) -> Option<Table>
     requires { list.now.shape ≡ config.now.config.shape }
     ensures within { IfSome result (λ t. t.0 < tables_of list.now.shape) }
-    ensures first { IfSome result (λ t. IsFirstOf (λ u. IsSome (setting_of config.now.config u)) (IsFreeTable list.now.shape list.now.list) t.0) }
-    ensures none { IfNone result ((u : ℕ) → u < tables_of list.now.shape → IsSome (setting_of config.now.config u) → IsFreeTable list.now.shape list.now.list u) }
+    ensures first { IfSome result
+        (λ t. IsFirstOf (λ u. IsSome (setting_of config.now.config u)) (IsFreeTable list.now.shape list.now.list) t.0) }
+    ensures none { IfNone result ((u : ℕ) → u < tables_of list.now.shape → IsSome (setting_of config.now.config u) →
+        IsFreeTable list.now.shape list.now.list u) }
 {
     'tables: for t in 0..list.shape().tables() {
         if table_in_doubt(list, config, Table(t)) {
@@ -106,6 +110,7 @@ pub fn answer_of(alloc: Global, image: &Image, list: &Defects) -> Result<Answer,
     ensures answer { IfOk result (IsAnswer list.now image.now) }
 {
     free_images_run_soundly();
+    tight_lists_are_fair();
     let used = used_wires(alloc, image)?;
     let config = image.config();
     // Says that what is set is of the machine.

@@ -22,12 +22,7 @@ use steps::{Stop, attach, read_image_file, read_shape, write};
 use tm_outside::{Sink, Store};
 
 // Tests an image on the machine that is attached.
-fn test(
-    alloc: Global,
-    shape: &Shape,
-    image: &Image,
-    rig: &mut Box<dyn Rig>,
-) -> Result<bool, Stop>
+fn test(alloc: Global, shape: &Shape, image: &Image, rig: &mut Box<dyn Rig>) -> Result<bool, Stop>
     requires attached { shape_of (rig_state rig.old) ≡ Some shape.now }
     requires image { image.now.config.shape ≡ shape.now }
 

@@ -40,7 +40,8 @@ pub record IsRepairOf (d : DefectList) (old new : ImageValue) : Type 0 where
   pub repair : IsRepair d.list old new
   pub free : IsFreeImage d.list new
   pub rows : HasSameRows d.list old new
-  pub right : (f none : Faults) (draft : Draft) → Covers d.shape d.list f → IsFaultless none → IsRightImage none old draft → IsRightImage f new draft
+  pub right : (f none : Faults) (draft : Draft) → Covers d.shape d.list f → IsFaultless none → IsRightImage none old draft →
+      IsRightImage f new draft
 
 -- the repair plan of the image has room on the list
 pub record HasPlanRoom (d : DefectList) (i : ImageValue) : Type 0 where

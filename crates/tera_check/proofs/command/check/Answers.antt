@@ -4,7 +4,6 @@ use Rattle.steps.proofs.Making.{nothing}
 use Rattle.listing.proofs.ListedLemmas.{attached-shape}
 use Rattle.tera_check.proofs.CheckLaws.{check-lawful}
 use Rattle.tera_check.proofs.Following.{no-machine, unattached, no-image, judged}
-use Rattle.tera_check.proofs.Headlines.{checked}
 use Rattle.tera_check.proofs.command.check.Goals as goal
 
 pub returns-clause-lawful : goal.returns-clause-lawful
