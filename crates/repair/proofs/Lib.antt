@@ -1,1 +1,23 @@
 -- For the proofs of this crate.
+mod Grouping
+mod Hanging
+mod Marking
+mod Placed
+mod Sieving
+mod Numbering
+mod Sparing
+mod Pins
+mod Using
+mod Unbroken
+mod Placing
+mod Adding
+mod Taking
+mod Resting
+mod Redone
+mod Seating
+mod Pulled
+mod Alike
+mod Owning
+mod Redrawing
+mod Repaired
+mod Decided

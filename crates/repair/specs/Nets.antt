@@ -36,7 +36,8 @@ pub record AreNumbered (g : Configuration) (lowest : List ℕ) : Type 0 where
 pub record IsKept (d : Defects) (i : ImageValue) (lowest : List ℕ) (k : ℕ) : Type 0 where
   pub within : k < length lowest
   pub wires : (w : ℕ) → HasWire i.config lowest k w → IsFreeWire d w
-  pub crosses : (x : ℕ) → is_closed i.config x ≡ true → HasWire i.config lowest k (ends_of i.config.shape x).0 → IsFreeCross i.config.shape d x
+  pub crosses : (x : ℕ) → is_closed i.config x ≡ true → HasWire i.config lowest k (ends_of i.config.shape x).0 →
+      IsFreeCross i.config.shape d x
   pub pins : (p : ℕ) → Contains (i.inputs ++ i.outputs) p → HasWire i.config lowest k (pin_wire i.config.shape p) →
       IsFreeWire d (pin_wire i.config.shape p)
   pub tables : (t j : ℕ) → IsSome (setting_of i.config t) → j < 7 → HasWire i.config lowest k (table_wire i.config.shape t j) →

@@ -103,7 +103,8 @@ pub record AreMoves (d : Defects) (i : ImageValue) (lowest : List ℕ) (moves : 
 pub record IsRest (d : Defects) (i : ImageValue) (n : Nets) : Type 0 where
   pub wires : (w : ℕ) → IsFreeWire n.rest w ↔ (IsFreeWire d w × ¬ IsKeptWire i n w)
   pub crosses : (x : ℕ) → (set.contains n.rest.crosses x ≡ true)
-      ↔ ((set.contains d.crosses x ≡ true) × IsFreeWire n.rest (ends_of i.config.shape x).0 × IsFreeWire n.rest (ends_of i.config.shape x).1)
+      ↔ ((set.contains d.crosses x ≡ true) × IsFreeWire n.rest (ends_of i.config.shape x).0 ×
+      IsFreeWire n.rest (ends_of i.config.shape x).1)
   pub tables : n.rest.tables ≡ set.empty
 
 pub record AreNets (d : Defects) (i : ImageValue) (s : Seats) (n : Nets) : Type 0 where

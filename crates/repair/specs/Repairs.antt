@@ -18,7 +18,8 @@ use Rattle.repair.specs.Plans.{AreSeats, AreNets, HasRoom, IsShortPlan, IsStayin
 -- Under all faults that the list covers, the new image reads at its output pins what the old one reads without faults at its own, each
 -- with the vectors on its input pins and 1 on all others.
 abbrev pub HasSameRows : Defects → ImageValue → ImageValue → Type 0
-HasSameRows d old new = (f none : Faults) → Covers old.config.shape d f → IsFaultless none → (vectors : List (List Bool)) (reads others : List Pins) →
+HasSameRows d old new = (f none : Faults) → Covers old.config.shape d f → IsFaultless none →
+    (vectors : List (List Bool)) (reads others : List Pins) →
     IsRun f new.config (map (drive_of new) vectors) reads → IsRun none old.config (map (drive_of old) vectors) others →
     map (image_row new) reads ≡ map (image_row old) others
 
@@ -44,7 +45,8 @@ pub record IsPortAt (old new : ImageValue) (n : Nets) (node k : ℕ) : Type 0 wh
   pub port : ℕ
   pub is : HasPort old.config.shape n.rest (length n.lowest) (HasTerminal n.terminals) node k port
   pub joined : (w : ℕ) → HasTerminal n.terminals k w → HangTogether new.config w port
-  pub only : (w other : ℕ) → HasTerminal n.terminals k w → IsPort old.config.shape node other → HangTogether new.config w other → other ≡ port
+  pub only : (w other : ℕ) → HasTerminal n.terminals k w → IsPort old.config.shape node other → HangTogether new.config w other →
+      other ≡ port
 
 -- The repair plan of the old image has room, and the new image follows it: tables and pins stand where it says, each net that moves has
 -- its ports, and kept nets have all their closed crosspoints.
@@ -60,7 +62,8 @@ pub record IsRepair (d : Defects) (old new : ImageValue) : Type 0 where
   pub no_others : (u : ℕ) → IsSome (setting_of new.config u) → IsOfTable d old seats u
   pub inputs : ArePinsAt d old seats old.inputs new.inputs
   pub outputs : ArePinsAt d old seats old.outputs new.outputs
-  pub ports : (node k : ℕ) → CrossesAt old.config.shape (length nets.lowest) (HasTerminal nets.terminals) node k → IsPortAt old new nets node k
+  pub ports : (node k : ℕ) → CrossesAt old.config.shape (length nets.lowest) (HasTerminal nets.terminals) node k →
+      IsPortAt old new nets node k
   pub kept : (k x : ℕ) → IsStaying nets k → is_closed old.config x ≡ true →
       HasWire old.config nets.lowest k (ends_of old.config.shape x).0 → is_closed new.config x ≡ true
 

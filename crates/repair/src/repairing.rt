@@ -1,22 +1,131 @@
 //! Repairs an image.
-ghost use Rattle.std.specs.Prelude.{◌≡◌, ◌≤◌, IfOk, IfErr};
+ghost use Rattle.std.specs.Prelude.{◌≡◌, ◌≤◌, ◌<◌, [], IfOk, IfErr, length};
 ghost use Rattle.std.specs.FinSet as set;
 ghost use Rattle.config_image.specs.Parts.{IsFreeImage};
+ghost use Rattle.crossbar_route.specs.Routed.{AreWiresOf};
+ghost use Rattle.repair.specs.Making.{AreApart, ArePinsApart, AreSizedFor, IsRedrawn};
+ghost use Rattle.place.specs.Room.{IsMet};
+ghost use Rattle.repair.specs.Plans.{AreSeats, need_of};
 ghost use Rattle.repair.specs.Repairs.{HasSameRows, IsRepair, IsRepairFail};
 
+use crate::drawing::draw;
+use crate::plan::{Plan, plan_of};
+use crate::rest::rest_of;
+use crate::seats::{Seats, moved, need_of, seats_of};
+use crate::terminals::terminals_of;
 use config_image::Image;
 use defect_db::Defects;
-use place::PlaceFail;
-use std::alloc::Global;
+use hierarchy::Node;
+use place::{Need, PlaceFail, Port, Resource, Room, Short, Visit, look_for_room};
+use std::alloc::{AllocError, Global};
+use tm_items::Items;
+
+// That a resource of the root is short.
+fn short_of(alloc: Global, resource: Resource, need: Need) -> Short
+    ensures { result ≡ record { resource = resource; node = record { 0 = 0 }; need = need.need; have = need.have; nets = [] } }
+{
+    Short {
+        resource,
+        node: Node(0),
+        need: need.need,
+        have: need.have,
+        nets: Items::empty(alloc),
+    }
+}
+
+// The image that follows a plan and whose moving nets have these terminals, ports and lines.
+fn redraw(
+    alloc: Global,
+    image: &Image,
+    plan: &Plan,
+    nets: &[Items<u32>],
+    ports: &[Port],
+    visits: &[Visit],
+) -> Result<Image, AllocError>
+    requires few { set.len image.now.config.closed ≤ 1000000 }
+    requires plan { AreSizedFor image.now.config plan.now }
+    requires tables { AreApart image.now.config plan.now }
+    requires pins { ArePinsApart image.now plan.now }
+    requires nets { length nets.now < 4294967296 }
+    requires wires { AreWiresOf image.now.config.shape nets.now ports.now visits.now }
+    ensures { IfOk result (IsRedrawn image.now plan.now nets.now ports.now visits.now) }
+{
+    let old = image.config();
+    // Says that the machine has few wires.
+    let _wires = old.shape().wires();
+    let config = draw(alloc, old, plan, nets, ports, visits)?;
+    let inputs = moved(alloc, &plan.pins, image.inputs())?;
+    let outputs = moved(alloc, &plan.pins, image.outputs())?;
+    Ok(Image::new(config, inputs, outputs))
+}
+
+// The repair of an image where there are tables and pins for all that go.
+fn laid(alloc: Global, image: &Image, defects: &Defects, seats: &Seats) -> Result<Image, PlaceFail>
+    requires few { set.len image.now.config.closed ≤ 1000000 }
+    requires shape { defects.now.shape ≡ image.now.config.shape }
+    requires seats { AreSeats defects.now.list image.now seats.now }
+    requires tables { IsMet (need_of seats.now.tables) }
+    requires pins { IsMet (need_of seats.now.pins) }
+    ensures repair { IfOk result (IsRepair defects.now.list image.now) }
+    ensures free { IfOk result (IsFreeImage defects.now.list) }
+    ensures rows { IfOk result (HasSameRows defects.now.list image.now) }
+    ensures fail { IfErr result (IsRepairFail defects.now.list image.now) }
+{
+    hierarchy::the_numbering_is_sound();
+    hierarchy::the_crosspoints_are_sound();
+    hierarchy::ports_and_lines_ascend();
+    defect_db::the_tests_are_right();
+    // Say that what is set is of the machine, and that it has few wires.
+    let _config = image.config();
+    let _wires = defects.shape().wires();
+    let plan = plan_of(alloc, image, defects, seats)?;
+    let terminals = terminals_of(alloc, image, &plan)?;
+    let rest = rest_of(alloc, image, &plan, defects)?;
+    let room = look_for_room(
+        alloc,
+        &rest,
+        &terminals,
+        need_of(&seats.tables),
+        need_of(&seats.pins),
+    )?;
+    match room {
+        Room::Lacks(short) => Err(PlaceFail::Short(short)),
+        Room::Enough { ports, visits } => {
+            let repaired = redraw(alloc, image, &plan, &terminals, &ports, &visits)?;
+            Ok(repaired)
+        }
+    }
+}
 
 /// Repairs an image for a list of defects: what touches nothing listed stays, and the rest is laid anew on what is free.
-pub fn repair(_alloc: Global, _image: &Image, _defects: &Defects) -> Result<Image, PlaceFail>
-    requires few { set.len _image.now.config.closed ≤ 1000000 }
-    requires shape { _defects.now.shape ≡ _image.now.config.shape }
-    ensures repair { IfOk result (IsRepair _defects.now.list _image.now) }
-    ensures free { IfOk result (IsFreeImage _defects.now.list) }
-    ensures rows { IfOk result (HasSameRows _defects.now.list _image.now) }
-    ensures fail { IfErr result (IsRepairFail _defects.now.list _image.now) }
+///
+/// A switched-on table that isn't free goes: the k-th of them to the k-th free table that is off and has no used pin. So do pins, inputs
+/// before outputs, to free pins that aren't used. A net, that is a group of wires that closed crosspoints join, is kept where its wires and
+/// closed crosspoints are free and none of its tables and pins goes; all other nets are laid anew, on ports and lines that are free and
+/// that no kept net has. The j-th of them that crosses a node has the j-th of these ports there.
+///
+/// The new image has the rows of the old one under each fault set that the list covers, and touches only what is free.
+///
+/// # Errors
+///
+/// `Short` exactly where the plan hasn't room, with the first short resource: tables, pins, and then node by node ports, lines. The numbers
+/// of nets are by their lowest wires. `Memory` for want of memory.
+pub fn repair(alloc: Global, image: &Image, defects: &Defects) -> Result<Image, PlaceFail>
+    requires few { set.len image.now.config.closed ≤ 1000000 }
+    requires shape { defects.now.shape ≡ image.now.config.shape }
+    ensures repair { IfOk result (IsRepair defects.now.list image.now) }
+    ensures free { IfOk result (IsFreeImage defects.now.list) }
+    ensures rows { IfOk result (HasSameRows defects.now.list image.now) }
+    ensures fail { IfErr result (IsRepairFail defects.now.list image.now) }
 {
-    Err(PlaceFail::Memory)
+    let seats = seats_of(alloc, image, defects)?;
+    let tables = need_of(&seats.tables);
+    let pins = need_of(&seats.pins);
+    if tables.have < tables.need {
+        return Err(PlaceFail::Short(short_of(alloc, Resource::Tables, tables)));
+    }
+    if pins.have < pins.need {
+        return Err(PlaceFail::Short(short_of(alloc, Resource::Pins, pins)));
+    }
+    laid(alloc, image, defects, &seats)
 }

@@ -54,5 +54,5 @@ module _ (machine name image : List ℕ) (s0 s1 : StoreState) (a : SinkState) wh
       pub judged : {U : Type 0} (i : ImageValue) (r2 : RigState) (k : SinkState) (result : Result U Stop) → Took (image ∷ []) (reads_image (s1.contents image) m) (Ok i) (outside s1 r1 a) (outside s2 r1 a) → (StandsIn (image ∷ machine ∷ []) s0 s2 → Follows ⊥ [] (r2.machine ≡ r1.machine) (image_tested (image ∷ machine ∷ []) s0 s2 r2 r1.loads i) result (outside s2 r1 a) (outside s2 r2 k)) → done-to r0 result (outside s2 r2 k)
       judged i r2 k result took follows =
           let both = more-read (λ told. reads_image told m) image (machine ∷ []) s0 i (outside s1 r1 a) (outside s2 r1 a) first-read took in
-          let is : Follows ⊥ [] (r2.machine ≡ r1.machine) (image_tested (image ∷ machine ∷ []) s0 s2 r2 r0.loads i) result (outside s2 r1 a) (outside s2 r2 k) = rw loads at follows both.place in
+          let is = subst (λ n. Follows ⊥ [] (r2.machine ≡ r1.machine) (image_tested (image ∷ machine ∷ []) s0 s2 r2 n i) result (outside s2 r1 a) (outside s2 r2 k)) loads (follows both.place) in
           then-image r2 k result (read-gives (λ told. reads_image told m) image (machine ∷ []) s0 (unloaded (image ∷ machine ∷ []) r0 s2 r2) (image_tested (image ∷ machine ∷ []) s0 s2 r2 r0.loads) [] (r2.machine ≡ r1.machine) (r2.machine ≡ r1.machine) i result (outside s1 r1 a) (outside s2 r1 a) (outside s2 r2 k) first-read took is is.machines)

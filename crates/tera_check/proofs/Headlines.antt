@@ -9,8 +9,7 @@ use Rattle.config_image.specs.Images.{ImageValue}
 use Rattle.config_image.specs.Parts.{IsWideEnough}
 use Rattle.self_test.specs.Soundly.{TakesForParts}
 use Rattle.steps.specs.Outside.{Outside, around}
-use Rattle.steps.specs.Courses.{ends}
-use Rattle.steps.proofs.AtEnd.{after-ends, write-ends}
+use Rattle.steps.specs.Courses.{Course, Step, after, ends}
 use Rattle.listing.specs.Lists.{Listed, IsListed, lists}
 use Rattle.tera_check.specs.Answers.{IsAnswer, IsTrueUnder, answer_line}
 use Rattle.tera_check.specs.Testing.{Tried, IsTried}
@@ -18,6 +17,11 @@ use Rattle.tera_check.specs.Check.{StandsLoaded, answers, answer_written, image_
 use Rattle.tera_check.specs.Headline.{IsFound, tested, listed, IsChecked}
 use Rattle.tera_check.specs.declared.answer.Answer.{Answer}
 use Rattle.tera_check.specs.declared.answer.Answer.TheVariants.{Sound}
+
+-- at the end a step gave something
+after-ends : {T : Type 0} (step : Step T) (here : Type 0) (rest : T → Course) (text : List ℕ) → after step here rest text ends → (x : T) × step.gives x × rest x text ends
+after-ends step here rest text (inl h) = absurd h.1
+after-ends step here rest text (inr h) = h
 
 -- an image was judged: the text is the line of an answer
 pub record IsJudged (i : ImageValue) (before : ℕ) (new : Outside) (text : List ℕ) : Type 0 where

@@ -36,8 +36,8 @@ tried-on : (i : ImageValue) (before : ℕ) (mid new : RigState) (t : Tried) → 
 tried-on i before mid new t is machine = record { sound = rw machine is.sound; whole = rw machine is.whole; few = is.few }
 
 module _ (i : ImageValue) (old new : RigState) (store : StoreState) (sink : SinkState) (machine : new.machine ≡ old.machine) (later : old.failures ≤ new.failures) (few : TakesForParts i old.loads new.loads) where
-  pub test-took : (yes : Bool) → SoundIf old.machine.faults i yes → YesIf old.machine.faults i yes → Took [] (tests_now i old new) (Ok yes) (outside store old sink) (outside store new sink)
-  test-took yes sound whole = rig-took (tests_now i old new) old new store sink machine later yes (record { sound = rw machine sound; whole = rw machine whole; few = few })
+  pub test-took : (found : Bool) → SoundIf old.machine.faults i found → YesIf old.machine.faults i found → Took [] (tests_now i old new) (Ok found) (outside store old sink) (outside store new sink)
+  test-took found sound whole = rig-took (tests_now i old new) old new store sink machine later found (record { sound = rw machine sound; whole = rw machine whole; few = few })
 
   fail-stops : (fail : RigFail) → StepStops (tests_now i old new) (stop_of_rig fail)
   fail-stops work.Failed = (tt, few)
@@ -91,27 +91,27 @@ module _ (i : ImageValue) (files : List (List ℕ)) (begun s : StoreState) (near
       same-stops (Refused refusal) stops = stops
       same-stops (Sink fail) stops = stops
 
-  module _ (yes : Bool) (took : Took [] (tests_now i r0 r1) (Ok yes) (outside s r0 a) (outside s r1 a)) where
+  module _ (found : Bool) (took : Took [] (tests_now i r0 r1) (Ok found) (outside s r0 a) (outside s r1 a)) where
     abbrev t : Tried
-    t = record { sound = yes; loads = r1.loads }
+    t = record { sound = found; loads = r1.loads }
 
     tested-then : (r : RigState) (result : Result (Unit {0}) Stop) (k : SinkState) → r.machine ≡ r1.machine → Follows ⊥ [] (r.machine ≡ r1.machine) (image_tried files begun s r i t) result (outside s r1 a) (outside s r k) → judged r result k
     tested-then r result k same is =
-        kept-gives (tests i r0.loads r) at (image_tried files begun s r i) (tests_now i r0 r1) yes t result (outside s r0 a) (outside s r1 a) (outside s r k) took (λ gives. tried-on i r0.loads r1 r t gives same) same1 is
+        kept-gives (tests i r0.loads r) at (image_tried files begun s r i) (tests_now i r0 r1) found t result (outside s r0 a) (outside s r1 a) (outside s r k) took (λ gives. tried-on i r0.loads r1 r t gives same) same1 is
 
     -- it is found sound
-    pub found-sound : yes ≡ true → (k : SinkState) (result : Result (Unit {0}) Stop) → Puts (answer_line i.config.shape answer.Sound) result a k → judged r1 result k
+    pub found-sound : found ≡ true → (k : SinkState) (result : Result (Unit {0}) Stop) → Puts (answer_line i.config.shape answer.Sound) result a k → judged r1 result k
     found-sound is k result puts =
         tested-then r1 result k refl (rw is (line-kept (answer_line i.config.shape answer.Sound) (StandsLoaded files begun s r1 r1.loads) s r1 a k result puts (near, refl)))
 
-    module _ (not : yes ≡ false) (r2 : RigState) (same2 : r2.machine ≡ r1.machine) where
+    module _ (unsound : found ≡ false) (r2 : RigState) (same2 : r2.machine ≡ r1.machine) where
       -- the machine's defects aren't listed
       pub unlisted : (stop : Stop) (result : Result (Unit {0}) Stop) → result ≡ Err stop → Took {T = DefectList} [] (lists_now i.config.shape r1 r2) (Err stop) (outside s r1 a) (outside s r2 a) → judged r2 result a
       unlisted stop result is listed =
-          tested-then r2 result a same2 (rw not (kept-stops (lists i.config.shape r1.loads r2) at (image_looked_at files begun s r2 i) (lists_now i.config.shape r1 r2) stop result (outside s r1 a) (outside s r2 a) is listed
+          tested-then r2 result a same2 (rw unsound (kept-stops (lists i.config.shape r1.loads r2) at (image_looked_at files begun s r2 i) (lists_now i.config.shape r1 r2) stop result (outside s r1 a) (outside s r2 a) is listed
           (few-stops i.config.shape r1.loads r1 r2 stop refl same2) near same2))
 
       -- they are, and the image is looked at
       pub listed-then : (d : DefectList) (k : SinkState) (result : Result (Unit {0}) Stop) → Took [] (lists_now i.config.shape r1 r2) (Ok d) (outside s r1 a) (outside s r2 a) → Follows ⊥ [] (r2.machine ≡ r2.machine) (image_looked_at files begun s r2 i (record { list = d; loads = r2.loads })) result (outside s r2 a) (outside s r2 k) → judged r2 result k
       listed-then d k result listed is =
-          tested-then r2 result k same2 (rw not (kept-gives (lists i.config.shape r1.loads r2) at (image_looked_at files begun s r2 i) (lists_now i.config.shape r1 r2) d (record { list = d; loads = r2.loads }) result (outside s r1 a) (outside s r2 a) (outside s r2 k) listed (λ h. h) same2 is))
+          tested-then r2 result k same2 (rw unsound (kept-gives (lists i.config.shape r1.loads r2) at (image_looked_at files begun s r2 i) (lists_now i.config.shape r1 r2) d (record { list = d; loads = r2.loads }) result (outside s r1 a) (outside s r2 a) (outside s r2 k) listed (λ h. h) same2 is))

@@ -35,7 +35,7 @@ on-within tables t on = by (cases_lt t (length tables))
   where
     by : (t < length tables) ⊎ (length tables ≤ t) → t < length tables
     by (inl l) = l
-    by (inr l) = absurd (subst (λ o. IsSome o) (get_or_past tables t None l) on)
+    by (inr l) = absurd (false≢true (subst (λ o. IsSome o) (get_or_past tables t None l) on))
 
 -- free images run soundly
 abbrev pub FreeRunSoundly : Type 0

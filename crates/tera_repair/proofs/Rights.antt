@@ -15,7 +15,7 @@ use Rattle.crossbar_route.specs.RightImages.{IsRightImage}
 use Rattle.repair.specs.Repairs.{IsRepair, HasSameRows}
 
 none-some : {A : Type 0} (o : Option A) → o ≡ None → IsSome o → ⊥
-none-some o is some = subst (λ x. IsSome x) is some
+none-some o is some = false≢true (subst (λ x. IsSome x) is some)
 
 -- no faults are faults of each machine
 no-faults : (m : Shape) (f : Faults) → IsFaultless f → AreFaultsOf m f

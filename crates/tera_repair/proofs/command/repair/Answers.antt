@@ -1,4 +1,4 @@
-use Rattle.std.proofs.Common.{◌∙◌, refl, sym}
+use Rattle.std.proofs.Common.{◌∙◌, ◌∷◌, [], refl, sym}
 use Rattle.std.proofs.lemmas.Result.{err_from_is_err_and}
 use Rattle.steps.proofs.Making.{nothing}
 use Rattle.tera_repair.proofs.Reading.{no-machine, no-list, no-image, all-read}
@@ -54,4 +54,4 @@ returns-clause-does g c =
     let a = g.K.Sink.sink_state c.args.sink.now in
     λ rig.
     all-read c.args.machine.now c.args.defects.now c.args.image.now s0 _ rig a c.in_ok-shape.shape (c.in_ok-shape.ensures.took rig a) _ c.in_ok-list.list (c.in_ok-list.ensures.took rig a) _ c.in_ok-image.image (c.in_ok-image.ensures.took rig a) _ _
-    (λ stands. c.repair_and_write.ensures _ s0 s3 rig stands)
+    (λ stands. c.repair_and_write.ensures (c.args.image.now ∷ c.args.defects.now ∷ c.args.machine.now ∷ []) s0 s3 rig stands)

@@ -1,5 +1,6 @@
 use Rattle.std.proofs.Common.{refl}
 use Rattle.std.proofs.lemmas.Result.{err_from_is_err_and}
+use Rattle.steps.proofs.Making.{nothing}
 use Rattle.tera_repair.proofs.Following.{too-many, unrepaired, unspelled, written}
 use Rattle.tera_repair.proofs.command.repair_and_write.Goals as goal
 
@@ -31,3 +32,6 @@ returns g c =
     let puts = rw (c.deref.ensures.value, c.in_ok-bytes.ensures) at c.write.ensures.puts in
     λ files begun store rig near.
     written c.args.list.now c.args.image.now files begun store rig a near (c.in_ok-take_few.ensures.took _) c.in_ok-made.made (c.in_ok-made.ensures.took _) b _ puts
+
+pub repaired-requires-clause-few : goal.repaired-requires-clause-few
+repaired-requires-clause-few g c = (c.in_ok-take_few.ensures.took nothing).gives

@@ -1,0 +1,28 @@
+use Rattle.std.proofs.Common.{ℕ, get_or, ◌∙◌, arith}
+use Rattle.std.specs.Prelude.{is_some}
+use Rattle.hierarchy.specs.declared.Table.{Table}
+use Rattle.config_set.specs.Configuration.{setting_of}
+use Rattle.repair.specs.Making.{IsBrokenHere, no_table}
+use Rattle.repair.proofs.Unbroken.{tables_first}
+use Rattle.repair.proofs.Marking.{marked_none, marked_more, first_none, of_list}
+use Rattle.repair.proofs.Placed.{on_within}
+use Rattle.repair.proofs.Using.{on_is}
+use Rattle.repair.proofs.keeping.mark_tables.Goals as goal
+
+pub mark_table-requires-clause-sized : goal.mark_table-requires-clause-sized
+mark_table-requires-clause-sized c = c.loop-k.invariant.sized ∙ c.requires.sized
+
+pub mark_table-requires-clause-within : goal.mark_table-requires-clause-within
+mark_table-requires-clause-within c =
+    let g = c.args.config.now.config in
+    let t : ℕ = (get_or c.tables_on-tables.result.now c.loop-k.k no_table).0 in
+    on_within g c.shape-shape.ensures.right t (on_is (setting_of g t) (of_list (λ (x : Table). x.0) c.tables_on-tables.result.now (λ q. is_some (setting_of g q)) c.tables_on-tables.ensures c.loop-k.k no_table c.loop-k-test.true))
+
+pub loop-k-init : goal.loop-k-init
+loop-k-init c = marked_none _ c.args.marks.now (first_none (λ (x : Table). IsBrokenHere c.args.defects.now.list c.args.config.now.config c.args.nets.now.lowest x.0) no_table c.tables_on-tables.result.now)
+
+pub loop-k-preserved : goal.loop-k-preserved
+loop-k-preserved c = marked_more (λ (x : Table). IsBrokenHere c.args.defects.now.list c.args.config.now.config c.args.nets.now.lowest x.0) no_table c.tables_on-tables.result.now c.loop-k.k c.args.marks.now c.loop-k.marks c.mark_table.new.marks c.loop-k.invariant c.mark_table.ensures
+
+pub returns : goal.returns
+returns c = tables_first c.args.defects.now.list c.args.config.now.config c.args.nets.now.lowest c.tables_on-tables.result.now c.tables_on-tables.ensures c.loop-k.k (omega arith) (omega arith) c.args.marks.now c.loop-k.marks c.loop-k.invariant

@@ -1,0 +1,30 @@
+use Rattle.std.proofs.Common.{◌≡◌, ◌<◌, ℕ, false, length, get_or, sym, ap, ◌∙◌, subst, arith}
+use Rattle.std.proofs.lemmas.Bool.{false≢true, not-true, not_from_false}
+use Rattle.std.proofs.lemmas.List.{get_or_read}
+use Rattle.repair.proofs.Hanging.{has_end, one_net_has}
+use Rattle.repair.proofs.rest.stays.Goals as goal
+
+pub index-moves-requires : goal.index-moves-requires
+index-moves-requires c =
+    let sized : length c.args.plan.now.moves.items ≡ length c.args.plan.now.nets.lowest = c.requires.plan.moves_sized in
+    let within : c.in-Some.net < length c.args.plan.now.nets.lowest = c.in-Some.ensures.some.0 in
+    omega (arith, sized, within)
+
+pub returns-in-None : goal.returns-in-None
+returns-in-None c =
+    let g = c.args.config.now.config in
+    let nets = c.requires.plan.nets_are in
+    (λ t. absurd (false≢true t), λ stays. absurd (c.in-None.ensures.none (has_end g (c.the_numbering_is_sound.ensures.numbered g.shape) c.shape-shape.ensures.right c.args.plan.now.nets.lowest nets.lowest_are stays.0 c.args.wire.0 stays.2)))
+
+pub returns-in-Some : goal.returns-in-Some
+returns-in-Some c =
+    let g = c.args.config.now.config in
+    let p = c.args.plan.now in
+    let net : ℕ = c.in-Some.net in
+    let within : net < length p.moves.items = subst (λ n. net < n) (sym c.requires.plan.moves_sized) c.in-Some.ensures.some.0 in
+    let mark : c.index-moves.result.now ≡ get_or p.moves.items net false = get_or_read p.moves.items _ _ within c.index-moves.ensures false in (
+      λ t. (net, sym mark ∙ not-true c.index-moves.result.now t, c.in-Some.ensures.some),
+      λ stays.
+          let same : stays.0 ≡ net = one_net_has g (c.the_numbering_is_sound.ensures.numbered g.shape) c.shape-shape.ensures.right p.nets.lowest c.requires.plan.nets_are.lowest_are stays.0 net c.args.wire.0 stays.2 c.in-Some.ensures.some in
+          not_from_false c.index-moves.result.now (mark ∙ ap (λ k. get_or p.moves.items k false) (sym same) ∙ stays.1),
+    )

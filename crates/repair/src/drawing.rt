@@ -1,0 +1,114 @@
+//! Draws a repaired image: what stays, and the nets that move.
+ghost use Rattle.std.specs.Prelude.{◌≡◌, ◌<◌, OnOk, IfOk, length};
+ghost use Rattle.std.specs.FinSet as set;
+ghost use Rattle.hierarchy.specs.Shape.{tables_of, crosses_of};
+ghost use Rattle.config_set.specs.Configuration.{setting_of, with_setting};
+ghost use Rattle.crossbar_route.specs.Closing.{Closes};
+ghost use Rattle.crossbar_route.specs.Routed.{AreWiresOf};
+ghost use Rattle.place.specs.Lists.{nth_of};
+ghost use Rattle.repair.specs.Making.{AreApart, AreSeated, AreSizedFor, IsDrawn, IsKeptCross, IsKeptCrossOf, IsOn};
+
+use crate::nets::net_of;
+use crate::plan::Plan;
+use config_set::Config;
+use crossbar_route::join_nets;
+use hierarchy::{Cross, Table};
+use place::{Port, Visit};
+use std::alloc::{AllocError, Global};
+use tm_items::Items;
+
+// Closes a crosspoint whose net stays.
+fn keep_cross(
+    config: &mut Config,
+    old: &Config,
+    plan: &Plan,
+    cross: Cross,
+) -> Result<(), AllocError>
+    requires plan { AreSizedFor old.now.config plan.now }
+    requires shape { config.old.config.shape ≡ old.now.config.shape }
+    requires within { cross.0 < crosses_of old.now.config.shape }
+    ensures { OnOk result (Closes (IsKeptCrossOf old.now.config plan.now cross.0) 1 config.old.config config.new.config) }
+{
+    hierarchy::the_numbering_is_sound();
+    let (tap, _) = old.shape().ends(cross);
+    match net_of(old, &plan.nets, tap) {
+        None => Ok(()),
+        Some(net) => {
+            let moves = plan.moves[net as usize];
+            if moves {
+                return Ok(());
+            }
+            config.close_cross(cross)
+        }
+    }
+}
+
+// Closes the crosspoints of all nets that stay.
+fn keep_crosses(config: &mut Config, old: &Config, plan: &Plan) -> Result<(), AllocError>
+    requires plan { AreSizedFor old.now.config plan.now }
+    requires shape { config.old.config.shape ≡ old.now.config.shape }
+    ensures { OnOk result (Closes (IsKeptCross old.now.config plan.now) (set.len old.now.config.closed) config.old.config config.new.config) }
+{
+    let _shape = old.shape();
+    let closed = old.closed();
+    for k in 0..closed.len() {
+        keep_cross(config, old, plan, closed[k])?;
+    }
+    Ok(())
+}
+
+// Switches a table on where it stands.
+fn seat(config: &mut Config, old: &Config, plan: &Plan, table: Table)
+    requires plan { AreSizedFor old.now.config plan.now }
+    requires shape { config.old.config.shape ≡ old.now.config.shape }
+    requires within { table.0 < tables_of old.now.config.shape }
+    requires on { IsOn old.now.config table.0 }
+    ensures { config.new.config ≡ with_setting config.old.config (nth_of plan.now.tables.items table.0) (setting_of old.now.config table.0) }
+{
+    match old.setting(table) {
+        None => {}
+        Some(setting) => {
+            let place = plan.tables[table.0 as usize];
+            config.switch_on(Table(place), setting);
+        }
+    }
+}
+
+// Switches the tables on where they stand.
+fn seat_all(config: &mut Config, old: &Config, plan: &Plan)
+    requires plan { AreSizedFor old.now.config plan.now }
+    requires shape { config.old.config.shape ≡ old.now.config.shape }
+    requires apart { AreApart old.now.config plan.now }
+    ensures { AreSeated old.now.config plan.now (IsOn old.now.config) config.old.config config.new.config }
+{
+    // Say that there is a place for each table of the machine, and that those that are on are among them.
+    let _shape = config.shape();
+    let _old = old.shape();
+    let tables = old.tables_on();
+    for k in 0..tables.len() {
+        seat(config, old, plan, tables[k]);
+    }
+}
+
+/// The configuration of a repair whose moving nets have these terminals, ports and lines.
+pub fn draw(
+    alloc: Global,
+    old: &Config,
+    plan: &Plan,
+    nets: &[Items<u32>],
+    ports: &[Port],
+    visits: &[Visit],
+) -> Result<Config, AllocError>
+    requires plan { AreSizedFor old.now.config plan.now }
+    requires apart { AreApart old.now.config plan.now }
+    requires few { length nets.now < 4294967296 }
+    requires wires { AreWiresOf old.now.config.shape nets.now ports.now visits.now }
+    ensures { IfOk result (λ g. IsDrawn old.now.config plan.now nets.now ports.now visits.now g.config) }
+{
+    let mut config = join_nets(alloc, old.shape(), nets, ports, visits)?;
+    keep_crosses(&mut config, old, plan)?;
+    seat_all(&mut config, old, plan);
+    let ticks = old.ticks();
+    config.set_ticks(ticks);
+    Ok(config)
+}
