@@ -1,6 +1,5 @@
 -- What such a command has done, from where its course stands.
-use Rattle.std.proofs.Common.{◌≡◌, ◌∙◌, ℕ, List, [], ◌∷◌, ◌++◌, Bool, length, sym, ap, subst, inl, inr, append_assoc, append-nil, Option, Some, IfSome}
-use Rattle.tm_outside.specs.Counts.{next_count}
+use Rattle.std.proofs.Common.{◌≡◌, ◌∙◌, ℕ, List, [], ◌∷◌, ◌++◌, Bool, sym, ap, subst, inl, inr, append_assoc, append-nil, Option, Some, IfSome}
 use Rattle.tm_outside.specs.Told.{Told, IfTold}
 use Rattle.tm_outside.specs.Sink.{Wrote}
 use Rattle.hierarchy.specs.declared.Shape.{Shape}
@@ -8,14 +7,12 @@ use Rattle.hierarchy.specs.Faults.{Faults}
 use Rattle.hierarchy.specs.Defects.{Covers}
 use Rattle.defect_db.specs.Lists.{DefectList}
 use Rattle.defect_db.specs.Text.{text_of}
-use Rattle.config_image.specs.Images.{ImageValue}
 use Rattle.crossbar_route.specs.RightImages.{ReadsRows}
 use Rattle.steps.specs.Files.{AreAll}
 use Rattle.steps.specs.Outside.{Outside, around}
 use Rattle.steps.specs.Courses.{Next, ends, refuses, writes}
 use Rattle.steps.specs.Texts.{IsMachineText}
 use Rattle.steps.proofs.Standing.{Adds}
-use Rattle.listing.specs.Lists.{Listed}
 use Rattle.image_rows.proofs.CourseLemmas.{HasRun, image-ends}
 use Rattle.laid_rows.specs.Laid.{Laid, IsLaidOn}
 use Rattle.laid_rows.specs.Runs.{RunBegin}

@@ -1,5 +1,4 @@
 //! One design as what is laid on a machine.
-ghost use Rattle.std.specs.Prelude.{◌≡◌};
 ghost use Rattle.tera_go.specs.Go.{design_laid};
 
 use config_image::Image;

@@ -1,5 +1,5 @@
 -- Two designs side by side on what a list of defects leaves free.
-use Rattle.std.specs.Prelude.{◌≡◌, ℕ, ◌+◌, ◌<◌, Bool, List, [], ◌∷◌, ◌++◌, map, length, take, drop}
+use Rattle.std.specs.Prelude.{◌≡◌, ◌+◌, ◌<◌, Bool, List, [], ◌∷◌, ◌++◌, map, length, take, drop}
 use Rattle.hierarchy.specs.Defects.{Covers}
 use Rattle.hierarchy.specs.Faults.{Faults}
 use Rattle.defect_db.specs.Lists.{DefectList}

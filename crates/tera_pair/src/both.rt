@@ -1,5 +1,5 @@
 //! Two designs as what is laid on a machine.
-ghost use Rattle.std.specs.Prelude.{◌≡◌, ◌↔◌, IsTrue, [], IfOk, IfErr};
+ghost use Rattle.std.specs.Prelude.{◌↔◌, IsTrue, [], IfOk, IfErr};
 ghost use Rattle.steps.specs.Outside.{Outside};
 ghost use Rattle.steps.specs.Stops.{StepStops};
 ghost use Rattle.steps.specs.Took.{Took};

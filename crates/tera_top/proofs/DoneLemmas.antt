@@ -29,7 +29,7 @@ use Rattle.tera_run.proofs.Headlines.{ran}
 use Rattle.tera_diagnose.specs.Diagnose.{diagnose_job}
 use Rattle.tera_diagnose.specs.Headline.{IsDiagnosed}
 use Rattle.tera_diagnose.proofs.Headlines.{diagnosed, few-loads as diagnosed-loads}
-use Rattle.tera_go.specs.Go.{go_job, go_course}
+use Rattle.tera_go.specs.Go.{go_job}
 use Rattle.tera_go.specs.Headline.{IsGone, HasRoomLeft}
 use Rattle.tera_go.proofs.Headlines.{gone, begins, few-loads as gone-loads}
 use Rattle.tera_bench.specs.Bench.{bench_job}
