@@ -161,9 +161,17 @@ module _ (i : ImageValue) (tree : IsTree i.config.shape) (parents : HasParents i
         cross = x.0;
         ends = x.2;
         marked = marks x.0 (record {
-          place = g.place; tap = g.wire; early = slice_get_within ts g.place g.wire g.here; here = g.here;
-          cross = record { place = h.place; line = h.wire; early = slice_get_within ls h.place h.wire h.here; here = h.here;
-            cross = record { within = x.1; tap = ap (λ p. p.0) x.2 ∙ sym g.is; line = ap (λ p. p.1) x.2 ∙ sym h.is } };
+          place = g.place;
+          tap = g.wire;
+          early = slice_get_within ts g.place g.wire g.here;
+          here = g.here;
+          cross = record {
+            place = h.place;
+            line = h.wire;
+            early = slice_get_within ls h.place h.wire h.here;
+            here = h.here;
+            cross = record { within = x.1; tap = ap (λ p. p.0) x.2 ∙ sym g.is; line = ap (λ p. p.1) x.2 ∙ sym h.is };
+          };
         });
       }
 
@@ -201,9 +209,22 @@ module _ (i : ImageValue) (tree : IsTree i.config.shape) (parents : HasParents i
       record {
         cross = x.0;
         ends = x.2;
-        marked = has_hung x.0 (record { place = w; early = used_within w uses; marked = are.all w uses; is = record { picks_here = at.picks_here; here = at.here;
-          is = on_port (record { place = g.place; tap = g.wire; early = slice_get_within at.picks_here.own.items g.place g.wire g.here; here = g.here;
-            cross = record { within = x.1; tap = ap (λ e. e.0) x.2 ∙ sym g.is; line = ap (λ e. e.1) x.2 } }) } });
+        marked = has_hung x.0 (record {
+          place = w;
+          early = used_within w uses;
+          marked = are.all w uses;
+          is = record {
+            picks_here = at.picks_here;
+            here = at.here;
+            is = on_port (record {
+              place = g.place;
+              tap = g.wire;
+              early = slice_get_within at.picks_here.own.items g.place g.wire g.here;
+              here = g.here;
+              cross = record { within = x.1; tap = ap (λ e. e.0) x.2 ∙ sym g.is; line = ap (λ e. e.1) x.2 };
+            });
+          };
+        });
       }
 
   tap_met : (w l : ℕ) (uses : Uses i w) → IsTap m (node_of m w) w → IsAmong (used_at w uses).picks_here.lines.items l → IsMet m a.crosses w l
@@ -213,19 +234,38 @@ module _ (i : ImageValue) (tree : IsTree i.config.shape) (parents : HasParents i
       record {
         cross = x.0;
         ends = x.2;
-        marked = has_hung x.0 (record { place = w; early = used_within w uses; marked = are.all w uses; is = record { picks_here = at.picks_here; here = at.here;
-          is = on_line (record { place = g.place; line = g.wire; early = slice_get_within at.picks_here.lines.items g.place g.wire g.here; here = g.here;
-            cross = record { within = x.1; tap = ap (λ e. e.0) x.2; line = ap (λ e. e.1) x.2 ∙ sym g.is } }) } });
+        marked = has_hung x.0 (record {
+          place = w;
+          early = used_within w uses;
+          marked = are.all w uses;
+          is = record {
+            picks_here = at.picks_here;
+            here = at.here;
+            is = on_line (record {
+              place = g.place;
+              line = g.wire;
+              early = slice_get_within at.picks_here.lines.items g.place g.wire g.here;
+              here = g.here;
+              cross = record { within = x.1; tap = ap (λ e. e.0) x.2; line = ap (λ e. e.1) x.2 ∙ sym g.is };
+            });
+          };
+        });
       }
 
   pub skeleton : HasSkeleton i a
   skeleton = record {
     lines = lines;
     ports = ports;
-    two_lines = λ n is. (let at = at_node n is in (record { differ = at.line_pair.differ; first = line_in n _ at at.line_pair.first; second = line_in n _ at at.line_pair.second },
-      at.is_line _ at.line_pair.first, at.is_line _ at.line_pair.second));
-    two_ports = λ n is. (let at = at_node n is in (record { differ = at.own_pair.differ; first = own_in n _ at at.own_pair.first; second = own_in n _ at at.own_pair.second },
-      at.is_own _ at.own_pair.first, at.is_own _ at.own_pair.second));
+    two_lines = λ n is. (let at = at_node n is in (
+      record { differ = at.line_pair.differ; first = line_in n _ at at.line_pair.first; second = line_in n _ at at.line_pair.second },
+      at.is_line _ at.line_pair.first,
+      at.is_line _ at.line_pair.second,
+    ));
+    two_ports = λ n is. (let at = at_node n is in (
+      record { differ = at.own_pair.differ; first = own_in n _ at at.own_pair.first; second = own_in n _ at at.own_pair.second },
+      at.is_own _ at.own_pair.first,
+      at.is_own _ at.own_pair.second,
+    ));
     own = λ n is. own_met n (at_node n is);
     above = λ n p is e. up_met n p e (at_node n is) (at_node p (involved_too i (below itself e) is));
     used = λ w uses. has_used w (are.all w uses);
@@ -271,3 +311,19 @@ module _ (i : ImageValue) (used nodes : List Bool) (f : Frame) (closed : List Cr
       (λ x o. built.closings.stays x (built.hung.stays x (built.joints.all x o)))
       (λ x o. built.closings.stays x (built.hung.all x o))
       (λ x e. built.closings.all x (to_told (λ (y : Cross). y.0) closed (is_closed i.config) counts (IsCrossBefore closed (length closed)) (each_listed closed) x e))
+
+-- the steps of the code, over the shape that it was lent
+pub built_of : (i : ImageValue) (m : Shape) (e : m ≡ i.config.shape) (used nodes : List Bool) (f : Frame) (closed : List Cross) (a b c : Field) (mid : List Bool) →
+    Gets (OfMarked nodes (IsPickOf f.picks.items) (nodes_of m)) (2 * f.most * size_of nodes) a.wires b.wires → Gets (OfMarked nodes (IsJointOf m f.picks.items) (nodes_of m)) (2 * f.most * f.most * size_of nodes) a.crosses b.crosses →
+    Gets (OfMarked used (λ k w. w ≡ k) (wires_of m)) (size_of used) b.wires c.wires → Gets (OfMarked used (IsHungOn m f.picks.items) (wires_of m)) (2 * f.most * size_of used) b.crosses mid →
+    Gets (IsCrossBefore closed (length closed)) (length closed) mid c.crosses → IsBuilt i used nodes f closed a b c mid
+built_of i m e used nodes f closed a b c mid picks joints wires hung closings = record {
+  picks = subst (λ (s : Shape). Gets (OfMarked nodes (IsPickOf f.picks.items) (nodes_of s)) (2 * f.most * size_of nodes) a.wires b.wires) e picks;
+  joints = subst (λ (s : Shape). Gets (OfMarked nodes (IsJointOf s f.picks.items) (nodes_of s)) (2 * f.most * f.most * size_of nodes) a.crosses b.crosses) e joints;
+  wires = subst (λ (s : Shape). Gets (OfMarked used (λ k w. w ≡ k) (wires_of s)) (size_of used) b.wires c.wires) e wires;
+  hung = subst (λ (s : Shape). Gets (OfMarked used (IsHungOn s f.picks.items) (wires_of s)) (2 * f.most * size_of used) b.crosses mid) e hung;
+  closings = closings;
+}
+
+pub picked_over : (m n : Shape) (nodes : List Bool) (most : ℕ) (picks : List Picks) → m ≡ n → ArePickedUpTo m nodes most (nodes_of m) picks → ArePickedUpTo n nodes most (nodes_of n) picks
+picked_over m n nodes most picks e = subst (λ (s : Shape). ArePickedUpTo s nodes most (nodes_of s) picks) e

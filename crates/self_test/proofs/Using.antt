@@ -130,7 +130,7 @@ pub used_of : (i : ImageValue) (m : Shape) (e : m ≡ i.config.shape) (ins outs 
     Adds (IsPinAmong m ins (length ins)) start first → Adds (IsPinAmong m outs (length outs)) first second → Adds (IsEndAmong m closed (length closed)) second third → Adds (IsTablePinAmong m tables (length tables)) third last → AreUsed i last
 used_of i m e ins outs closed tables start first second third last same_ins same_outs nothing closed_ok tables_ok inputs outputs ends pins = are_used i closed tables closed_ok tables_ok first second third last
     (subst (λ (s : Shape). Adds (IsPinAmong s i.inputs (length i.inputs)) (replicate (wires_of i.config.shape) false) first) e
-      (subst (λ (qs : List ℕ). Adds (IsPinAmong m qs (length qs)) (replicate (wires_of i.config.shape) false) first) same_ins (subst (λ (z : List Bool). Adds (IsPinAmong m ins (length ins)) z first) nothing inputs)))
+    (subst (λ (qs : List ℕ). Adds (IsPinAmong m qs (length qs)) (replicate (wires_of i.config.shape) false) first) same_ins (subst (λ (z : List Bool). Adds (IsPinAmong m ins (length ins)) z first) nothing inputs)))
     (subst (λ (s : Shape). Adds (IsPinAmong s i.outputs (length i.outputs)) first second) e (subst (λ (qs : List ℕ). Adds (IsPinAmong m qs (length qs)) first second) same_outs outputs))
     (subst (λ (s : Shape). Adds (IsEndAmong s closed (length closed)) second third) e ends)
     (subst (λ (s : Shape). Adds (IsTablePinAmong s tables (length tables)) third last) e pins)

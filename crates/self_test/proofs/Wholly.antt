@@ -184,8 +184,10 @@ module _ (i : ImageValue) (numbered : IsNumbered i.config.shape) (tree : IsTree 
   met_kept : {t l : ℕ} → IsMet m a.crosses t l → known t → known l → Meets m (IsKeptCrossOf k) t l
   met_kept {t} {l} x p q = (
     x.cross,
-    (subst (λ s. x.cross < crosses_of s) (sym shape) (let below = marked_within a.crosses x.cross x.marked in let len = fits.crosses in omega (arith, below, len)),
-      over.crosses x.cross x.marked (subst known (sym (ap (λ e. e.0) x.ends)) p) (subst known (sym (ap (λ e. e.1) x.ends)) q) (none.crosses x.cross)),
+    (
+      subst (λ s. x.cross < crosses_of s) (sym shape) (let below = marked_within a.crosses x.cross x.marked in let len = fits.crosses in omega (arith, below, len)),
+      over.crosses x.cross x.marked (subst known (sym (ap (λ e. e.0) x.ends)) p) (subst known (sym (ap (λ e. e.1) x.ends)) q) (none.crosses x.cross),
+    ),
     x.ends,
   )
 
@@ -201,11 +203,21 @@ module _ (i : ImageValue) (numbered : IsNumbered i.config.shape) (tree : IsTree 
   served n is = record {
     pins = record { one = 0; two = 1; different = λ e. let no : ⊥ = omega (arith, e) in no; first = (let h = wide.pins in omega (arith, h), sound (pin_wire m 0)); second = (let h = wide.pins in omega (arith, h), sound (pin_wire m 1)) };
     lines = λ c above. (let up = involved_too i above is in let l = sk.two_lines c up in
-      record { one = (sk.lines c).0; two = (sk.lines c).1; different = l.0.differ;
-        first = (l.1, record { sound = sound (sk.lines c).0; crosses = λ x b e. none.crosses x }); second = (l.2, record { sound = sound (sk.lines c).1; crosses = λ x b e. none.crosses x }) });
+        record {
+          one = (sk.lines c).0;
+          two = (sk.lines c).1;
+          different = l.0.differ;
+          first = (l.1, record { sound = sound (sk.lines c).0; crosses = λ x b e. none.crosses x });
+          second = (l.2, record { sound = sound (sk.lines c).1; crosses = λ x b e. none.crosses x });
+        });
     ports = λ c above other. (let up = involved_too i above is in let l = sk.two_ports c up in
-      record { one = (sk.ports c).0; two = (sk.ports c).1; different = l.0.differ;
-        first = (port_of c (sk.ports c).0 (above_zero c other) l.1, sound (sk.ports c).0); second = (port_of c (sk.ports c).1 (above_zero c other) l.2, sound (sk.ports c).1) });
+        record {
+          one = (sk.ports c).0;
+          two = (sk.ports c).1;
+          different = l.0.differ;
+          first = (port_of c (sk.ports c).0 (above_zero c other) l.1, sound (sk.ports c).0);
+          second = (port_of c (sk.ports c).1 (above_zero c other) l.2, sound (sk.ports c).1);
+        });
   }
 
   module _ (t : ℕ) (on : IsSome (setting_of i.config t)) (below_all : t < tables_of m) where
@@ -340,8 +352,14 @@ module _ (i : ImageValue) (numbered : IsNumbered i.config.shape) (tree : IsTree 
           near_stands = stand.first;
           far_stands = stand.second;
           out = (lines.2, at.line_two, met_kept met.second_second at.port_two at.line_two, met_kept (table_met 6 (omega arith)).1 (used_known (table_wire m t 6) (table_used 6 (omega arith))) at.line_two);
-          inputs = λ j l. ((sk.lines H).0, lines.1, at.line_one, lines.0.differ, met_kept met.first_first at.port_one at.line_one,
-            met_kept (table_met j (omega (arith, l))).0 (used_known (table_wire m t j) (table_used j (omega (arith, l)))) at.line_one);
+          inputs = λ j l. (
+            (sk.lines H).0,
+            lines.1,
+            at.line_one,
+            lines.0.differ,
+            met_kept met.first_first at.port_one at.line_one,
+            met_kept (table_met j (omega (arith, l))).0 (used_known (table_wire m t j) (table_used j (omega (arith, l)))) at.line_one,
+          );
         }
 
     pub seated : IsSeated k.shape known (IsKeptCrossOf k) t

@@ -5,7 +5,7 @@ ghost use Rattle.hierarchy.specs.Shape.{wires_of, nodes_of};
 ghost use Rattle.self_test.specs.Picked.{ArePicked, ArePickedUpTo, IsAmong, IsOfSide, IsPickedAt, side_wire, width_of};
 
 use crate::marks::Parts;
-use hierarchy::{Node, Shape, Wire, the_numbering_is_sound, ports_and_lines_ascend};
+use hierarchy::{Node, Shape, Wire, ports_and_lines_ascend, the_numbering_is_sound};
 use std::alloc::{AllocError, Global};
 use tm_bits::BitSet;
 

@@ -18,8 +18,7 @@ keeps_crosses-requires c = closed_within c.args.image.now c.config-config.result
 
 pub returns-clause-known : goal.returns-clause-known
 returns-clause-known c =
-    let counts = closed_counts c.args.image.now c.config-config.result.now.config c.config-config.ensures.config c.closed.result.now c.closed.ensures in
-    (
+    let counts = closed_counts c.args.image.now c.config-config.result.now.config c.config-config.ensures.config c.closed.result.now c.closed.ensures in (
       λ e. record {
         wires = λ w uses. c.has_wires.ensures.0 c.if-not-has_wires.false w (c.requires.used.all w uses);
         crosses = to_told (λ (y : Cross). y.0) c.closed.result.now (is_closed c.args.image.now.config) counts (λ q. keeps_cross c.args.proof.now q ≡ true) (c.keeps_crosses.ensures.0 e);

@@ -15,8 +15,7 @@ pub returns : goal.returns
 returns c =
     let k = c.args.proof.now in
     let i = c.args.image.now in
-    let counts = table_counts i c.config-config.result.now.config c.config-config.ensures.config c.tables_on.result.now c.tables_on.ensures in
-    (
+    let counts = table_counts i c.config-config.result.now.config c.config-config.ensures.config c.tables_on.result.now c.tables_on.ensures in (
       λ e. tables_kept k i (to_told (λ (t : Table). t.0) c.tables_on.result.now (λ q. is_some (setting_of i.config q)) counts (KeepsTableOf k i) (c.keeps_each.ensures.0 e)),
       λ keeps. c.keeps_each.ensures.1 (of_told (λ (t : Table). t.0) c.tables_on.result.now (λ q. is_some (setting_of i.config q)) counts (KeepsTableOf k i) (tables_each k i keeps)),
     )

@@ -14,7 +14,7 @@ pub picks-preserved : goal.picks-preserved
 picks-preserved c =
     let ws = c.picks.picked.items in
     let w = c.in-Some.wire in
-    let more = c.in_ok-push.ensures.items in
+    let more = c.in_ok-push-in-Some.ensures.items in
     let are = side_pushed c.args.shape.now c.args.side c.args.node.0 ws w c.picks.invariant.are c.in-Some.ensures.some.0 c.in-Some.ensures.some.1 in
     record {
       len = (let sum = length-append ws (w ∷ []) in let long = ap length more in let was = c.picks.invariant.len in omega (arith, sum, long, was));
