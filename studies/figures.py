@@ -1,5 +1,5 @@
 #!/usr/bin/env python3
-"""Figures of a study's rows: what fits, what the diagnosis throws away, and how long it takes."""
+"""Figures of a study's rows: what fits, what the diagnosis throws away, how long it takes, and its loads."""
 
 import argparse
 import os
@@ -14,7 +14,7 @@ matplotlib.use("svg")
 matplotlib.rcParams["svg.hashsalt"] = "teramac"
 import matplotlib.pyplot as plt  # noqa: E402
 
-NAMES = ("fits", "thrown", "seconds")
+NAMES = ("fits", "thrown", "seconds", "loads")
 
 
 def figure(title, across, up):
@@ -68,10 +68,19 @@ def seconds(rows, where):
     return shown
 
 
+def loads(rows, where):
+    """Loads of the diagnoses against the size of the machine, where they were told."""
+    once = rows[(rows["list"] == "diagnosed") & (rows["loads"] > 0)].drop_duplicates(["machine", "kind", "rate", "seed"])
+    shown, axes = figure(f"Loads of a diagnosis, {where}", "crosspoints of the machine", "loads")
+    axes.scatter(once["crosspoints"], once["loads"], s=9, alpha=0.5)
+    axes.set(xscale="log", yscale="log")
+    return shown
+
+
 def main():
     parser = argparse.ArgumentParser(description=__doc__)
     parser.add_argument("rows", help="the CSV of a study")
-    parser.add_argument("--folder", default=".", help="where fits.svg, thrown.svg and seconds.svg are written (default: here)")
+    parser.add_argument("--folder", default=".", help="where fits.svg and the others are written (default: here)")
     parser.add_argument("--force", action="store_true", help="write over figures that stand there")
     args = parser.parse_args()
     try:
@@ -83,7 +92,7 @@ def main():
     paths = [os.path.join(args.folder, f"{name}.svg") for name in NAMES]
     if not args.force and any(map(os.path.exists, paths)):
         sys.exit(f"{args.folder}: figures stand there already; nothing was written (--force writes over them)")
-    for path, make in zip(paths, (fits, thrown, seconds)):
+    for path, make in zip(paths, (fits, thrown, seconds, loads)):
         make(rows, where).savefig(path, metadata={"Date": None})
 
 

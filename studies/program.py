@@ -10,6 +10,9 @@ import teramac_texts as texts
 
 HERE = os.path.dirname(os.path.abspath(__file__))
 DEFAULT = os.environ.get("TERAMAC", os.path.normpath(os.path.join(HERE, "../crates/teramac/out/teramac")))
+# The program of reports, where it is built.
+BUILT = os.environ.get("TERAMAC_REPORT", os.path.normpath(os.path.join(HERE, "../crates/teramac_report/out/teramac_report")))
+REPORT = BUILT if os.path.exists(BUILT) else ""
 
 
 class Answer:

@@ -14,11 +14,11 @@ import tempfile
 
 import teramac_texts as texts
 from faults import KINDS, amount, make_faults
-from program import add_program, call, put
+from program import REPORT, add_program, call, put
 
 COLUMNS = (
     "machine crosspoints kind rate seed faults design list status refusal listed_wires listed_crosses listed_tables "
-    "thrown_wires thrown_crosses thrown_tables tables nets crossings closed seconds diagnose_seconds"
+    "thrown_wires thrown_crosses thrown_tables tables nets crossings closed seconds diagnose_seconds loads"
 ).split()
 
 
@@ -83,6 +83,14 @@ class Trial:
         ran.seconds += image.seconds
         return self.compared(ran, design, vectors), self.shape_of(image.written)
 
+    def loads(self):
+        """The loads of a diagnosis, by the program of reports; none without it."""
+        if not self.args.report:
+            return {}
+        answer = call(self.args.report, self.args.machine, self.fault_file, seconds=self.args.seconds)
+        line = [words[-1] for words in map(bytes.split, answer.written.splitlines()) if words[:1] == [b"diagnosis"]]
+        return {"loads": int(line[0])} if answer.status == 0 and line else {}
+
     def rows(self):
         exact = texts.exact_list(self.machine, self.faults)
         exact_file = self.put("exact", texts.defects_text(self.machine, exact))
@@ -90,8 +98,9 @@ class Trial:
             answer, sizes = self.laid(exact_file, design, vectors)
             yield self.row(design, "exact", exact, answer, **sizes)
         diagnosed = self.call("diagnose", self.args.machine, self.fault_file) if self.args.steps else None
+        loads = self.loads()
         for design, vectors in self.args.designs:
-            yield self.by_diagnosis(diagnosed, design, vectors)
+            yield {**self.by_diagnosis(diagnosed, design, vectors), **loads}
 
     def by_diagnosis(self, diagnosed, design, vectors):
         """One row by the tool's own list."""
@@ -129,6 +138,7 @@ def main():
     parser.add_argument("--seed", type=int, default=1, help="the fault set's seed (default: 1)")
     parser.add_argument("--seconds", type=float, default=600, help="no call takes longer; it is cut off (default: 600)")
     parser.add_argument("--steps", action="store_true", help="one diagnose for all designs in place of one go for each")
+    parser.add_argument("--report", default=REPORT, help="the built teramac_report, which tells loads; '' for none (default: %(default)s)")
     parser.add_argument("-o", "--output", default="-", help="a new file (default: standard output)")
     add_program(parser)
     args = parser.parse_args()

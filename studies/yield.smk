@@ -21,7 +21,7 @@ for path in [PROGRAM, *MACHINES.values(), *[name for pair in DESIGNS for name in
 
 rule figures:
     input: f"{OUT}/rows.csv"
-    output: [f"{OUT}/{name}.svg" for name in ("fits", "thrown", "seconds")]
+    output: [f"{OUT}/{name}.svg" for name in ("fits", "thrown", "seconds", "loads")]
     shell: "{sys.executable} {HERE}/figures.py {input} --folder {OUT} --force"
 
 

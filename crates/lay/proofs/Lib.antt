@@ -1,4 +1,5 @@
 -- What is cited above.
+pub mod PlainWidths
 pub mod Rooms
 -- For the proofs of this crate alone.
 mod LayLemmas

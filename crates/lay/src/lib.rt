@@ -8,3 +8,4 @@ mod laying;
 mod room;
 
 pub use laying::lay;
+pub use room::no_place;

@@ -1,9 +1,11 @@
 //! Room for a network, or what there is too little of.
-ghost use Rattle.std.specs.Prelude.{◌<◌, IfOk, IfErr};
+ghost use Rattle.std.specs.Prelude.{◌≡◌, ◌<◌, IfOk, IfErr};
+ghost use Rattle.defect_db.specs.Lists.{DefectList};
 ghost use Rattle.hierarchy.specs.Shape.{nodes_of};
 ghost use Rattle.table_map.specs.Networks.{IsNetwork};
+ghost use Rattle.table_map.specs.declared.network.Network.{Network};
 ghost use Rattle.place.specs.Laying.{IsLayout};
-ghost use Rattle.place.specs.Plans.{FitsInOrder};
+ghost use Rattle.place.specs.Plans.{FitsInOrder, IsPlaceFail};
 ghost use Rattle.lay.specs.Wants.{IsRefusedFor, PlanStops};
 
 use defect_db::Defects;
@@ -24,6 +26,18 @@ fn no_room(alloc: Global, shape: Shape, short: Short) -> Stop
     }
 }
 
+/// Why there is no place for a network, as a refusal.
+pub fn no_place(alloc: Global, shape: Shape, fail: PlaceFail) -> Stop
+    requires { (d : DefectList) × (n : Network) × (shape ≡ d.shape) × IsPlaceFail d.shape d.list n fail }
+    // Of each list and each network of which that is so.
+    ensures { (d : DefectList) (n : Network) → shape ≡ d.shape → IsPlaceFail d.shape d.list n fail → PlanStops d n result }
+{
+    match fail {
+        PlaceFail::Short(short) => no_room(alloc, shape, short),
+        PlaceFail::Memory => Stop::Refused(Refusal::Memory),
+    }
+}
+
 /// The in-order plan of a network with its layout, where it fits.
 pub fn plan_of(alloc: Global, network: &Network, defects: &Defects) -> Result<Placed, Stop>
     requires { IsNetwork network.now }
@@ -33,7 +47,6 @@ pub fn plan_of(alloc: Global, network: &Network, defects: &Defects) -> Result<Pl
 {
     match in_order_laid(alloc, network, defects) {
         Ok(placed) => Ok(placed),
-        Err(PlaceFail::Short(short)) => Err(no_room(alloc, defects.shape(), short)),
-        Err(PlaceFail::Memory) => Err(Stop::Refused(Refusal::Memory)),
+        Err(fail) => Err(no_place(alloc, defects.shape(), fail)),
     }
 }

@@ -1,6 +1,7 @@
 //! A text of examples, case by case.
 
 use crate::figures::figures_of;
+use crate::shares::shares_of;
 use crate::texts::{Part, Texts};
 use std::alloc::{AllocError, Global};
 
@@ -31,10 +32,18 @@ pub struct Book {
     all: u64,
 }
 
-// What comes of a case, in words.
+// What comes of the plans of a design, in words.
 fn came_of(alloc: Global, texts: &Texts) -> Result<String, AllocError> {
     match figures_of(alloc, texts) {
         Some(figures) => figures.text(alloc),
+        None => String::from_str(alloc, "no plan"),
+    }
+}
+
+// What comes of two designs on one machine.
+fn shared_by(alloc: Global, texts: &Texts) -> Result<String, AllocError> {
+    match shares_of(alloc, texts) {
+        Some(shares) => shares.text(alloc),
         None => String::from_str(alloc, "no plan"),
     }
 }
@@ -57,17 +66,15 @@ impl Book {
         (self.right, self.all)
     }
 
-    // Tries the case, of which this has to come.
-    fn try_case(&mut self, rt: &impl Print, want: &str) -> Result<(), AllocError> {
+    // Compares what came of a case with what had to come.
+    fn compare(&mut self, rt: &impl Print, came: &str, want: &str) {
         self.all = self.all.saturating_add(1);
-        let came = came_of(self.alloc, &self.texts)?;
-        if came.as_str() == want {
+        if came == want {
             self.right = self.right.saturating_add(1);
-            return Ok(());
+            return;
         }
         let name = self.name.as_str();
         let _ = println!(rt; "{name}: {came}");
-        Ok(())
     }
 
     // Begins a text anew.
@@ -84,13 +91,20 @@ impl Book {
             return Ok(true);
         }
         if let Some(want) = line.strip_prefix("gives ") {
-            self.try_case(rt, want)?;
+            let came = came_of(self.alloc, &self.texts)?;
+            self.compare(rt, came.as_str(), want);
+            return Ok(true);
+        }
+        if let Some(want) = line.strip_prefix("shares ") {
+            let came = shared_by(self.alloc, &self.texts)?;
+            self.compare(rt, came.as_str(), want);
             return Ok(true);
         }
         match line {
             "machine" => Ok(self.begin(Part::Machine)),
             "defects" => Ok(self.begin(Part::Defects)),
             "design" => Ok(self.begin(Part::Design)),
+            "second" => Ok(self.begin(Part::Second)),
             _ => Ok(false),
         }
     }

@@ -47,17 +47,17 @@ impl Figures {
     }
 }
 
-// The list of defects.
-fn defects_of(alloc: Global, texts: &Texts) -> Option<Defects> {
+/// The list of defects.
+pub fn defects_of(alloc: Global, texts: &Texts) -> Option<Defects> {
     let shape = read_machine(alloc, &texts.machine).ok()?;
     read_defects(alloc, &shape, &texts.defects).ok()
 }
 
-// The network of the design, a table for each of its covers and latches.
-fn network_of(alloc: Global, texts: &Texts) -> Option<Network>
+/// The network of a design, a table for each of its covers and latches.
+pub fn network_of(alloc: Global, design: &[u8]) -> Option<Network>
     ensures { IfSome result IsNetwork }
 {
-    let netlist = read_blif(alloc, &texts.design).ok()?;
+    let netlist = read_blif(alloc, design).ok()?;
     plain(alloc, &netlist).ok()
 }
 
@@ -96,7 +96,7 @@ fn plan_of(alloc: Global, network: &Network, defects: &Defects) -> Option<Plan>
 /// What is to be seen of both plans. None where a text can't be read, the plan in order doesn't fit, or memory is wanting.
 pub fn figures_of(alloc: Global, texts: &Texts) -> Option<Figures> {
     let defects = defects_of(alloc, texts)?;
-    let network = network_of(alloc, texts)?;
+    let network = network_of(alloc, &texts.design)?;
     let plan = plan_of(alloc, &network, &defects)?;
     let in_order = seen_by(alloc, &network, &plan, &defects)?;
     let plan = improve(alloc, &network, plan, &defects).ok()?;

@@ -6,6 +6,7 @@
 
 mod book;
 mod figures;
+mod shares;
 mod texts;
 
 use book::{Book, Trouble};
@@ -50,6 +51,7 @@ fn show(rt: &HostRuntime, machine: &str, defects: &str, design: &str) -> io::Res
         machine: fs::read(rt, machine)?,
         defects: fs::read(rt, defects)?,
         design: fs::read(rt, design)?,
+        second: Vec::new(rt.alloc()),
     };
     let Some(figures) = figures_of(rt.alloc(), &texts) else {
         println!(rt; "no plan")?;

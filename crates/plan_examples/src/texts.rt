@@ -2,12 +2,13 @@
 
 use std::alloc::{AllocError, Global};
 
-/// The texts of a machine, of its list of defects and of a design.
+/// The texts of a machine, of its list of defects, of a design and of a second one.
 #[derive(Drop)]
 pub struct Texts {
     pub machine: Vec<u8>,
     pub defects: Vec<u8>,
     pub design: Vec<u8>,
+    pub second: Vec<u8>,
 }
 
 /// One of the texts.
@@ -16,6 +17,7 @@ pub enum Part {
     Machine,
     Defects,
     Design,
+    Second,
 }
 
 impl Texts {
@@ -25,6 +27,7 @@ impl Texts {
             machine: Vec::new(alloc),
             defects: Vec::new(alloc),
             design: Vec::new(alloc),
+            second: Vec::new(alloc),
         }
     }
 
@@ -34,6 +37,7 @@ impl Texts {
             Part::Machine => self.machine = Vec::new(alloc),
             Part::Defects => self.defects = Vec::new(alloc),
             Part::Design => self.design = Vec::new(alloc),
+            Part::Second => self.second = Vec::new(alloc),
         }
     }
 
@@ -43,6 +47,7 @@ impl Texts {
             Part::Machine => &mut self.machine,
             Part::Defects => &mut self.defects,
             Part::Design => &mut self.design,
+            Part::Second => &mut self.second,
         };
         text.extend_from_slice(line.as_bytes())?;
         text.push(b'\n')?;

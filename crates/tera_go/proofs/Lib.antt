@@ -1,7 +1,6 @@
 -- What is cited above.
 pub mod Headlines
 -- For the proofs of this crate alone.
-mod DesignRows
 mod Following
-mod Stages
+mod GoCases
 mod GoLaws

@@ -1,81 +1,45 @@
 -- What the command `go` is.
-use Rattle.std.specs.Prelude.{◌≡◌, ◌⊎◌, ℕ, ◌≤◌, List, [], ◌∷◌, ◌++◌, length, Option, None, Some}
+use Rattle.std.specs.Prelude.{◌≡◌, ◌⊎◌, ℕ, ◌≤◌, List, [], ◌∷◌, length, Option, None, Some}
 use Rattle.tm_outside.specs.Told.{Told, holds}
-use Rattle.tm_outside.specs.Store.{StoreState}
 use Rattle.hierarchy.specs.declared.Shape.{Shape}
 use Rattle.hierarchy.specs.Faults.{Faults}
 use Rattle.machine_file.specs.Machine.{IsMachine}
-use Rattle.defect_db.specs.Lists.{DefectList, IsDefectList}
-use Rattle.defect_db.specs.Text.{text_of}
 use Rattle.netlist.specs.declared.draft.Draft.{Draft}
+use Rattle.netlist.specs.Rows.{AreRows}
 use Rattle.blif_read.specs.Designs.{IsDesign}
 use Rattle.table_map.specs.declared.network.Network.{Network}
 use Rattle.table_map.specs.Plain.{IsPlainNetwork}
-use Rattle.config_image.specs.Images.{ImageValue}
 use Rattle.sound_room.specs.Enough.{HasStandingRoom}
 use Rattle.tm_text.specs.Size.{most_bytes}
 use Rattle.steps.specs.Files.{says_at, vectors_at}
-use Rattle.steps.specs.Lines.{outputs_line}
-use Rattle.steps.specs.Outside.{Around, StandsIn}
-use Rattle.steps.specs.Courses.{Course, after, write}
-use Rattle.steps.specs.Texts.{reads_machine, reads_design, attaches, AsksMachine}
+use Rattle.steps.specs.Outside.{Around}
+use Rattle.steps.specs.Courses.{Course, after}
+use Rattle.steps.specs.Texts.{reads_machine, reads_design, AsksMachine}
 use Rattle.steps.specs.Jobs.{Job}
 use Rattle.steps.specs.declared.design_file.DesignFile.TheVariants.{Design}
-use Rattle.listing.specs.Lists.{Listed, Unloaded, lists}
+use Rattle.listing.specs.Lists.{Unloaded}
 use Rattle.lay.specs.Laying.{lays, HasRoom, LacksRoom}
-use Rattle.image_rows.specs.Rows.{most_rows, image_course}
-use Rattle.tera_go.specs.GoRows.{design_rows}
+use Rattle.image_rows.specs.Rows.{most_rows}
+use Rattle.laid_rows.specs.Laid.{Laid}
+use Rattle.laid_rows.specs.Runs.{RunBegin, machine_attached, machine_listed, IfList, HasOutputs}
 
--- where the list is made: the store as the command began, the files that were read since, the last first, and the file of
--- vectors
-pub record GoBegin : Type 0 where
-  pub begun : StoreState
-  pub files : List (List ℕ)
-  pub vectors : List ℕ
+-- the design as what is laid: by its plain network, and with its rows
+abbrev pub design_laid : Draft → Laid
+design_laid draft = record { lays = λ d. lays d draft; width = length draft.inputs; rows = λ vectors rows. AreRows draft vectors rows }
 
--- where the store stands, and no load follows on those that the list took
-abbrev pub HasStayed : GoBegin → Listed → Around → Type 0
-HasStayed b l new = StandsIn b.files b.begun new.store × (new.rig.loads ≡ l.loads)
-
-abbrev pub go_begin : Around → (machine design vectors : List ℕ) → GoBegin
+abbrev pub go_begin : Around → (machine design vectors : List ℕ) → RunBegin
 go_begin old machine design vectors = record { begun = old.store; files = design ∷ machine ∷ []; vectors = vectors }
-
--- The image is loaded by one load more, and its rows, which are the design's, are written
-abbrev pub image_run : Draft → GoBegin → (new : Around) → Listed → ImageValue → Course
-image_run draft b new l i =
-    image_course (design_rows draft i (b.begun.contents b.vectors) new.store.current new.rig)
-    (record { image = i; vectors = b.vectors; files = b.files; begun = b.begun; before = l.loads }) new
-
--- The design is laid on what the list leaves free, and the image is run
-abbrev pub design_laid : Draft → GoBegin → (new : Around) → Listed → Course
-design_laid draft b new l = after (lays l.list draft) (HasStayed b l new) (image_run draft b new l)
-
--- The list is written, and the design is laid
-abbrev pub list_written : Draft → GoBegin → (new : Around) → Listed → Course
-list_written draft b new l = write (text_of l.list) (HasStayed b l new) (design_laid draft b new l)
-
--- The defects of the machine are listed, whose rig counted so many loads before, and the list is written
-abbrev pub machine_listed : Shape → (before : ℕ) → GoBegin → (new : Around) → Draft → Course
-machine_listed m before b new draft = after (lists m before new.rig) (StandsIn b.files b.begun new.store) (list_written draft b new)
 
 -- The design is read, and the machine is listed
 abbrev pub design_read : (machine design vectors : List ℕ) → Around → Around → Shape → Course
 design_read machine design vectors old new m =
     after (reads_design Design (old.store.contents design)) (Unloaded (design ∷ machine ∷ []) old new)
-    (machine_listed m old.rig.loads (go_begin old machine design vectors) new)
-
--- The machine is attached, and the design is read
-abbrev pub machine_attached : (machine name design vectors : List ℕ) → Around → Around → Shape → Course
-machine_attached machine name design vectors old new m =
-    after (attaches (record { shape = m; name = name }) old.rig new.rig) (Unloaded (machine ∷ []) old new)
-    (λ _. design_read machine design vectors old new m)
+    (λ draft. machine_listed (design_laid draft) m old.rig.loads (go_begin old machine design vectors) new)
 
 -- The machine is read and attached, and the design is read; no load is made before that. The machine's defects are listed, with few
 -- loads, and the list is written. The design is laid on what the list leaves free, and its rows are written. One load follows
 abbrev pub go_course : (machine name design vectors : List ℕ) → Around → Around → Course
-go_course machine name design vectors old new =
-    after (reads_machine (old.store.contents machine)) (Unloaded (machine ∷ []) old new)
-    (machine_attached machine name design vectors old new)
+go_course machine name design vectors old new = machine_attached machine name old new (design_read machine design vectors old new)
 
 -- what is told of the files
 pub record GoFiles : Type 0 where
@@ -112,10 +76,6 @@ pub record HasPartsFor (told : Option Faults) (m : Shape) (draft : Draft) : Type
   pub plain : IsPlainNetwork draft network
   pub standing : HasStandingRoom m faults network
 
--- if that is the text of a list of the machine's defects, the list has P
-abbrev pub IfList : Shape → (front : List ℕ) → (DefectList → Type 0) → Type 0
-IfList m front P = (d : DefectList) → d.shape ≡ m → IsDefectList d → front ≡ text_of d → P d
-
 -- There is room on the list that stands there, or for certain on the machine
 pub record GoRight (t : GoFiles) (told : Option Faults) (front : List ℕ) : Type 0 where
   pub texts : AreGoTexts t
@@ -130,14 +90,6 @@ pub record GoShort (t : GoFiles) (front : List ℕ) : Type 0 where
 pub record GoFew (t : GoFiles) : Type 0 where
   pub texts : AreGoTexts t
   pub few : length (vectors_at (length texts.draft.inputs) texts.vectors_file) ≤ most_rows
-
--- the line `outputs` stands behind a list of the machine's defects
-pub record HasOutputs (is_shape : Shape → Type 0) (text : List ℕ) : Type 0 where
-  pub list : DefectList
-  pub shape : is_shape list.shape
-  pub right : IsDefectList list
-  pub more : List ℕ
-  pub text_is : text ≡ text_of list ++ (outputs_line ++ more)
 
 abbrev pub go_job : (machine name design vectors : List ℕ) → Job
 go_job machine name design vectors = record {

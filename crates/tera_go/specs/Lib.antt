@@ -1,4 +1,3 @@
 -- The command that runs a design on a machine of the rig.
-pub mod GoRows
 pub mod Go
 pub mod Headline

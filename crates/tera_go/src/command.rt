@@ -1,20 +1,13 @@
 //! The command that runs a design on a machine of the rig.
-ghost use Rattle.std.specs.Prelude.{◌≡◌, ℕ, List, ◌∷◌, [], Some, OnOk};
-ghost use Rattle.tm_outside.specs.Store.{StoreState};
-ghost use Rattle.hierarchy.specs.declared.Shape.{Shape};
-ghost use Rattle.rig.specs.Rig.{shape_of};
-ghost use Rattle.steps.specs.Outside.{outside, around, StandsIn};
-ghost use Rattle.steps.specs.Took.{Follows};
+ghost use Rattle.std.specs.Prelude.{◌≡◌, OnOk};
+ghost use Rattle.steps.specs.Outside.{outside};
 ghost use Rattle.steps.specs.Jobs.{Does, IsLawful};
-ghost use Rattle.listing.specs.Lists.{Listed, IsListed};
-ghost use Rattle.tera_go.specs.Go.{GoBegin, design_laid, go_job};
-ghost use Rattle.tera_go.specs.Headline.{BeginsWithList, IsGone, HasRoomLeft};
+ghost use Rattle.laid_rows.specs.Headline.{BeginsWithList};
+ghost use Rattle.tera_go.specs.Go.{go_job};
+ghost use Rattle.tera_go.specs.Headline.{IsGone, HasRoomLeft};
 
-use defect_db::Defects;
-use image_rows::run_image;
-use lay::lay;
-use listing::write_list;
-use netlist::Netlist;
+use crate::design::OneDesign;
+use laid_rows::list_and_run;
 use place::in_order_plans_are_decided;
 use rig::Rig;
 use sound_room::standing_parts_are_room;
@@ -22,31 +15,6 @@ use std::alloc::Global;
 use steps::{DesignFile, Stop, attach, read_design, read_shape};
 use table_map::laws::plain_networks_have_the_rows;
 use tm_outside::{Sink, Store};
-
-// Lays a design on what a list leaves free, and runs its image.
-fn lay_and_run<S: Store, K: Sink>(
-    alloc: Global,
-    netlist: &Netlist,
-    list: &Defects,
-    vectors: &str,
-    store: &mut S,
-    rig: &mut Box<dyn Rig>,
-    sink: &mut K,
-) -> Result<(), Stop>
-    requires { shape_of (rig_state rig.old) ≡ Some list.now.shape }
-
-    // Where the list is one of the machine, wherever the store stood as the command began.
-    ensures follows { let old = outside (S.store_state store.old) (rig_state rig.old) (K.sink_state sink.old) in
-        let new = outside (S.store_state store.new) (rig_state rig.new) (K.sink_state sink.new) in
-        let made : Listed = record { list = list.now; loads = old.rig.loads } in
-        (shape : Shape) (before : ℕ) (files : List (List ℕ)) (begun : StoreState) → IsListed shape before old.rig made →
-        StandsIn files begun old.store → old.store.contents ≡ begun.contents →
-        let b : GoBegin = record { begun = begun; files = files; vectors = vectors.now } in
-        Follows ⊥ (vectors.now ∷ []) (new.rig.machine ≡ old.rig.machine) (design_laid netlist.now b (around new) made) result old new }
-{
-    let image = lay(alloc, netlist, list)?;
-    run_image(alloc, image, vectors, store, rig, sink)
-}
 
 // Reads a machine and attaches it, reads a design, writes the list of the machine's defects, and runs the design on what
 // the list leaves free.
@@ -67,8 +35,8 @@ fn work<S: Store, K: Sink>(
     let shape = read_shape(alloc, store, machine)?;
     attach(rig, &shape, name)?;
     let netlist = read_design(alloc, DesignFile::Design, store, design)?;
-    let list = write_list(alloc, &shape, rig, sink)?;
-    lay_and_run(alloc, &netlist, &list, vectors, store, rig, sink)
+    let design = OneDesign(netlist);
+    list_and_run(alloc, &shape, &design, vectors, store, rig, sink)
 }
 
 /// Reads a machine and attaches it under a name, reads a design, and writes the list of the machine's defects. Then the

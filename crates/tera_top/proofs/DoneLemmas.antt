@@ -29,8 +29,8 @@ use Rattle.tera_run.proofs.Headlines.{ran}
 use Rattle.tera_diagnose.specs.Diagnose.{diagnose_job}
 use Rattle.tera_diagnose.specs.Headline.{IsDiagnosed}
 use Rattle.tera_diagnose.proofs.Headlines.{diagnosed, few-loads as diagnosed-loads}
-use Rattle.tera_go.specs.Go.{go_job, go_course}
-use Rattle.tera_go.specs.Headline.{IsGone, HasRoomLeft, BeginsWithList, none}
+use Rattle.tera_go.specs.Go.{go_job}
+use Rattle.tera_go.specs.Headline.{IsGone, HasRoomLeft}
 use Rattle.tera_go.proofs.Headlines.{gone, begins, few-loads as gone-loads}
 use Rattle.tera_bench.specs.Bench.{bench_job}
 use Rattle.tera_bench.specs.Headline.{IsBenched}
@@ -42,6 +42,10 @@ use Rattle.tera_check.proofs.Headlines.{checked}
 use Rattle.tera_repair.specs.Repair.{repair_job}
 use Rattle.tera_repair.specs.Headline.{IsRepaired}
 use Rattle.tera_repair.proofs.Headlines.{repaired}
+use Rattle.laid_rows.specs.Headline.{BeginsWithList, none}
+use Rattle.tera_pair.specs.Pair.{pair_job}
+use Rattle.tera_pair.specs.Headline.{IsPaired, HaveRoomLeft}
+use Rattle.tera_pair.proofs.Headlines.{paired, begins as paired-begins, few-loads as paired-loads}
 use Rattle.tera_top.specs.Words.{Asked, no_job, a_job, HasNoJob, job_of, commands, asked_in, asked_by, is_dashed}
 use Rattle.tera_top.proofs.WordLemmas.{some_number}
 use Rattle.tera_top.proofs.AskedLemmas.{refused-some}
@@ -78,6 +82,13 @@ module _ (words : List (List ℕ)) (old new : Outside) (status : ℕ) (ended : E
       (subst (λ (a : Asked). EndWrote (HasNoJob a) ((job_of a).course (around old) (around new)) old new status) wrong ended.written)))
       (begins machine name design vectors old new)
 
+  pub pair-listed : (machine name first second vectors : List ℕ) → words ≡ codes "pair" ∷ machine ∷ name ∷ first ∷ second ∷ vectors ∷ [] → BeginsWithList machine name old new
+  pair-listed machine name first second vectors is =
+      whatever (pair_job machine name first second vectors) (BeginsWithList machine name old new) (rw is refl)
+      (λ wrong. wrong-begins machine name old new (stands-end (Unit {0}) (wrong_words.course (around old) (around new)) old new status
+      (subst (λ (a : Asked). EndWrote (HasNoJob a) ((job_of a).course (around old) (around new)) old new status) wrong ended.written)))
+      (paired-begins machine name first second vectors old new)
+
   -- wrong words make no load
   none-loaded : (machine name : List ℕ) (more : ℕ → ℕ → Type 0) → asked_by words ≡ no_job → MadeFewLoads machine name more (around old) (around new)
   none-loaded machine name more wrong =
@@ -88,6 +99,11 @@ module _ (words : List (List ℕ)) (old new : Outside) (status : ℕ) (ended : E
   go-loads machine name design vectors is =
       whatever (go_job machine name design vectors) (MadeFewLoads machine name LoadsOnce (around old) (around new)) (rw is refl)
       (none-loaded machine name LoadsOnce) (gone-loads machine name design vectors old new)
+
+  pub pair-loads : (machine name first second vectors : List ℕ) → words ≡ codes "pair" ∷ machine ∷ name ∷ first ∷ second ∷ vectors ∷ [] → MadeFewLoads machine name LoadsOnce (around old) (around new)
+  pair-loads machine name first second vectors is =
+      whatever (pair_job machine name first second vectors) (MadeFewLoads machine name LoadsOnce (around old) (around new)) (rw is refl)
+      (none-loaded machine name LoadsOnce) (paired-loads machine name first second vectors old new)
 
   pub diagnose-loads : (machine name : List ℕ) → words ≡ codes "diagnose" ∷ machine ∷ name ∷ [] → MadeFewLoads machine name (λ made now. now ≡ made) (around old) (around new)
   diagnose-loads machine name is =
@@ -151,3 +167,9 @@ module _ (words : List (List ℕ)) (old new : Outside) (status : ℕ) (ended : E
 
     pub repair-repaired : (machine defects image : List ℕ) → words ≡ codes "repair" ∷ machine ∷ defects ∷ image ∷ [] → IsRepaired machine defects image old new
     repair-repaired machine defects image is = let w = done-as (repair_job machine defects image) (rw is refl) in repaired machine defects image old new w.0 w.3 w.2 w.1
+
+    pub pair-paired : (machine name first second vectors : List ℕ) → words ≡ codes "pair" ∷ machine ∷ name ∷ first ∷ second ∷ vectors ∷ [] → IsPaired machine name first second vectors old new
+    pair-paired machine name first second vectors is = let w = done-as (pair_job machine name first second vectors) (rw is refl) in (paired machine name first second vectors old new w.0 w.3 w.2 w.1).0
+
+    pub pair-room : (machine name first second vectors : List ℕ) → words ≡ codes "pair" ∷ machine ∷ name ∷ first ∷ second ∷ vectors ∷ [] → HaveRoomLeft machine first second old new
+    pair-room machine name first second vectors is = let w = done-as (pair_job machine name first second vectors) (rw is refl) in (paired machine name first second vectors old new w.0 w.3 w.2 w.1).1

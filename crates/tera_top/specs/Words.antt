@@ -15,6 +15,7 @@ use Rattle.tera_go.specs.Go.{go_job}
 use Rattle.tera_bench.specs.Bench.{bench_job}
 use Rattle.tera_check.specs.Check.{check_job}
 use Rattle.tera_repair.specs.Repair.{repair_job}
+use Rattle.tera_pair.specs.Pair.{pair_job}
 
 -- what words ask for: a job, or none where they are wrong
 pub data Asked : Type 1 where
@@ -70,6 +71,7 @@ commands =
     ∷ numbered (codes "bench") (λ n. bench_job n)
     ∷ named 4 (codes "check") (λ w. check_job (w 1) (w 2) (w 3))
     ∷ named 4 (codes "repair") (λ w. repair_job (w 1) (w 2) (w 3))
+    ∷ named 6 (codes "pair") (λ w. pair_job (w 1) (w 2) (w 3) (w 4) (w 5))
     ∷ []
 
 -- ---- what words ask for

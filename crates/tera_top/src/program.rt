@@ -11,11 +11,13 @@ ghost use Rattle.tera_eval.specs.Headline.{IsEvaled};
 ghost use Rattle.tera_compile.specs.Headline.{IsCompiled};
 ghost use Rattle.tera_run.specs.Headline.{IsRan};
 ghost use Rattle.tera_diagnose.specs.Headline.{IsDiagnosed};
-ghost use Rattle.tera_go.specs.Headline.{BeginsWithList, IsGone, HasRoomLeft};
+ghost use Rattle.laid_rows.specs.Headline.{BeginsWithList};
+ghost use Rattle.tera_go.specs.Headline.{IsGone, HasRoomLeft};
 ghost use Rattle.tera_bench.specs.Headline.{IsBenched};
 ghost use Rattle.tera_bench.specs.Bench.{bench_job};
 ghost use Rattle.tera_check.specs.Headline.{IsChecked};
 ghost use Rattle.tera_repair.specs.Headline.{IsRepaired};
+ghost use Rattle.tera_pair.specs.Headline.{IsPaired, HaveRoomLeft};
 
 use crate::words::{begins, number_of, some_begins_dashed, word};
 use rig::Rig;
@@ -27,6 +29,7 @@ use tera_compile::compile;
 use tera_diagnose::diagnose;
 use tera_eval::eval;
 use tera_go::go;
+use tera_pair::pair;
 use tera_repair::repair;
 use tera_run::run;
 use tm_outside::{Sink, Store};
@@ -66,6 +69,7 @@ fn work_in<S: Store, K: Sink>(
     let second = word(words, 2);
     let third = word(words, 3);
     let fourth = word(words, 4);
+    let fifth = word(words, 5);
     if begins(words, 3, "eval") {
         return eval(alloc, first, second, store, sink);
     }
@@ -89,6 +93,9 @@ fn work_in<S: Store, K: Sink>(
     }
     if begins(words, 4, "repair") {
         return repair(alloc, first, second, third, store, sink);
+    }
+    if begins(words, 6, "pair") {
+        return pair(alloc, first, second, third, fourth, fifth, store, rig, sink);
     }
     Err(Stop::Refused(Refusal::Words))
 }
@@ -217,6 +224,31 @@ pub fn teramac<S: Store, K: Sink>(
         let new = outside (S.store_state store.new) (rig_state rig.new) (K.sink_state sink.new) in
         (machine defects image : List ℕ) → map string_bytes words.now ≡ codes "repair" ∷ machine ∷ defects ∷ image ∷ [] →
         result ≡ 0 → IsRepaired machine defects image old new }
+    // What a `pair` wrote begins with a list that covers every fault and is tight, so far as it goes.
+    ensures pair_listed { let old = outside (S.store_state store.old) (rig_state rig.old) (K.sink_state sink.old) in
+        let new = outside (S.store_state store.new) (rig_state rig.new) (K.sink_state sink.new) in
+        (machine name first second vectors : List ℕ) →
+        map string_bytes words.now ≡ codes "pair" ∷ machine ∷ name ∷ first ∷ second ∷ vectors ∷ [] →
+        BeginsWithList machine name old new }
+    // A `pair` at status 0 listed every fault, loaded an image of both designs that uses nothing listed, and wrote their rows side
+    // by side.
+    ensures paired { let old = outside (S.store_state store.old) (rig_state rig.old) (K.sink_state sink.old) in
+        let new = outside (S.store_state store.new) (rig_state rig.new) (K.sink_state sink.new) in
+        (machine name first second vectors : List ℕ) →
+        map string_bytes words.now ≡ codes "pair" ∷ machine ∷ name ∷ first ∷ second ∷ vectors ∷ [] →
+        result ≡ 0 → IsPaired machine name first second vectors old new }
+    // And the joint network of their plain networks fits, in order, on the list.
+    ensures pair_room { let old = outside (S.store_state store.old) (rig_state rig.old) (K.sink_state sink.old) in
+        let new = outside (S.store_state store.new) (rig_state rig.new) (K.sink_state sink.new) in
+        (machine name first second vectors : List ℕ) →
+        map string_bytes words.now ≡ codes "pair" ∷ machine ∷ name ∷ first ∷ second ∷ vectors ∷ [] →
+        result ≡ 0 → HaveRoomLeft machine first second old new }
+    // Whatever the status, a `pair` made few loads for its list, and one more at most.
+    ensures pair_loads { let old = outside (S.store_state store.old) (rig_state rig.old) (K.sink_state sink.old) in
+        let new = outside (S.store_state store.new) (rig_state rig.new) (K.sink_state sink.new) in
+        (machine name first second vectors : List ℕ) →
+        map string_bytes words.now ≡ codes "pair" ∷ machine ∷ name ∷ first ∷ second ∷ vectors ∷ [] →
+        MadeFewLoads machine name LoadsOnce (around old) (around new) }
 {
     bench_laws::the_bench_design_is_a_design();
     bench_laws::generated_faults_leave_room();

@@ -1,5 +1,6 @@
 use Rattle.std.proofs.Common.{◌∙◌}
-use Rattle.lay.proofs.LayLemmas.{fewer-rows, plain-inputs, plain-outputs}
+use Rattle.lay.proofs.LayLemmas.{fewer-rows}
+use Rattle.lay.proofs.PlainWidths.{plain-inputs, plain-outputs}
 use Rattle.lay.proofs.laying.drawn_merged.Goals as goal
 
 pub drawn-requires-clause-rows : goal.drawn-requires-clause-rows

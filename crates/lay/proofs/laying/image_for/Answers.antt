@@ -1,5 +1,6 @@
 use Rattle.std.proofs.lemmas.Result.{err_from_is_err_and}
-use Rattle.lay.proofs.LayLemmas.{plan-image, plain-inputs, plain-outputs}
+use Rattle.lay.proofs.LayLemmas.{plan-image}
+use Rattle.lay.proofs.PlainWidths.{plain-inputs, plain-outputs}
 use Rattle.lay.proofs.laying.image_for.Goals as goal
 
 pub returns-in_err-placed-clause-refused : goal.returns-in_err-placed-clause-refused

@@ -1,7 +1,7 @@
 use Rattle.std.proofs.Common.{[], ◌∷◌, refl}
 use Rattle.std.proofs.lemmas.Result.{err_from_is_err_and}
-use Rattle.listing.proofs.ListedLemmas.{attached-shape, list-shape}
-use Rattle.tera_go.proofs.Following.{no-machine, unattached, no-design, unlisted, listed}
+use Rattle.listing.proofs.ListedLemmas.{attached-shape}
+use Rattle.tera_go.proofs.Following.{no-machine, unattached, no-design, has-design}
 use Rattle.tera_go.proofs.command.work.Goals as goal
 
 pub returns-in_err-shape : goal.returns-in_err-shape
@@ -25,31 +25,15 @@ returns-in_err-netlist g c = record {
       rw (p.1, p.2) (no-design c.args.machine.now c.args.name.now c.args.design.now c.args.vectors.now _ _ _ _ _ c.in_ok-shape.shape (c.in_ok-shape.ensures.took _ _) c.in_ok-attach.ensures.asked c.in_ok-attach.ensures.loads _ (c.in_ok-attach.ensures.took _ _) _ _ refl (c.in_err-netlist.ensures.took _ _));
 }
 
-pub returns-in_err-list : goal.returns-in_err-list
-returns-in_err-list g c = record {
-  does =
-      let p = err_from_is_err_and c.from_residual-in_err-list.result c.from_residual-in_err-list.ensures.1 in
-      rw (p.1, p.2) (unlisted c.args.machine.now c.args.name.now c.args.design.now c.args.vectors.now _ _ _ _ _ c.in_ok-shape.shape (c.in_ok-shape.ensures.took _ _) c.in_ok-attach.ensures.asked c.in_ok-attach.ensures.loads _ (c.in_ok-attach.ensures.took _ _) c.in_ok-netlist.netlist (c.in_ok-netlist.ensures.took _ _) _ _ c.in_err-list.ensures.machine _ _ refl (c.in_err-list.ensures.written _));
-}
-
-pub write_list-requires : goal.write_list-requires
-write_list-requires g c =
+pub list_and_run-requires : goal.list_and_run-requires
+list_and_run-requires g c =
     let box1 = c.attach.new.rig in
     let r1 = (goal.Rig-dyn g (box1.vtable, box1.value)).rig_state box1.value in
     attached-shape r1 c.in_ok-shape.shape c.args.name.now (c.in_ok-attach.ensures.took (g.S.Store.store_state c.read_shape.new.store) (g.K.Sink.sink_state c.args.sink.now)).gives
 
-pub lay_and_run-requires : goal.lay_and_run-requires
-lay_and_run-requires g c =
-    let box1 = c.attach.new.rig in
-    let r1 = (goal.Rig-dyn g (box1.vtable, box1.value)).rig_state box1.value in
-    let box2 = c.write_list.new.rig in
-    let r2 = (goal.Rig-dyn g (box2.vtable, box2.value)).rig_state box2.value in
-    let attached = attached-shape r1 c.in_ok-shape.shape c.args.name.now (c.in_ok-attach.ensures.took (g.S.Store.store_state c.read_shape.new.store) (g.K.Sink.sink_state c.args.sink.now)).gives in
-    list-shape r1 r2 c.in_ok-shape.shape c.in_ok-list.list c.in_ok-list.ensures.machine (c.in_ok-list.ensures.written (g.S.Store.store_state c.read_design.new.store)).0.gives.shape attached
-
 pub returns : goal.returns
 returns g c = record {
   does =
-      listed c.args.machine.now c.args.name.now c.args.design.now c.args.vectors.now _ _ _ _ _ c.in_ok-shape.shape (c.in_ok-shape.ensures.took _ _) c.in_ok-attach.ensures.asked c.in_ok-attach.ensures.loads _ (c.in_ok-attach.ensures.took _ _) c.in_ok-netlist.netlist (c.in_ok-netlist.ensures.took _ _) _ _ c.in_ok-list.ensures.machine c.in_ok-list.list _ _ (c.in_ok-list.ensures.written _)
-      (λ list at same. c.lay_and_run.ensures.follows c.in_ok-shape.shape _ (c.args.design.now ∷ c.args.machine.now ∷ []) (g.S.Store.store_state c.args.store.now) list at same);
+      has-design c.args.machine.now c.args.name.now c.args.design.now c.args.vectors.now _ _ _ _ _ c.in_ok-shape.shape (c.in_ok-shape.ensures.took _ _) c.in_ok-attach.ensures.asked c.in_ok-attach.ensures.loads _ (c.in_ok-attach.ensures.took _ _) c.in_ok-netlist.netlist _ _ (c.in_ok-netlist.ensures.took _ _)
+      (λ at same. c.list_and_run.ensures.follows _ (c.args.design.now ∷ c.args.machine.now ∷ []) (g.S.Store.store_state c.args.store.now) c.in_ok-attach.ensures.loads at same);
 }

@@ -1,5 +1,5 @@
 use Rattle.std.proofs.Common.{map, string_bytes}
-use Rattle.tera_top.proofs.DoneLemmas.{go-listed, go-loads, go-gone, go-room, eval-evaled, compile-compiled, run-ran, diagnose-diagnosed, diagnose-loads, bench-benched, check-checked, repair-repaired}
+use Rattle.tera_top.proofs.DoneLemmas.{go-listed, go-loads, go-gone, go-room, eval-evaled, compile-compiled, run-ran, diagnose-diagnosed, diagnose-loads, bench-benched, check-checked, repair-repaired, pair-listed, pair-loads, pair-paired, pair-room}
 use Rattle.tera_top.proofs.program.teramac.Goals as goal
 
 pub returns-clause-listed : goal.returns-clause-listed
@@ -47,3 +47,17 @@ returns-clause-checked g c = λ machine name image is zero.
 pub returns-clause-repaired : goal.returns-clause-repaired
 returns-clause-repaired g c = λ machine defects image is zero.
     repair-repaired (map string_bytes c.args.words.now) _ _ c.end.result c.end.ensures zero machine defects image is
+
+pub returns-clause-pair_listed : goal.returns-clause-pair_listed
+returns-clause-pair_listed g c = pair-listed (map string_bytes c.args.words.now) _ _ c.end.result c.end.ensures
+
+pub returns-clause-pair_loads : goal.returns-clause-pair_loads
+returns-clause-pair_loads g c = pair-loads (map string_bytes c.args.words.now) _ _ c.end.result c.end.ensures
+
+pub returns-clause-paired : goal.returns-clause-paired
+returns-clause-paired g c = λ machine name first second vectors is zero.
+    pair-paired (map string_bytes c.args.words.now) _ _ c.end.result c.end.ensures zero machine name first second vectors is
+
+pub returns-clause-pair_room : goal.returns-clause-pair_room
+returns-clause-pair_room g c = λ machine name first second vectors is zero.
+    pair-room (map string_bytes c.args.words.now) _ _ c.end.result c.end.ensures zero machine name first second vectors is

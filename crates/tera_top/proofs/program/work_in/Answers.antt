@@ -7,6 +7,7 @@ use Rattle.tera_diagnose.specs.Diagnose.{diagnose_job}
 use Rattle.tera_go.specs.Go.{go_job}
 use Rattle.tera_check.specs.Check.{check_job}
 use Rattle.tera_repair.specs.Repair.{repair_job}
+use Rattle.tera_pair.specs.Pair.{pair_job}
 use Rattle.tera_top.proofs.AskedLemmas.{does-none, does-job, this-line, further}
 use Rattle.tera_top.proofs.program.work_in.Goals as goal
 
@@ -117,6 +118,25 @@ returns-then-begins-8 g c =
     (further _ _ _ _ _ _ (sym c.begins-7.ensures ∙ c.if-begins-7.false)
     (this-line _ _ _ _ _ _ (sym c.begins-8.ensures ∙ c.if-begins-8.true) (rw (c.word-first.ensures, c.word-second.ensures, c.word-third.ensures) at done))))))))
 
+pub returns-then-begins-9 : goal.returns-then-begins-9
+returns-then-begins-9 g c =
+    let box0 = c.args.rig.now in
+    let rig0 = (goal.Rig-dyn g (box0.vtable, box0.value)).rig_state box0.value in
+    let old = outside (g.S.Store.store_state c.args.store.now) rig0 (g.K.Sink.sink_state c.args.sink.now) in
+    let box = c.pair.new.rig in
+    let rig = (goal.Rig-dyn g (box.vtable, box.value)).rig_state box.value in
+    let new = outside (g.S.Store.store_state c.pair.new.store) rig (g.K.Sink.sink_state c.pair.new.sink) in
+    let done = does-job (pair_job c.word-first.result.now c.word-second.result.now c.word-third.result.now c.word-fourth.result.now c.word-fifth.result.now) c.pair.result old new c.pair.ensures.lawful c.pair.ensures.does in
+    further _ _ _ _ _ _ (sym c.begins.ensures ∙ c.if-begins.false)
+    (further _ _ _ _ _ _ (sym c.begins-2.ensures ∙ c.if-begins-2.false)
+    (further _ _ _ _ _ _ (sym c.begins-3.ensures ∙ c.if-begins-3.false)
+    (further _ _ _ _ _ _ (sym c.begins-4.ensures ∙ c.if-begins-4.false)
+    (further _ _ _ _ _ _ (sym c.begins-5.ensures ∙ c.if-begins-5.false)
+    (further _ _ _ _ _ _ (sym c.begins-6.ensures ∙ c.if-begins-6.false)
+    (further _ _ _ _ _ _ (sym c.begins-7.ensures ∙ c.if-begins-7.false)
+    (further _ _ _ _ _ _ (sym c.begins-8.ensures ∙ c.if-begins-8.false)
+    (this-line _ _ _ _ _ _ (sym c.begins-9.ensures ∙ c.if-begins-9.true) (rw (c.word-first.ensures, c.word-second.ensures, c.word-third.ensures, c.word-fourth.ensures, c.word-fifth.ensures) at done)))))))))
+
 pub returns : goal.returns
 returns g c =
     let box0 = c.args.rig.now in
@@ -130,4 +150,5 @@ returns g c =
     (further _ _ _ _ _ _ (sym c.begins-6.ensures ∙ c.if-begins-6.false)
     (further _ _ _ _ _ _ (sym c.begins-7.ensures ∙ c.if-begins-7.false)
     (further _ _ _ _ _ _ (sym c.begins-8.ensures ∙ c.if-begins-8.false)
-    (does-none old))))))))
+    (further _ _ _ _ _ _ (sym c.begins-9.ensures ∙ c.if-begins-9.false)
+    (does-none old)))))))))

@@ -1,0 +1,71 @@
+//! What is laid on a machine, and run.
+ghost use Rattle.std.specs.Prelude.{◌≡◌, ℕ, List, ◌∷◌, [], Some};
+ghost use Rattle.tm_outside.specs.Store.{StoreState};
+ghost use Rattle.defect_db.specs.Lists.{DefectList};
+ghost use Rattle.config_image.specs.Images.{ImageValue};
+ghost use Rattle.rig.specs.Rig.{shape_of};
+ghost use Rattle.steps.specs.Outside.{Outside, outside, around, StandsIn};
+ghost use Rattle.steps.specs.Took.{Took, Follows};
+ghost use Rattle.laid_rows.specs.Laid.{Laid, IsLaidOn};
+ghost use Rattle.laid_rows.specs.Runs.{RunBegin, machine_listed};
+
+use config_image::Image;
+use defect_db::Defects;
+use hierarchy::Shape;
+use image_rows::run_image;
+use listing::write_list;
+use rig::Rig;
+use std::alloc::Global;
+use steps::Stop;
+use tm_outside::{Sink, Store};
+
+/// What can be laid on a machine: one design, or several side by side.
+///
+/// Contracts see the step that lays it, how many bits a vector has, and what the rows are. Each image that the step gives is
+/// right for these rows under all faults that the list covers.
+pub trait Lays {
+    ghost laid: { Self → Laid };
+
+    /// An image on what the list leaves free.
+    ///
+    /// # Errors
+    ///
+    /// What its step says: the refusal for want of room, or want of memory.
+    fn lay(&self, alloc: Global, list: &Defects) -> Result<Image, Stop>
+        // Whatever is around it.
+        ensures took { (o : Outside) → Took [] ((laid self.now).lays list.now) result o o };
+
+    ghost right: { (x : Self) (d : DefectList) (i : ImageValue) → ((laid x).lays d).gives i → IsLaidOn (laid x) d i };
+}
+
+/// Lists the defects of the machine that is attached and writes the list. Then lays what is given on what the list leaves free,
+/// loads its image, and writes the line `outputs` and a row for each vector.
+///
+/// # Errors
+///
+/// The first step that refuses, in this order: the defects are listed and the list is written; there is room; the image is loaded,
+/// the file of vectors is started, the line is written, and then each vector is read and driven and its row written.
+pub fn list_and_run<L: Lays, S: Store, K: Sink>(
+    alloc: Global,
+    shape: &Shape,
+    what: &L,
+    vectors: &str,
+    store: &mut S,
+    rig: &mut Box<dyn Rig>,
+    sink: &mut K,
+) -> Result<(), Stop>
+    requires { shape_of (rig_state rig.old) ≡ Some shape.now }
+
+    // Wherever the store stood as the command began, and whatever was read since.
+    ensures follows { let old = outside (S.store_state store.old) (rig_state rig.old) (K.sink_state sink.old) in
+        let new = outside (S.store_state store.new) (rig_state rig.new) (K.sink_state sink.new) in
+        (before : ℕ) (files : List (List ℕ)) (begun : StoreState) → old.rig.loads ≡ before → StandsIn files begun old.store →
+        old.store.contents ≡ begun.contents →
+        let b : RunBegin = record { begun = begun; files = files; vectors = vectors.now } in
+        Follows ⊥ (vectors.now ∷ []) (new.rig.machine ≡ old.rig.machine)
+        (machine_listed (L.laid what.now) shape.now before b (around new)) result old new }
+{
+    let list = write_list(alloc, shape, rig, sink)?;
+    let image = what.lay(alloc, &list)?;
+    run_image(alloc, image, vectors, store, rig, sink)
+}

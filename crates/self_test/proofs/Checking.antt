@@ -1,0 +1,136 @@
+-- The test of an image, step by step.
+use Rattle.std.proofs.Common.{◌≡◌, ◌≢◌, ◌⊎◌, ℕ, ◌+◌, ◌*◌, ◌<◌, ◌≤◌, Bool, true, false, Some, None, Option, List, length, refl, sym, ap, ◌∙◌, subst, inl, inr, arith}
+use Rattle.std.specs.Prelude.{◌==◌, if◌then◌else◌, IsSome, is_some, IsTrue, Contains}
+use Rattle.std.specs.List.{count_by}
+use Rattle.std.proofs.lemmas.Bool.{false≢true}
+use Rattle.tm_bits.specs.Numbers.{size_of}
+use Rattle.hierarchy.specs.declared.Shape.{Shape}
+use Rattle.hierarchy.specs.declared.Table.{Table}
+use Rattle.hierarchy.specs.Laws.{IsNumbered, IsTree, HasMeetings, HasParents}
+use Rattle.hierarchy.specs.Faults.{Faults, IsFaultless}
+use Rattle.hierarchy.specs.Sound.{IsSoundWire, IsSoundTable}
+use Rattle.hierarchy.specs.Served.{HasHomes}
+use Rattle.hierarchy.specs.Standing.{HasStandingParts}
+use Rattle.config_set.specs.Configuration.{setting_of}
+use Rattle.config_image.specs.Images.{ImageValue, IsImage}
+use Rattle.config_image.specs.Parts.{IsWideEnough}
+use Rattle.evidence.specs.Kept.{Kept, HoldsFor, IsMore}
+use Rattle.growth.specs.Field.{IsFieldOf, ClosedIf}
+use Rattle.growth.specs.Tables.{SeatedAreKept}
+use Rattle.growth.specs.declared.field.Field.{Field}
+use Rattle.growth.specs.declared.step.Step.{Step}
+use Rattle.self_test.specs.Fields.{IsFewFor}
+use Rattle.self_test.specs.Looks.{AreRoutesKnown, KeepsTableOf, AreSeated, FieldIf, RoutesIf, TablesIf, WholeIf, TakesInField, TakesAtMost, HasClosed, HasTablesOn}
+use Rattle.self_test.specs.Skeleton.{HasSkeleton}
+use Rattle.self_test.specs.Soundly.{KeepsRoutes, KeepsTables, KeepsParts, SoundIf, YesIf, RunsSoundly}
+use Rattle.self_test.specs.Used.{AreUsed, AreInvolved}
+use Rattle.self_test.proofs.Covering.{on_within, used_within}
+use Rattle.self_test.proofs.Counting.{list_fits, of_told, to_told}
+use Rattle.self_test.proofs.Looking.{on_of, routes_stay, tables_kept, tests_keep}
+use Rattle.self_test.proofs.Wholly.{routes_known, seated}
+
+-- what the laws say of a machine
+pub record AreLaws (m : Shape) : Type 0 where
+  pub numbered : IsNumbered m
+  pub tree : IsTree m
+  pub parents : HasParents m
+  pub meetings : HasMeetings m
+  pub homes : HasHomes m
+  pub wires : (f : Faults) → IsFaultless f → (w : ℕ) → IsSoundWire m f w
+  pub tables : (f : Faults) → IsFaultless f → (t : ℕ) → IsSoundTable m f t
+  pub standing : (f : Faults) → HasStandingParts m f
+
+-- without faults growth reaches all that the image needs
+pub routes_if : (told : Option Faults) (old new : Kept) (ss : List Step) (i : ImageValue) (used : List Bool) (a : Field) (answer : Bool) → AreLaws i.config.shape → IsImage i → AreUsed i used → IsFieldOf i.config.shape a → new.shape ≡ i.config.shape →
+    ClosedIf told new a ss → ((f : Faults) → told ≡ Some f → HoldsFor old f → HoldsFor new f) → (AreRoutesKnown new ss i → IsTrue answer) → RoutesIf told old new ss i a answer
+routes_if told old new ss i used a answer laws right are fits shape closed holds_on known = record { at = at }
+  where
+    at : (f : Faults) → told ≡ Some f → HoldsFor old f → IsFaultless f → IsWideEnough i.config.shape i → HasSkeleton i a → IsTrue answer × AreSeated new ss i
+    at f is holds none wide sk =
+        let grown = closed.at f is (holds_on f is holds) in
+        let within = used_within i used right are in (
+          known (routes_known i laws.numbered laws.tree laws.parents laws.meetings laws.homes within f none (laws.wires f none) (laws.tables f none) (laws.standing f) wide a fits sk new shape ss grown),
+          λ t on. seated i laws.numbered laws.tree laws.parents laws.meetings laws.homes within f none (laws.wires f none) (laws.tables f none) (laws.standing f) wide a fits sk new shape ss grown t on (on_within i right t on),
+        )
+
+-- the tests of the tables that are on keep what the image needs of them, where they are seated
+pub tables_if : (told : Option Faults) (k l : Kept) (ss : List Step) (i : ImageValue) (tables : List Table) (answer : Bool) → ((t : ℕ) → count_by (λ (y : Table). y.0 == t) tables ≡ (if is_some (setting_of i.config t) then 1 else 0)) →
+    SeatedAreKept told k l ss tables → (KeepsTables l i → IsTrue answer) → TablesIf told k ss i answer
+tables_if told k l ss i tables answer counts kept known = record {
+  at = λ f is holds none seated_all. known (tables_kept l i (to_told (λ (t : Table). t.0) tables (λ q. is_some (setting_of i.config q)) counts (KeepsTableOf l i)
+      (tests_keep told k l ss i f tables kept is holds none seated_all (of_told (λ (t : Table). t.0) tables (λ q. is_some (setting_of i.config q)) counts (λ q. is_some (setting_of i.config q) ≡ true) (λ q e. e)))));
+}
+
+-- so many loads for each of them are so many for any list that has them
+pub loads_tables : (i : ImageValue) (tables : List Table) (before after : ℕ) → ((t : ℕ) → count_by (λ (y : Table). y.0 == t) tables ≡ (if is_some (setting_of i.config t) then 1 else 0)) → after ≤ before + 130 * length tables →
+    (ts : List ℕ) → HasTablesOn i ts → after ≤ before + 130 * length ts
+loads_tables i tables before after counts loads ts on =
+    let fits = list_fits (λ (t : Table). t.0) tables (λ q. is_some (setting_of i.config q)) counts ts (λ q e. on q (on_of i q e)) in
+    omega (arith, loads, fits)
+
+-- ---- in one field
+
+pub loads_grown : (i : ImageValue) (a : Field) (before after : ℕ) → after ≤ before + (8 * size_of a.crosses + 3 * size_of a.wires) → TakesInField i a before after
+loads_grown i a before after grown = record { few = λ ts on. omega (arith, grown) }
+
+pub loads_in : (i : ImageValue) (a : Field) (before mid after : ℕ) → mid ≤ before + (8 * size_of a.crosses + 3 * size_of a.wires) → ((ts : List ℕ) → HasTablesOn i ts → after ≤ mid + 130 * length ts) → TakesInField i a before after
+loads_in i a before mid after grown tested = record { few = λ ts on. (let more = tested ts on in omega (arith, grown, more)) }
+
+-- of the faults that were told at first
+pub tables_told : {told other : Option Faults} {k : Kept} {ss : List Step} {i : ImageValue} {answer : Bool} → told ≡ other → TablesIf told k ss i answer → TablesIf other k ss i answer
+tables_told {k = k} {ss = ss} {i = i} {answer = answer} e = subst (λ (z : Option Faults). TablesIf z k ss i answer) e
+
+pub field_told : {told other : Option Faults} {k : Kept} {i : ImageValue} {a : Field} {found : Option Bool} → told ≡ other → FieldIf told k i a found → FieldIf other k i a found
+field_told {k = k} {i = i} {a = a} {found = found} e = subst (λ (z : Option Faults). FieldIf z k i a found) e
+
+-- what holds of a field with what was kept later holds with what was kept before
+pub field_earlier : {told : Option Faults} {k l : Kept} {i : ImageValue} {a : Field} {found : Option Bool} → ((f : Faults) → told ≡ Some f → HoldsFor k f → HoldsFor l f) → FieldIf told l i a found → FieldIf told k i a found
+field_earlier holds_on field = record { at = λ f is holds none wide sk. field.at f is (holds_on f is holds) none wide sk }
+
+pub found_true : (told : Option Faults) (old mid : Kept) (ss : List Step) (i : ImageValue) (a : Field) (answer : Bool) → RoutesIf told old mid ss i a true → ((f : Faults) → told ≡ Some f → HoldsFor old f → HoldsFor mid f) → TablesIf told mid ss i answer → FieldIf told old i a (Some answer)
+found_true told old mid ss i a answer routes holds_on tables = record {
+  at = λ f is holds none wide sk. ap Some (tables.at f is (holds_on f is holds) none (routes.at f is holds none wide sk).1);
+}
+
+pub found_none : (told : Option Faults) (old mid : Kept) (ss : List Step) (i : ImageValue) (a : Field) → RoutesIf told old mid ss i a false → FieldIf told old i a None
+found_none told old mid ss i a routes = record { at = λ f is holds none wide sk. absurd (false≢true (routes.at f is holds none wide sk).0) }
+
+pub parts_found : (k l : Kept) (i : ImageValue) (answer : Bool) → IsMore k l → KeepsRoutes k i → (IsTrue answer → KeepsTables l i) → Some answer ≡ Some true → KeepsParts l i
+parts_found k l i answer more routes tables e = record { routes = routes_stay more routes; tables = tables (let same : answer ≡ true = cc in same) }
+
+-- ---- in both fields
+
+pub whole_found : (told : Option Faults) (k : Kept) (i : ImageValue) (a : Field) (answer : Bool) → FieldIf told k i a (Some answer) → (IsWideEnough i.config.shape i → HasSkeleton i a) → WholeIf told k i answer
+whole_found told k i a answer field sk = record { at = λ f is holds none wide. (let e = field.at f is holds none wide (sk wide) in let same : answer ≡ true = cc in same) }
+
+pub whole_none : (told : Option Faults) (k : Kept) (i : ImageValue) (a : Field) (answer : Bool) → FieldIf told k i a None → (IsWideEnough i.config.shape i → HasSkeleton i a) → WholeIf told k i answer
+whole_none told k i a answer field sk = record { at = λ f is holds none wide. absurd (let e = field.at f is holds none wide (sk wide) in let no : ⊥ = cc in no) }
+
+pub loads_one : (i : ImageValue) (nodes used : List Bool) (a : Field) (before after : ℕ) → IsFewFor i nodes used 2 a → TakesInField i a before after → TakesAtMost i nodes used before after
+loads_one i nodes used a before after few takes = record { few = by }
+  where
+    by : (xs ts : List ℕ) → HasClosed i xs → HasTablesOn i ts → after ≤ before + (238 * size_of nodes + 86 * size_of used + 16 * length xs + 130 * length ts)
+    by xs ts closed on =
+        let wires = few.wires in
+        let crosses = few.crosses xs closed in
+        let loads = takes.few ts on in omega (arith, wires, crosses, loads)
+
+pub loads_two : (i : ImageValue) (nodes used : List Bool) (a b : Field) (before mid after : ℕ) → IsFewFor i nodes used 2 a → IsFewFor i nodes used 3 b → mid ≤ before + (8 * size_of a.crosses + 3 * size_of a.wires) → TakesInField i b mid after → TakesAtMost i nodes used before after
+loads_two i nodes used a b before mid after few_a few_b first takes = record { few = by }
+  where
+    by : (xs ts : List ℕ) → HasClosed i xs → HasTablesOn i ts → after ≤ before + (238 * size_of nodes + 86 * size_of used + 16 * length xs + 130 * length ts)
+    by xs ts closed on =
+        let wires = few_a.wires in
+        let crosses = few_a.crosses xs closed in
+        let more_wires = few_b.wires in
+        let more_crosses = few_b.crosses xs closed in
+        let loads = takes.few ts on in omega (arith, wires, crosses, more_wires, more_crosses, loads, first)
+
+-- ---- the answer
+
+pub sound_if : (told : Option Faults) (k l : Kept) (i : ImageValue) (answer : Bool) → ((f : Faults) → HoldsFor k f) → ((f : Faults) → told ≡ Some f → HoldsFor k f → HoldsFor l f) → (IsTrue answer → KeepsParts l i) →
+    ((f : Faults) → HoldsFor l f → KeepsParts l i → RunsSoundly f i) → SoundIf told i answer
+sound_if told k l i answer nothing holds_on keeps law = record { at = λ f is so. law f (holds_on f is (nothing f)) (keeps so) }
+
+pub yes_if : (told : Option Faults) (k : Kept) (i : ImageValue) (answer : Bool) → ((f : Faults) → HoldsFor k f) → WholeIf told k i answer → YesIf told i answer
+yes_if told k i answer nothing whole = record { at = λ f is none wide. whole.at f is (nothing f) none wide }

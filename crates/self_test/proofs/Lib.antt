@@ -1,0 +1,13 @@
+-- For the proofs of this crate alone.
+mod Getting
+mod Adding
+mod Using
+mod Involving
+mod Picking
+mod Fielding
+mod Covering
+mod Building
+mod Looking
+mod Wholly
+mod Counting
+mod Checking

@@ -1,0 +1,96 @@
+-- What the looks at an image say.
+use Rattle.std.proofs.Common.{◌≡◌, ◌≢◌, ◌⊎◌, ℕ, ◌+◌, ◌*◌, ◌<◌, ◌≤◌, Bool, true, false, Some, None, Option, List, All, length, get_or, refl, sym, ap, ◌∙◌, subst, inl, inr, arith}
+use Rattle.std.specs.Prelude.{IsSome, is_some, slice_get}
+use Rattle.std.proofs.lemmas.Bool.{cases_eq, cases_lt, false≢true}
+use Rattle.std.proofs.lemmas.Option.{slice_get-get_or}
+use Rattle.tm_bits.specs.Numbers.{has_number}
+use Rattle.hierarchy.specs.declared.Shape.{Shape}
+use Rattle.hierarchy.specs.declared.Table.{Table}
+use Rattle.hierarchy.specs.Faults.{Faults, IsFaultless}
+use Rattle.hierarchy.specs.Tight.{IsRightTable}
+use Rattle.config_set.specs.declared.Setting.{Setting}
+use Rattle.config_set.specs.Configuration.{is_closed, setting_of}
+use Rattle.config_image.specs.Images.{ImageValue, IsImage}
+use Rattle.config_image.specs.Parts.{Uses, IsWideEnough}
+use Rattle.evidence.specs.Kept.{Kept, HoldsFor, IsMore, keeps_wire, keeps_pair, keeps_cell, keeps_register}
+use Rattle.growth.specs.Known.{KnownWires, HasWire, IsAt, IsKnown, IsKeptCrossOf}
+use Rattle.growth.specs.Tables.{SeatedAreKept}
+use Rattle.growth.specs.declared.field.Field.{Field}
+use Rattle.growth.specs.declared.step.Step.{Step}
+use Rattle.table_test.specs.Seats.{KeepsTable}
+use Rattle.self_test.specs.Looks.{AreRoutesKnown, KeepsTableOf, AreSeated, FieldIf, RoutesIf, TablesIf, TakesInField, TakesAtMost, HasTablesOn}
+use Rattle.self_test.specs.Soundly.{KeepsRoutes, KeepsTables, KeepsParts}
+
+-- ---- known wires are kept, and each two of them are a kept pair
+
+module _ (k : Kept) (known : KnownWires) (is : IsKnown k known) (turned : (a b : ℕ) → keeps_pair k a b ≡ keeps_pair k b a) where
+  wire_kept : (w : ℕ) → HasWire known.steps w → keeps_wire k w ≡ true
+  wire_kept w h = subst (λ u. keeps_wire k u ≡ true) h.at.wire (is.steps h.place h.at.step h.at.here).kept
+
+  earlier_kept : (w u i j : ℕ) → i < j → IsAt known.steps i w → IsAt known.steps j u → keeps_pair k w u ≡ true
+  earlier_kept w u i j l a b = subst (λ v. keeps_pair k w v ≡ true) b.wire ((is.steps j b.step b.here).apart w (record { place = i; early = l; at = a }))
+
+  pair_kept : (w u : ℕ) → HasWire known.steps w → HasWire known.steps u → w ≢ u → keeps_pair k w u ≡ true
+  pair_kept w u a b differ = by (cases_eq a.place b.place) (cases_lt a.place b.place)
+    where
+      same : a.place ≡ b.place → w ≡ u
+      same e = sym a.at.wire ∙ ap (λ (s : Step). s.wire.0) (let one = a.at.here in let other = b.at.here in let at = sym one ∙ ap (slice_get known.steps) e ∙ other in let is_ : a.at.step ≡ b.at.step = cc in is_) ∙ b.at.wire
+
+      by : (a.place ≡ b.place) ⊎ (a.place ≡ b.place → ⊥) → (a.place < b.place) ⊎ (b.place ≤ a.place) → keeps_pair k w u ≡ true
+      by (inl e) less = absurd (differ (same e))
+      by (inr other) (inl l) = earlier_kept w u a.place b.place l a.at b.at
+      by (inr other) (inr l) = turned w u ∙ earlier_kept u w b.place a.place (omega arith) b.at a.at
+
+  pub routes_kept : (i : ImageValue) → AreRoutesKnown k known.steps i → KeepsRoutes k i
+  routes_kept i are = record {
+    crosses = are.crosses;
+    wires = λ w uses. wire_kept w (are.wires w uses);
+    pairs = λ w u p q differ. pair_kept w u (are.wires w p) (are.wires u q) differ;
+  }
+
+-- what was kept of routes stays kept
+pub routes_stay : {k l : Kept} {i : ImageValue} → IsMore k l → KeepsRoutes k i → KeepsRoutes l i
+routes_stay more keeps = record {
+  crosses = λ x c. more.crosses x (keeps.crosses x c);
+  wires = λ w uses. more.wires w (keeps.wires w uses);
+  pairs = λ w u p q differ. more.pairs w u (keeps.pairs w u p q differ);
+}
+
+-- ---- tables
+
+some_of : (o : Option Setting) → is_some o ≡ true → IsSome o
+some_of (Some s) e = refl
+some_of None e = e
+
+pub true_of : (o : Option Setting) → IsSome o → is_some o ≡ true
+true_of (Some s) e = refl
+true_of None e = e
+
+pub on_of : (i : ImageValue) (t : ℕ) → is_some (setting_of i.config t) ≡ true → IsSome (setting_of i.config t)
+on_of i t e = some_of (setting_of i.config t) e
+
+pub tables_kept : (k : Kept) (i : ImageValue) → ((t : ℕ) → is_some (setting_of i.config t) ≡ true → KeepsTableOf k i t) → KeepsTables k i
+tables_kept k i each = record {
+  cells = λ t a on l. (each t (true_of (setting_of i.config t) on)).cells a l;
+  registers = λ t s on latched. (each t (ap is_some on)).register s on latched;
+}
+
+pub tables_each : (k : Kept) (i : ImageValue) → KeepsTables k i → (t : ℕ) → is_some (setting_of i.config t) ≡ true → KeepsTableOf k i t
+tables_each k i keeps t on = record {
+  cells = λ a l. keeps.cells t a (some_of (setting_of i.config t) on) l;
+  register = λ s at latched. keeps.registers t s at latched;
+}
+
+-- a table whose cells and register are kept
+pub whole_table : (k : Kept) (i : ImageValue) (t : ℕ) → KeepsTable k t → KeepsTableOf k i t
+whole_table k i t keeps = record { cells = keeps.cells; register = λ s on latched. keeps.register }
+
+pub all_right : (f : Faults) → IsFaultless f → (t : ℕ) → IsRightTable f t
+all_right f none t = record { cells = λ a l. none.cells t a; register = none.registers t }
+
+-- the tests of seated tables keep them
+pub tests_keep : (told : Option Faults) (k l : Kept) (ss : List Step) (i : ImageValue) (f : Faults) (tables : List Table) → SeatedAreKept told k l ss tables → told ≡ Some f → HoldsFor k f → IsFaultless f → AreSeated k ss i →
+    All (λ t. is_some (setting_of i.config t.0) ≡ true) tables → All (λ t. KeepsTableOf l i t.0) tables
+tests_keep told k l ss i f tables kept is holds none seated on j d within =
+    let t = get_or tables j d in
+    whole_table l i t.0 ((kept.each j t (slice_get-get_or tables j d within)).at f is holds (seated t.0 (on_of i t.0 (on j d within))) (all_right f none t.0))

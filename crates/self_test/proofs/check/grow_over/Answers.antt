@@ -1,0 +1,32 @@
+use Rattle.std.proofs.Common.{sym, ◌∙◌, subst}
+use Rattle.hierarchy.specs.declared.Shape.{Shape}
+use Rattle.growth.specs.Field.{IsFieldOf}
+use Rattle.self_test.proofs.Checking.{routes_if}
+use Rattle.self_test.proofs.Looking.{routes_kept}
+use Rattle.self_test.proofs.check.grow_over.Goals as goal
+
+pub keeps_routes-requires-clause-shape : goal.keeps_routes-requires-clause-shape
+keeps_routes-requires-clause-shape g c = c.requires.image ∙ sym c.grow.ensures.advances.more.shape
+
+pub keeps_routes-requires-clause-known : goal.keeps_routes-requires-clause-known
+keeps_routes-requires-clause-known g c = c.grow.ensures.known.shape
+
+pub returns-in-Ok-clause-keeps : goal.returns-in-Ok-clause-keeps
+returns-in-Ok-clause-keeps g c = λ e. routes_kept c.grow.new.proof c.grow.new.known c.grow.ensures.known (c.kept_facts_are_sound.ensures.turned c.grow.new.proof) c.args.image.now (c.keeps_routes.ensures.known.0 e)
+
+pub returns-in-Ok-clause-whole : goal.returns-in-Ok-clause-whole
+returns-in-Ok-clause-whole g c =
+    let m = c.args.image.now.config.shape in
+    routes_if _ c.args.proof.now c.grow.new.proof c.grow.new.known.steps c.args.image.now c.args.used.now c.args.field.now c.keeps_routes.result
+    (record {
+      numbered = c.the_numbering_is_sound.ensures.numbered m;
+      tree = c.the_numbering_is_sound.ensures.tree m;
+      parents = c.the_numbering_is_sound.ensures.parents m;
+      meetings = c.the_crosspoints_are_sound.ensures.meetings m;
+      homes = c.each_wire_has_a_home.ensures m;
+      wires = c.without_faults_all_is_sound.ensures.wires m;
+      tables = c.without_faults_all_is_sound.ensures.tables m;
+      standing = c.parts_of_served_nodes_stand.ensures m;
+    })
+    c.keeps_routes.ensures.right c.requires.used (subst (λ (s : Shape). IsFieldOf s c.args.field.now) (sym c.requires.image) c.requires.field) (c.grow.ensures.advances.more.shape ∙ sym c.requires.image)
+    c.in-Ok.ensures.closed c.grow.ensures.advances.holds c.keeps_routes.ensures.known.1

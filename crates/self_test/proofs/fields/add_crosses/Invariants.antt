@@ -1,0 +1,5 @@
+use Rattle.self_test.specs.Fields.{Gets, IsCrossBefore}
+use Rattle.self_test.proofs.fields.add_crosses.Given as goal
+
+abbrev pub invariant-crosses : goal.invariant-crosses
+invariant-crosses l = Gets (IsCrossBefore l.crosses l.j) l.j l.initial.marks l.marks

@@ -1,0 +1,6 @@
+use Rattle.std.proofs.Common.{◌<◌, length, sym, ◌∙◌, subst, arith}
+use Rattle.self_test.proofs.Fielding.{hung_at, one_wire}
+use Rattle.self_test.proofs.fields.hang.Goals as goal
+
+pub returns-clause-wires : goal.returns-clause-wires
+returns-clause-wires c = rw c.insert.ensures (one_wire c.args.wire.0 (subst (λ n. c.args.wire.0 < n) (sym c.requires.field.wires) c.requires.wire))

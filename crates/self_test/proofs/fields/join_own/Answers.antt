@@ -1,0 +1,7 @@
+use Rattle.std.proofs.Common.{◌<◌, All, sym, ◌∙◌, subst}
+use Rattle.hierarchy.specs.declared.Wire.{Wire}
+use Rattle.self_test.proofs.Fielding.{either_wires}
+use Rattle.self_test.proofs.fields.join_own.Goals as goal
+
+pub returns-clause-wires : goal.returns-clause-wires
+returns-clause-wires c = either_wires c.args.here.now c.add_wires.ensures c.add_wires-2.ensures

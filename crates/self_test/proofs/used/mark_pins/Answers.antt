@@ -1,0 +1,19 @@
+use Rattle.std.proofs.Common.{◌≡◌, ◌<◌, length, subst, sym, arith}
+use Rattle.self_test.specs.Marks.{Adds, IsPinAmong}
+use Rattle.self_test.proofs.Adding.{pins_none, pins_next}
+use Rattle.self_test.proofs.used.mark_pins.Goals as goal
+
+pub pins-init : goal.pins-init
+pins-init c = pins_none c.args.shape.now c.args.pins.now
+
+pub pins-preserved : goal.pins-preserved
+pins-preserved c =
+    let w = c.pin.result.0 in
+    let a = c.pins.invariant in
+    let within : w < length c.pins.used = (let b = c.pin.ensures.within in let e = a.len in let d = c.requires.marks in omega (arith, b, e, d)) in
+    rw c.insert.ensures (pins_next c.args.shape.now c.args.pins.now c.pins.i w a c.pin.ensures.wire within)
+
+pub returns : goal.returns
+returns c =
+    let e : c.pins.i ≡ length c.args.pins.now = omega arith in
+    subst (λ n. Adds (IsPinAmong c.args.shape.now c.args.pins.now n) c.args.used.now c.pins.used) e c.pins.invariant

@@ -1,0 +1,192 @@
+//! The test of an image.
+ghost use Rattle.std.specs.Prelude.{◌≡◌, ◌≤◌, ◌+◌, ◌*◌, ℕ, List, Some, IsSome, IfOk, IfNone, IsErrOf, IsTrue, true, length, Contains};
+ghost use Rattle.tm_bits.specs.Numbers.{size_of};
+ghost use Rattle.tm_outside.specs.Counts.{Rose};
+ghost use Rattle.config_set.specs.Configuration.{setting_of};
+ghost use Rattle.evidence.specs.Kept.{Advances};
+ghost use Rattle.growth.specs.Field.{IsFieldOf};
+ghost use Rattle.growth.specs.Known.{IsKnown};
+ghost use Rattle.rig.specs.Rig.{shape_of};
+ghost use Rattle.self_test.specs.Looks.{FieldIf, RoutesIf, TablesIf, TakesAtMost, TakesInField, WholeIf};
+ghost use Rattle.self_test.specs.Soundly.{KeepsParts, KeepsRoutes, KeepsTables, SoundIf, TakesForParts, YesIf};
+ghost use Rattle.self_test.specs.Used.{AreInvolved, AreUsed};
+
+use crate::fields::field_of;
+use crate::laws::kept_images_run_soundly;
+use crate::look::{keeps_routes, keeps_tables};
+use crate::marks::{Parts, parts_of};
+use config_image::Image;
+use evidence::Proof;
+use evidence::laws::{kept_facts_are_sound, tests_add_up};
+use growth::{Field, Known, grow, test_tables};
+use hierarchy::{
+    Shape, each_wire_has_a_home, parts_of_served_nodes_stand, the_crosspoints_are_sound,
+    the_numbering_is_sound, without_faults_all_is_sound,
+};
+use rig::{Rig, RigFail};
+use std::alloc::Global;
+use tm_bits::BitSet;
+
+// Grows in a field, and looks whether the image's wires are known and its crosspoints kept then.
+fn grow_over(
+    rig: &mut Box<dyn Rig>,
+    proof: &mut Proof,
+    known: &mut Known,
+    field: &Field,
+    image: &Image,
+    used: &BitSet,
+) -> Result<bool, RigFail>
+    requires attached { shape_of (rig_state rig.old) ≡ Some proof.old.shape }
+    requires known { IsKnown proof.old known.old }
+    requires field { IsFieldOf proof.old.shape field.now }
+    requires image { image.now.config.shape ≡ proof.old.shape }
+    requires used { AreUsed image.now used.now }
+    ensures known { IsKnown proof.new known.new }
+    ensures keeps { IfOk result (λ yes. IsTrue yes → KeepsRoutes proof.new image.now) }
+    ensures whole { IfOk result (RoutesIf (rig_state rig.old).machine.faults proof.old proof.new known.new.steps image.now field.now) }
+    ensures advances { Advances (rig_state rig.old) (rig_state rig.new) proof.old proof.new }
+    ensures loads { (rig_state rig.new).loads ≤ (rig_state rig.old).loads + (8 * size_of field.now.crosses + 3 * size_of field.now.wires) }
+    ensures cause { IsErrOf result RigFail.Failed → Rose (rig_state rig.old).failures (rig_state rig.new).failures }
+{
+    kept_facts_are_sound();
+    the_numbering_is_sound();
+    the_crosspoints_are_sound();
+    each_wire_has_a_home();
+    without_faults_all_is_sound();
+    parts_of_served_nodes_stand();
+    match grow(rig, proof, known, field) {
+        Ok(()) => Ok(keeps_routes(proof, known, image, used)),
+        Err(fail) => Err(fail),
+    }
+}
+
+// Tests the image's tables, and looks whether what it needs of them is kept then.
+fn look_at_tables(
+    rig: &mut Box<dyn Rig>,
+    proof: &mut Proof,
+    known: &Known,
+    image: &Image,
+) -> Result<bool, RigFail>
+    requires attached { shape_of (rig_state rig.old) ≡ Some proof.old.shape }
+    requires known { IsKnown proof.old known.now }
+    requires image { image.now.config.shape ≡ proof.old.shape }
+    ensures keeps { IfOk result (λ yes. IsTrue yes → KeepsTables proof.new image.now) }
+    ensures whole { IfOk result (TablesIf (rig_state rig.old).machine.faults proof.old known.now.steps image.now) }
+    ensures advances { Advances (rig_state rig.old) (rig_state rig.new) proof.old proof.new }
+    ensures loads { (ts : List ℕ) → ((t : ℕ) → IsSome (setting_of image.now.config t) → Contains ts t) → (rig_state rig.new).loads ≤ (rig_state rig.old).loads + 130 * length ts }
+    ensures cause { IsErrOf result RigFail.Failed → Rose (rig_state rig.old).failures (rig_state rig.new).failures }
+{
+    without_faults_all_is_sound();
+    let config = image.config();
+    match test_tables(rig, proof, known, config.tables_on()) {
+        Ok(()) => Ok(keeps_tables(proof, image)),
+        Err(fail) => Err(fail),
+    }
+}
+
+// Tests the image in a field. It answers nothing where that doesn't reach all its wires and crosspoints.
+fn check_in(
+    rig: &mut Box<dyn Rig>,
+    proof: &mut Proof,
+    known: &mut Known,
+    field: &Field,
+    image: &Image,
+    used: &BitSet,
+) -> Result<Option<bool>, RigFail>
+    requires attached { shape_of (rig_state rig.old) ≡ Some proof.old.shape }
+    requires known { IsKnown proof.old known.old }
+    requires field { IsFieldOf proof.old.shape field.now }
+    requires image { image.now.config.shape ≡ proof.old.shape }
+    requires used { AreUsed image.now used.now }
+    ensures known { IfOk result (λ found. IfNone found (IsKnown proof.new known.new)) }
+    ensures keeps { IfOk result (λ found. found ≡ Some true → KeepsParts proof.new image.now) }
+    ensures whole { IfOk result (FieldIf (rig_state rig.old).machine.faults proof.old image.now field.now) }
+    ensures advances { Advances (rig_state rig.old) (rig_state rig.new) proof.old proof.new }
+    ensures loads { TakesInField image.now field.now (rig_state rig.old).loads (rig_state rig.new).loads }
+    ensures none { IfOk result (λ found. IfNone found ((rig_state rig.new).loads ≤ (rig_state rig.old).loads + (8 * size_of field.now.crosses + 3 * size_of field.now.wires))) }
+    ensures cause { IsErrOf result RigFail.Failed → Rose (rig_state rig.old).failures (rig_state rig.new).failures }
+{
+    tests_add_up();
+    match grow_over(rig, proof, known, field, image, used) {
+        Ok(true) => {}
+        Ok(false) => return Ok(None),
+        Err(fail) => return Err(fail),
+    }
+    match look_at_tables(rig, proof, known, image) {
+        Ok(yes) => Ok(Some(yes)),
+        Err(fail) => Err(fail),
+    }
+}
+
+// Tests the image in two fields, the second with a further port and line of each node, for where one of the first is bad.
+fn check_with(
+    alloc: Global,
+    rig: &mut Box<dyn Rig>,
+    proof: &mut Proof,
+    image: &Image,
+    parts: &Parts,
+) -> Result<bool, RigFail>
+    requires attached { shape_of (rig_state rig.old) ≡ Some proof.old.shape }
+    requires image { image.now.config.shape ≡ proof.old.shape }
+    requires used { AreUsed image.now parts.now.used }
+    requires nodes { AreInvolved image.now parts.now.nodes }
+    ensures keeps { IfOk result (λ yes. IsTrue yes → KeepsParts proof.new image.now) }
+    ensures whole { IfOk result (WholeIf (rig_state rig.old).machine.faults proof.old image.now) }
+    ensures advances { Advances (rig_state rig.old) (rig_state rig.new) proof.old proof.new }
+    ensures loads { TakesAtMost image.now parts.now.nodes parts.now.used (rig_state rig.old).loads (rig_state rig.new).loads }
+    ensures cause { IsErrOf result RigFail.Failed → Rose (rig_state rig.old).failures (rig_state rig.new).failures }
+{
+    tests_add_up();
+    let Ok(narrow) = field_of(alloc, image, parts, 2) else {
+        return Err(RigFail::Memory);
+    };
+    let Ok(wide) = field_of(alloc, image, parts, 3) else {
+        return Err(RigFail::Memory);
+    };
+    let Ok(mut known) = Known::new(alloc, &proof.shape()) else {
+        return Err(RigFail::Memory);
+    };
+    match check_in(rig, proof, &mut known, &narrow, image, &parts.used) {
+        Ok(Some(yes)) => return Ok(yes),
+        Ok(None) => {}
+        Err(fail) => return Err(fail),
+    }
+    match check_in(rig, proof, &mut known, &wide, image, &parts.used) {
+        Ok(Some(yes)) => Ok(yes),
+        Ok(None) => Ok(false),
+        Err(fail) => Err(fail),
+    }
+}
+
+/// Whether an image still runs on the attached machine as on one without faults. Each part of it is tested over routes of the
+/// test's own, with at most 256 loads for each part and each involved node, whatever the answer. `true` means so, where the rig
+/// tells the machine's faults. `false` may be wrong, but not on a machine without faults that is wide enough for the image.
+///
+/// # Errors
+///
+/// `Failed` where a call of the rig failed, `Memory` where memory was wanting.
+pub fn quick_check(
+    alloc: Global,
+    rig: &mut Box<dyn Rig>,
+    shape: &Shape,
+    image: &Image,
+) -> Result<bool, RigFail>
+    requires attached { shape_of (rig_state rig.old) ≡ Some shape.now }
+    requires image { image.now.config.shape ≡ shape.now }
+    ensures sound { IfOk result (SoundIf (rig_state rig.old).machine.faults image.now) }
+    ensures whole { IfOk result (YesIf (rig_state rig.old).machine.faults image.now) }
+    ensures machine { (rig_state rig.new).machine ≡ (rig_state rig.old).machine }
+    ensures later { (rig_state rig.old).failures ≤ (rig_state rig.new).failures }
+    ensures loads { TakesForParts image.now (rig_state rig.old).loads (rig_state rig.new).loads }
+    ensures cause { IsErrOf result RigFail.Failed → Rose (rig_state rig.old).failures (rig_state rig.new).failures }
+{
+    kept_facts_are_sound();
+    kept_images_run_soundly();
+    let Ok(parts) = parts_of(alloc, image) else {
+        return Err(RigFail::Memory);
+    };
+    let Ok(mut proof) = Proof::new(alloc, *shape) else {
+        return Err(RigFail::Memory);
+    };
+    check_with(alloc, rig, &mut proof, image, &parts)
+}

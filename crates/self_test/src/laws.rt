@@ -1,0 +1,31 @@
+//! What later crates rest on, of images that run soundly.
+ghost use Rattle.std.specs.Prelude.{◌≡◌, Bool, List};
+ghost use Rattle.hierarchy.specs.Defects.{Covers, Defects};
+ghost use Rattle.hierarchy.specs.Faults.{Faults};
+ghost use Rattle.config_image.specs.Images.{ImageValue, IsImage};
+ghost use Rattle.config_image.specs.Parts.{IsFreeImage};
+ghost use Rattle.evidence.specs.Kept.{HoldsFor, Kept};
+ghost use Rattle.self_test.specs.Soundly.{KeepsParts, RunsSoundly};
+ghost use Rattle.self_test.specs.Used.{AreUsed};
+
+use config_image::free_images_run_alike;
+use config_set::laws::stuck_registers_hold;
+use hierarchy::every_list_covers_no_faults;
+
+/// An image that touches only what is free runs soundly under all faults that the list covers.
+pub fn free_images_run_soundly()
+    ensures { (d : Defects) (f : Faults) (i : ImageValue) → IsImage i → IsFreeImage d i → Covers i.config.shape d f → RunsSoundly f i }
+{
+    every_list_covers_no_faults();
+    free_images_run_alike();
+}
+
+/// An image whose parts are kept runs soundly under all faults of which what is kept is true. The parts are all that it
+/// meets: a list of everything else covers the faults, but for the registers of tables that aren't latched, which have no effect.
+pub fn kept_images_run_soundly()
+    ensures { (k : Kept) (f : Faults) (i : ImageValue) (used : List Bool) → IsImage i → k.shape ≡ i.config.shape → AreUsed i used →
+        HoldsFor k f → KeepsParts k i → RunsSoundly f i }
+{
+    stuck_registers_hold();
+    free_images_run_soundly();
+}

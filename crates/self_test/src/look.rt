@@ -1,0 +1,115 @@
+//! Whether an image's parts are kept.
+ghost use Rattle.std.specs.Prelude.{◌≡◌, ◌<◌, ◌↔◌, ℕ, All, IsSome, IsTrue, true, length};
+ghost use Rattle.tm_bits.specs.Numbers.{has_number};
+ghost use Rattle.hierarchy.specs.Shape.{wires_of, crosses_of, tables_of};
+ghost use Rattle.config_set.specs.Configuration.{setting_of};
+ghost use Rattle.config_image.specs.Images.{IsImage};
+ghost use Rattle.evidence.specs.Kept.{keeps_cell, keeps_cross};
+ghost use Rattle.growth.specs.Known.{HasWire};
+ghost use Rattle.self_test.specs.Looks.{AreRoutesKnown, KeepsTableOf};
+ghost use Rattle.self_test.specs.Soundly.{KeepsTables};
+ghost use Rattle.self_test.specs.Used.{AreUsed};
+
+use config_image::Image;
+use evidence::Proof;
+use growth::Known;
+use hierarchy::{Cross, Table, Wire};
+use tm_bits::BitSet;
+
+// Whether all of these wires are known.
+fn has_wires(known: &Known, used: &BitSet) -> bool
+    requires { length used.now ≡ wires_of known.now.shape }
+    ensures { IsTrue result ↔ ((w : ℕ) → has_number used.now w ≡ true → HasWire known.now.steps w) }
+{
+    'wires: for w in 0..used.len() {
+        if !used.has(w) {
+            continue;
+        }
+        if !known.has(Wire(w)) {
+            return false;
+        }
+    }
+    true
+}
+
+// Whether all of these crosspoints are kept.
+fn keeps_crosses(proof: &Proof, crosses: &[Cross]) -> bool
+    requires { All (λ x. x.0 < crosses_of proof.now.shape) crosses.now }
+    ensures { IsTrue result ↔ All (λ x. keeps_cross proof.now x.0 ≡ true) crosses.now }
+{
+    'crosses: for j in 0..crosses.len() {
+        if !proof.keeps_cross(crosses[j]) {
+            return false;
+        }
+    }
+    true
+}
+
+/// Whether an image's used wires are known and its closed crosspoints are kept.
+pub(crate) fn keeps_routes(proof: &Proof, known: &Known, image: &Image, used: &BitSet) -> bool
+    requires shape { image.now.config.shape ≡ proof.now.shape }
+    requires known { known.now.shape ≡ proof.now.shape }
+    requires used { AreUsed image.now used.now }
+    ensures known { IsTrue result ↔ AreRoutesKnown proof.now known.now.steps image.now }
+    ensures right { IsImage image.now }
+{
+    let config = image.config();
+    if !has_wires(known, used) {
+        return false;
+    }
+    keeps_crosses(proof, config.closed())
+}
+
+// Whether all cells of a table are kept.
+fn keeps_cells(proof: &Proof, table: Table) -> bool
+    requires { table.0 < tables_of proof.now.shape }
+    ensures { IsTrue result ↔ ((a : ℕ) → a < 64 → keeps_cell proof.now table.0 a ≡ true) }
+{
+    'cells: for address in 0..64 {
+        if !proof.keeps_cell(table, address) {
+            return false;
+        }
+    }
+    true
+}
+
+// Whether what the image needs of a table is kept. The register of a table that isn't latched has no effect.
+fn keeps_table(proof: &Proof, image: &Image, table: Table) -> bool
+    requires shape { image.now.config.shape ≡ proof.now.shape }
+    requires table { table.0 < tables_of proof.now.shape }
+    ensures { IsTrue result ↔ KeepsTableOf proof.now image.now table.0 }
+{
+    if !keeps_cells(proof, table) {
+        return false;
+    }
+    let Some(setting) = image.config().setting(table) else {
+        return true;
+    };
+    if !setting.latched {
+        return true;
+    }
+    proof.keeps_register(table)
+}
+
+// Whether what the image needs of these tables is kept.
+fn keeps_each(proof: &Proof, image: &Image, tables: &[Table]) -> bool
+    requires shape { image.now.config.shape ≡ proof.now.shape }
+    requires tables { All (λ t. t.0 < tables_of proof.now.shape) tables.now }
+    ensures { IsTrue result ↔ All (λ t. KeepsTableOf proof.now image.now t.0) tables.now }
+{
+    'tables: for j in 0..tables.len() {
+        if !keeps_table(proof, image, tables[j]) {
+            return false;
+        }
+    }
+    true
+}
+
+/// Whether what an image needs of its switched-on tables is kept.
+pub(crate) fn keeps_tables(proof: &Proof, image: &Image) -> bool
+    requires shape { image.now.config.shape ≡ proof.now.shape }
+    ensures { IsTrue result ↔ KeepsTables proof.now image.now }
+{
+    let config = image.config();
+    keeps_each(proof, image, config.tables_on())
+}

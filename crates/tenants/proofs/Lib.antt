@@ -1,0 +1,11 @@
+mod Lists
+mod Moving
+mod Sounding
+mod Standing
+mod Behaving
+mod Owning
+mod Keeping
+mod Letting
+mod Halving
+mod Seating
+mod Cutting

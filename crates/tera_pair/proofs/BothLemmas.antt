@@ -1,0 +1,119 @@
+-- Where two designs are laid, and where they aren't.
+use Rattle.std.proofs.Common.{◌≡◌, ◌⊎◌, ◌∙◌, ◌+◌, ℕ, [], map, length, ap, subst, refl, sym, inl, inr, append-nil, length-append}
+use Rattle.std.specs.Prelude.{Result, Ok, Err, IfOk, IfErr}
+use Rattle.std.specs.List.{All}
+use Rattle.hierarchy.specs.Defects.{Covers}
+use Rattle.hierarchy.specs.Faults.{Faults}
+use Rattle.defect_db.specs.Lists.{DefectList}
+use Rattle.netlist.specs.declared.draft.Draft.{Draft}
+use Rattle.table_map.specs.declared.network.Network.{Network}
+use Rattle.table_map.specs.Plain.{IsPlainNetwork, plain_network}
+use Rattle.table_map.specs.Rows.{HasRowsOf}
+use Rattle.config_image.specs.Images.{ImageValue, IsImage, image_row}
+use Rattle.config_image.specs.Parts.{IsFreeImage}
+use Rattle.crossbar_route.specs.RightImages.{IsRightImage, ReadsRows}
+use Rattle.tenants.specs.JointNetworks as joint
+use Rattle.tenants.specs.JointNetworks.{joint_network}
+use Rattle.tenants.specs.Tenants.{AreTenants, HasPinsOf, HaveRoom, StandApart}
+use Rattle.steps.specs.Outside.{Around, Outside}
+use Rattle.steps.specs.Stops.{StepStops, IsCounted, status_of}
+use Rattle.steps.specs.Took.{Took}
+use Rattle.steps.specs.Jobs.{IsExcused}
+use Rattle.steps.specs.declared.refusal.Refusal.{Refusal}
+use Rattle.steps.specs.declared.refusal.Refusal.TheVariants as refused
+use Rattle.steps.specs.declared.refusal.Stop.{Stop}
+use Rattle.steps.specs.declared.refusal.Stop.TheVariants.{Refused}
+use Rattle.steps.proofs.Taking.{later-same}
+use Rattle.lay.specs.Wants.{PlanStops}
+use Rattle.lay.proofs.PlainWidths.{plain-inputs, plain-outputs}
+use Rattle.lay.proofs.Rooms.{AreDecided}
+use Rattle.tera_pair.specs.Both.{BothHaveRoom, BothLackRoom, NotBothLaid, joint_of, lays_both}
+use Rattle.tera_pair.proofs.RowsOfBoth.{both-rows}
+
+-- ---- what is laid
+
+module _ (d : DefectList) (first second : Draft) (n o : Network) (first_is : IsPlainNetwork first n) (second_is : IsPlainNetwork second o) where
+  -- there is no place
+  joint-stops : (stop : Stop) → PlanStops d (joint_of first second) stop → StepStops (lays_both d first second) stop
+  joint-stops (Refused (refused.Room place)) stops = record { shape = stops.0; short = stops.1 }
+  joint-stops (Refused refused.Memory) stops = tt
+  joint-stops stop stops = absurd stops
+
+  pub place-stops : (stop : Stop) → PlanStops d (joint_network n o) stop → StepStops (lays_both d first second) stop
+  place-stops stop stops =
+      joint-stops stop (subst (λ (x : Network). PlanStops d (joint_network x (plain_network second)) stop) first_is
+      (subst (λ (x : Network). PlanStops d (joint_network n x) stop) second_is stops))
+
+  -- an image of both networks is one of both designs
+  module _ (first_rows : HasRowsOf n first) (second_rows : HasRowsOf o second) (whole one other : ImageValue) (tenants : AreTenants whole one other) (first_pins : HasPinsOf n one) (second_pins : HasPinsOf o other) where
+    inputs-are : length whole.inputs ≡ n.inputs + o.inputs
+    inputs-are =
+        ap length tenants.inputs ∙ (length-append one.inputs other.inputs ∙ (ap (λ (k : ℕ). k + length other.inputs) first_pins.inputs ∙ ap (λ (k : ℕ). n.inputs + k) second_pins.inputs))
+
+    outputs-are : length whole.outputs ≡ length n.outputs + length o.outputs
+    outputs-are =
+        ap length tenants.outputs ∙ (length-append one.outputs other.outputs ∙ (ap (λ (k : ℕ). k + length other.outputs) first_pins.outputs ∙ ap (λ (k : ℕ). length n.outputs + k) second_pins.outputs))
+
+    pub both-image : IsImage whole → whole.config.shape ≡ d.shape → IsFreeImage d.list whole → ((f : Faults) → Covers d.shape d.list f → StandApart f whole one other) → ((netlist : Draft) (f : Faults) → HasRowsOf n netlist → Covers d.shape d.list f → IsRightImage f one netlist) → ((netlist : Draft) (f : Faults) → HasRowsOf o netlist → Covers d.shape d.list f → IsRightImage f other netlist) → ((f : Faults) → Covers d.shape d.list f → ReadsRows f whole (joint.AreBothRows n o)) → HaveRoom d.shape d.list n o → (lays_both d first second).gives whole
+    both-image image shape free apart first_right second_right rows room = (
+      record {
+        image = image;
+        shape = shape;
+        inputs = inputs-are ∙ (ap (λ (k : ℕ). k + o.inputs) (plain-inputs first n first_is) ∙ ap (λ (k : ℕ). length first.inputs + k) (plain-inputs second o second_is));
+        outputs = outputs-are ∙ (ap (λ (k : ℕ). k + length o.outputs) (plain-outputs first n first_is) ∙ ap (λ (k : ℕ). length first.outputs + k) (plain-outputs second o second_is));
+        free = free;
+        right = λ f covers vectors reads widths run.
+            both-rows n o first second first_rows second_rows (plain-inputs first n first_is) vectors (map (image_row whole) reads)
+            (subst (λ (k : ℕ). All (λ v. length v ≡ k) vectors) inputs-are widths) (rows f covers vectors reads widths run);
+        first_image = one;
+        second_image = other;
+        tenants = tenants;
+        apart = apart;
+        first_right = λ f covers. first_right first f first_rows covers;
+        second_right = λ f covers. second_right second f second_rows covers;
+      },
+      subst (λ (x : Network). HaveRoom d.shape d.list x (plain_network second)) first_is (subst (λ (x : Network). HaveRoom d.shape d.list n x) second_is room),
+    )
+
+-- ---- the step
+
+module _ (d : DefectList) (first second : Draft) where
+  both-counted : (stop : Stop) (o : Outside) → StepStops (lays_both d first second) stop → IsCounted ⊥ stop o o
+  both-counted (Refused (refused.Room place)) o stops = tt
+  both-counted (Refused refused.Memory) o stops = tt
+  both-counted stop o stops = absurd stops
+
+  pub both-took : (result : Result ImageValue Stop) (o : Outside) → IfOk result (lays_both d first second).gives → IfErr result (StepStops (lays_both d first second)) → Took [] (lays_both d first second) result o o
+  both-took (Ok i) o found stops = record {
+    later = later-same o;
+    silent = refl;
+    asked = record { all = sym (append-nil o.store.asked); some = tt };
+    place = refl;
+    gives = found;
+    stops = tt;
+    counted = tt;
+  }
+  both-took (Err stop) o found stops = record {
+    later = later-same o;
+    silent = refl;
+    asked = record { all = tt; some = refl };
+    place = refl;
+    gives = tt;
+    stops = stops;
+    counted = both-counted stop o stops;
+  }
+
+  -- ---- they have room on a list or lack it, and never both
+
+  pub never-both-lack : AreDecided → BothHaveRoom d first second → BothLackRoom d first second → ⊥
+  never-both-lack decided room lacks = decided d.shape d.list (joint_of first second) room.0 lacks.0 room.1 lacks.1
+
+  pub both-excused : (old new : Around) → AreDecided → BothHaveRoom d first second → (refusal : Refusal) → NotBothLaid d first second refusal → IsExcused refusal old new
+  both-excused old new decided room (refused.Room place) stops = absurd (never-both-lack decided room (place.short, stops.short))
+  both-excused old new decided room refused.Memory stops = tt
+  both-excused old new decided room refusal stops = absurd stops
+
+  pub both-short : (old new : Around) (refusal : Refusal) → NotBothLaid d first second refusal → (status_of refusal ≡ 3) ⊎ IsExcused refusal old new
+  both-short old new (refused.Room place) stops = inl refl
+  both-short old new refused.Memory stops = inr tt
+  both-short old new refusal stops = absurd stops

@@ -1,0 +1,8 @@
+-- What is cited above.
+pub mod Headlines
+-- For the proofs of this crate alone.
+mod RowsOfBoth
+mod BothLemmas
+mod Following
+mod PairCases
+mod PairLaws

@@ -1,0 +1,46 @@
+use Rattle.std.proofs.Common.{[], ◌∷◌, refl}
+use Rattle.std.proofs.lemmas.Result.{err_from_is_err_and}
+use Rattle.listing.proofs.ListedLemmas.{attached-shape}
+use Rattle.tera_pair.proofs.Following.{no-machine, unattached, no-first, no-second, has-both}
+use Rattle.tera_pair.proofs.command.work.Goals as goal
+
+pub returns-in_err-shape : goal.returns-in_err-shape
+returns-in_err-shape g c = record {
+  does =
+      let p = err_from_is_err_and c.from_residual.result c.from_residual.ensures.1 in
+      rw (p.1, p.2) (no-machine c.args.machine.now c.args.name.now c.args.first.now c.args.second.now c.args.vectors.now _ _ _ _ _ _ refl (c.in_err-shape.ensures.took _ _));
+}
+
+pub returns-in_err-attach : goal.returns-in_err-attach
+returns-in_err-attach g c = record {
+  does =
+      let p = err_from_is_err_and c.from_residual-in_err-attach.result c.from_residual-in_err-attach.ensures.1 in
+      rw (p.1, p.2) (unattached c.args.machine.now c.args.name.now c.args.first.now c.args.second.now c.args.vectors.now _ _ _ _ _ c.in_ok-shape.shape (c.in_ok-shape.ensures.took _ _) c.in_err-attach.ensures.asked c.in_err-attach.ensures.loads _ _ refl (c.in_err-attach.ensures.took _ _));
+}
+
+pub returns-in_err-one : goal.returns-in_err-one
+returns-in_err-one g c = record {
+  does =
+      let p = err_from_is_err_and c.from_residual-in_err-one.result c.from_residual-in_err-one.ensures.1 in
+      rw (p.1, p.2) (no-first c.args.machine.now c.args.name.now c.args.first.now c.args.second.now c.args.vectors.now _ _ _ _ _ c.in_ok-shape.shape (c.in_ok-shape.ensures.took _ _) c.in_ok-attach.ensures.asked c.in_ok-attach.ensures.loads (c.in_ok-attach.ensures.took _ _) _ _ _ refl (c.in_err-one.ensures.took _ _));
+}
+
+pub returns-in_err-other : goal.returns-in_err-other
+returns-in_err-other g c = record {
+  does =
+      let p = err_from_is_err_and c.from_residual-in_err-other.result c.from_residual-in_err-other.ensures.1 in
+      rw (p.1, p.2) (no-second c.args.machine.now c.args.name.now c.args.first.now c.args.second.now c.args.vectors.now _ _ _ _ _ c.in_ok-shape.shape (c.in_ok-shape.ensures.took _ _) c.in_ok-attach.ensures.asked c.in_ok-attach.ensures.loads (c.in_ok-attach.ensures.took _ _) c.in_ok-one.one _ (c.in_ok-one.ensures.took _ _) _ _ _ refl (c.in_err-other.ensures.took _ _));
+}
+
+pub list_and_run-requires : goal.list_and_run-requires
+list_and_run-requires g c =
+    let box1 = c.attach.new.rig in
+    let r1 = (goal.Rig-dyn g (box1.vtable, box1.value)).rig_state box1.value in
+    attached-shape r1 c.in_ok-shape.shape c.args.name.now (c.in_ok-attach.ensures.took (g.S.Store.store_state c.read_shape.new.store) (g.K.Sink.sink_state c.args.sink.now)).gives
+
+pub returns : goal.returns
+returns g c = record {
+  does =
+      has-both c.args.machine.now c.args.name.now c.args.first.now c.args.second.now c.args.vectors.now _ _ _ _ _ c.in_ok-shape.shape (c.in_ok-shape.ensures.took _ _) c.in_ok-attach.ensures.asked c.in_ok-attach.ensures.loads (c.in_ok-attach.ensures.took _ _) c.in_ok-one.one _ (c.in_ok-one.ensures.took _ _) c.in_ok-other.other _ _ _ (c.in_ok-other.ensures.took _ _)
+      (λ at same. c.list_and_run.ensures.follows _ (c.args.second.now ∷ c.args.first.now ∷ c.args.machine.now ∷ []) (g.S.Store.store_state c.args.store.now) c.in_ok-attach.ensures.loads at same);
+}

@@ -1,0 +1,69 @@
+-- What a `pair` that is done has done.
+use Rattle.std.specs.Prelude.{◌≡◌, ℕ, ◌+◌, Bool, List, [], ◌∷◌, ◌++◌, length, Some}
+use Rattle.tm_outside.specs.Counts.{next_count}
+use Rattle.tm_outside.specs.Told.{IfTold}
+use Rattle.tm_outside.specs.Sink.{Wrote}
+use Rattle.hierarchy.specs.declared.Shape.{Shape}
+use Rattle.hierarchy.specs.Faults.{Faults}
+use Rattle.hierarchy.specs.Defects.{Covers, IsFair}
+use Rattle.hierarchy.specs.Tight.{IsTight}
+use Rattle.defect_db.specs.Lists.{DefectList, IsDefectList}
+use Rattle.defect_db.specs.Text.{text_of}
+use Rattle.netlist.specs.declared.draft.Draft.{Draft}
+use Rattle.config_image.specs.Images.{ImageValue}
+use Rattle.crossbar_route.specs.RightImages.{IsRightImage, ReadsRows}
+use Rattle.tenants.specs.Tenants.{AreTenants, StandApart}
+use Rattle.diagnose.specs.Diagnosis.{TakesFewLoads}
+use Rattle.steps.specs.Outside.{Outside}
+use Rattle.steps.specs.Texts.{IsMachineText, IsDesignText}
+use Rattle.listing.specs.Lists.{Listed}
+use Rattle.laid_rows.specs.Headline.{IsAskedInOrder, IsWrittenWhole, UsesNothingListed, IsAsRead}
+use Rattle.tera_pair.specs.Both.{AreBothRows, BothHaveRoom}
+
+-- Of the rig's one session: its configuration, with a list of input pins and a list of output pins, is `image`. The parts of it
+-- that are each design's, `first_image` and `second_image`, share no wire
+pub record IsPaired (machine name first second vectors : List ℕ) (old new : Outside) : Type 0 where
+  pub shape : Shape
+  pub first_draft : Draft
+  pub second_draft : Draft
+  pub made : Listed
+  pub image : ImageValue
+  pub all_vectors : List (List Bool)
+  pub rows : List (List Bool)
+  pub first_is : IfTold (old.store.contents first) (λ bytes. IsDesignText bytes first_draft)
+  pub second_is : IfTold (old.store.contents second) (λ bytes. IsDesignText bytes second_draft)
+  pub list_shape : made.list.shape ≡ shape
+  pub asked_in_order : IsAskedInOrder machine name (first ∷ second ∷ vectors ∷ []) shape old new
+  pub written_whole : IsWrittenWhole vectors made.list (length first_draft.inputs + length second_draft.inputs) all_vectors rows old new
+  pub covers_every_fault : (f : Faults) → new.rig.machine.faults ≡ Some f → Covers shape made.list.list f
+  pub uses_nothing_listed : UsesNothingListed made.list image new.rig
+  -- for all vectors the readings are the rows of both designs side by side
+  pub image_right : (f : Faults) → new.rig.machine.faults ≡ Some f → ReadsRows f image (AreBothRows first_draft second_draft)
+  pub as_the_machine_read : IsAsRead image all_vectors rows new.rig
+  -- and so are the rows that were written
+  pub exactly_the_outputs : (f : Faults) → new.rig.machine.faults ≡ Some f → AreBothRows first_draft second_draft all_vectors rows
+  -- each design runs as it would alone
+  pub first_image : ImageValue
+  pub second_image : ImageValue
+  pub tenants : AreTenants image first_image second_image
+  pub apart : (f : Faults) → new.rig.machine.faults ≡ Some f → StandApart f image first_image second_image
+  pub first_right : (f : Faults) → new.rig.machine.faults ≡ Some f → IsRightImage f first_image first_draft
+  pub second_right : (f : Faults) → new.rig.machine.faults ≡ Some f → IsRightImage f second_image second_draft
+  -- the list is tight besides, and so fair; few loads were made for it, and exactly one after it
+  pub tight : (f : Faults) → new.rig.machine.faults ≡ Some f → IsTight shape made.list.list f
+  pub fair : (f : Faults) → new.rig.machine.faults ≡ Some f → IsFair shape made.list.list f
+  pub few : TakesFewLoads new.rig.machine.faults shape old.rig.loads made.loads
+  pub loaded_once : new.rig.loads ≡ next_count made.loads
+
+-- The in-order plan of the joint network of the plain networks of the two designs fits the list that stands written
+pub record HaveRoomLeft (machine first second : List ℕ) (old new : Outside) : Type 0 where
+  pub first_draft : Draft
+  pub second_draft : Draft
+  pub list : DefectList
+  pub rest : List ℕ
+  pub machine_is : IfTold (old.store.contents machine) (λ bytes. IsMachineText bytes list.shape)
+  pub first_is : IfTold (old.store.contents first) (λ bytes. IsDesignText bytes first_draft)
+  pub second_is : IfTold (old.store.contents second) (λ bytes. IsDesignText bytes second_draft)
+  pub is_list : IsDefectList list
+  pub written : Wrote old.sink.written new.sink.written (text_of list ++ rest)
+  pub room : BothHaveRoom list first_draft second_draft

@@ -1,0 +1,104 @@
+-- What the command `pair` is.
+use Rattle.std.specs.Prelude.{◌≡◌, ℕ, ◌+◌, ◌≤◌, List, [], ◌∷◌, length, None}
+use Rattle.tm_outside.specs.Told.{Told, holds}
+use Rattle.hierarchy.specs.declared.Shape.{Shape}
+use Rattle.machine_file.specs.Machine.{IsMachine}
+use Rattle.netlist.specs.declared.draft.Draft.{Draft}
+use Rattle.blif_read.specs.Designs.{IsDesign}
+use Rattle.tm_text.specs.Size.{most_bytes}
+use Rattle.steps.specs.Files.{says_at, vectors_at}
+use Rattle.steps.specs.Outside.{Around}
+use Rattle.steps.specs.Courses.{Course, after}
+use Rattle.steps.specs.Texts.{reads_machine, reads_design, AsksMachine}
+use Rattle.steps.specs.Jobs.{Job}
+use Rattle.steps.specs.declared.design_file.DesignFile.TheVariants.{First, Second}
+use Rattle.listing.specs.Lists.{Unloaded}
+use Rattle.image_rows.specs.Rows.{most_rows}
+use Rattle.laid_rows.specs.Runs.{RunBegin, machine_attached, machine_listed, IfList, HasOutputs}
+use Rattle.tera_pair.specs.Both.{BothHaveRoom, BothLackRoom, both_laid}
+
+abbrev pub pair_begin : Around → (machine first second vectors : List ℕ) → RunBegin
+pair_begin old machine first second vectors =
+    record { begun = old.store; files = second ∷ first ∷ machine ∷ []; vectors = vectors }
+
+-- The second design is read, and the machine is listed
+abbrev pub second_read : (machine first second vectors : List ℕ) → Around → Around → Shape → Draft → Course
+second_read machine first second vectors old new m one =
+    after (reads_design Second (old.store.contents second)) (Unloaded (second ∷ first ∷ machine ∷ []) old new)
+    (λ other. machine_listed (both_laid one other) m old.rig.loads (pair_begin old machine first second vectors) new)
+
+-- The first design is read, and then the second
+abbrev pub designs_read : (machine first second vectors : List ℕ) → Around → Around → Shape → Course
+designs_read machine first second vectors old new m =
+    after (reads_design First (old.store.contents first)) (Unloaded (first ∷ machine ∷ []) old new)
+    (second_read machine first second vectors old new m)
+
+-- The machine is read and attached, and the two designs are read; no load is made before that. The machine's defects are listed, with
+-- few loads, and the list is written. Both designs are laid on what the list leaves free, and their rows are written side by side. One
+-- load follows
+abbrev pub pair_course : (machine name first second vectors : List ℕ) → Around → Around → Course
+pair_course machine name first second vectors old new =
+    machine_attached machine name old new (designs_read machine first second vectors old new)
+
+-- what is told of the files
+pub record PairFiles : Type 0 where
+  pub machine : Told
+  pub first : Told
+  pub second : Told
+  pub vectors : Told
+
+abbrev pub pair_files : Around → (machine first second vectors : List ℕ) → PairFiles
+pair_files old machine first second vectors = record {
+  machine = old.store.contents machine;
+  first = old.store.contents first;
+  second = old.store.contents second;
+  vectors = old.store.contents vectors;
+}
+
+-- all files are told and right
+pub record ArePairTexts (t : PairFiles) : Type 0 where
+  pub shape : Shape
+  pub first_draft : Draft
+  pub second_draft : Draft
+  -- the bytes of the four files
+  pub machine_file : List ℕ
+  pub first_file : List ℕ
+  pub second_file : List ℕ
+  pub vectors_file : List ℕ
+  pub machine_told : t.machine ≡ holds machine_file
+  pub machine : IsMachine machine_file shape.counts
+  pub machine_within : length machine_file ≤ most_bytes
+  pub first_told : t.first ≡ holds first_file
+  pub first : IsDesign first_file first_draft
+  pub first_within : length first_file ≤ most_bytes
+  pub second_told : t.second ≡ holds second_file
+  pub second : IsDesign second_file second_draft
+  pub second_within : length second_file ≤ most_bytes
+  pub vectors_told : t.vectors ≡ holds vectors_file
+  pub no_fault : (says_at (length first_draft.inputs + length second_draft.inputs) vectors_file).fault ≡ None
+
+-- there is room on the list that stands there
+pub record PairRight (t : PairFiles) (front : List ℕ) : Type 0 where
+  pub texts : ArePairTexts t
+  pub room : IfList texts.shape front (λ d. BothHaveRoom d texts.first_draft texts.second_draft)
+
+-- there is no room on it
+pub record PairShort (t : PairFiles) (front : List ℕ) : Type 0 where
+  pub texts : ArePairTexts t
+  pub room : IfList texts.shape front (λ d. BothLackRoom d texts.first_draft texts.second_draft)
+
+-- there are no more vectors than the rig was asked to have room for
+pub record PairFew (t : PairFiles) : Type 0 where
+  pub texts : ArePairTexts t
+  pub few : length (vectors_at (length texts.first_draft.inputs + length texts.second_draft.inputs) texts.vectors_file) ≤ most_rows
+
+abbrev pub pair_job : (machine name first second vectors : List ℕ) → Job
+pair_job machine name first second vectors = record {
+  files = machine ∷ first ∷ second ∷ vectors ∷ [];
+  asks = λ old new. AsksMachine (reads_machine (old.store.contents machine)).gives name old.rig.machine.asked new.rig.machine.asked;
+  course = pair_course machine name first second vectors;
+  right = λ old new front. PairRight (pair_files old machine first second vectors) front;
+  short = λ old new front. PairShort (pair_files old machine first second vectors) front;
+  few = λ old new. PairFew (pair_files old machine first second vectors);
+  has_begun = λ old new text. HasOutputs (reads_machine (old.store.contents machine)).gives text;
+}

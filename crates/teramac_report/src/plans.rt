@@ -1,0 +1,143 @@
+//! The plans of a design: in order for its plain network, in order for the one with fewer tables, and with fewer crossings.
+ghost use Rattle.std.specs.Prelude.{IfOk, IfSome};
+ghost use Rattle.table_map.specs.Networks.{IsNetwork};
+ghost use Rattle.place.specs.Plans.{FitsInOrder};
+
+use crate::line::put_counts;
+use defect_db::Defects;
+use netlist::Netlist;
+use partition::{crossings_of, improve};
+use place::{PlaceFail, Plan, fits, in_order};
+use std::alloc::{AllocError, Global};
+use table_map::{Network, depth, merged, plain};
+
+// Adds a plan's name and what its network takes; the line goes on.
+fn put_network(
+    alloc: Global,
+    text: &mut Vec<u8>,
+    name: &str,
+    network: &Network,
+) -> Result<(), AllocError>
+    requires { IsNetwork network.now }
+{
+    let tables = network.tables.as_slice().len() as u64;
+    let ticks = u64::from(depth(alloc, network)?.max(1));
+    let nets = tables.saturating_add(u64::from(network.inputs));
+    text.extend_from_slice(name.as_bytes())?;
+    put_counts(
+        text,
+        &[("tables", tables), ("nets", nets), ("ticks", ticks)],
+    )
+}
+
+// Ends the line of a plan: with its crossings, as far as 64 bits go, or with that it is short of something.
+fn put_crossings(text: &mut Vec<u8>, crossings: Option<u128>) -> Result<(), AllocError> {
+    match crossings {
+        Some(count) => {
+            let shown = count.min(u128::from(u64::MAX)) as u64;
+            put_counts(text, &[("crossings", shown)])?;
+        }
+        None => text.extend_from_slice(b" short")?,
+    }
+    text.push(b'\n')
+}
+
+// The plan in order, where it fits.
+fn fitting(alloc: Global, network: &Network, list: &Defects) -> Result<Option<Plan>, AllocError>
+    requires { IsNetwork network.now }
+    ensures { IfOk result (λ o. IfSome o (FitsInOrder list.now.shape list.now.list network.now)) }
+{
+    match in_order(alloc, network, list) {
+        Ok(plan) => Ok(Some(plan)),
+        Err(PlaceFail::Short(_)) => Ok(None),
+        Err(PlaceFail::Memory) => Err(AllocError),
+    }
+}
+
+// The crossings of a plan that fits in order.
+fn crossings(
+    alloc: Global,
+    network: &Network,
+    plan: Option<&Plan>,
+    list: &Defects,
+) -> Result<Option<u128>, AllocError>
+    requires network { IsNetwork network.now }
+    requires plan { IfSome plan (λ p. FitsInOrder list.now.shape list.now.list network.now p.now) }
+{
+    match plan {
+        Some(plan) => Ok(Some(crossings_of(alloc, network, plan, list)?)),
+        None => Ok(None),
+    }
+}
+
+// Adds the line of the plan in order, and hands out the plan where it fits.
+fn put_in_order(
+    alloc: Global,
+    text: &mut Vec<u8>,
+    name: &str,
+    network: &Network,
+    list: &Defects,
+) -> Result<Option<Plan>, AllocError>
+    requires { IsNetwork network.now }
+    ensures { IfOk result (λ o. IfSome o (FitsInOrder list.now.shape list.now.list network.now)) }
+{
+    let plan = fitting(alloc, network, list)?;
+    let crossings = crossings(alloc, network, plan.as_ref(), list)?;
+    put_network(alloc, text, name, network)?;
+    put_crossings(text, crossings)?;
+    Ok(plan)
+}
+
+// The crossings of a plan with fewer of them, where it fits.
+fn better_crossings(
+    alloc: Global,
+    network: &Network,
+    plan: Plan,
+    list: &Defects,
+) -> Result<Option<u128>, AllocError>
+    requires network { IsNetwork network.now }
+    requires plan { FitsInOrder list.now.shape list.now.list network.now plan }
+{
+    let better = improve(alloc, network, plan, list)?;
+    if !fits(alloc, network, &better, list)? {
+        return Ok(None);
+    }
+    Ok(Some(crossings_of(alloc, network, &better, list)?))
+}
+
+// Adds the line of the plan with fewer crossings.
+fn put_improved(
+    alloc: Global,
+    text: &mut Vec<u8>,
+    network: &Network,
+    plan: Plan,
+    list: &Defects,
+) -> Result<(), AllocError>
+    requires network { IsNetwork network.now }
+    requires plan { FitsInOrder list.now.shape list.now.list network.now plan }
+{
+    let crossings = better_crossings(alloc, network, plan, list)?;
+    put_network(alloc, text, "plan improved", network)?;
+    put_crossings(text, crossings)
+}
+
+/// Adds a line for each of the three plans: the tables, nets and ticks of the network, and the crossings of the plan or that
+/// it is short of something.
+///
+/// # Errors
+///
+/// Want of memory.
+pub fn put_plans(
+    alloc: Global,
+    text: &mut Vec<u8>,
+    netlist: &Netlist,
+    list: &Defects,
+) -> Result<(), AllocError> {
+    let network = plain(alloc, netlist)?;
+    put_in_order(alloc, text, "plan plain", &network, list)?;
+    let network = merged(alloc, netlist)?;
+    if let Some(plan) = put_in_order(alloc, text, "plan merged", &network, list)? {
+        put_improved(alloc, text, &network, plan, list)?;
+    }
+    Ok(())
+}
