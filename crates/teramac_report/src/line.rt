@@ -32,5 +32,6 @@ pub fn put_counts(text: &mut Vec<u8>, counts: &[(&str, u64)]) -> Result<(), Allo
 pub fn put_line(text: &mut Vec<u8>, name: &str, counts: &[(&str, u64)]) -> Result<(), AllocError> {
     text.extend_from_slice(name.as_bytes())?;
     put_counts(text, counts)?;
-    text.push(b'\n')
+    text.push(b'\n')?;
+    Ok(())
 }

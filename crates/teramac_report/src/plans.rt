@@ -39,7 +39,8 @@ fn put_crossings(text: &mut Vec<u8>, crossings: Option<u128>) -> Result<(), Allo
         }
         None => text.extend_from_slice(b" short")?,
     }
-    text.push(b'\n')
+    text.push(b'\n')?;
+    Ok(())
 }
 
 // The plan in order, where it fits.
