@@ -1,5 +1,5 @@
 -- The field of an image has its skeleton, and no more than so much.
-use Rattle.std.proofs.Common.{◌≡◌, ◌≢◌, ◌⊎◌, ℕ, zero, suc, ◌+◌, ◌*◌, ◌<◌, ◌≤◌, if◌then◌else◌, Bool, true, false, Some, None, Option, List, [], ◌∷◌, All, length, get_or, refl, sym, ap, ◌∙◌, subst, inl, inr, arith}
+use Rattle.std.proofs.Common.{◌≡◌, ◌≢◌, ℕ, zero, suc, ◌*◌, ◌<◌, ◌≤◌, if◌then◌else◌, Bool, true, false, Some, None, Option, List, [], ◌∷◌, All, length, get_or, refl, sym, ap, ◌∙◌, subst, arith}
 use Rattle.std.specs.Prelude.{slice_get, ◌==◌}
 use Rattle.std.specs.List.{count_by}
 use Rattle.std.proofs.lemmas.Option.{slice_get_within, slice_get-get_or}
@@ -9,19 +9,17 @@ use Rattle.hierarchy.specs.declared.Cross.{Cross}
 use Rattle.hierarchy.specs.declared.Wire.{Wire}
 use Rattle.hierarchy.specs.Laws.{IsTree, HasMeetings, HasParents}
 use Rattle.hierarchy.specs.Sites.{HasSites}
-use Rattle.hierarchy.specs.Shape.{wires_of, crosses_of, nodes_of, pins_of, lines_of, own_ports_of, ends_of, node_of, parent_of, IsLine, IsPort, IsTap, tap_pin, tap_port, tap_child, itself, below}
+use Rattle.hierarchy.specs.Shape.{wires_of, nodes_of, node_of, parent_of, IsLine, IsPort, IsTap, tap_pin, tap_port, tap_child, itself, below}
 use Rattle.config_set.specs.Configuration.{is_closed}
 use Rattle.config_image.specs.Images.{ImageValue}
 use Rattle.config_image.specs.Parts.{Uses, IsInvolved, by_wire, IsWideEnough}
-use Rattle.growth.specs.Field.{IsFieldOf}
 use Rattle.growth.specs.declared.field.Field.{Field}
-use Rattle.self_test.specs.Fields.{Gets, IsFewFor, IsCrossBefore, IsCrossOf, IsOnLines, IsOnTaps, IsBetween, IsPicksOf, ArePicksOf, IsOfEither, of_own, of_lines, IsPickOf, IsJointOf, own_joint, up_joint, OfMarked, IsHungAt, on_line, on_port, IsHungOn}
-use Rattle.self_test.specs.Picked.{width_of, IsAmong, IsOfSide, AreOfSide, HasFirstTwo, ArePicked, IsPickedAt, ArePickedUpTo}
-use Rattle.self_test.specs.Skeleton.{IsMet, AreMet, AreTwo, IsOwn, own_pin, own_port, HasSkeleton}
+use Rattle.self_test.specs.Fields.{Gets, IsFewFor, IsCrossBefore, IsBetween, IsPicksOf, ArePicksOf, of_own, of_lines, IsPickOf, IsJointOf, own_joint, up_joint, OfMarked, on_line, on_port, IsHungOn}
+use Rattle.self_test.specs.Picked.{width_of, IsAmong, IsOfSide, HasFirstTwo, IsPickedAt, ArePickedUpTo}
+use Rattle.self_test.specs.Skeleton.{IsMet, AreMet, IsOwn, own_pin, own_port, HasSkeleton}
 use Rattle.self_test.specs.Used.{AreUsed, AreInvolved}
 use Rattle.self_test.specs.declared.picks.Frame.{Frame}
 use Rattle.self_test.specs.declared.picks.Picks.{Picks}
-use Rattle.self_test.specs.declared.picks.Side.{Side}
 use Rattle.self_test.specs.declared.picks.Side.TheVariants.{Own, Lines}
 use Rattle.self_test.proofs.Counting.{list_fits, to_told}
 use Rattle.self_test.proofs.Getting.{marked_within}
@@ -288,9 +286,6 @@ pub record IsBuilt (i : ImageValue) (used nodes : List Bool) (f : Frame) (closed
 
 module _ (i : ImageValue) (used nodes : List Bool) (f : Frame) (closed : List Cross) (a b c : Field) (mid : List Bool) (built : IsBuilt i used nodes f closed a b c mid)
     (counts : (x : ℕ) → count_by (λ (y : Cross). y.0 == x) closed ≡ (if is_closed i.config x then 1 else 0)) (most : ℕ) (is : f.most ≡ most) where
-  pub built_field : IsFieldOf i.config.shape a → IsFieldOf i.config.shape c
-  built_field fits = record { wires = built.wires.len ∙ built.picks.len ∙ fits.wires; crosses = built.closings.len ∙ built.hung.len ∙ built.joints.len ∙ fits.crosses }
-
   pub built_few : size_of a.wires ≡ 0 → size_of a.crosses ≡ 0 → IsFewFor i nodes used most c
   built_few no_wires no_crosses = record {
     wires = (let one = built.picks.few in let other = built.wires.few in let e : 2 * f.most * size_of nodes ≡ 2 * most * size_of nodes = ap (λ z. 2 * z * size_of nodes) is in omega (arith, one, other, e, no_wires));

@@ -1,8 +1,7 @@
 -- The test of an image, step by step.
-use Rattle.std.proofs.Common.{◌≡◌, ◌≢◌, ◌⊎◌, ℕ, ◌+◌, ◌*◌, ◌<◌, ◌≤◌, Bool, true, false, Some, None, Option, List, length, refl, sym, ap, ◌∙◌, subst, inl, inr, arith}
-use Rattle.std.specs.Prelude.{◌==◌, if◌then◌else◌, IsSome, is_some, IsTrue, Contains}
+use Rattle.std.proofs.Common.{◌≡◌, ℕ, ◌+◌, ◌*◌, ◌≤◌, Bool, true, Some, Option, List, length, arith}
+use Rattle.std.specs.Prelude.{◌==◌, if◌then◌else◌, is_some, IsTrue}
 use Rattle.std.specs.List.{count_by}
-use Rattle.std.proofs.lemmas.Bool.{false≢true}
 use Rattle.tm_bits.specs.Numbers.{size_of}
 use Rattle.hierarchy.specs.declared.Shape.{Shape}
 use Rattle.hierarchy.specs.declared.Table.{Table}
@@ -20,10 +19,10 @@ use Rattle.growth.specs.Tables.{SeatedAreKept}
 use Rattle.growth.specs.declared.field.Field.{Field}
 use Rattle.growth.specs.declared.step.Step.{Step}
 use Rattle.self_test.specs.Fields.{IsFewFor}
-use Rattle.self_test.specs.Looks.{AreRoutesKnown, KeepsTableOf, AreSeated, FieldIf, RoutesIf, TablesIf, WholeIf, TakesInField, TakesAtMost, HasClosed, HasTablesOn}
+use Rattle.self_test.specs.Looks.{AreRoutesKnown, KeepsTableOf, AreSeated, RoutesIf, TablesIf, WholeIf, TakesInField, TakesAtMost, HasClosed, HasTablesOn}
 use Rattle.self_test.specs.Skeleton.{HasSkeleton}
 use Rattle.self_test.specs.Soundly.{KeepsRoutes, KeepsTables, KeepsParts, SoundIf, YesIf, RunsSoundly}
-use Rattle.self_test.specs.Used.{AreUsed, AreInvolved}
+use Rattle.self_test.specs.Used.{AreUsed}
 use Rattle.self_test.proofs.Covering.{on_within, used_within}
 use Rattle.self_test.proofs.Counting.{list_fits, of_told, to_told}
 use Rattle.self_test.proofs.Looking.{on_of, routes_stay, tables_kept, tests_keep}
@@ -70,41 +69,10 @@ loads_tables i tables before after counts loads ts on =
 
 -- ---- in one field
 
-pub loads_grown : (i : ImageValue) (a : Field) (before after : ℕ) → after ≤ before + (8 * size_of a.crosses + 3 * size_of a.wires) → TakesInField i a before after
-loads_grown i a before after grown = record { few = λ ts on. omega (arith, grown) }
-
-pub loads_in : (i : ImageValue) (a : Field) (before mid after : ℕ) → mid ≤ before + (8 * size_of a.crosses + 3 * size_of a.wires) → ((ts : List ℕ) → HasTablesOn i ts → after ≤ mid + 130 * length ts) → TakesInField i a before after
-loads_in i a before mid after grown tested = record { few = λ ts on. (let more = tested ts on in omega (arith, grown, more)) }
-
--- of the faults that were told at first
-pub tables_told : {told other : Option Faults} {k : Kept} {ss : List Step} {i : ImageValue} {answer : Bool} → told ≡ other → TablesIf told k ss i answer → TablesIf other k ss i answer
-tables_told {k = k} {ss = ss} {i = i} {answer = answer} e = subst (λ (z : Option Faults). TablesIf z k ss i answer) e
-
-pub field_told : {told other : Option Faults} {k : Kept} {i : ImageValue} {a : Field} {found : Option Bool} → told ≡ other → FieldIf told k i a found → FieldIf other k i a found
-field_told {k = k} {i = i} {a = a} {found = found} e = subst (λ (z : Option Faults). FieldIf z k i a found) e
-
--- what holds of a field with what was kept later holds with what was kept before
-pub field_earlier : {told : Option Faults} {k l : Kept} {i : ImageValue} {a : Field} {found : Option Bool} → ((f : Faults) → told ≡ Some f → HoldsFor k f → HoldsFor l f) → FieldIf told l i a found → FieldIf told k i a found
-field_earlier holds_on field = record { at = λ f is holds none wide sk. field.at f is (holds_on f is holds) none wide sk }
-
-pub found_true : (told : Option Faults) (old mid : Kept) (ss : List Step) (i : ImageValue) (a : Field) (answer : Bool) → RoutesIf told old mid ss i a true → ((f : Faults) → told ≡ Some f → HoldsFor old f → HoldsFor mid f) → TablesIf told mid ss i answer → FieldIf told old i a (Some answer)
-found_true told old mid ss i a answer routes holds_on tables = record {
-  at = λ f is holds none wide sk. ap Some (tables.at f is (holds_on f is holds) none (routes.at f is holds none wide sk).1);
-}
-
-pub found_none : (told : Option Faults) (old mid : Kept) (ss : List Step) (i : ImageValue) (a : Field) → RoutesIf told old mid ss i a false → FieldIf told old i a None
-found_none told old mid ss i a routes = record { at = λ f is holds none wide sk. absurd (false≢true (routes.at f is holds none wide sk).0) }
-
 pub parts_found : (k l : Kept) (i : ImageValue) (answer : Bool) → IsMore k l → KeepsRoutes k i → (IsTrue answer → KeepsTables l i) → Some answer ≡ Some true → KeepsParts l i
 parts_found k l i answer more routes tables e = record { routes = routes_stay more routes; tables = tables (let same : answer ≡ true = cc in same) }
 
 -- ---- in both fields
-
-pub whole_found : (told : Option Faults) (k : Kept) (i : ImageValue) (a : Field) (answer : Bool) → FieldIf told k i a (Some answer) → (IsWideEnough i.config.shape i → HasSkeleton i a) → WholeIf told k i answer
-whole_found told k i a answer field sk = record { at = λ f is holds none wide. (let e = field.at f is holds none wide (sk wide) in let same : answer ≡ true = cc in same) }
-
-pub whole_none : (told : Option Faults) (k : Kept) (i : ImageValue) (a : Field) (answer : Bool) → FieldIf told k i a None → (IsWideEnough i.config.shape i → HasSkeleton i a) → WholeIf told k i answer
-whole_none told k i a answer field sk = record { at = λ f is holds none wide. absurd (let e = field.at f is holds none wide (sk wide) in let no : ⊥ = cc in no) }
 
 pub loads_one : (i : ImageValue) (nodes used : List Bool) (a : Field) (before after : ℕ) → IsFewFor i nodes used 2 a → TakesInField i a before after → TakesAtMost i nodes used before after
 loads_one i nodes used a before after few takes = record { few = by }

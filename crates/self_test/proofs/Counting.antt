@@ -1,6 +1,6 @@
 -- How many numbers are marked, or stand in a list, that are all in another list.
-use Rattle.std.proofs.Common.{◌≡◌, ◌≢◌, ◌⊎◌, ℕ, zero, suc, ◌+◌, ◌*◌, ◌<◌, ◌≤◌, ◌==◌, ◌||◌, eqb, if◌then◌else◌, Bool, true, false, cond, Some, List, [], ◌∷◌, ◌++◌, length, map, get_or, All, refl, sym, ap, ◌∙◌, subst, inl, inr, arith}
-use Rattle.std.specs.Prelude.{Contains, IsSome, slice_index_or}
+use Rattle.std.proofs.Common.{◌≡◌, ◌≢◌, ◌⊎◌, ℕ, zero, suc, ◌+◌, ◌*◌, ◌<◌, ◌≤◌, ◌==◌, ◌||◌, eqb, if◌then◌else◌, Bool, true, false, cond, List, [], ◌∷◌, length, map, get_or, All, refl, sym, ap, ◌∙◌, subst, inl, inr, arith}
+use Rattle.std.specs.Prelude.{Contains, slice_index_or}
 use Rattle.std.specs.List.{count_by, AllByRecursion, IsDistinct}
 use Rattle.std.specs.Set.{is_member}
 use Rattle.std.proofs.Math.ListN.{set}
@@ -13,7 +13,6 @@ use Rattle.std.proofs.lemmas.Map.Made.{length-le_from_is_member}
 use Rattle.std.proofs.lemmas.Map.Views.{list_any-from_Contains}
 use Rattle.tm_bits.specs.Numbers.{has_number, size_of}
 use Rattle.tm_bits.proofs.NumbersLemmas.{size_of-taken}
-use Rattle.config_set.specs.Configuration.{is_closed, setting_of}
 use Rattle.config_image.specs.Images.{ImageValue}
 use Rattle.config_image.specs.Parts.{Part, WirePart, CrossPart, TablePart}
 use Rattle.self_test.specs.Looks.{TakesAtMost}
@@ -203,10 +202,3 @@ for_parts i nodes used before after are involved takes = record { few = few }
         let marked = marks_fit ns nodes (λ n h. all.each_node n (involved.only n h)) in
         let sum = kinds_add_up parts in
         omega (arith, loads, wires, marked, sum)
-
--- no loads are few
-pub no_loads : (i : ImageValue) (nodes used : List Bool) (n : ℕ) → TakesAtMost i nodes used n n
-no_loads i nodes used n = record { few = λ xs ts a b. omega arith }
-
-pub no_loads_for : (i : ImageValue) (n : ℕ) → TakesForParts i n n
-no_loads_for i n = record { few = λ parts nodes all. omega arith }

@@ -1,7 +1,7 @@
 -- A list of all that an image doesn't use covers the faults, where its parts are kept.
-use Rattle.std.proofs.Common.{◌≡◌, ◌≢◌, ◌⊎◌, ℕ, ◌+◌, ◌<◌, ◌≤◌, ◌++◌, ◌&&◌, Bool, true, false, not, Some, None, Option, List, length, get_or, All, refl, sym, ap, ◌∙◌, subst, inl, inr, arith}
-use Rattle.std.specs.Prelude.{◌==◌, IsSome, is_some, Contains}
-use Rattle.std.specs.List.{range_with_len, filter, list_any}
+use Rattle.std.proofs.Common.{◌≡◌, ◌≢◌, ◌⊎◌, ℕ, ◌+◌, ◌<◌, ◌≤◌, ◌++◌, ◌&&◌, Bool, true, false, not, Some, None, Option, List, length, get_or, refl, sym, ap, ◌∙◌, subst, inl, inr, arith}
+use Rattle.std.specs.Prelude.{◌==◌, IsSome, is_some}
+use Rattle.std.specs.List.{range_with_len, filter}
 use Rattle.std.specs.FinMap as map
 use Rattle.std.specs.FinSet as set
 use Rattle.std.specs.Ordering.{nat_cmp}
@@ -14,12 +14,12 @@ use Rattle.std.proofs.lemmas.List.FromFn.{get_or-range_with_len, length-range_wi
 use Rattle.std.proofs.lemmas.Map.Views.{any-filter_same}
 use Rattle.tm_bits.specs.Numbers.{has_number}
 use Rattle.hierarchy.specs.declared.Shape.{Shape}
-use Rattle.hierarchy.specs.Shape.{wires_of, crosses_of, tables_of, pin_wire}
+use Rattle.hierarchy.specs.Shape.{wires_of, crosses_of, tables_of}
 use Rattle.hierarchy.specs.Faults.{Faults, stuck_register}
 use Rattle.hierarchy.specs.Joined.{Shorted}
 use Rattle.hierarchy.specs.Defects.{Defects, Covers, IsClear, IsFreeWire, IsFreeCross, IsFreeTable}
 use Rattle.config_set.specs.declared.Setting.{Setting}
-use Rattle.config_set.specs.Configuration.{IsConfiguration, is_closed, setting_of}
+use Rattle.config_set.specs.Configuration.{is_closed, setting_of}
 use Rattle.config_image.specs.Images.{ImageValue, IsImage}
 use Rattle.config_image.specs.Parts.{IsFreeImage, Uses, at_pin, at_tap, at_line, at_table}
 use Rattle.evidence.specs.Kept.{Kept, HoldsFor}

@@ -1,10 +1,9 @@
 -- The field of an image, as it is marked.
-use Rattle.std.proofs.Common.{◌≡◌, ◌≢◌, ◌⊎◌, ℕ, zero, suc, ◌+◌, ◌*◌, ◌<◌, ◌≤◌, if◌then◌else◌, Bool, true, false, Some, None, Option, List, [], ◌∷◌, All, length, get_or, take, refl, sym, ap, ◌∙◌, subst, inl, inr, arith}
-use Rattle.std.specs.Prelude.{slice_get, Contains}
+use Rattle.std.proofs.Common.{◌≡◌, ◌≢◌, ◌⊎◌, ℕ, ◌+◌, ◌*◌, ◌<◌, ◌≤◌, Bool, true, false, Some, None, List, All, length, get_or, take, sym, ap, ◌∙◌, subst, inl, inr, arith}
+use Rattle.std.specs.Prelude.{slice_get}
 use Rattle.std.proofs.Math.ListN.{set}
 use Rattle.std.proofs.Math.Nat.{mul-le-mul_left, mul-le-mul_right}
-use Rattle.std.proofs.lemmas.Bool.{cases_eq, cases_lt, false≢true}
-use Rattle.std.proofs.lemmas.List.{take_all}
+use Rattle.std.proofs.lemmas.Bool.{false≢true}
 use Rattle.std.proofs.lemmas.List.Sums.{count_by_more_yes, count_by_more_no}
 use Rattle.std.proofs.lemmas.Option.{slice_get_within, slice_get-get_or, get_or_from_slice_get}
 use Rattle.tm_bits.specs.Numbers.{has_number, size_of}
@@ -12,13 +11,13 @@ use Rattle.hierarchy.specs.declared.Shape.{Shape}
 use Rattle.hierarchy.specs.declared.Cross.{Cross}
 use Rattle.hierarchy.specs.declared.Wire.{Wire}
 use Rattle.hierarchy.specs.Laws.{HasCrosses}
-use Rattle.hierarchy.specs.Shape.{wires_of, crosses_of, nodes_of, ends_of, node_of, parent_of}
-use Rattle.self_test.specs.Fields.{Gets, IsCrossOf, IsOnLines, IsOnTaps, IsBetween, IsWireBefore, IsCrossBefore, IsPicksOf, ArePicksOf, IsOfEither, of_own, of_lines, IsPickOf, IsJointOf, own_joint, up_joint, OfMarked, IsHungAt, on_line, on_port, IsHungOn}
+use Rattle.hierarchy.specs.Shape.{crosses_of, ends_of, node_of, parent_of}
+use Rattle.self_test.specs.Fields.{Gets, IsCrossOf, IsBetween, IsWireBefore, IsCrossBefore, IsPicksOf, IsOfEither, of_own, of_lines, IsPickOf, IsJointOf, own_joint, up_joint, OfMarked, IsHungAt, IsHungOn}
 use Rattle.self_test.specs.Picked.{IsAmong}
 use Rattle.self_test.specs.declared.picks.Frame.{Frame}
 use Rattle.self_test.specs.declared.picks.Picks.{Picks}
 use Rattle.self_test.proofs.Adding.{some_same, below_or}
-use Rattle.self_test.proofs.Getting.{gets_none, gets_one, gets_more, gets_fewer, marked_within}
+use Rattle.self_test.proofs.Getting.{gets_none, gets_one, gets_more, gets_fewer}
 
 -- what holds of each element holds of that at a place
 pub all_at : {A : Type 0} (P : A → Type 0) (xs : List A) (i : ℕ) (x : A) → All P xs → slice_get xs i ≡ Some x → P x
@@ -28,15 +27,9 @@ all_at P xs i x all e = subst P (get_or_from_slice_get xs i x x e) (all i x (sli
 pub at_index : {A : Type 0} (xs : List A) (i : ℕ) (x : A) → i < length xs → x ≡ get_or xs i x → slice_get xs i ≡ Some x
 at_index xs i x l e = slice_get-get_or xs i x l ∙ ap Some (sym e)
 
-no_early : {n : ℕ} → n < 0 → ⊥
-no_early l = omega (arith, l)
-
 -- ---- wires and crosspoints of lists
 
 module _ (ws : List Wire) where
-  pub wires_none : {marks : List Bool} → Gets (IsWireBefore ws 0) 0 marks marks
-  wires_none = gets_none (λ x p. no_early p.early)
-
   pub wires_next : (n : ℕ) (w : Wire) {old mid : List Bool} → Gets (IsWireBefore ws n) n old mid → slice_get ws n ≡ Some w → w.0 < length mid → Gets (IsWireBefore ws (n + 1)) (n + 1) old (set mid w.0 true)
   wires_next n w g here within = gets_one w.0 g within from (omega arith)
     where
@@ -51,9 +44,6 @@ module _ (ws : List Wire) where
   among_before a = record { place = a.place; wire = a.wire; early = slice_get_within ws a.place a.wire a.here; here = a.here; is = a.is }
 
 module _ (xs : List Cross) where
-  pub crosses_none : {marks : List Bool} → Gets (IsCrossBefore xs 0) 0 marks marks
-  crosses_none = gets_none (λ x p. no_early p.early)
-
   pub crosses_next : (n : ℕ) (c : Cross) {old mid : List Bool} → Gets (IsCrossBefore xs n) n old mid → slice_get xs n ≡ Some c → c.0 < length mid → Gets (IsCrossBefore xs (n + 1)) (n + 1) old (set mid c.0 true)
   crosses_next n c g here within = gets_one c.0 g within from (omega arith)
     where
@@ -72,51 +62,6 @@ module _ (m : Shape) where
     where
       from : (y : ℕ) → IsCrossOf m t l y → ⊥ ⊎ (y ≡ c)
       from y p = inr (let at : ends_of m y ≡ (t, l) = λ j. (p.tap j, p.line j) in crosses.one y c p.within below (at ∙ sym e))
-
-  pub meet_none : (t l : ℕ) {marks : List Bool} → ((c : ℕ) → c < crosses_of m → ends_of m c ≢ (t, l)) → Gets (IsCrossOf m t l) 1 marks marks
-  meet_none t l never = gets_fewer {P = IsCrossOf m t l} (gets_none (λ y p. never y p.within (λ j. (p.tap j, p.line j)))) (λ y p. p) (omega arith)
-
-  module _ (t : ℕ) (ls : List Wire) where
-    pub lines_none : {marks : List Bool} → Gets (IsOnLines m t ls 0) 0 marks marks
-    lines_none = gets_none (λ x p. no_early p.early)
-
-    pub lines_next : (n : ℕ) (l : Wire) {old mid new : List Bool} → Gets (IsOnLines m t ls n) n old mid → slice_get ls n ≡ Some l → Gets (IsCrossOf m t l.0) 1 mid new → Gets (IsOnLines m t ls (n + 1)) (n + 1) old new
-    lines_next n l g here h = gets_more g h from (omega arith)
-      where
-        from : (y : ℕ) → IsOnLines m t ls (n + 1) y → IsOnLines m t ls n y ⊎ IsCrossOf m t l.0 y
-        from y p = by (below_or n p.place p.early)
-          where
-            by : (p.place < n) ⊎ (p.place ≡ n) → IsOnLines m t ls n y ⊎ IsCrossOf m t l.0 y
-            by (inl k) = inl (record { place = p.place; line = p.line; early = k; here = p.here; cross = p.cross })
-            by (inr e) = inr (subst (λ (z : Wire). IsCrossOf m t z.0 y) (some_same (sym p.here ∙ ap (slice_get ls) e ∙ here)) p.cross)
-
-  module _ (ts : List Wire) (l : ℕ) where
-    pub taps_none : {marks : List Bool} → Gets (IsOnTaps m ts l 0) 0 marks marks
-    taps_none = gets_none (λ x p. no_early p.early)
-
-    pub taps_next : (n : ℕ) (t : Wire) {old mid new : List Bool} → Gets (IsOnTaps m ts l n) n old mid → slice_get ts n ≡ Some t → Gets (IsCrossOf m t.0 l) 1 mid new → Gets (IsOnTaps m ts l (n + 1)) (n + 1) old new
-    taps_next n t g here h = gets_more g h from (omega arith)
-      where
-        from : (y : ℕ) → IsOnTaps m ts l (n + 1) y → IsOnTaps m ts l n y ⊎ IsCrossOf m t.0 l y
-        from y p = by (below_or n p.place p.early)
-          where
-            by : (p.place < n) ⊎ (p.place ≡ n) → IsOnTaps m ts l n y ⊎ IsCrossOf m t.0 l y
-            by (inl k) = inl (record { place = p.place; tap = p.tap; early = k; here = p.here; cross = p.cross })
-            by (inr e) = inr (subst (λ (z : Wire). IsCrossOf m z.0 l y) (some_same (sym p.here ∙ ap (slice_get ts) e ∙ here)) p.cross)
-
-  module _ (ts ls : List Wire) where
-    pub all_none : {marks : List Bool} → Gets (IsBetween m ts ls 0) 0 marks marks
-    all_none = gets_none (λ x p. no_early p.early)
-
-    pub all_next : (n : ℕ) (t : Wire) {old mid new : List Bool} → Gets (IsBetween m ts ls n) (n * length ls) old mid → slice_get ts n ≡ Some t → Gets (IsOnLines m t.0 ls (length ls)) (length ls) mid new → Gets (IsBetween m ts ls (n + 1)) ((n + 1) * length ls) old new
-    all_next n t g here h = gets_more g h from (omega arith)
-      where
-        from : (y : ℕ) → IsBetween m ts ls (n + 1) y → IsBetween m ts ls n y ⊎ IsOnLines m t.0 ls (length ls) y
-        from y p = by (below_or n p.place p.early)
-          where
-            by : (p.place < n) ⊎ (p.place ≡ n) → IsBetween m ts ls n y ⊎ IsOnLines m t.0 ls (length ls) y
-            by (inl k) = inl (record { place = p.place; tap = p.tap; early = k; here = p.here; cross = p.cross })
-            by (inr e) = inr (subst (λ (z : Wire). IsOnLines m z.0 ls (length ls) y) (some_same (sym p.here ∙ ap (slice_get ts) e ∙ here)) p.cross)
 
 -- ---- what is picked of a node
 
@@ -163,15 +108,6 @@ module _ (m : Shape) (f : Frame) (k : ℕ) (p : Picks) (here : slice_get f.picks
           let over : s ≡ r = some_same (sym h_too ∙ ap (slice_get f.picks.items) at ∙ there) in
           inr (subst (λ (z : Picks). IsBetween m z.own.items r.lines.items (length z.own.items) y) (same_pick q e) (subst (λ (z : Picks). IsBetween m q.own.items z.lines.items (length q.own.items) y) over b))
 
--- a wire on the picks of its node
-pub hung_at : (m : Shape) (p : Picks) (w : ℕ) {old mid new : List Bool} → Gets (IsOnLines m w p.lines.items (length p.lines.items)) (length p.lines.items) old mid → Gets (IsOnTaps m p.own.items w (length p.own.items)) (length p.own.items) mid new →
-    Gets (IsHungAt m p w) (length p.lines.items + length p.own.items) old new
-hung_at m p w g h = gets_more g h from (omega arith)
-  where
-    from : (y : ℕ) → IsHungAt m p w y → IsOnLines m w p.lines.items (length p.lines.items) y ⊎ IsOnTaps m p.own.items w (length p.own.items) y
-    from y (on_line a) = inl a
-    from y (on_port a) = inr a
-
 pub hung_on : (m : Shape) (f : Frame) (w : ℕ) (p : Picks) → slice_get f.picks.items (node_of m w) ≡ Some p → IsPicksOf m f.most p → {old new : List Bool} → Gets (IsHungAt m p w) (length p.lines.items + length p.own.items) old new →
     Gets (IsHungOn m f.picks.items w) (2 * f.most) old new
 hung_on m f w p here is g = gets_fewer g (λ y q. subst (λ (z : Picks). IsHungAt m z w y) (some_same (sym q.here ∙ here)) q.is) (let a = is.few_own in let b = is.few_lines in omega (arith, a, b))
@@ -183,9 +119,6 @@ one_wire w within = gets_one {P = λ _. ⊥} w (gets_none (λ x no. no)) within 
 -- ---- over all marked places
 
 module _ (marks : List Bool) (these : ℕ → ℕ → Type 0) where
-  pub marked_none : (each : ℕ) {old : List Bool} → Gets (OfMarked marks these 0) (each * size_of (take 0 marks)) old old
-  marked_none each = gets_fewer {P = OfMarked marks these 0} (gets_none (λ x p. no_early p.early)) (λ y p. p) (omega arith)
-
   from_next : (n : ℕ) (y : ℕ) → OfMarked marks these (n + 1) y → OfMarked marks these n y ⊎ ((has_number marks n ≡ true) × these n y)
   from_next n y p = by (below_or n p.place p.early)
     where
@@ -216,6 +149,3 @@ module _ (marks : List Bool) (these : ℕ → ℕ → Type 0) where
           by : OfMarked marks these n y ⊎ ((has_number marks n ≡ true) × these n y) → OfMarked marks these n y
           by (inl q) = q
           by (inr q) = absurd (false≢true (sym out ∙ q.0))
-
-  pub marked_end : (each n : ℕ) {old mid : List Bool} → length marks ≡ n → Gets (OfMarked marks these n) (each * size_of (take n marks)) old mid → Gets (OfMarked marks these n) (each * size_of marks) old mid
-  marked_end each n {old} {mid} len g = gets_fewer g (λ y p. p) (let e : each * size_of (take n marks) ≡ each * size_of marks = ap (λ z. each * size_of z) (take_all n marks (omega (arith, len))) in omega (arith, e))

@@ -1,25 +1,22 @@
 -- What the looks at an image say.
-use Rattle.std.proofs.Common.{◌≡◌, ◌≢◌, ◌⊎◌, ℕ, ◌+◌, ◌*◌, ◌<◌, ◌≤◌, Bool, true, false, Some, None, Option, List, All, length, get_or, refl, sym, ap, ◌∙◌, subst, inl, inr, arith}
+use Rattle.std.proofs.Common.{◌≡◌, ◌≢◌, ◌⊎◌, ℕ, ◌<◌, ◌≤◌, true, Some, None, Option, List, All, get_or, refl, sym, ap, ◌∙◌, subst, inl, inr, arith}
 use Rattle.std.specs.Prelude.{IsSome, is_some, slice_get}
-use Rattle.std.proofs.lemmas.Bool.{cases_eq, cases_lt, false≢true}
+use Rattle.std.proofs.lemmas.Bool.{cases_eq, cases_lt}
 use Rattle.std.proofs.lemmas.Option.{slice_get-get_or}
 use Rattle.tm_bits.specs.Numbers.{has_number}
-use Rattle.hierarchy.specs.declared.Shape.{Shape}
 use Rattle.hierarchy.specs.declared.Table.{Table}
 use Rattle.hierarchy.specs.Faults.{Faults, IsFaultless}
 use Rattle.hierarchy.specs.Tight.{IsRightTable}
 use Rattle.config_set.specs.declared.Setting.{Setting}
-use Rattle.config_set.specs.Configuration.{is_closed, setting_of}
-use Rattle.config_image.specs.Images.{ImageValue, IsImage}
-use Rattle.config_image.specs.Parts.{Uses, IsWideEnough}
-use Rattle.evidence.specs.Kept.{Kept, HoldsFor, IsMore, keeps_wire, keeps_pair, keeps_cell, keeps_register}
-use Rattle.growth.specs.Known.{KnownWires, HasWire, IsAt, IsKnown, IsKeptCrossOf}
+use Rattle.config_set.specs.Configuration.{setting_of}
+use Rattle.config_image.specs.Images.{ImageValue}
+use Rattle.evidence.specs.Kept.{Kept, HoldsFor, IsMore, keeps_wire, keeps_pair}
+use Rattle.growth.specs.Known.{KnownWires, HasWire, IsAt, IsKnown}
 use Rattle.growth.specs.Tables.{SeatedAreKept}
-use Rattle.growth.specs.declared.field.Field.{Field}
 use Rattle.growth.specs.declared.step.Step.{Step}
 use Rattle.table_test.specs.Seats.{KeepsTable}
-use Rattle.self_test.specs.Looks.{AreRoutesKnown, KeepsTableOf, AreSeated, FieldIf, RoutesIf, TablesIf, TakesInField, TakesAtMost, HasTablesOn}
-use Rattle.self_test.specs.Soundly.{KeepsRoutes, KeepsTables, KeepsParts}
+use Rattle.self_test.specs.Looks.{AreRoutesKnown, KeepsTableOf, AreSeated}
+use Rattle.self_test.specs.Soundly.{KeepsRoutes, KeepsTables}
 
 -- ---- known wires are kept, and each two of them are a kept pair
 

@@ -1,5 +1,5 @@
 -- Wires that are picked of the two sides of a node's crossbar.
-use Rattle.std.proofs.Common.{◌≡◌, ◌≢◌, ◌⊎◌, ℕ, zero, suc, ◌+◌, ◌<◌, ◌≤◌, Bool, true, false, if◌then◌else◌, Some, None, Option, List, [], ◌∷◌, ◌++◌, length, refl, sym, ap, ◌∙◌, subst, inl, inr, arith}
+use Rattle.std.proofs.Common.{◌≡◌, ◌≢◌, ◌⊎◌, ℕ, zero, suc, ◌+◌, ◌<◌, ◌≤◌, Bool, if◌then◌else◌, Some, Option, List, [], ◌∷◌, ◌++◌, length, refl, sym, ap, ◌∙◌, subst, inl, inr, arith}
 use Rattle.std.specs.Prelude.{slice_get, IfSome, IfNone}
 use Rattle.std.proofs.lemmas.Bool.{cases_eq}
 use Rattle.std.proofs.lemmas.List.{length-append}
@@ -9,20 +9,15 @@ use Rattle.hierarchy.specs.declared.Shape.{Shape}
 use Rattle.hierarchy.specs.declared.Wire.{Wire}
 use Rattle.hierarchy.specs.Laws.{IsNumbered}
 use Rattle.hierarchy.specs.Sites.{HasSites}
-use Rattle.hierarchy.specs.Shape.{pins_of, own_ports_of, pin_wire, port_at}
 use Rattle.self_test.specs.Picked.{width_of, side_wire, IsAmong, IsOfSide, AreOfSide, HasFirstTwo, ArePicked, IsPickedAt, ArePickedUpTo}
 use Rattle.self_test.specs.declared.picks.Side.{Side}
 use Rattle.self_test.specs.declared.picks.Side.TheVariants.{Own, Lines}
 use Rattle.self_test.specs.declared.picks.Picks.{Picks}
-use Rattle.self_test.proofs.Adding.{some_same, below_or}
+use Rattle.self_test.proofs.Adding.{some_same}
 
 -- ---- what stands in a list with one more
 
 module _ {A : Type 0} where
-  pub get_last : (xs : List A) (x : A) → slice_get (xs ++ x ∷ []) (length xs) ≡ Some x
-  get_last [] x = refl
-  get_last (y ∷ xs) x = get_last xs x
-
   pub get_pushed : (xs : List A) (x : A) (i : ℕ) (y : A) → slice_get (xs ++ x ∷ []) i ≡ Some y → (slice_get xs i ≡ Some y) ⊎ ((i ≡ length xs) × (x ≡ y))
   get_pushed [] x zero y e = inr (refl, cc)
   get_pushed [] x (suc i) y e = cc
@@ -36,20 +31,6 @@ module _ {A : Type 0} where
 -- ---- the two sides
 
 module _ (m : Shape) where
-  pub width-root : (n : ℕ) → n ≡ 0 → width_of m Own n ≡ pins_of m
-  width-root n e = ap (width_of m Own) e
-
-  pub width-below : (n : ℕ) → n ≢ 0 → width_of m Own n ≡ own_ports_of m n
-  width-below zero other = absurd (other refl)
-  width-below (suc n) other = refl
-
-  pub wire-root : (n k : ℕ) → n ≡ 0 → side_wire m Own n k ≡ pin_wire m k
-  wire-root n k e = ap (λ j. side_wire m Own j k) e
-
-  pub wire-below : (n k : ℕ) → n ≢ 0 → side_wire m Own n k ≡ port_at m n k
-  wire-below zero k other = absurd (other refl)
-  wire-below (suc n) k other = refl
-
   -- the first two wires of a side are different
   pub side_differs : IsNumbered m → HasSites m → (side : Side) (n : ℕ) → 2 ≤ width_of m side n → side_wire m side n 0 ≢ side_wire m side n 1
   side_differs numbered sites Own zero wide e = absurd (let same = numbered.pins_apart 0 1 (omega (arith, wide)) (omega (arith, wide)) e in let no : ⊥ = omega (arith, same) in no)
@@ -57,9 +38,6 @@ module _ (m : Shape) where
   side_differs numbered sites Lines n wide e = absurd (let less = sites.lines_ascend n 0 1 (omega arith) in let no : ⊥ = omega (arith, less, e) in no)
 
   module _ (side : Side) (n : ℕ) where
-    pub side_none : AreOfSide m side n []
-    side_none = record { each = λ j w e. cc; differ = λ i j w u e f l. cc }
-
     pub side_pushed : (ws : List Wire) (w : Wire) → AreOfSide m side n ws → IsOfSide m side n w.0 → (IsAmong ws w.0 → ⊥) → AreOfSide m side n (ws ++ w ∷ [])
     side_pushed ws w are is new = record {
       each = λ j u e. by_each j u (get_pushed ws w j u e);
@@ -100,27 +78,7 @@ module _ (m : Shape) where
       pub some : IfSome other (λ w. IsOfSide m side n w.0 × (¬ IsAmong ws w.0))
       pub none : IfNone other ((j : ℕ) → j < k → IsAmong ws (side_wire m side n j))
 
-    pub sought_first : (ws : List Wire) → IsSought ws 0 None
-    sought_first ws = record { some = tt; none = λ j l. absurd (let no : ⊥ = omega (arith, l) in no) }
-
-    pub sought_pass : (ws : List Wire) (k w : ℕ) (other : Option Wire) → IsSought ws k other → w ≡ side_wire m side n k → IsAmong ws w → IsSought ws (k + 1) other
-    sought_pass ws k w None s e is = record { some = tt; none = λ j l. by j (below_or k j l) }
-      where
-        by : (j : ℕ) → (j < k) ⊎ (j ≡ k) → IsAmong ws (side_wire m side n j)
-        by j (inl l) = s.none j l
-        by j (inr same) = subst (IsAmong ws) (e ∙ ap (side_wire m side n) (sym same)) is
-    sought_pass ws k w (Some o) s e is = record { some = s.some; none = tt }
-
-    pub sought_more : (ws : List Wire) (k j : ℕ) (o : Wire) → IsSought ws k (Some o) → IsSought ws j (Some o)
-    sought_more ws k j o s = record { some = s.some; none = tt }
-
-    pub sought_some : (ws : List Wire) (j : ℕ) (w : Wire) → IsOfSide m side n w.0 → (IsAmong ws w.0 → ⊥) → IsSought ws j (Some w)
-    sought_some ws j w is new = record { some = (is, new); none = tt }
-
   -- ---- the picks of the nodes one after the other
-
-  pub picks_none : (nodes : List Bool) (most : ℕ) → ArePickedUpTo m nodes most 0 []
-  picks_none nodes most = record { len = refl; each = λ k p e. cc }
 
   pub picks_pushed : (nodes : List Bool) (most n : ℕ) (ps : List Picks) (p : Picks) → ArePickedUpTo m nodes most n ps → IsPickedAt m n (if has_number nodes n then most else 0) p → ArePickedUpTo m nodes most (n + 1) (ps ++ p ∷ [])
   picks_pushed nodes most n ps p are is = record { len = (let long = length-append ps (p ∷ []) in let len = are.len in omega (arith, long, len)); each = λ k q e. by k q (get_pushed ps p k q e) }

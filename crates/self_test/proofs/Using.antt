@@ -1,6 +1,6 @@
 -- The marks of an image's used wires are right.
-use Rattle.std.proofs.Common.{◌≡◌, ◌≢◌, ◌⊎◌, ℕ, ◌+◌, ◌<◌, ◌≤◌, ◌++◌, if◌then◌else◌, Bool, true, false, Some, List, All, length, get_or, refl, sym, ap, ◌∙◌, subst, inl, inr, arith}
-use Rattle.std.specs.Prelude.{◌==◌, slice_get, replicate, Contains, IsSome, is_some}
+use Rattle.std.proofs.Common.{◌≡◌, ◌⊎◌, ℕ, ◌+◌, ◌<◌, if◌then◌else◌, Bool, true, false, List, All, length, get_or, refl, sym, ap, ◌∙◌, subst, inl, inr, arith}
+use Rattle.std.specs.Prelude.{◌==◌, slice_get, replicate, Contains, is_some}
 use Rattle.std.specs.List.{count_by}
 use Rattle.std.proofs.lemmas.List.{get_or_append_left, get_or-append-add, get_or_default, length-append, length-replicate}
 use Rattle.std.proofs.lemmas.List.Elements.{Contains-get_or, Contains-append_left, Contains-append_right, Contains-append_cases}
@@ -13,7 +13,7 @@ use Rattle.hierarchy.specs.Shape.{wires_of, pins_of, crosses_of, tables_of, pin_
 use Rattle.config_set.specs.Configuration.{Configuration, is_closed, setting_of}
 use Rattle.config_image.specs.Images.{ImageValue, IsImage}
 use Rattle.config_image.specs.Parts.{Uses, at_pin, at_tap, at_line, at_table}
-use Rattle.self_test.specs.Marks.{Adds, IsPinAmong, IsEndAmong, tap_among, line_among, IsPinOfTable, IsTablePinAmong}
+use Rattle.self_test.specs.Marks.{Adds, IsPinAmong, IsEndAmong, tap_among, line_among, IsTablePinAmong}
 use Rattle.self_test.specs.Used.{AreUsed}
 use Rattle.self_test.proofs.Counting.{of_told, to_told}
 use Rattle.self_test.proofs.Covering.{on_within}

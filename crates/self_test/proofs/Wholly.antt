@@ -1,20 +1,19 @@
 -- Without faults all of an image's skeleton is known, and its tables are seated.
-use Rattle.std.proofs.Common.{◌≡◌, ◌≢◌, ◌⊎◌, ℕ, zero, suc, ◌+◌, ◌<◌, ◌≤◌, Bool, true, false, Some, None, Option, List, [], ◌∷◌, length, refl, sym, ap, ◌∙◌, subst, inl, inr, arith}
+use Rattle.std.proofs.Common.{◌≡◌, ◌≢◌, ◌⊎◌, ℕ, zero, suc, ◌<◌, true, Some, None, List, [], ◌∷◌, refl, sym, ap, ◌∙◌, subst, inl, inr, arith}
 use Rattle.std.specs.Prelude.{IsSome, slice_get}
 use Rattle.std.proofs.lemmas.Bool.{cases_eq}
 use Rattle.tm_bits.specs.Numbers.{has_number}
 use Rattle.hierarchy.specs.declared.Shape.{Shape}
 use Rattle.hierarchy.specs.Laws.{IsNumbered, IsTree, HasMeetings, HasParents}
-use Rattle.hierarchy.specs.Shape.{wires_of, crosses_of, nodes_of, pins_of, tables_of, pin_wire, table_wire, ends_of, node_of, parent_of, hextant_of, IsLine, IsPort, IsTap, tap_pin, tap_port, tap_child, tap_table, IsAbove, itself, below, Ends, in_order, turned}
+use Rattle.hierarchy.specs.Shape.{wires_of, crosses_of, nodes_of, pins_of, tables_of, pin_wire, table_wire, ends_of, node_of, parent_of, hextant_of, IsLine, IsPort, IsTap, tap_table, IsAbove, itself, below, Ends, in_order, turned}
 use Rattle.hierarchy.specs.Faults.{Faults, IsFaultless, stuck_cross}
-use Rattle.hierarchy.specs.Joined.{Shorted}
 use Rattle.hierarchy.specs.Sound.{IsSoundWire, IsSoundTable, IsServed}
 use Rattle.hierarchy.specs.Served.{HasHomes}
 use Rattle.hierarchy.specs.Defects.{IsClear}
 use Rattle.hierarchy.specs.Standing.{StandsBy, pin_stands, on_two, IsOutside, Meets, IsSeated, HasStandingParts}
 use Rattle.hierarchy.specs.Tight.{IsAlone, HasFeet, two}
-use Rattle.config_set.specs.Configuration.{is_closed, setting_of}
-use Rattle.config_image.specs.Images.{ImageValue, IsImage}
+use Rattle.config_set.specs.Configuration.{setting_of}
+use Rattle.config_image.specs.Images.{ImageValue}
 use Rattle.config_image.specs.Parts.{Uses, at_tap, at_line, at_table, IsInvolved, by_wire, by_cross, IsWideEnough}
 use Rattle.evidence.specs.Kept.{Kept, keeps_cross}
 use Rattle.growth.specs.Field.{IsFieldOf, IsClosed}
@@ -22,7 +21,7 @@ use Rattle.growth.specs.Known.{HasWire, IsKeptCrossOf}
 use Rattle.growth.specs.declared.field.Field.{Field}
 use Rattle.growth.specs.declared.step.Step.{Step}
 use Rattle.self_test.specs.Looks.{AreRoutesKnown}
-use Rattle.self_test.specs.Skeleton.{IsMet, AreMet, AreTwo, IsOwn, own_pin, own_port, HasSkeleton}
+use Rattle.self_test.specs.Skeleton.{IsMet, IsOwn, own_pin, own_port, HasSkeleton}
 use Rattle.self_test.proofs.Getting.{marked_within}
 
 -- what is above a node is above those below it

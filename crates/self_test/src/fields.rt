@@ -1,5 +1,5 @@
 //! The field of an image: where its parts can be tested.
-ghost use Rattle.std.specs.Prelude.{◌≡◌, ◌<◌, ◌≤◌, ◌+◌, ◌*◌, ℕ, All, IfOk, length};
+ghost use Rattle.std.specs.Prelude.{◌≡◌, ◌<◌, ◌≤◌, ◌+◌, ◌*◌, All, IfOk, length};
 ghost use Rattle.tm_bits.specs.Numbers.{size_of};
 ghost use Rattle.hierarchy.specs.Shape.{wires_of, crosses_of, nodes_of};
 ghost use Rattle.config_image.specs.Parts.{IsWideEnough};

@@ -1,8 +1,7 @@
 //! Whether an image's parts are kept.
-ghost use Rattle.std.specs.Prelude.{◌≡◌, ◌<◌, ◌↔◌, ℕ, All, IsSome, IsTrue, true, length};
+ghost use Rattle.std.specs.Prelude.{◌≡◌, ◌<◌, ◌↔◌, ℕ, All, IsTrue, true, length};
 ghost use Rattle.tm_bits.specs.Numbers.{has_number};
 ghost use Rattle.hierarchy.specs.Shape.{wires_of, crosses_of, tables_of};
-ghost use Rattle.config_set.specs.Configuration.{setting_of};
 ghost use Rattle.config_image.specs.Images.{IsImage};
 ghost use Rattle.evidence.specs.Kept.{keeps_cell, keeps_cross};
 ghost use Rattle.growth.specs.Known.{HasWire};

@@ -1,5 +1,5 @@
 //! The wires that an image uses.
-ghost use Rattle.std.specs.Prelude.{◌≡◌, ◌<◌, ℕ, All, IfOk, length};
+ghost use Rattle.std.specs.Prelude.{◌≡◌, ◌<◌, All, IfOk, length};
 ghost use Rattle.hierarchy.specs.Shape.{wires_of, pins_of, crosses_of, tables_of};
 ghost use Rattle.config_image.specs.Images.{IsImage};
 ghost use Rattle.self_test.specs.Marks.{Adds, IsEndAmong, IsPinAmong, IsPinOfTable, IsTablePinAmong};

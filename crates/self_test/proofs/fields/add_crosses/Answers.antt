@@ -1,9 +1,8 @@
-use Rattle.std.proofs.Common.{◌≡◌, ◌<◌, length, subst, arith}
+use Rattle.std.proofs.Common.{◌<◌, length, arith}
 use Rattle.std.specs.Prelude.{slice_index_or}
 use Rattle.std.proofs.lemmas.Option.{slice_get-get_or}
 use Rattle.hierarchy.specs.declared.Cross.{Cross}
-use Rattle.self_test.specs.Fields.{Gets, IsCrossBefore}
-use Rattle.self_test.proofs.Fielding.{crosses_none, crosses_next}
+use Rattle.self_test.proofs.Fielding.{crosses_next}
 use Rattle.self_test.proofs.fields.add_crosses.Goals as goal
 
 pub crosses-preserved : goal.crosses-preserved

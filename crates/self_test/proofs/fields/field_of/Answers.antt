@@ -1,4 +1,4 @@
-use Rattle.std.proofs.Common.{◌<◌, All, length, sym, ap, ◌∙◌, subst}
+use Rattle.std.proofs.Common.{◌<◌, All, sym, ap, ◌∙◌, subst}
 use Rattle.hierarchy.specs.declared.Cross.{Cross}
 use Rattle.config_set.specs.Configuration.{Configuration}
 use Rattle.growth.specs.declared.field.Field.{Field}

@@ -1,5 +1,5 @@
-use Rattle.std.proofs.Common.{◌<◌, length, sym, ◌∙◌, subst, arith}
-use Rattle.self_test.proofs.Fielding.{hung_at, one_wire}
+use Rattle.std.proofs.Common.{◌<◌, sym, subst}
+use Rattle.self_test.proofs.Fielding.{one_wire}
 use Rattle.self_test.proofs.fields.hang.Goals as goal
 
 pub returns-clause-wires : goal.returns-clause-wires

@@ -1,5 +1,3 @@
-use Rattle.std.proofs.Common.{◌<◌, All, sym, ◌∙◌, subst}
-use Rattle.hierarchy.specs.declared.Wire.{Wire}
 use Rattle.self_test.proofs.Fielding.{either_wires}
 use Rattle.self_test.proofs.fields.join_own.Goals as goal
 

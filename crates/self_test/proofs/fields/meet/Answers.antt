@@ -1,5 +1,5 @@
 use Rattle.std.proofs.Common.{arith}
-use Rattle.self_test.proofs.Fielding.{meet_none, meet_some}
+use Rattle.self_test.proofs.Fielding.{meet_some}
 use Rattle.self_test.proofs.fields.meet.Goals as goal
 
 pub returns : goal.returns

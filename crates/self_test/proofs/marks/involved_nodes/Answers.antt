@@ -1,4 +1,4 @@
-use Rattle.std.proofs.Common.{◌≡◌, false, replicate, ap, ◌∙◌}
+use Rattle.std.proofs.Common.{false, replicate, ap, ◌∙◌}
 use Rattle.hierarchy.specs.Shape.{nodes_of}
 use Rattle.config_set.specs.Configuration.{Configuration}
 use Rattle.self_test.proofs.Involving.{involved_of}

@@ -1,4 +1,4 @@
-use Rattle.std.proofs.Common.{◌≡◌, ◌<◌, length, subst, sym, ◌∙◌, inl, inr, arith}
+use Rattle.std.proofs.Common.{sym, ◌∙◌, inl, inr, arith}
 use Rattle.self_test.proofs.Involving.{rises_pass, rises_next}
 use Rattle.self_test.proofs.marks.mark_parent.Goals as goal
 

@@ -1,7 +1,6 @@
-use Rattle.std.proofs.Common.{◌≡◌, ◌≤◌, ◌++◌, ◌∷◌, [], length, ap, ◌∙◌, arith}
+use Rattle.std.proofs.Common.{◌≡◌, ◌≤◌, ◌∷◌, [], length, ap, arith}
 use Rattle.std.proofs.lemmas.List.{length-append}
-use Rattle.self_test.specs.Picked.{AreOfSide}
-use Rattle.self_test.proofs.Picking.{side_none, side_pushed, picked_full, picked_all}
+use Rattle.self_test.proofs.Picking.{side_pushed, picked_full, picked_all}
 use Rattle.self_test.proofs.picks.pick.Goals as goal
 
 pub returns-in-None : goal.returns-in-None

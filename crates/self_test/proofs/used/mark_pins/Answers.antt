@@ -1,4 +1,4 @@
-use Rattle.std.proofs.Common.{◌≡◌, ◌<◌, length, subst, sym, arith}
+use Rattle.std.proofs.Common.{◌≡◌, ◌<◌, length, subst, arith}
 use Rattle.self_test.specs.Marks.{Adds, IsPinAmong}
 use Rattle.self_test.proofs.Adding.{pins_none, pins_next}
 use Rattle.self_test.proofs.used.mark_pins.Goals as goal

@@ -1,4 +1,4 @@
-use Rattle.std.proofs.Common.{◌≡◌, ◌<◌, length, subst, sym, arith}
+use Rattle.std.proofs.Common.{◌≡◌, ◌<◌, length, subst, arith}
 use Rattle.self_test.specs.Marks.{Adds, IsPinOfTable}
 use Rattle.self_test.proofs.Adding.{pins_of_table_none, pins_of_table_next}
 use Rattle.self_test.proofs.used.mark_table.Goals as goal

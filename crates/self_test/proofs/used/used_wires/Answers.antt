@@ -1,4 +1,4 @@
-use Rattle.std.proofs.Common.{◌≡◌, false, replicate, ap, ◌∙◌}
+use Rattle.std.proofs.Common.{false, replicate, ap, ◌∙◌}
 use Rattle.hierarchy.specs.Shape.{wires_of}
 use Rattle.config_set.specs.Configuration.{Configuration}
 use Rattle.self_test.proofs.Using.{closed_counts, closed_within, table_counts, tables_within, first_pins, last_pins, used_of}
