@@ -66,10 +66,13 @@ module _ (laws : TightLaws) (d : DefectList) (i : ImageValue) (shape : d.shape �
     pub wire-answer : (w : Wire) → w.0 < wires_of d.shape → IsFirstOf (λ u. has_number used u ≡ true) (IsFreeWire d.list) w.0 → IsAnswer d i (answer.Wire w)
     wire-answer w within first =
         let of_image : IsFirstOf (Uses i) (IsFreeWire d.list) w.0 = record { itself = are.only w.0 first.itself; not_free = first.not_free; before = λ u l uses. first.before u l (are.all u uses) } in
-        record { by_list = of_image; right = λ f covers tight. record {
-          not_standing = λ stands. first.not_free (laws.wires i.config.shape d.list f (tight-too f tight) w.0 stands);
-          not_served = λ all. first.not_free ((fair-too f tight).wires w.0 (within-too wires_of w.0 within) all.1 all.0 all.2);
-        } }
+        record {
+          by_list = of_image;
+          right = λ f covers tight. record {
+            not_standing = λ stands. first.not_free (laws.wires i.config.shape d.list f (tight-too f tight) w.0 stands);
+            not_served = λ all. first.not_free ((fair-too f tight).wires w.0 (within-too wires_of w.0 within) all.1 all.0 all.2);
+          };
+        }
 
     pub wires-free : ((u : ℕ) → u < wires_of d.shape → has_number used u ≡ true → IsFreeWire d.list u) → WiresAreFree d.list i
     wires-free none u uses =
