@@ -1,10 +1,12 @@
 //! What each kind of line says.
 
-ghost use Rattle.std.specs.Prelude.{option_copied, IfOk, MatchOption, vec_len, ◌≡◌, ◌++◌, ◌∷◌, [], ◌+◌, ◌-◌, ◌<◌, true, false, ◌&&◌, ◌||◌, ◌==◌, length, map, drop, None, Some};
+ghost use Rattle.std.specs.Prelude.{option_copied, IfOk, MatchOption, vec_len, ◌≡◌, ◌++◌, ◌∷◌, [], ◌+◌, ◌-◌, ◌<◌, true, false, ◌&&◌, ◌||◌};
+ghost use Rattle.std.specs.Prelude.{◌==◌, length, map, drop, None, Some};
 ghost use Rattle.std.specs.List.{list_all};
 ghost use Rattle.std.specs.Option.{option_or};
 ghost use Rattle.blif_read.specs.Names.{names_after, numbers, limit_at};
-ghost use Rattle.blif_read.specs.Parts.{pairs_of, is_pair, formal_of, actual_of, port_defs, new_sum, with_row, is_lit, lit_of, is_output, pattern, output, is_off, word, control_of, init_of, is_init};
+ghost use Rattle.blif_read.specs.Parts.{pairs_of, is_pair, formal_of, actual_of, port_defs, new_sum, with_row, is_lit, lit_of, is_output};
+ghost use Rattle.blif_read.specs.Parts.{pattern, output, is_off, word, control_of, init_of, is_init};
 ghost use Rattle.flatten.specs.declared.model.Piece.TheVariants.{Latch};
 ghost use Rattle.blif_read.specs.Faults.{pairs_fault, subckt_fault, latch_parts_fault, latch_fault, is_other, row_fault, row_shape_fault};
 ghost use Rattle.blif_read.specs.Steps.{Steps, new_latch, new_inst};
@@ -28,7 +30,8 @@ pub fn push_ports<'a>(
     line: u64,
 ) -> Result<(), Refusal>
     ensures steps { Steps result (limit_at names.old (map (λ w. w.now) words.now))
-        (λ _. (names.new ≡ names_after names.old (map (λ w. w.now) words.now)) × (ports.new.items ≡ ports.old.items ++ port_defs names.old (map (λ w. w.now) words.now) line)) }
+        (λ _. (names.new ≡ names_after names.old (map (λ w. w.now) words.now))
+        × (ports.new.items ≡ ports.old.items ++ port_defs names.old (map (λ w. w.now) words.now) line)) }
 {
     let numbers = names.numbers(alloc, words)?;
     'numbers: for signal in &numbers {
@@ -49,7 +52,8 @@ pub fn new_cover<'a>(
 ) -> Result<Cover, Refusal>
     requires { 0 < length words.now }
     ensures steps { Steps result (limit_at names.old (map (λ w. w.now) words.now))
-        (λ c. (names.new ≡ names_after names.old (map (λ w. w.now) words.now)) × (c ≡ new_sum names.old (map (λ w. w.now) words.now) line)) }
+        (λ c. (names.new ≡ names_after names.old (map (λ w. w.now) words.now))
+        × (c ≡ new_sum names.old (map (λ w. w.now) words.now) line)) }
 {
     let mut ins = names.numbers(alloc, words)?;
     let out = ins.remove(ins.len() - 1);
@@ -149,7 +153,8 @@ struct Latchs<'a> {
 #[tactic(auto, unfolding(crate::specs::Faults::latch_parts_fault))]
 fn latch_parts<'a>(words: &[&'a [u8]]) -> Result<Latchs<'a>, Refusal>
     ensures steps { Steps result (latch_parts_fault (map (λ w. w.now) words.now))
-        (λ p. (option_copied p.control ≡ control_of (map (λ w. w.now) words.now)) × (p.init ≡ init_of (map (λ w. w.now) words.now)) × (2 < length words.now)) }
+        (λ p. (option_copied p.control ≡ control_of (map (λ w. w.now) words.now)) × (p.init ≡ init_of (map (λ w. w.now) words.now))
+        × (2 < length words.now)) }
 {
     let (form, control, init) = match words {
         [_, _, _] => (None, None, None),
@@ -207,7 +212,8 @@ pub fn new_latch<'a>(
     line: u64,
 ) -> Result<Piece, Refusal>
     ensures steps { Steps result (latch_fault (option_copied control.old) names.old (map (λ w. w.now) words.now))
-        (λ d. (names.new ≡ names_after names.old (word 1 (map (λ w. w.now) words.now) ∷ word 2 (map (λ w. w.now) words.now) ∷ [])) × (d ≡ Latch (new_latch names.old (map (λ w. w.now) words.now) line) (control_of (map (λ w. w.now) words.now)))
+        (λ d. (names.new ≡ names_after names.old (word 1 (map (λ w. w.now) words.now) ∷ word 2 (map (λ w. w.now) words.now) ∷ []))
+        × (d ≡ Latch (new_latch names.old (map (λ w. w.now) words.now) line) (control_of (map (λ w. w.now) words.now)))
         × (option_copied control.new ≡ option_or (option_copied control.old) (control_of (map (λ w. w.now) words.now)))) }
 {
     let parts = latch_parts(words)?;
@@ -232,7 +238,8 @@ pub fn new_latch<'a>(
 
 /// A formal and its actual, if the word has both.
 fn split_pair(word: &[u8]) -> Option<(&[u8], &[u8])>
-    ensures { MatchOption result (is_pair word.now ≡ false) (λ p. (is_pair word.now ≡ true) × (p.0.now ≡ formal_of word.now) × (p.1.now ≡ actual_of word.now)) }
+    ensures { MatchOption result (is_pair word.now ≡ false)
+        (λ p. (is_pair word.now ≡ true) × (p.0.now ≡ formal_of word.now) × (p.1.now ≡ actual_of word.now)) }
 {
     let end = tm_text::place_of(word, b'=');
     if end == 0 || end >= word.len() {
@@ -254,7 +261,8 @@ struct Pairs<'a> {
 fn split_pairs<'a>(alloc: Global, words: &[&'a [u8]]) -> Result<Pairs<'a>, Refusal>
     ensures len { IfOk result (λ p. vec_len p.formals ≡ vec_len p.actuals) }
     ensures steps { Steps result (pairs_fault (map (λ w. w.now) words.now))
-        (λ p. (map (λ w. w.now) p.formals.items ≡ map formal_of (map (λ w. w.now) words.now)) × (map (λ w. w.now) p.actuals.items ≡ map actual_of (map (λ w. w.now) words.now))) }
+        (λ p. (map (λ w. w.now) p.formals.items ≡ map formal_of (map (λ w. w.now) words.now))
+        × (map (λ w. w.now) p.actuals.items ≡ map actual_of (map (λ w. w.now) words.now))) }
 {
     let mut formals = Vec::new(alloc);
     let mut actuals = Vec::new(alloc);
@@ -290,7 +298,8 @@ pub fn new_inst<'a>(
     line: u64,
 ) -> Result<Piece, Refusal>
     ensures steps { Steps result (subckt_fault names.old (map (λ w. w.now) words.now))
-        (λ d. (names.new ≡ names_after names.old (map actual_of (drop 2 (map (λ w. w.now) words.now)))) × (d ≡ new_inst names.old (map (λ w. w.now) words.now) line)) }
+        (λ d. (names.new ≡ names_after names.old (map actual_of (drop 2 (map (λ w. w.now) words.now))))
+        × (d ≡ new_inst names.old (map (λ w. w.now) words.now) line)) }
 {
     if words.len() < 2 {
         return Err(Refusal::Kind(DesignKind::Word));

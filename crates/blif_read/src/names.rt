@@ -78,7 +78,8 @@ impl<'a> Names<'a> {
         ensures len { IfOk result (λ ns. vec_len ns ≡ length words.now) }
         ensures numbers { IfOk result (λ ns. ns.items ≡ numbers self.old (map (λ w. w.now) words.now)) }
         ensures ok { OnOk result (self.new ≡ names_after self.old (map (λ w. w.now) words.now)) }
-        ensures refused { MatchResult result (λ _. limit_at self.old (map (λ w. w.now) words.now) ≡ None) (IsRefusedAs (limit_at self.old (map (λ w. w.now) words.now))) }
+        ensures refused { MatchResult result (λ _. limit_at self.old (map (λ w. w.now) words.now) ≡ None)
+            (IsRefusedAs (limit_at self.old (map (λ w. w.now) words.now))) }
     {
         let _len = self.len();
         let mut numbers = Vec::new(alloc);

@@ -36,7 +36,8 @@ pub struct Reader<'a> {
 
 /// Puts the cover whose rows went on with the others.
 pub fn close(pieces: &mut Vec<Piece>, current: &mut Option<Cover>) -> Result<(), AllocError>
-    ensures { OnOk result ((pieces.new.items ≡ pieces.old.items ++ option_to_list (option_map NamesPiece current.old)) × (current.new ≡ None)) }
+    ensures { OnOk result ((pieces.new.items ≡ pieces.old.items ++ option_to_list (option_map NamesPiece current.old))
+        × (current.new ≡ None)) }
 {
     if let Some(cover) = current.take() {
         pieces.push(Piece::Names(cover))?;
@@ -54,7 +55,8 @@ pub fn take_new<'a>(
 ) -> Result<(), Refusal>
     requires some { 0 < length words.now }
     requires new { IsNew head }
-    ensures steps { Steps result (line_fault (state_of reader.old).seen head (map (λ w. w.now) words.now)) (λ _. state_of reader.new ≡ after_head (state_of reader.old) head number (map (λ w. w.now) words.now)) }
+    ensures steps { Steps result (line_fault (state_of reader.old).seen head (map (λ w. w.now) words.now))
+        (λ _. state_of reader.new ≡ after_head (state_of reader.old) head number (map (λ w. w.now) words.now)) }
 {
     close(&mut reader.pieces, &mut reader.current)?;
     reader.begun = true;
@@ -124,7 +126,8 @@ fn take_said<'a>(
     words: &[&'a [u8]],
 ) -> Result<(), Refusal>
     requires { 0 < length words.now }
-    ensures steps { Steps result (line_fault (state_of reader.old).seen head (map (λ w. w.now) words.now)) (λ _. state_of reader.new ≡ after_head (state_of reader.old) head number (map (λ w. w.now) words.now)) }
+    ensures steps { Steps result (line_fault (state_of reader.old).seen head (map (λ w. w.now) words.now))
+        (λ _. state_of reader.new ≡ after_head (state_of reader.old) head number (map (λ w. w.now) words.now)) }
 {
     match head {
         Head::Row => match &mut reader.current {
@@ -147,7 +150,8 @@ pub fn take_words<'a>(
     words: &[&'a [u8]],
 ) -> Result<(), Refusal>
     requires { 0 < length words.now }
-    ensures steps { Steps result (placed_fault (state_of reader.old).seen head (map (λ w. w.now) words.now)) (λ _. state_of reader.new ≡ after_head (state_of reader.old) head number (map (λ w. w.now) words.now)) }
+    ensures steps { Steps result (placed_fault (state_of reader.old).seen head (map (λ w. w.now) words.now))
+        (λ _. state_of reader.new ≡ after_head (state_of reader.old) head number (map (λ w. w.now) words.now)) }
 {
     if head == Head::Passed {
         return Ok(());

@@ -102,7 +102,8 @@ fn take_model<'a>(
     words: &[&'a [u8]],
 ) -> Result<(), Refusal>
     requires { 0 < length words.now }
-    ensures steps { Steps result (model_fault (above_of (text_of text.old)) (map (λ w. w.now) words.now)) (λ _. text_of text.new ≡ text_after_head (text_of text.old) Head.Model number (map (λ w. w.now) words.now)) }
+    ensures steps { Steps result (model_fault (above_of (text_of text.old)) (map (λ w. w.now) words.now))
+        (λ _. text_of text.new ≡ text_after_head (text_of text.old) Head.Model number (map (λ w. w.now) words.now)) }
 {
     let begun = text.this.begun;
     if words.len() > 2 || (begun && words.len() < 2) {
@@ -129,7 +130,8 @@ pub fn take_line<'a>(
 ) -> Result<(), Refusal>
     requires some { 0 < length line.now.words }
     requires sound { is_bad_line line.now ≡ false }
-    ensures steps { Steps result (fault_of (above_of (text_of text.old)) line.now) (λ _. text_of text.new ≡ text_after (text_of text.old) line.now) }
+    ensures steps { Steps result (fault_of (above_of (text_of text.old)) line.now)
+        (λ _. text_of text.new ≡ text_after (text_of text.old) line.now) }
 {
     let words = line.words();
     let head = head::head_of(words[0]);

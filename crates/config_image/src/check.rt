@@ -3,7 +3,8 @@
 ghost use Rattle.std.specs.Prelude.{◌≡◌, ◌≤◌, ◌<◌, length, IfOk, IfErr};
 ghost use Rattle.config_image.specs.declared.kind.ImageKind.TheVariants as kinds;
 ghost use Rattle.config_image.specs.declared.kind.ImageFault.TheVariants.{At};
-ghost use Rattle.config_image.specs.Faults.{magic_fault, count_fault, ticks_fault, most_fault, closed_fault, pin_fault, above_fault, flags_fault};
+ghost use Rattle.config_image.specs.Faults.{magic_fault, count_fault, ticks_fault, most_fault, closed_fault, pin_fault, above_fault};
+ghost use Rattle.config_image.specs.Faults.{flags_fault};
 ghost use Rattle.config_image.specs.Fields.{IsField, IsRefusedField, AreMarks};
 
 use crate::field::{take1, take2, take4, take8};

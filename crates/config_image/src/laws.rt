@@ -11,8 +11,10 @@ ghost use Rattle.config_image.specs.Parts.{IsFreeImage};
 /// covers the empty fault set, so an image that is right without faults is right under every fault set that the list
 /// covers.
 pub fn free_images_run_alike()
-    ensures { (d : Defects) (i : ImageValue) (f h : Faults) → IsImage i → IsFreeImage d i → Covers i.config.shape d f → Covers i.config.shape d h →
-        (vectors : List (List Bool)) (reads others : List Pins) → IsRun f i.config (map (drive_of i) vectors) reads → IsRun h i.config (map (drive_of i) vectors) others →
+    ensures { (d : Defects) (i : ImageValue) (f h : Faults) → IsImage i → IsFreeImage d i → Covers i.config.shape d f →
+        Covers i.config.shape d h →
+        (vectors : List (List Bool)) (reads others : List Pins) → IsRun f i.config (map (drive_of i) vectors) reads →
+        IsRun h i.config (map (drive_of i) vectors) others →
         map (image_row i) reads ≡ map (image_row i) others }
 {
     hierarchy::the_numbering_is_sound();

@@ -64,7 +64,8 @@ pub fn limits_of(shape: &Shape)
 /// Reads the counts, and answers the place behind them.
 fn read_counts(bytes: &[u8], start: usize, shape: &Shape) -> Result<usize, ImageFault>
     requires { start ≤ length bytes.now }
-    ensures found { IfOk result (λ end. Passed bytes.now start end (flat_map two (counts_of shape.now)) (λ l k. InCounts shape.now bytes.now l k start (counts_of shape.now)) (λ l k. InTicks shape.now bytes.now l k end)) }
+    ensures found { IfOk result (λ end. Passed bytes.now start end (flat_map two (counts_of shape.now))
+        (λ l k. InCounts shape.now bytes.now l k start (counts_of shape.now)) (λ l k. InTicks shape.now bytes.now l k end)) }
     ensures refused { IfErr result (FaultIn (λ l k. InCounts shape.now bytes.now l k start (counts_of shape.now))) }
 {
     let counts = counts_of(shape);

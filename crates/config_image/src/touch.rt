@@ -62,7 +62,8 @@ fn crosses_are_free(image: &Image, defects: &Defects) -> bool
 /// Whether all switched-on tables of an image are free.
 fn tables_are_free(image: &Image, defects: &Defects) -> bool
     requires { defects.now.shape ≡ image.now.config.shape }
-    ensures { IsTrue result ↔ ((t : ℕ) → is_some (setting_of image.now.config t) ≡ true → IsFreeTable image.now.config.shape defects.now.list t) }
+    ensures { IsTrue result ↔ ((t : ℕ) → is_some (setting_of image.now.config t) ≡ true →
+        IsFreeTable image.now.config.shape defects.now.list t) }
 {
     let config = image.config();
     free_tables(config.tables_on(), defects)

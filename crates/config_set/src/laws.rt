@@ -1,6 +1,7 @@
 //! What later crates rest on, of configurations and their runs. The laws on readings hold whatever faults
 //! there are elsewhere.
-ghost use Rattle.std.specs.Prelude.{◌≡◌, ◌≢◌, ◌==◌, ℕ, ◌<◌, Bool, true, false, if◌then◌else◌, List, [], ◌∷◌, ◌++◌, Option, Some, None, length, take, slice_index_or};
+ghost use Rattle.std.specs.Prelude.{◌≡◌, ◌≢◌, ◌==◌, ℕ, ◌<◌, Bool, true, false, if◌then◌else◌, List, [], ◌∷◌, ◌++◌, Option, Some, None};
+ghost use Rattle.std.specs.Prelude.{length, take, slice_index_or};
 ghost use Rattle.std.specs.List.{AllByRecursion};
 ghost use Rattle.hierarchy.specs.Circuit.{Circuit, Outputs, Pins};
 ghost use Rattle.hierarchy.specs.Defects.{IsClear};
@@ -9,7 +10,8 @@ ghost use Rattle.hierarchy.specs.Joined.{Joined, Shorted, net_of};
 ghost use Rattle.hierarchy.specs.Shape.{pin_wire, pins_of};
 ghost use Rattle.hierarchy.specs.Sound.{IsSoundWire};
 ghost use Rattle.hierarchy.specs.declared.Shape.{Shape};
-ghost use Rattle.config_set.specs.Configuration.{Configuration, IsConfiguration, is_closed, setting_of, with_closed, with_open, with_setting, cell_of, with_cell, with_init};
+ghost use Rattle.config_set.specs.Configuration.{Configuration, IsConfiguration, is_closed, setting_of, with_closed, with_open};
+ghost use Rattle.config_set.specs.Configuration.{with_setting, cell_of, with_cell, with_init};
 ghost use Rattle.config_set.specs.Faulty.{circuit_of, IsRun};
 ghost use Rattle.config_set.specs.Groups.{AreGroups};
 ghost use Rattle.config_set.specs.Route.{LeadsTo};
@@ -32,7 +34,8 @@ pub fn closing_and_opening_are_exact()
 pub fn settings_are_exact()
     ensures same { (g : Configuration) (t : ℕ) (s : Option Setting) → t < length g.tables → setting_of (with_setting g t s) t ≡ s }
     ensures others { (g : Configuration) (t u : ℕ) (s : Option Setting) → u ≢ t → setting_of (with_setting g t s) u ≡ setting_of g u }
-    ensures over { (g : Configuration) (t : ℕ) (s later : Option Setting) → with_setting (with_setting g t s) t later ≡ with_setting g t later }
+    ensures over { (g : Configuration) (t : ℕ) (s later : Option Setting) →
+        with_setting (with_setting g t s) t later ≡ with_setting g t later }
     ensures back { (g : Configuration) (t : ℕ) (s : Option Setting) → with_setting (with_setting g t s) t (setting_of g t) ≡ g }
 {}
 
@@ -43,25 +46,33 @@ pub fn cells_are_set()
 
 /// A machine gives exactly one reading for each drive.
 pub fn runs_are_one()
-    ensures exists { (f : Faults) (g : Configuration) → AreFaultsOf g.shape f → IsConfiguration g → (drives : List Pins) → (reads : List Pins) × IsRun f g drives reads }
-    ensures unique { (f : Faults) (g : Configuration) (drives reads others : List Pins) → IsRun f g drives reads → IsRun f g drives others → reads ≡ others }
+    ensures exists { (f : Faults) (g : Configuration) → AreFaultsOf g.shape f → IsConfiguration g → (drives : List Pins) →
+        (reads : List Pins) × IsRun f g drives reads }
+    ensures unique { (f : Faults) (g : Configuration) (drives reads others : List Pins) → IsRun f g drives reads →
+        IsRun f g drives others → reads ≡ others }
     ensures answers { (f : Faults) (g : Configuration) (drives reads : List Pins) → IsRun f g drives reads → length reads ≡ length drives }
-    ensures pins { (f : Faults) (g : Configuration) (drives reads : List Pins) → IsRun f g drives reads → AllByRecursion (λ r. length r ≡ pins_of g.shape) reads }
+    ensures pins { (f : Faults) (g : Configuration) (drives reads : List Pins) → IsRun f g drives reads →
+        AllByRecursion (λ r. length r ≡ pins_of g.shape) reads }
 {}
 
 /// A run goes on by one cycle, and what was read before stays.
 pub fn runs_go_on()
     ensures cycles { (c : Circuit) (before mid after : Outputs) (drives reads : List Pins) (drive read : Pins) →
-        Cycles c before drives reads mid → Cycle c mid drive read after → Cycles c before (drives ++ drive ∷ []) (reads ++ read ∷ []) after }
-    ensures before { (f : Faults) (g : Configuration) (drives more reads : List Pins) → IsRun f g (drives ++ more) reads → IsRun f g drives (take (length drives) reads) }
+        Cycles c before drives reads mid → Cycle c mid drive read after →
+        Cycles c before (drives ++ drive ∷ []) (reads ++ read ∷ []) after }
+    ensures before { (f : Faults) (g : Configuration) (drives more reads : List Pins) → IsRun f g (drives ++ more) reads →
+        IsRun f g drives (take (length drives) reads) }
 {}
 
 /// A latched table with a stuck register gives the register's value in every state, the first too. The
 /// registers of combinational tables have no effect.
 pub fn stuck_registers_hold()
-    ensures latched { (f : Faults) (g : Configuration) (t : ℕ) (s : Setting) (v : Bool) → setting_of g t ≡ Some s → s.latched ≡ true → stuck_register f t ≡ Some v →
-        (drives reads : List Pins) (outputs : Outputs) → Cycles (circuit_of f g) (at_load (circuit_of f g)) drives reads outputs → outputs t ≡ v }
-    ensures combinational { (f h : Faults) (g : Configuration) → f.wires ≡ h.wires → f.crosses ≡ h.crosses → f.cells ≡ h.cells → f.bridges ≡ h.bridges →
+    ensures latched { (f : Faults) (g : Configuration) (t : ℕ) (s : Setting) (v : Bool) → setting_of g t ≡ Some s → s.latched ≡ true →
+        stuck_register f t ≡ Some v →
+        (drives reads : List Pins) (outputs : Outputs) → Cycles (circuit_of f g) (at_load (circuit_of f g)) drives reads outputs →
+        outputs t ≡ v }
+    ensures combinational { (f h : Faults) (g : Configuration) → f.wires ≡ h.wires → f.crosses ≡ h.crosses → f.cells ≡ h.cells →
+        f.bridges ≡ h.bridges →
         ((t : ℕ) (s : Setting) → setting_of g t ≡ Some s → s.latched ≡ true → stuck_register f t ≡ stuck_register h t) →
         (drives reads : List Pins) → IsRun f g drives reads → IsRun h g drives reads }
 {}
@@ -72,10 +83,12 @@ pub fn toggles_show()
     ensures cross { (f : Faults) (g : Configuration) (x : ℕ) (drives reads others : List Pins) →
         IsRun f (with_closed g x) drives reads → IsRun f (with_open g x) drives others → reads ≢ others → stuck_cross f x ≡ None }
     ensures cell { (f : Faults) (g : Configuration) (t a : ℕ) (s : Setting) (drives reads others : List Pins) →
-        IsRun f (with_setting g t (Some (with_cell s a true))) drives reads → IsRun f (with_setting g t (Some (with_cell s a false))) drives others →
+        IsRun f (with_setting g t (Some (with_cell s a true))) drives reads →
+        IsRun f (with_setting g t (Some (with_cell s a false))) drives others →
         reads ≢ others → wrong_cell f t a ≡ None }
     ensures register { (f : Faults) (g : Configuration) (t : ℕ) (s : Setting) (drives reads others : List Pins) → s.latched ≡ true →
-        IsRun f (with_setting g t (Some (with_init s true))) drives reads → IsRun f (with_setting g t (Some (with_init s false))) drives others →
+        IsRun f (with_setting g t (Some (with_init s true))) drives reads →
+        IsRun f (with_setting g t (Some (with_init s false))) drives others →
         reads ≢ others → stuck_register f t ≡ None }
 {}
 
@@ -106,22 +119,31 @@ pub fn routes_are_joined()
 /// is shorted to a stuck one, and none of one group to one of the other, the tests of wires and crosspoints
 /// pass. So do those of a cell and of a register, where one table alone is on.
 pub fn tests_pass()
-    ensures apart { (f : Faults) (g : Configuration) (left right : ℕ → Bool) (drive r : Pins) (k l : ℕ) → AreOff g → AreGroups g.shape f (is_closed g) left right →
-        k < pins_of g.shape → l < pins_of g.shape → left (pin_wire g.shape k) ≡ true → right (pin_wire g.shape l) ≡ true → IsDrivenAlone drive k →
+    ensures apart { (f : Faults) (g : Configuration) (left right : ℕ → Bool) (drive r : Pins) (k l : ℕ) → AreOff g →
+        AreGroups g.shape f (is_closed g) left right →
+        k < pins_of g.shape → l < pins_of g.shape → left (pin_wire g.shape k) ≡ true → right (pin_wire g.shape l) ≡ true →
+        IsDrivenAlone drive k →
         IsRun f g (drive ∷ []) (r ∷ []) → (slice_index_or r k true ≡ false) × (slice_index_or r l true ≡ true) }
-    ensures swing { (f : Faults) (g : Configuration) (left right : ℕ → Bool) (low high r q : Pins) (k : ℕ) → AreOff g → AreGroups g.shape f (is_closed g) left right →
+    ensures swing { (f : Faults) (g : Configuration) (left right : ℕ → Bool) (low high r q : Pins) (k : ℕ) → AreOff g →
+        AreGroups g.shape f (is_closed g) left right →
         k < pins_of g.shape → left (pin_wire g.shape k) ≡ true → slice_index_or low k true ≡ false → AreReleased high →
         IsRun f g (low ∷ high ∷ []) (r ∷ q ∷ []) → (slice_index_or r k true ≡ false) × (slice_index_or q k true ≡ true) }
-    ensures toggle { (f : Faults) (g : Configuration) (x k l : ℕ) (left right : ℕ → Bool) (drive r q : Pins) → IsLoop f g x left right k l → IsDrivenIn g.shape drive k left →
-        IsRun f g (drive ∷ []) (r ∷ []) → IsRun f (with_open g x) (drive ∷ []) (q ∷ []) → (slice_index_or r l true ≡ false) × (slice_index_or q l true ≡ true) }
-    ensures cell { (f : Faults) (g : Configuration) (t a k l : ℕ) (s : Setting) (left right bits : ℕ → Bool) (drive r : Pins) → IsCellTest f g t a s left right bits k l → IsDrivenAlone drive k →
+    ensures toggle { (f : Faults) (g : Configuration) (x k l : ℕ) (left right : ℕ → Bool) (drive r q : Pins) →
+        IsLoop f g x left right k l → IsDrivenIn g.shape drive k left →
+        IsRun f g (drive ∷ []) (r ∷ []) → IsRun f (with_open g x) (drive ∷ []) (q ∷ []) → (slice_index_or r l true ≡ false)
+        × (slice_index_or q l true ≡ true) }
+    ensures cell { (f : Faults) (g : Configuration) (t a k l : ℕ) (s : Setting) (left right bits : ℕ → Bool) (drive r : Pins) →
+        IsCellTest f g t a s left right bits k l → IsDrivenAlone drive k →
         l < pins_of g.shape → IsRun f g (drive ∷ []) (r ∷ []) → slice_index_or r l true ≡ cell_of s a }
     ensures register { (f : Faults) (g : Configuration) (t l : ℕ) (s : Setting) (left right : ℕ → Bool) (drive r : Pins) →
-        IsRegisterTest f g t s left right drive l → l < pins_of g.shape → IsRun f g (drive ∷ []) (r ∷ []) → slice_index_or r l true ≡ s.init }
+        IsRegisterTest f g t s left right drive l → l < pins_of g.shape → IsRun f g (drive ∷ []) (r ∷ []) →
+        slice_index_or r l true ≡ s.init }
 {}
 
 /// A pin that alone is driven 0 is driven in its group, and a sound wire that is in neither of two groups is loose.
 pub fn sound_parts_serve()
-    ensures driven { (m : Shape) (drive : Pins) (k : ℕ) (group : ℕ → Bool) → group (pin_wire m k) ≡ true → IsDrivenAlone drive k → IsDrivenIn m drive k group }
-    ensures loose { (m : Shape) (f : Faults) (left right : ℕ → Bool) (w : ℕ) → IsSoundWire m f w → left w ≡ false → right w ≡ false → IsLoose m f left right w }
+    ensures driven { (m : Shape) (drive : Pins) (k : ℕ) (group : ℕ → Bool) → group (pin_wire m k) ≡ true → IsDrivenAlone drive k →
+        IsDrivenIn m drive k group }
+    ensures loose { (m : Shape) (f : Faults) (left right : ℕ → Bool) (w : ℕ) → IsSoundWire m f w → left w ≡ false → right w ≡ false →
+        IsLoose m f left right w }
 {}

@@ -2,10 +2,12 @@
 //! how many ticks a cycle has.
 #![tactic(auto)]
 
-ghost use Rattle.std.specs.Prelude.{◌≡◌, ℕ, ◌+◌, ◌-◌, ◌≤◌, ◌<◌, true, IfOk, OnOk, OnErr, IsOk, IsSome, IfSome, Some, None, count_by, is_some, ◌==◌, if◌then◌else◌};
+ghost use Rattle.std.specs.Prelude.{◌≡◌, ℕ, ◌+◌, ◌-◌, ◌≤◌, ◌<◌, true, IfOk, OnOk, OnErr, IsOk, IsSome, IfSome, Some, None, count_by};
+ghost use Rattle.std.specs.Prelude.{is_some, ◌==◌, if◌then◌else◌};
 ghost use Rattle.std.specs.FinSet as set;
 ghost use Rattle.hierarchy.specs.Shape.{crosses_of, tables_of};
-ghost use Rattle.config_set.specs.Configuration.{IsConfiguration, cleared, is_closed, setting_of, with_closed, with_open, with_setting, with_ticks, with_bit, with_cell};
+ghost use Rattle.config_set.specs.Configuration.{IsConfiguration, cleared, is_closed, setting_of, with_closed, with_open, with_setting};
+ghost use Rattle.config_set.specs.Configuration.{with_ticks, with_bit, with_cell};
 
 pub mod laws;
 mod lists;
@@ -202,7 +204,8 @@ impl Config {
         requires within { t.0 < tables_of self.old.config.shape }
         requires on { IsSome (setting_of self.old.config t.0) }
         requires below { address < 64 }
-        ensures { IfSome (setting_of self.old.config t.0) (λ s. self.new ≡ record self.old { config = with_setting self.old.config t.0 (Some (with_cell s address bit)) }) }
+        ensures { IfSome (setting_of self.old.config t.0)
+            (λ s. self.new ≡ record self.old { config = with_setting self.old.config t.0 (Some (with_cell s address bit)) }) }
     {
         if let Some(setting) = &mut self.tables[t.0 as usize] {
             setting.cells = put_bit(setting.cells, address, bit);

@@ -85,7 +85,8 @@ pub fn join_all(
     requires shape { config.old.config.shape ≡ shape }
     requires lines { AreLinesOf shape lines.now }
     requires owners { length owners.now ≡ wires_of shape }
-    ensures { OnOk result (Closes (IsOwnedJoint shape lines.now owners.now (wires_of shape)) (2 * wires_of shape) config.old.config config.new.config) }
+    ensures { OnOk result (Closes (IsOwnedJoint shape lines.now owners.now (wires_of shape))
+        (2 * wires_of shape) config.old.config config.new.config) }
 {
     for wire in 0..shape.wires() {
         join_owned(config, shape, lines, owners, wire)?;

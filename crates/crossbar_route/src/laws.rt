@@ -27,9 +27,11 @@ pub fn laid_out_nets_read_rows()
 /// So does an image whose nets have a line of their own at each node that they visit and a port of their own at each
 /// node that they cross. It touches only what is free.
 pub fn nets_on_the_tree_read_rows()
-    ensures free { (d : Defects) (n : Network) (p : Plan) (g : Configuration) → IsPlan g.shape d n p → IsSet d n p g → IsFreeImage d (image_at p g) }
+    ensures free { (d : Defects) (n : Network) (p : Plan) (g : Configuration) → IsPlan g.shape d n p → IsSet d n p g →
+        IsFreeImage d (image_at p g) }
     ensures rows { (f : Faults) (d : Defects) (n : Network) (p : Plan) (g : Configuration) (line port : ℕ → ℕ → Option ℕ) → IsNetwork n →
-        IsPlan g.shape d n p → IsSet d n p g → IsLaidOnTree g.shape (IsTerminal g.shape n p) (is_closed g) (λ a k w. line a k ≡ Some w) (λ a k w. port a k ≡ Some w) →
+        IsPlan g.shape d n p → IsSet d n p g → IsLaidOnTree g.shape (IsTerminal g.shape n p) (is_closed g) (λ a k w. line a k ≡ Some w)
+        (λ a k w. port a k ≡ Some w) →
         IsDeepest n g.ticks → Covers g.shape d f → IsRightForNetwork f (image_at p g) n }
 {
     hierarchy::the_numbering_is_sound();

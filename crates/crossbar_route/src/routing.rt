@@ -152,7 +152,8 @@ pub fn route_laid(
     ensures route { IfOk result (IsRouteOf defects.now.shape defects.now.list network.now plan.now) }
     ensures free { IfOk result (IsFreeImage defects.now.list) }
     ensures rows { IfOk result (λ i. (f : Faults) → Covers defects.now.shape defects.now.list f → IsRightForNetwork f i network.now) }
-    ensures right { IfOk result (λ i. (netlist : Draft) (f : Faults) → HasRowsOf network.now netlist → Covers defects.now.shape defects.now.list f → IsRightImage f i netlist) }
+    ensures right { IfOk result (λ i. (netlist : Draft) (f : Faults) → HasRowsOf network.now netlist →
+        Covers defects.now.shape defects.now.list f → IsRightImage f i netlist) }
 {
     hierarchy::the_numbering_is_sound();
     draw(
@@ -183,7 +184,8 @@ pub fn route(
     ensures route { IfOk result (IsRouteOf defects.now.shape defects.now.list network.now plan.now) }
     ensures free { IfOk result (IsFreeImage defects.now.list) }
     ensures rows { IfOk result (λ i. (f : Faults) → Covers defects.now.shape defects.now.list f → IsRightForNetwork f i network.now) }
-    ensures right { IfOk result (λ i. (netlist : Draft) (f : Faults) → HasRowsOf network.now netlist → Covers defects.now.shape defects.now.list f → IsRightImage f i netlist) }
+    ensures right { IfOk result (λ i. (netlist : Draft) (f : Faults) → HasRowsOf network.now netlist →
+        Covers defects.now.shape defects.now.list f → IsRightImage f i netlist) }
 {
     let layout = lay_out(alloc, network, plan, defects)?.unwrap();
     route_laid(alloc, network, plan, &layout, defects)

@@ -1,5 +1,6 @@
 //! The crossbars of a machine, from the root down.
-ghost use Rattle.std.specs.Prelude.{◌≡◌, ◌<◌, ◌≤◌, ◌+◌, ◌++◌, ◌∷◌, [], ℕ, Some, None, is_some, IfOk, IfSome, IfNone, IfErr, IsErrOf, OnOk, OnErr, IsTrue, false, length};
+ghost use Rattle.std.specs.Prelude.{◌≡◌, ◌<◌, ◌≤◌, ◌+◌, ◌++◌, ◌∷◌, [], ℕ, Some, None, is_some, IfOk, IfSome, IfNone, IfErr, IsErrOf, OnOk};
+ghost use Rattle.std.specs.Prelude.{OnErr, IsTrue, false, length};
 ghost use Rattle.tm_outside.specs.Counts.{Rose};
 ghost use Rattle.hierarchy.specs.Shape.{nodes_of, parent_of};
 ghost use Rattle.rig.specs.Rig.{shape_of};

@@ -50,7 +50,8 @@ pub fn no_entries(alloc: Global) -> Entries
 
 /// Sets the value of a number.
 fn put_value(values: &mut BTreeMap<u32, bool>, key: u32, value: bool) -> Result<(), AllocError>
-    ensures ok { OnOk result (maps.from_entries {R = nat_cmp} values.new.entries ≡ maps.insert (maps.from_entries values.old.entries) key value) }
+    ensures ok { OnOk result (maps.from_entries {R = nat_cmp} values.new.entries ≡ maps.insert
+        (maps.from_entries values.old.entries) key value) }
     ensures err { OnErr result (values.new.entries ≡ values.old.entries) }
 {
     values.insert(key, value)?;
@@ -64,7 +65,8 @@ fn put_cell(
     address: u8,
     value: bool,
 ) -> Result<(), AllocError>
-    ensures ok { OnOk result (maps.from_entries {R = pair_cmp} cells.new.entries ≡ maps.insert (maps.from_entries cells.old.entries) (table, address) value) }
+    ensures ok { OnOk result (maps.from_entries {R = pair_cmp} cells.new.entries ≡ maps.insert (maps.from_entries cells.old.entries)
+        (table, address) value) }
     ensures err { OnErr result (cells.new.entries ≡ cells.old.entries) }
 {
     cells.insert((table, address), value)?;

@@ -21,7 +21,8 @@ const LAST_ADDRESS: u64 = 63;
 /// The wire that the only word names.
 fn one_wire(shape: &Shape, words: &[&[u8]]) -> Option<Wire>
     requires { length words.now ≡ 1 }
-    ensures { MatchOption result (¬ AreWireNames shape.now (map (λ w. w.now) words.now)) (λ w. (w.0 < wires_of shape.now) × (wire_name shape.now w.0 ∷ [] ≡ map (λ w. w.now) words.now)) }
+    ensures { MatchOption result (¬ AreWireNames shape.now (map (λ w. w.now) words.now))
+        (λ w. (w.0 < wires_of shape.now) × (wire_name shape.now w.0 ∷ [] ≡ map (λ w. w.now) words.now)) }
 {
     let wire = shape.wire_of(words[0])?;
     Some(wire)
@@ -30,7 +31,9 @@ fn one_wire(shape: &Shape, words: &[&[u8]]) -> Option<Wire>
 /// The two wires that the words name.
 fn two_wires(shape: &Shape, words: &[&[u8]]) -> Option<(Wire, Wire)>
     requires { length words.now ≡ 2 }
-    ensures { MatchOption result (¬ AreWireNames shape.now (map (λ w. w.now) words.now)) (λ p. (p.0.0 < wires_of shape.now) × (p.1.0 < wires_of shape.now) × (wire_name shape.now p.0.0 ∷ wire_name shape.now p.1.0 ∷ [] ≡ map (λ w. w.now) words.now)) }
+    ensures { MatchOption result (¬ AreWireNames shape.now (map (λ w. w.now) words.now))
+        (λ p. (p.0.0 < wires_of shape.now) × (p.1.0 < wires_of shape.now)
+        × (wire_name shape.now p.0.0 ∷ wire_name shape.now p.1.0 ∷ [] ≡ map (λ w. w.now) words.now)) }
 {
     let a = shape.wire_of(words[0])?;
     let b = shape.wire_of(words[1])?;
@@ -41,7 +44,8 @@ fn two_wires(shape: &Shape, words: &[&[u8]]) -> Option<(Wire, Wire)>
 fn cross_of(shape: &Shape, tap: Wire, line: Wire) -> Option<Cross>
     requires tap { tap.0 < wires_of shape.now }
     requires line { line.0 < wires_of shape.now }
-    ensures { MatchOption result ((x : ℕ) → x < crosses_of shape.now → end_names shape.now x ≢ wire_name shape.now tap.0 ∷ wire_name shape.now line.0 ∷ [])
+    ensures { MatchOption result ((x : ℕ) → x < crosses_of shape.now →
+        end_names shape.now x ≢ wire_name shape.now tap.0 ∷ wire_name shape.now line.0 ∷ [])
         (λ x. (x.0 < crosses_of shape.now) × (end_names shape.now x.0 ≡ wire_name shape.now tap.0 ∷ wire_name shape.now line.0 ∷ [])) }
 {
     hierarchy::names_are_one_to_one();
@@ -52,7 +56,9 @@ fn cross_of(shape: &Shape, tap: Wire, line: Wire) -> Option<Cross>
 /// The stuck crosspoint whose tap and line the words name.
 fn crossing(shape: &Shape, words: &[&[u8]], closed: bool) -> Result<Fault, FaultsKind>
     requires { length words.now ≡ 2 }
-    ensures { MatchResult result (λ x. CanHave shape.now x × (words_of shape.now x ≡ word_of (if closed then heads.Closed else heads.Open) ∷ map (λ w. w.now) words.now)) (IsRestFault shape.now (if closed then heads.Closed else heads.Open) (map (λ w. w.now) words.now)) }
+    ensures { MatchResult result (λ x. CanHave shape.now x
+        × (words_of shape.now x ≡ word_of (if closed then heads.Closed else heads.Open) ∷ map (λ w. w.now) words.now))
+        (IsRestFault shape.now (if closed then heads.Closed else heads.Open) (map (λ w. w.now) words.now)) }
 {
     let Some((tap, line)) = two_wires(shape, words) else {
         return Err(FaultsKind::Wire);
@@ -79,7 +85,8 @@ fn bit(word: &[u8]) -> Option<bool>
 /// The cell that a table's name, an address and a value give.
 fn cell(shape: &Shape, words: &[&[u8]]) -> Option<Fault>
     requires { length words.now ≡ 3 }
-    ensures { MatchOption result (IsNoFault shape.now heads.Cell (map (λ w. w.now) words.now)) (λ x. CanHave shape.now x × (words_of shape.now x ≡ word_of heads.Cell ∷ map (λ w. w.now) words.now)) }
+    ensures { MatchOption result (IsNoFault shape.now heads.Cell (map (λ w. w.now) words.now))
+        (λ x. CanHave shape.now x × (words_of shape.now x ≡ word_of heads.Cell ∷ map (λ w. w.now) words.now)) }
 {
     let table = shape.table_of(words[0])?;
     let address = read_number(words[1], LAST_ADDRESS)?;
@@ -94,7 +101,8 @@ fn cell(shape: &Shape, words: &[&[u8]]) -> Option<Fault>
 /// The register that a table's name and a value give.
 fn register(shape: &Shape, words: &[&[u8]]) -> Option<Fault>
     requires { length words.now ≡ 2 }
-    ensures { MatchOption result (IsNoFault shape.now heads.Register (map (λ w. w.now) words.now)) (λ x. CanHave shape.now x × (words_of shape.now x ≡ word_of heads.Register ∷ map (λ w. w.now) words.now)) }
+    ensures { MatchOption result (IsNoFault shape.now heads.Register (map (λ w. w.now) words.now))
+        (λ x. CanHave shape.now x × (words_of shape.now x ≡ word_of heads.Register ∷ map (λ w. w.now) words.now)) }
 {
     let table = shape.table_of(words[0])?;
     let value = bit(words[1])?;
@@ -104,7 +112,8 @@ fn register(shape: &Shape, words: &[&[u8]]) -> Option<Fault>
 /// The fault that the words behind a first word give.
 fn fault_of(shape: &Shape, head: Head, words: &[&[u8]]) -> Result<Fault, FaultsKind>
     requires { length words.now ≡ follow_of head }
-    ensures { MatchResult result (λ x. CanHave shape.now x × (words_of shape.now x ≡ word_of head ∷ map (λ w. w.now) words.now)) (IsRestFault shape.now head (map (λ w. w.now) words.now)) }
+    ensures { MatchResult result (λ x. CanHave shape.now x × (words_of shape.now x ≡ word_of head ∷ map (λ w. w.now) words.now))
+        (IsRestFault shape.now head (map (λ w. w.now) words.now)) }
 {
     match head {
         Head::Stuck0 => match one_wire(shape, words) {
@@ -137,7 +146,8 @@ fn parted<'a, 'b>(words: &'b [&'a [u8]]) -> (&'a [u8], &'b [&'a [u8]])
 /// The fault that the words of a line give.
 pub fn entry_of(shape: &Shape, words: &[&[u8]]) -> Result<Fault, FaultsKind>
     requires { 0 < length words.now }
-    ensures { MatchResult result (λ x. CanHave shape.now x × (words_of shape.now x ≡ map (λ w. w.now) words.now)) (IsNoEntry shape.now (map (λ w. w.now) words.now)) }
+    ensures { MatchResult result (λ x. CanHave shape.now x × (words_of shape.now x ≡ map (λ w. w.now) words.now))
+        (IsNoEntry shape.now (map (λ w. w.now) words.now)) }
 {
     let (first, rest) = parted(words);
     let Some(head) = head::head_of(first) else {

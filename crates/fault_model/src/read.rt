@@ -89,7 +89,8 @@ pub fn read_faults(alloc: Global, shape: &Shape, bytes: &[u8]) -> Result<FaultSe
     ensures found { IfOk result (λ s. (s.shape ≡ shape.now) × IsFaultText shape.now bytes.now s.faults × (length bytes.now ≤ most_bytes)) }
     ensures refused { IfErr result (IsRefusedAs shape.now bytes.now) }
     // A text of faults within the limit on bytes is read, unless memory is wanting.
-    ensures only { (f : Faults) → IsFaultText shape.now bytes.now f → length bytes.now ≤ most_bytes → GivesOrLacks (record { shape = shape.now; faults = f }) result }
+    ensures only { (f : Faults) → IsFaultText shape.now bytes.now f → length bytes.now ≤ most_bytes →
+        GivesOrLacks (record { shape = shape.now; faults = f }) result }
 {
     hierarchy::names_are_one_to_one();
     hierarchy::the_crosspoints_are_sound();

@@ -10,7 +10,8 @@ ghost use Rattle.fault_model.specs.Adding.{CanHave};
 ghost use Rattle.fault_model.specs.Stored.{kinds_in};
 ghost use Rattle.tm_text.specs.Size.{most_bytes};
 ghost use Rattle.fault_model.specs.Text.{words_of, bit_word, IsFaultText};
-ghost use Rattle.fault_model.specs.Written.{stuck_wire_at, stuck_cross_at, wrong_cell_at, stuck_register_at, bridge_of, grouped, AreAscending, IsWritten};
+ghost use Rattle.fault_model.specs.Written.{stuck_wire_at, stuck_cross_at, wrong_cell_at, stuck_register_at, bridge_of, grouped};
+ghost use Rattle.fault_model.specs.Written.{AreAscending, IsWritten};
 
 use crate::entries::Entries;
 use crate::fault::Fault;

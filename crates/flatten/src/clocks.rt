@@ -6,7 +6,8 @@ ghost use Rattle.std.specs.Str.{bytes_eq};
 ghost use Rattle.flatten.specs.declared.refusal.Refusal.TheVariants.{Memory};
 ghost use Rattle.flatten.specs.Netlists.{Clocked, control_is, control_on};
 ghost use Rattle.flatten.specs.Placed.{control_of, placed_line};
-ghost use Rattle.flatten.specs.Clocks.{same_control, clocked_in, place_in, at_name, AreFirstClocks, AreClocks, nearer_line, other_with, earlier_clock};
+ghost use Rattle.flatten.specs.Clocks.{same_control, clocked_in, place_in, at_name, AreFirstClocks, AreClocks, nearer_line, other_with};
+ghost use Rattle.flatten.specs.Clocks.{earlier_clock};
 
 use crate::model::Signal;
 use crate::placed::{Control, Placed, PlacedPart};
@@ -37,7 +38,8 @@ pub struct Places<'a> {
 }
 
 fn add_name<'a>(places: &mut Places<'a>, name: &'a [u8], place: usize) -> Result<(), AllocError>
-    ensures { OnOk result ((w : List ℕ) → at_name places.new w ≡ option_or (at_name places.old w) (if bytes_eq w name.now then Some place else None)) }
+    ensures { OnOk result ((w : List ℕ) → at_name places.new w ≡ option_or (at_name places.old w)
+        (if bytes_eq w name.now then Some place else None)) }
 {
     if places.map.contains_key(name) {
         return Ok(());
@@ -148,7 +150,8 @@ fn earlier_clock<'a>(first: Clock<'a>, clock: Clock<'a>) -> Clock<'a>
 
 /// With a control more.
 fn add_clock<'a>(first: &mut Option<Clock<'a>>, other: &mut Option<u64>, clock: Clock<'a>)
-    ensures { (controls : List Clocked) → AreFirstClocks controls first.old other.old → AreFirstClocks (controls ++ clocked_in clock.entry ∷ []) first.new other.new }
+    ensures { (controls : List Clocked) → AreFirstClocks controls first.old other.old →
+        AreFirstClocks (controls ++ clocked_in clock.entry ∷ []) first.new other.new }
 {
     match *first {
         None => *first = Some(clock),

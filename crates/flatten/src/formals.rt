@@ -86,7 +86,8 @@ fn fault_of<'a>(
     used: &UseLine<'a>,
 ) -> Result<Option<&'a [u8]>, AllocError>
     requires { IsCatalog catalog.now.models.now catalog.now }
-    ensures { IfOk result (λ f. shown f ≡ formal_fault (model_named catalog.now.models.now (use_in used.now).model) (use_in used.now).pairs) }
+    ensures { IfOk result (λ f. shown f ≡ formal_fault (model_named catalog.now.models.now (use_in used.now).model)
+        (use_in used.now).pairs) }
 {
     match catalog.get(used.model) {
         Some(known) => formal_fault(alloc, known, used.pairs),
@@ -101,7 +102,9 @@ fn first_wrongly_given<'a>(
     uses: &[UseLine<'a>],
 ) -> Result<Option<usize>, AllocError>
     requires { IsCatalog catalog.now.models.now catalog.now }
-    ensures { IfOk result (λ found. IsFirstListed (map use_in uses.now) (λ k. IsSome (formal_fault (model_named catalog.now.models.now (listed (map use_in uses.now) k).model) (listed (map use_in uses.now) k).pairs)) found) }
+    ensures { IfOk result (λ found. IsFirstListed (map use_in uses.now)
+        (λ k. IsSome (formal_fault (model_named catalog.now.models.now (listed (map use_in uses.now) k).model)
+        (listed (map use_in uses.now) k).pairs)) found) }
 {
     let mut found: Option<usize> = None;
     'uses: for place in 0..uses.len() {

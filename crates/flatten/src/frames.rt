@@ -5,7 +5,8 @@ ghost use Rattle.flatten.specs.Given.{looked_up, place_of};
 ghost use Rattle.flatten.specs.Lines.{UsePart, is_use, pair_of};
 ghost use Rattle.flatten.specs.Ordered.{line_in, part_in};
 ghost use Rattle.flatten.specs.Sinks.{IsPut, IsOverWith};
-ghost use Rattle.flatten.specs.Substitution.{becomes, pair_through, given, through, first_model, model_named, at_first, lines_at, without_ports};
+ghost use Rattle.flatten.specs.Substitution.{becomes, pair_through, given, through, first_model, model_named, at_first, lines_at};
+ghost use Rattle.flatten.specs.Substitution.{without_ports};
 ghost use Rattle.flatten.specs.UseLines.{IsCatalog};
 ghost use Rattle.flatten.specs.Frames.{left_in, ArePlaced, AreOverIn};
 
@@ -81,7 +82,8 @@ pub fn frame_of<'a>(
     ensures given { IfOk result (λ f. f.given ≡ given.entry) }
     ensures uses { IfOk result (λ f. f.uses ≡ 0) }
     ensures names { IfOk result (λ f. f.names.now ≡ (model_named catalog.now.models.now model.now).names) }
-    ensures lines { (way : List ℕ) → IfOk result (λ f. left_in way f ≡ without_ports (lines_at (model_named catalog.now.models.now model.now) (place_of given.entry way))) }
+    ensures lines { (way : List ℕ) → IfOk result (λ f. left_in way f ≡ without_ports
+        (lines_at (model_named catalog.now.models.now model.now) (place_of given.entry way))) }
 {
     match catalog.get(model) {
         Some(known) => Ok(Frame {
@@ -102,7 +104,8 @@ pub fn frame_of<'a>(
 }
 
 fn used_in<'a>(said: Said<'a>) -> Option<Used<'a>>
-    ensures { MatchOption result (is_use (part_in said.entry) ≡ false) (λ u. part_in said.entry ≡ UsePart u.model.now (map pair_of u.pairs.now) []) }
+    ensures { MatchOption result (is_use (part_in said.entry) ≡ false)
+        (λ u. part_in said.entry ≡ UsePart u.model.now (map pair_of u.pairs.now) []) }
 {
     match said {
         Said::Piece(
@@ -127,7 +130,8 @@ fn given_by<'a>(
     pairs: &'a [PairDef],
 ) -> Result<Given<'a>, AllocError>
     ensures used { IfOk result (λ g. g.used ≡ used) }
-    ensures given { IfOk result (λ g. (w : List ℕ) → looked_up g w ≡ given (map (pair_through (becomes (place_of frame.now.given []) frame.now.names.now)) (map pair_of pairs.now)) w) }
+    ensures given { IfOk result (λ g. (w : List ℕ) →
+        looked_up g w ≡ given (map (pair_through (becomes (place_of frame.now.given []) frame.now.names.now)) (map pair_of pairs.now)) w) }
 {
     let mut given = Given::new(alloc, used);
     'pairs: for pair in pairs {
@@ -145,8 +149,10 @@ fn put_line<'a>(
     sink: &mut Sink<'a>,
 ) -> Result<(), Refusal>
     requires { is_use (line_in line.now).part ≡ false }
-    ensures ok { (way : List ℕ) → OnOk result (IsPut sink.old (through (place_of frame.now.given way) frame.now.names.now (line_in line.now)) sink.new) }
-    ensures refused { (way : List ℕ) → IfErr result (IsOverWith sink.old (through (place_of frame.now.given way) frame.now.names.now (line_in line.now))) }
+    ensures ok { (way : List ℕ) → OnOk result (IsPut sink.old
+        (through (place_of frame.now.given way) frame.now.names.now (line_in line.now)) sink.new) }
+    ensures refused { (way : List ℕ) → IfErr result
+        (IsOverWith sink.old (through (place_of frame.now.given way) frame.now.names.now (line_in line.now))) }
 {
     match place(alloc, &frame.given, frame.names, line)? {
         Some(placed) => sink.put(alloc, placed),

@@ -52,7 +52,8 @@ impl<'a> Given<'a> {
     /// Gives a formal.
     pub fn give(&mut self, formal: &'a [u8], actual: Signal) -> Result<(), AllocError>
         ensures used { self.new.used ≡ self.old.used }
-        ensures given { OnOk result ((w : List ℕ) → looked_up self.new w ≡ (if bytes_eq formal.now w then Some actual else looked_up self.old w)) }
+        ensures given { OnOk result ((w : List ℕ) →
+            looked_up self.new w ≡ (if bytes_eq formal.now w then Some actual else looked_up self.old w)) }
     {
         self.map.insert(formal, actual)?;
         Ok(())

@@ -67,7 +67,8 @@ fn cover_part<'a>(
     names: &[Name],
     cover: &'a Cover,
 ) -> Result<PlacedPart<'a>, AllocError>
-    ensures { IfOk result (λ p. part_of p ≡ part_through (place_of given.now []) (becomes (place_of given.now []) names.now) (CoverPart cover.now.out cover.now.ins cover.now.rows cover.now.off)) }
+    ensures { IfOk result (λ p. part_of p ≡ part_through (place_of given.now []) (becomes (place_of given.now []) names.now)
+        (CoverPart cover.now.out cover.now.ins cover.now.rows cover.now.off)) }
 {
     let ins = signals_of(alloc, given, names, cover.ins.as_slice())?;
     Ok(PlacedPart::Cover {
@@ -92,7 +93,8 @@ fn latch_part<'a>(
     latch: &LatchDef,
     control: &'a Option<Name>,
 ) -> PlacedPart<'a>
-    ensures { part_of result ≡ part_through (place_of given.now []) (becomes (place_of given.now []) names.now) (LatchPart latch.now.from latch.now.out latch.now.init (option_map NamedControl control.now)) }
+    ensures { part_of result ≡ part_through (place_of given.now []) (becomes (place_of given.now []) names.now)
+        (LatchPart latch.now.from latch.now.out latch.now.init (option_map NamedControl control.now)) }
 {
     PlacedPart::Latch {
         from: given.signal(names, latch.from),
@@ -129,7 +131,8 @@ pub fn place<'a>(
     names: &[Name],
     line: &Ordered<'a>,
 ) -> Result<Option<Placed<'a>>, AllocError>
-    ensures { IfOk result (λ found. MatchOption found (is_use (line_in line.now).part ≡ true) (λ p. (way : List ℕ) → placed_line p ≡ through (place_of given.now way) names.now (line_in line.now))) }
+    ensures { IfOk result (λ found. MatchOption found (is_use (line_in line.now).part ≡ true)
+        (λ p. (way : List ℕ) → placed_line p ≡ through (place_of given.now way) names.now (line_in line.now))) }
 {
     match place_said(alloc, given, names, line.said)? {
         Some(part) => Ok(Some(Placed {

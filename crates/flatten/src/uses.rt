@@ -97,7 +97,8 @@ fn is_unknown(catalog: &Catalog<'_>, used: &UseLine<'_>) -> bool
 /// The first line that names no model.
 fn first_unknown(catalog: &Catalog<'_>, uses: &[UseLine<'_>]) -> Option<usize>
     requires { IsCatalog catalog.now.models.now catalog.now }
-    ensures { IsFirstListed (map use_in uses.now) (λ k. is_among (names_of catalog.now.models.now) (listed (map use_in uses.now) k).model ≡ false) result }
+    ensures { IsFirstListed (map use_in uses.now) (λ k. is_among (names_of catalog.now.models.now)
+        (listed (map use_in uses.now) k).model ≡ false) result }
 {
     let mut found: Option<usize> = None;
     'uses: for place in 0..uses.len() {

@@ -53,7 +53,8 @@ fn drive_of(signals: &Signals, placed: &Placed<'_>) -> Option<PortDef>
 pub fn put_drive(drives: &mut Drives, signals: &Signals, placed: &Placed<'_>) -> Result<(), Refusal>
     ensures stays { OnOk result (drives.new.doubled ≡ None → drives.old.doubled ≡ None) }
     ensures refused { IfErr result (λ e. e ≡ Memory) }
-    ensures more { OnOk result ((words : List WordValue) → AreDrives words drives.old → AreDrives (words ++ drive_on signals.now (placed_line placed.now)) drives.new) }
+    ensures more { OnOk result ((words : List WordValue) → AreDrives words drives.old →
+        AreDrives (words ++ drive_on signals.now (placed_line placed.now)) drives.new) }
 {
     match drive_of(signals, placed) {
         Some(word) => drives.put(word),

@@ -9,7 +9,7 @@ use Rattle.hierarchy.specs.Shape.{Ends, in_order, turned, table_wire, tables_of,
 use Rattle.hierarchy.specs.Laws.{IsNumbered, IsTree}
 use Rattle.hierarchy.specs.Standing.{StandsWithout, IsSeated}
 use Rattle.config_set.specs.Groups.{among}
-use Rattle.test_configs.specs.Routes.{Walk, IsRoute, HasEnd, Extends}
+use Rattle.test_configs.specs.Routes.{Walk, IsRoute, Extends}
 use Rattle.test_configs.proofs.Longer.{among_both}
 use Rattle.evidence.specs.Kept.{Kept, keeps_cross, keeps_wire, keeps_pair}
 use Rattle.growth.specs.Known.{KnownWires, HasWire, IsKnown, IsKeptCrossOf}

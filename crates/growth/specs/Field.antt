@@ -23,7 +23,8 @@ pub record IsClosed (k : Kept) (f : Faults) (a : Field) (known : ℕ → Type 0)
       IsAlone k.shape f known (pin_wire k.shape i) → known (pin_wire k.shape i)
   pub wires : (w : ℕ) → has_number a.wires w ≡ true → IsClear k.shape f w → IsAlone k.shape f known w →
       HasFeet k.shape f (λ x. has_number a.crosses x ≡ true) known w → known w
-  pub crosses : (x : ℕ) → has_number a.crosses x ≡ true → known (ends_of k.shape x).0 → known (ends_of k.shape x).1 → stuck_cross f x ≡ None → keeps_cross k x ≡ true
+  pub crosses : (x : ℕ) → has_number a.crosses x ≡ true → known (ends_of k.shape x).0 → known (ends_of k.shape x).1 →
+      stuck_cross f x ≡ None → keeps_cross k x ≡ true
 
 pub record ClosedIf (told : Option Faults) (k : Kept) (a : Field) (ss : List Step) : Type 0 where
   pub at : (f : Faults) → told ≡ Some f → HoldsFor k f → IsClosed k f a (HasWire ss)

@@ -38,7 +38,8 @@ pub record HasNoSecond (told : Option Faults) (k : Kept) (ss : List Step) (o : O
 pub record HasNoneBeside (told : Option Faults) (k : Kept) (ss : List Step) (o : Offer) (q : Walk) : Type 0 where
   pub rs : List Reach
   pub all : ReachesAll ss q (IsReached rs)
-  pub lost : (j : ℕ) (a : Foot) → slice_get o.others.items j ≡ Some a → IsReached rs a.wire.0 → AreLost told k ss o.wire.0 o.foot.cross.0 a.cross.0
+  pub lost : (j : ℕ) (a : Foot) → slice_get o.others.items j ≡ Some a → IsReached rs a.wire.0 →
+      AreLost told k ss o.wire.0 o.foot.cross.0 a.cross.0
 
 -- it is so of one of these
 pub record InSome {X : Type 0} (items : List X) (is_so : X → ℕ → Type 0) (x : ℕ) : Type 0 where

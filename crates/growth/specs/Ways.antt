@@ -32,4 +32,5 @@ pub record AreFeetOf (k : Kept) (ss : List Step) (w : ℕ) (a b : Foot) : Type 0
 
 -- Of the known wires beside the route all pins are among these, and each that has a foot to one of these.
 pub record ReachesAll (ss : List Step) (q : Walk) (reached : ℕ → Type 0) : Type 0 where
-  pub all : (i : ℕ) (s : Step) → slice_get ss i ≡ Some s → among q.wires s.wire.0 ≡ false → IsPin s.stand ⊎ HasFootOn reached s.stand → reached s.wire.0
+  pub all : (i : ℕ) (s : Step) → slice_get ss i ≡ Some s → among q.wires s.wire.0 ≡ false → IsPin s.stand ⊎ HasFootOn reached s.stand →
+      reached s.wire.0

@@ -49,9 +49,11 @@ fn try_over(
     requires first { has_number marks.old.offered offer.now.foot.cross.0 ≡ false }
     requires over { IsKeptOther proof.old offer.now.others.items over }
     ensures some { IfOk result (λ found. IfSome found (IsSecond proof.new offer.now)) }
-    ensures none { IfOk result (λ found. IfNone found (HasNoSecond (rig_state rig.old).machine.faults proof.new known.now.steps offer.now)) }
+    ensures none { IfOk result (λ found. IfNone found
+        (HasNoSecond (rig_state rig.old).machine.faults proof.new known.now.steps offer.now)) }
     ensures marks { OnOk result (AreMarks (rig_state rig.old).machine.faults proof.new known.now.steps marks.new) }
-    ensures spends { SpendsOn (rig_state rig.old).machine.faults proof.old offer.now marks.old marks.new (rig_state rig.old).loads (rig_state rig.new).loads }
+    ensures spends { SpendsOn (rig_state rig.old).machine.faults proof.old offer.now marks.old marks.new (rig_state rig.old).loads
+        (rig_state rig.new).loads }
     ensures advances { Advances (rig_state rig.old) (rig_state rig.new) proof.old proof.new }
     ensures cause { IsErrOf result RigFail.Failed → Rose (rig_state rig.old).failures (rig_state rig.new).failures }
 {
@@ -83,9 +85,11 @@ fn try_other(
     requires own { keeps_cross proof.old offer.now.foot.cross.0 ≡ true }
     requires other { IsPlaced offer.now.others.items other }
     ensures kept { IfOk result (λ yes. IsTrue yes → keeps_cross proof.new other.cross.0 ≡ true) }
-    ensures lost { IfOk result (λ yes. yes ≡ false → AreLost (rig_state rig.old).machine.faults proof.new known.now.steps offer.now.wire.0 offer.now.foot.cross.0 other.cross.0) }
+    ensures lost { IfOk result (λ yes. yes ≡ false →
+        AreLost (rig_state rig.old).machine.faults proof.new known.now.steps offer.now.wire.0 offer.now.foot.cross.0 other.cross.0) }
     ensures marks { OnOk result (AreMarks (rig_state rig.old).machine.faults proof.new known.now.steps marks.new) }
-    ensures spends { SpendsOn (rig_state rig.old).machine.faults proof.old offer.now marks.old marks.new (rig_state rig.old).loads (rig_state rig.new).loads }
+    ensures spends { SpendsOn (rig_state rig.old).machine.faults proof.old offer.now marks.old marks.new (rig_state rig.old).loads
+        (rig_state rig.new).loads }
     ensures advances { Advances (rig_state rig.old) (rig_state rig.new) proof.old proof.new }
     ensures cause { IsErrOf result RigFail.Failed → Rose (rig_state rig.old).failures (rig_state rig.new).failures }
 {
@@ -113,9 +117,11 @@ fn try_others(
     requires marks { AreMarks (rig_state rig.old).machine.faults proof.old known.now.steps marks.old }
     requires own { keeps_cross proof.old offer.now.foot.cross.0 ≡ true }
     ensures some { IfOk result (λ found. IfSome found (IsSecond proof.new offer.now)) }
-    ensures none { IfOk result (λ found. IfNone found (HasNoSecond (rig_state rig.old).machine.faults proof.new known.now.steps offer.now)) }
+    ensures none { IfOk result (λ found. IfNone found
+        (HasNoSecond (rig_state rig.old).machine.faults proof.new known.now.steps offer.now)) }
     ensures marks { OnOk result (AreMarks (rig_state rig.old).machine.faults proof.new known.now.steps marks.new) }
-    ensures spends { SpendsOn (rig_state rig.old).machine.faults proof.old offer.now marks.old marks.new (rig_state rig.old).loads (rig_state rig.new).loads }
+    ensures spends { SpendsOn (rig_state rig.old).machine.faults proof.old offer.now marks.old marks.new (rig_state rig.old).loads
+        (rig_state rig.new).loads }
     ensures advances { Advances (rig_state rig.old) (rig_state rig.new) proof.old proof.new }
     ensures cause { IsErrOf result RigFail.Failed → Rose (rig_state rig.old).failures (rig_state rig.new).failures }
 {
@@ -144,9 +150,11 @@ pub(crate) fn second_foot(
     requires marks { AreMarks (rig_state rig.old).machine.faults proof.old known.now.steps marks.old }
     requires first { has_number marks.old.offered offer.now.foot.cross.0 ≡ false }
     ensures some { IfOk result (λ found. IfSome found (IsSecond proof.new offer.now)) }
-    ensures none { IfOk result (λ found. IfNone found (HasNoSecond (rig_state rig.old).machine.faults proof.new known.now.steps offer.now)) }
+    ensures none { IfOk result (λ found. IfNone found
+        (HasNoSecond (rig_state rig.old).machine.faults proof.new known.now.steps offer.now)) }
     ensures marks { OnOk result (AreMarks (rig_state rig.old).machine.faults proof.new known.now.steps marks.new) }
-    ensures spends { SpendsOn (rig_state rig.old).machine.faults proof.old offer.now marks.old marks.new (rig_state rig.old).loads (rig_state rig.new).loads }
+    ensures spends { SpendsOn (rig_state rig.old).machine.faults proof.old offer.now marks.old marks.new (rig_state rig.old).loads
+        (rig_state rig.new).loads }
     ensures advances { Advances (rig_state rig.old) (rig_state rig.new) proof.old proof.new }
     ensures cause { IsErrOf result RigFail.Failed → Rose (rig_state rig.old).failures (rig_state rig.new).failures }
 {

@@ -34,7 +34,8 @@ fn toggle_hung(
     requires way { IsWay proof.old known.now.steps offer.now.foot.wire.0 way.now }
     requires hung { IsHanging proof.old known.now.steps offer.now way.now hung.now.walks.items (cross_numbers hung.now.ties.items) }
     ensures kept { IfOk result (λ yes. IsTrue yes → keeps_cross proof.new offer.now.foot.cross.0 ≡ true) }
-    ensures lost { IfOk result (λ yes. yes ≡ false → HasNoneBeside (rig_state rig.old).machine.faults proof.new known.now.steps offer.now way.now) }
+    ensures lost { IfOk result (λ yes. yes ≡ false →
+        HasNoneBeside (rig_state rig.old).machine.faults proof.new known.now.steps offer.now way.now) }
     ensures faulty { IfOk result (λ yes. yes ≡ false → IsFaulty (rig_state rig.old).machine.faults proof.old) }
     ensures advances { Advances (rig_state rig.old) (rig_state rig.new) proof.old proof.new }
     ensures loads { (rig_state rig.new).loads ≤ (rig_state rig.old).loads + 2 }
@@ -64,7 +65,8 @@ fn hang(
     requires way { IsWay proof.old known.now.steps offer.now.foot.wire.0 way.now }
     requires marks { AreMarks (rig_state rig.old).machine.faults proof.old known.now.steps marks.old }
     ensures kept { IfOk result (λ yes. IsTrue yes → keeps_cross proof.new offer.now.foot.cross.0 ≡ true) }
-    ensures lost { IfOk result (λ yes. yes ≡ false → HasNoneBeside (rig_state rig.old).machine.faults proof.new known.now.steps offer.now way.now) }
+    ensures lost { IfOk result (λ yes. yes ≡ false →
+        HasNoneBeside (rig_state rig.old).machine.faults proof.new known.now.steps offer.now way.now) }
     ensures marks { OnOk result (AreMarks (rig_state rig.old).machine.faults proof.new known.now.steps marks.new) }
     ensures offers { OffersAtMost proof.old offer.now.foot.cross.0 marks.old marks.new (rig_state rig.old).loads (rig_state rig.new).loads }
     ensures advances { Advances (rig_state rig.old) (rig_state rig.new) proof.old proof.new }
@@ -100,7 +102,8 @@ pub(crate) fn toggle_first(
     ensures kept { IfOk result (λ yes. IsTrue yes → keeps_cross proof.new offer.now.foot.cross.0 ≡ true) }
     ensures lost { IfOk result (λ yes. yes ≡ false → HasNoSecond (rig_state rig.old).machine.faults proof.new known.now.steps offer.now) }
     ensures marks { OnOk result (AreMarks (rig_state rig.old).machine.faults proof.new known.now.steps marks.new) }
-    ensures spends { SpendsOn (rig_state rig.old).machine.faults proof.old offer.now marks.old marks.new (rig_state rig.old).loads (rig_state rig.new).loads }
+    ensures spends { SpendsOn (rig_state rig.old).machine.faults proof.old offer.now marks.old marks.new (rig_state rig.old).loads
+        (rig_state rig.new).loads }
     ensures advances { Advances (rig_state rig.old) (rig_state rig.new) proof.old proof.new }
     ensures cause { IsErrOf result RigFail.Failed → Rose (rig_state rig.old).failures (rig_state rig.new).failures }
 {

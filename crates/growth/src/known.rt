@@ -1,5 +1,6 @@
 //! Known wires, in the order in which they came.
-ghost use Rattle.std.specs.Prelude.{◌≡◌, ◌<◌, ◌≤◌, ◌++◌, ◌∷◌, false, [], IfOk, IfSome, IfNone, IsTrue, OnOk, OnErr, length, replicate, slice_get, Some, None};
+ghost use Rattle.std.specs.Prelude.{◌≡◌, ◌<◌, ◌≤◌, ◌++◌, ◌∷◌, false, [], IfOk, IfSome, IfNone, IsTrue, OnOk, OnErr, length, replicate};
+ghost use Rattle.std.specs.Prelude.{slice_get, Some, None};
 ghost use Rattle.hierarchy.specs.Shape.{wires_of};
 ghost use Rattle.growth.specs.Known.{IsAt, HasWire};
 

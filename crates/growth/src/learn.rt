@@ -94,7 +94,8 @@ pub(crate) fn try_offer(
     ensures marks { OnOk result (AreMarks (rig_state rig.old).machine.faults proof.new known.new.steps marks.new) }
     ensures barred { BarsAtMost offer.now.wire.0 marks.old.barred marks.new.barred }
     ensures offered { OffersOnly offer.now.foot.cross.0 marks.old marks.new }
-    ensures spends { Spends (rig_state rig.old).machine.faults proof.old (IsOfOffer offer.now) marks.old marks.new (rig_state rig.old).loads (rig_state rig.new).loads }
+    ensures spends { Spends (rig_state rig.old).machine.faults proof.old (IsOfOffer offer.now) marks.old marks.new
+        (rig_state rig.old).loads (rig_state rig.new).loads }
     ensures advances { Advances (rig_state rig.old) (rig_state rig.new) proof.old proof.new }
     ensures cause { IsErrOf result RigFail.Failed → Rose (rig_state rig.old).failures (rig_state rig.new).failures }
 {

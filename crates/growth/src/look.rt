@@ -7,7 +7,8 @@ ghost use Rattle.rig.specs.Rig.{shape_of};
 ghost use Rattle.evidence.specs.Kept.{Advances};
 ghost use Rattle.growth.specs.Grown.{AreLinked, IsGrown};
 ghost use Rattle.growth.specs.Known.{IsKnown, IsBefore, HasWire};
-ghost use Rattle.growth.specs.Looks.{IsLook, IsLookAt, IsLinking, IsOfferOf, IsLookedOver, AreEarlier, AreAllMarks, AreTried, TakesEarlier, Grows};
+ghost use Rattle.growth.specs.Looks.{IsLook, IsLookAt, IsLinking, IsOfferOf, IsLookedOver, AreEarlier, AreAllMarks, AreTried, TakesEarlier};
+ghost use Rattle.growth.specs.Looks.{Grows};
 ghost use Rattle.growth.specs.Marked.{AreMarks, JoinsAtMost, Spends};
 ghost use Rattle.growth.specs.Offers.{IsOffer};
 ghost use Rattle.growth.specs.Trials.{IsKeptUnlessStuck};
@@ -151,9 +152,11 @@ fn look_new(
     requires free { has_number marks.old.barred look.link.wire.0 ≡ false }
     ensures grows { Grows proof.new known.old known.new marks.old.barred marks.new.barred }
     ensures tried { OnOk result (AreTried (rig_state rig.old).machine.faults proof.new known.new.steps marks.old.barred marks.new.barred) }
-    ensures looked { OnOk result (IsLookedOver (rig_state rig.old).machine.faults proof.new near.now.items known.new.steps marks.new.barred look) }
+    ensures looked { OnOk result
+        (IsLookedOver (rig_state rig.old).machine.faults proof.new near.now.items known.new.steps marks.new.barred look) }
     ensures marks { OnOk result (AreAllMarks (rig_state rig.old).machine.faults proof.new near.now.items known.new.steps marks.new) }
-    ensures spends { Spends (rig_state rig.old).machine.faults proof.old (IsLinking near.now.items) marks.old marks.new (rig_state rig.old).loads (rig_state rig.new).loads }
+    ensures spends { Spends (rig_state rig.old).machine.faults proof.old (IsLinking near.now.items) marks.old marks.new
+        (rig_state rig.old).loads (rig_state rig.new).loads }
     ensures advances { Advances (rig_state rig.old) (rig_state rig.new) proof.old proof.new }
     ensures cause { IsErrOf result RigFail.Failed → Rose (rig_state rig.old).failures (rig_state rig.new).failures }
 {
@@ -183,9 +186,11 @@ fn look_over(
     requires marks { AreAllMarks (rig_state rig.old).machine.faults proof.old near.now.items known.old.steps marks.old }
     ensures grows { Grows proof.new known.old known.new marks.old.barred marks.new.barred }
     ensures tried { OnOk result (AreTried (rig_state rig.old).machine.faults proof.new known.new.steps marks.old.barred marks.new.barred) }
-    ensures looked { OnOk result (IsLookedOver (rig_state rig.old).machine.faults proof.new near.now.items known.new.steps marks.new.barred look) }
+    ensures looked { OnOk result
+        (IsLookedOver (rig_state rig.old).machine.faults proof.new near.now.items known.new.steps marks.new.barred look) }
     ensures marks { OnOk result (AreAllMarks (rig_state rig.old).machine.faults proof.new near.now.items known.new.steps marks.new) }
-    ensures spends { Spends (rig_state rig.old).machine.faults proof.old (IsLinking near.now.items) marks.old marks.new (rig_state rig.old).loads (rig_state rig.new).loads }
+    ensures spends { Spends (rig_state rig.old).machine.faults proof.old (IsLinking near.now.items) marks.old marks.new
+        (rig_state rig.old).loads (rig_state rig.new).loads }
     ensures advances { Advances (rig_state rig.old) (rig_state rig.new) proof.old proof.new }
     ensures cause { IsErrOf result RigFail.Failed → Rose (rig_state rig.old).failures (rig_state rig.new).failures }
 {
@@ -218,10 +223,12 @@ pub(crate) fn look_at(
     requires marks { AreAllMarks (rig_state rig.old).machine.faults proof.old near.now.items known.old.steps marks.old }
     ensures grows { Grows proof.new known.old known.new marks.old.barred marks.new.barred }
     ensures tried { OnOk result (AreTried (rig_state rig.old).machine.faults proof.new known.new.steps marks.old.barred marks.new.barred) }
-    ensures grown { OnOk result (IsGrown (rig_state rig.old).machine.faults proof.old near.now.items known.old.steps marks.old.barred place →
+    ensures grown { OnOk result
+        (IsGrown (rig_state rig.old).machine.faults proof.old near.now.items known.old.steps marks.old.barred place →
         IsGrown (rig_state rig.old).machine.faults proof.new near.now.items known.new.steps marks.new.barred (place + 1)) }
     ensures marks { OnOk result (AreAllMarks (rig_state rig.old).machine.faults proof.new near.now.items known.new.steps marks.new) }
-    ensures spends { Spends (rig_state rig.old).machine.faults proof.old (IsLinking near.now.items) marks.old marks.new (rig_state rig.old).loads (rig_state rig.new).loads }
+    ensures spends { Spends (rig_state rig.old).machine.faults proof.old (IsLinking near.now.items) marks.old marks.new
+        (rig_state rig.old).loads (rig_state rig.new).loads }
     ensures advances { Advances (rig_state rig.old) (rig_state rig.new) proof.old proof.new }
     ensures cause { IsErrOf result RigFail.Failed → Rose (rig_state rig.old).failures (rig_state rig.new).failures }
 {

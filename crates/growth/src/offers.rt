@@ -76,7 +76,8 @@ fn put_link(ties: &mut Vec<Cross>, reaches: &Vec<Reach>, link: Foot) -> Result<(
 
 // Puts the crosspoints of those links whose known ends are reached.
 fn put_links(ties: &mut Vec<Cross>, reaches: &Vec<Reach>, links: &[Foot]) -> Result<(), AllocError>
-    ensures { OnOk result (Adds (InSome links.now (IsHung reaches.now.items)) (cross_numbers ties.old.items) (cross_numbers ties.new.items)) }
+    ensures { OnOk result (Adds (InSome links.now (IsHung reaches.now.items)) (cross_numbers ties.old.items)
+        (cross_numbers ties.new.items)) }
 {
     'links: for k in 0..links.len() {
         put_link(ties, reaches, links[k])?;
@@ -117,7 +118,8 @@ pub(crate) fn hung_beside(
 ) -> Result<Option<Hanging>, AllocError>
     requires known { IsKnown proof.now known.now }
     requires way { IsRoute proof.now.shape way.now }
-    ensures hung { IfOk result (λ found. IfSome found (λ h. IsHanging proof.now known.now.steps offer.now way.now h.walks.items (cross_numbers h.ties.items))) }
+    ensures hung { IfOk result (λ found. IfSome found
+        (λ h. IsHanging proof.now known.now.steps offer.now way.now h.walks.items (cross_numbers h.ties.items))) }
     ensures none { IfOk result (λ found. IfNone found (HangsNot known.now.steps offer.now way.now)) }
 {
     let mut reaches = Vec::new(known.alloc());

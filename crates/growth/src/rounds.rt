@@ -40,7 +40,8 @@ fn look_on(
     ensures grown { OnOk result (IsGrown (rig_state rig.old).machine.faults proof.old near.now.items known.old.steps marks.old.barred from →
         IsGrown (rig_state rig.old).machine.faults proof.new near.now.items known.new.steps marks.new.barred (length known.new.steps)) }
     ensures marks { OnOk result (AreAllMarks (rig_state rig.old).machine.faults proof.new near.now.items known.new.steps marks.new) }
-    ensures spends { Spends (rig_state rig.old).machine.faults proof.old (IsLinking near.now.items) marks.old marks.new (rig_state rig.old).loads (rig_state rig.new).loads }
+    ensures spends { Spends (rig_state rig.old).machine.faults proof.old (IsLinking near.now.items) marks.old marks.new
+        (rig_state rig.old).loads (rig_state rig.new).loads }
     ensures advances { Advances (rig_state rig.old) (rig_state rig.new) proof.old proof.new }
     ensures cause { IsErrOf result RigFail.Failed → Rose (rig_state rig.old).failures (rig_state rig.new).failures }
 {
@@ -68,11 +69,14 @@ fn grow_pin(
     requires pin { pin < pins_of proof.old.shape }
     ensures grows { Grows proof.new known.old known.new marks.old.barred marks.new.barred }
     ensures tried { OnOk result (AreTried (rig_state rig.old).machine.faults proof.new known.new.steps marks.old.barred marks.new.barred) }
-    ensures grown { OnOk result (IsGrown (rig_state rig.old).machine.faults proof.old near.now.items known.old.steps marks.old.barred (length known.old.steps) →
+    ensures grown { OnOk result (IsGrown (rig_state rig.old).machine.faults proof.old near.now.items known.old.steps marks.old.barred
+        (length known.old.steps) →
         IsGrown (rig_state rig.old).machine.faults proof.new near.now.items known.new.steps marks.new.barred (length known.new.steps)) }
-    ensures pin { OnOk result (HasWire known.new.steps (pin_wire proof.old.shape pin) ⊎ (has_number marks.new.barred (pin_wire proof.old.shape pin) ≡ true)) }
+    ensures pin { OnOk result (HasWire known.new.steps (pin_wire proof.old.shape pin)
+        ⊎ (has_number marks.new.barred (pin_wire proof.old.shape pin) ≡ true)) }
     ensures marks { OnOk result (AreAllMarks (rig_state rig.old).machine.faults proof.new near.now.items known.new.steps marks.new) }
-    ensures spends { Spends (rig_state rig.old).machine.faults proof.old (IsLinking near.now.items) marks.old marks.new (rig_state rig.old).loads (rig_state rig.new).loads }
+    ensures spends { Spends (rig_state rig.old).machine.faults proof.old (IsLinking near.now.items) marks.old marks.new
+        (rig_state rig.old).loads (rig_state rig.new).loads }
     ensures advances { Advances (rig_state rig.old) (rig_state rig.new) proof.old proof.new }
     ensures cause { IsErrOf result RigFail.Failed → Rose (rig_state rig.old).failures (rig_state rig.new).failures }
 {

@@ -1,11 +1,13 @@
 //! Walks over what is reached beside a route.
-ghost use Rattle.std.specs.Prelude.{◌≡◌, ◌⊎◌, ◌<◌, ◌+◌, ◌++◌, [], ◌∷◌, ℕ, true, false, IfOk, OnOk, IfSome, IfNone, IsTrue, Some, length, slice_get};
+ghost use Rattle.std.specs.Prelude.{◌≡◌, ◌⊎◌, ◌<◌, ◌+◌, ◌++◌, [], ◌∷◌, ℕ, true, false, IfOk, OnOk, IfSome, IfNone, IsTrue, Some, length};
+ghost use Rattle.std.specs.Prelude.{slice_get};
 ghost use Rattle.hierarchy.specs.Shape.{Ends, ends_of, crosses_of};
 ghost use Rattle.config_set.specs.Groups.{among};
 ghost use Rattle.test_configs.specs.Routes.{IsRoute, Extends};
 ghost use Rattle.growth.specs.Known.{IsKnown};
 ghost use Rattle.growth.specs.Descents.{Stays};
-ghost use Rattle.growth.specs.Reaches.{AreBefore, AreTrees, AreWalks, AreWalksFrom, GoesBelow, GoesOn, GoesTo, Hangs, HangsAlong, HangsAt, HangsOn, HasTree, HasWalk, IsFrom, IsFromAt, IsTreeWalk, IsWalkFrom, Leads, upper_of};
+ghost use Rattle.growth.specs.Reaches.{AreBefore, AreTrees, AreWalks, AreWalksFrom, GoesBelow, GoesOn, GoesTo, Hangs, HangsAlong, HangsAt};
+ghost use Rattle.growth.specs.Reaches.{HangsOn, HasTree, HasWalk, IsFrom, IsFromAt, IsTreeWalk, IsWalkFrom, Leads, upper_of};
 ghost use Rattle.growth.specs.declared.step.Stand.TheVariants as stand;
 
 use crate::beside::{Reach, reach_at};
@@ -112,7 +114,8 @@ fn take(shape: &Shape, walk: &mut Route, ups: &mut Vec<Foot>, down: Down) -> Res
     requires route { IsRoute shape.now walk.old }
     requires cross { down.foot.cross.0 < crosses_of shape.now }
     requires at { down.left ≡ true → Ends (ends_of shape.now down.foot.cross.0) walk.old.end down.foot.wire.0 }
-    ensures left { OnOk result (down.left ≡ true → Extends shape.now down.foot.cross.0 walk.old walk.new × IsRoute shape.now walk.new × (ups.new.items ≡ ups.old.items)) }
+    ensures left { OnOk result (down.left ≡ true → Extends shape.now down.foot.cross.0 walk.old walk.new × IsRoute shape.now walk.new
+        × (ups.new.items ≡ ups.old.items)) }
     ensures right { OnOk result (down.left ≡ false → (walk.new ≡ walk.old) × (ups.new.items ≡ ups.old.items ++ down.foot ∷ [])) }
 {
     if down.left {

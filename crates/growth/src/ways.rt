@@ -35,7 +35,8 @@ impl Known {
     // The ways to a pin of the machine, which are the pin alone.
     pub(crate) fn ways_at(&self, pin: u32) -> Result<(Route, Route), AllocError>
         requires { pin < pins_of self.now.shape }
-        ensures { IfOk result (λ ways. (k : Kept) → k.shape ≡ self.now.shape → AreWays k self.now.steps (pin_wire k.shape pin) ways.0 ways.1) }
+        ensures { IfOk result (λ ways. (k : Kept) → k.shape ≡ self.now.shape →
+            AreWays k self.now.steps (pin_wire k.shape pin) ways.0 ways.1) }
     {
         let shape = self.shape();
         let left = route_at(self.alloc(), &shape, pin)?;

@@ -42,12 +42,12 @@ module _ {T : Type 0} (machine name : List ℕ) (begin : RunBegin) (is_read : T 
       whole h.made (rest ++ more) (list-of h) (wrote-as (text ++ more) _ (ap (λ (s : List ℕ). s ++ more) is ∙ append_assoc (text_of h.made.list) rest more) wrote)
 
   pub begins-at : (text more : List ℕ) (next : Next) → Stage c right text next → Adds next more → Wrote old.sink.written new.sink.written (text ++ more) → BeginsWithList machine name old new
-  begins-at text more next (early refusal empty is why few) adds wrote =
+  begins-at text more next (early refusal empty is why made) adds wrote =
       let some : Adds (refuses refusal) more = subst (λ (n : Next). Adds n more) is adds in
       none refusal some.0 (wrote-as (text ++ more) _ (ap (λ (s : List ℕ). s ++ more) empty ∙ some.1) wrote)
-  begins-at text more next (listing h empty is few) adds wrote =
+  begins-at text more next (listing h empty is made) adds wrote =
       at-list h more (subst (λ (n : Next). Adds n more) is adds) (wrote-as (text ++ more) more (ap (λ (s : List ℕ). s ++ more) empty) wrote)
-  begins-at text more next (unlaid h refusal alone is short few) adds wrote =
+  begins-at text more next (unlaid h refusal alone is short made) adds wrote =
       behind-list h text [] more (alone ∙ sym (append-nil (text_of h.made.list))) wrote
   begins-at text more next (laid h rest is at) adds wrote = behind-list h.has text rest more is wrote
 
@@ -61,9 +61,9 @@ module _ {T : Type 0} (machine name : List ℕ) (begin : RunBegin) (is_read : T 
     pub run : HasRun (rows-of c laid_is) (begin-of c laid_is) (around new) rest
 
   pub has-done : (text : List ℕ) → Stage c right text ends → HasDone text
-  has-done text (early refusal empty is why few) = absurd (cc)
-  has-done text (listing h empty is few) = absurd (cc)
-  has-done text (unlaid h refusal alone is short few) = absurd (cc)
+  has-done text (early refusal empty is why made) = absurd (cc)
+  has-done text (listing h empty is made) = absurd (cc)
+  has-done text (unlaid h refusal alone is short made) = absurd (cc)
   has-done text (laid h rest is at) = record { laid_is = h; rest = rest; text_is = is; run = image-ends (rows-of c h) (begin-of c h) (around new) rest at }
 
   module _ (text : List ℕ) (done : HasDone text) (wrote : Wrote old.sink.written new.sink.written text) where

@@ -6,5 +6,6 @@ ghost use Rattle.machine_file.specs.declared.kind.MachineKind.{MachineKind};
 
 /// The lines of a text have one first fault at most: at one line, and of one kind.
 pub fn a_text_has_one_fault()
-    ensures { (lines : List LogicalLine) (n m : ℕ) (k j : MachineKind) → IsFirstFault lines n k → IsFirstFault lines m j → (n ≡ m) × (k ≡ j) }
+    ensures { (lines : List LogicalLine) (n m : ℕ) (k j : MachineKind) → IsFirstFault lines n k → IsFirstFault lines m j → (n ≡ m)
+        × (k ≡ j) }
 {}

@@ -84,8 +84,10 @@ fn take_words(
     words: &[&[u8]],
 ) -> Result<Option<Shape>, MachineKind>
     requires { length words.now ≡ follow_of head }
-    ensures steps { Steps result (words_fault counts.old head (map (λ w. w.now) words.now)) (λ _. counts.new ≡ with_numbers counts.old head (map value_of (map (λ w. w.now) words.now))) }
-    ensures shape { IfOk result (λ o. MatchOption o (place_of head < 8) (λ s. (place_of head ≡ 8) × (s.counts ≡ counts.new) × MakeShape counts.new)) }
+    ensures steps { Steps result (words_fault counts.old head (map (λ w. w.now) words.now))
+        (λ _. counts.new ≡ with_numbers counts.old head (map value_of (map (λ w. w.now) words.now))) }
+    ensures shape { IfOk result (λ o. MatchOption o (place_of head < 8)
+        (λ s. (place_of head ≡ 8) × (s.counts ≡ counts.new) × MakeShape counts.new)) }
 {
     match head {
         Head::Teramac => {
@@ -109,7 +111,8 @@ fn take_words(
 fn take_said(reader: &mut Reader, words: &[&[u8]]) -> Result<(), MachineKind>
     requires some { 0 < length words.now }
     requires kept { IsReader reader.old }
-    ensures steps { Steps result (said_fault (state_of reader.old) (map (λ w. w.now) words.now)) (λ _. state_of reader.new ≡ after (state_of reader.old) (map (λ w. w.now) words.now)) }
+    ensures steps { Steps result (said_fault (state_of reader.old) (map (λ w. w.now) words.now))
+        (λ _. state_of reader.new ≡ after (state_of reader.old) (map (λ w. w.now) words.now)) }
     ensures kept { OnOk result (IsReader reader.new) }
 {
     if reader.read >= LINES {
@@ -134,7 +137,8 @@ pub fn take_line(reader: &mut Reader, line: &Line) -> Result<(), MachineKind>
     requires some { 0 < length line.now.words }
     requires sound { is_bad_line line.now ≡ false }
     requires kept { IsReader reader.old }
-    ensures steps { Steps result (fault_of (state_of reader.old) line.now) (λ _. state_of reader.new ≡ after (state_of reader.old) line.now.words) }
+    ensures steps { Steps result (fault_of (state_of reader.old) line.now)
+        (λ _. state_of reader.new ≡ after (state_of reader.old) line.now.words) }
     ensures kept { OnOk result (IsReader reader.new) }
 {
     take_said(reader, line.words())

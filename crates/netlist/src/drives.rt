@@ -1,6 +1,7 @@
 //! Signals that are driven, and those that are driven twice.
 
-ghost use Rattle.std.specs.Prelude.{◌≡◌, ◌<◌, ◌≤◌, ◌++◌, ◌&&◌, ◌↔◌, ℕ, length, map, IfOk, OnOk, IsTrue, None, Some, slice_index_or, if◌then◌else◌};
+ghost use Rattle.std.specs.Prelude.{◌≡◌, ◌<◌, ◌≤◌, ◌++◌, ◌&&◌, ◌↔◌, ℕ, length, map, IfOk, OnOk, IsTrue, None, Some, slice_index_or};
+ghost use Rattle.std.specs.Prelude.{if◌then◌else◌};
 ghost use Rattle.std.specs.Option.{ForSome};
 ghost use Rattle.netlist.specs.Orders.{IsFirst, is_sooner};
 ghost use Rattle.netlist.specs.Covers.{cover_at};

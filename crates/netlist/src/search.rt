@@ -1,9 +1,11 @@
 //! The groups of covers that reach one another.
 
-ghost use Rattle.std.specs.Prelude.{◌≡◌, ◌<◌, ◌≤◌, ◌+◌, ◌-◌, ◌++◌, ℕ, [], length, IfOk, IsTrue, ◌↔◌, OnOk, slice_index_or, slice_set, take, None, MatchOption};
+ghost use Rattle.std.specs.Prelude.{◌≡◌, ◌<◌, ◌≤◌, ◌+◌, ◌-◌, ◌++◌, ℕ, [], length, IfOk, IsTrue, ◌↔◌, OnOk, slice_index_or, slice_set, take};
+ghost use Rattle.std.specs.Prelude.{None, MatchOption};
 ghost use Rattle.std.specs.Option.{IsSomeAnd};
 ghost use Rattle.netlist.specs.Drivers.{AreDrivers};
-ghost use Rattle.netlist.specs.Searches.{targets, state_at, number_of, LeadsTo, IsClosed, IsKept, IsTaken, IsListed, IsJoinedOn, StaysSeen, AreNumbered};
+ghost use Rattle.netlist.specs.Searches.{targets, state_at, number_of, LeadsTo, IsClosed, IsKept, IsTaken, IsListed, IsJoinedOn, StaysSeen};
+ghost use Rattle.netlist.specs.Searches.{AreNumbered};
 ghost use Rattle.netlist.specs.States.{IsSearching, left_of, IsLast, IsLastOf, IsReadFromLast};
 ghost use Rattle.netlist.specs.declared.search.State.TheVariants.{New};
 

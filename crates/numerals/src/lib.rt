@@ -1,7 +1,8 @@
 //! Decimal numerals: digits without a leading zero.
 #![tactic(auto)]
 
-ghost use Rattle.std.specs.Prelude.{◌≡◌, ◌++◌, [], OnOk, OnErr, drop, ◌<◌, ◌≤◌, ◌+◌, ◌*◌, ◌-◌, ℕ, true, IfSome, IfNone, MatchOption, SomeIff, IsTrue, ◌↔◌};
+ghost use Rattle.std.specs.Prelude.{◌≡◌, ◌++◌, [], OnOk, OnErr, drop, ◌<◌, ◌≤◌, ◌+◌, ◌*◌, ◌-◌, ℕ, true, IfSome, IfNone, MatchOption};
+ghost use Rattle.std.specs.Prelude.{SomeIff, IsTrue, ◌↔◌};
 ghost use Rattle.std.specs.Str.{all_ascii_digits};
 ghost use Rattle.std.specs.Fmt.{decimal};
 ghost use Rattle.numerals.specs.Number.{read_on, IsPlain};

@@ -84,7 +84,9 @@ fn lacking(
     steps: &[Step],
 ) -> Result<Assigned, AllocError>
     requires site { IsSite defects.now.shape asks.now lines.now }
-    ensures { IfOk result (λ a. (done : List ℕ) (owners : List (Option ℕ)) (ask : ℕ) → IsPartial (serves_by defects.now asks.now) lines.now done owners → IsDeadEnd (serves_by defects.now asks.now) lines.now owners ask steps.now →
+    ensures { IfOk result (λ a. (done : List ℕ) (owners : List (Option ℕ)) (ask : ℕ) →
+        IsPartial (serves_by defects.now asks.now) lines.now done owners →
+        IsDeadEnd (serves_by defects.now asks.now) lines.now owners ask steps.now →
         ¬ Contains done ask → All (Contains (range_with_len 0 (length asks.now))) (done ++ ask ∷ []) → AllPairs (λ w v. w ≢ v) lines.now →
         IsAnswer (serves_by defects.now asks.now) (range_with_len 0 (length asks.now)) lines.now a) }
 {

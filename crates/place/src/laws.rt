@@ -11,8 +11,10 @@ ghost use Rattle.table_map.specs.declared.network.Network.{Network};
 
 /// Where there is room no resource is the first short one. Where one is, it is one alone, at one node.
 pub fn room_is_decided()
-    ensures never_both { (m : Shape) (d : Defects) (nets : List (List ℕ)) (tables pins : Need) (s : Short) → Suffices m d (length nets) (HasTerminal nets) tables pins → ¬ IsFirstShort m d (length nets) (HasTerminal nets) tables pins s }
-    ensures one { (m : Shape) (d : Defects) (nets : List (List ℕ)) (tables pins : Need) (s t : Short) → IsFirstShort m d (length nets) (HasTerminal nets) tables pins s → IsFirstShort m d (length nets) (HasTerminal nets) tables pins t →
+    ensures never_both { (m : Shape) (d : Defects) (nets : List (List ℕ)) (tables pins : Need) (s : Short) →
+        Suffices m d (length nets) (HasTerminal nets) tables pins → ¬ IsFirstShort m d (length nets) (HasTerminal nets) tables pins s }
+    ensures one { (m : Shape) (d : Defects) (nets : List (List ℕ)) (tables pins : Need) (s t : Short) →
+        IsFirstShort m d (length nets) (HasTerminal nets) tables pins s → IsFirstShort m d (length nets) (HasTerminal nets) tables pins t →
         (s.resource ≡ t.resource) × (s.node.0 ≡ t.node.0) }
 {}
 

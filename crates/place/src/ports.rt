@@ -43,7 +43,8 @@ pub fn crossings(
 ) -> Result<Vec<Items<u32>>, AllocError>
     requires within { All (AreWires tree.now.shape) nets.now }
     requires touched { AreTouched tree.now.shape nets.now (length nets.now) touched.now }
-    ensures { IfOk result (λ lists. AreLists (nodes_of tree.now.shape) (CrossesAt tree.now.shape (length nets.now) (HasTerminal nets.now)) lists.items) }
+    ensures { IfOk result (λ lists. AreLists (nodes_of tree.now.shape)
+        (CrossesAt tree.now.shape (length nets.now) (HasTerminal nets.now)) lists.items) }
 {
     let mut lists = Vec::new(alloc);
     for n in 0..tree.shape.nodes() {

@@ -2,7 +2,8 @@
 ghost use Rattle.std.specs.Prelude.{◌≡◌, ◌<◌, ◌≤◌, ◌^◌, ◌++◌, map, OnOk, IfOk, IfSome, IfNone, All, length};
 ghost use Rattle.hierarchy.specs.Shape.{nodes_of};
 ghost use Rattle.place.specs.Choices.{AreWires};
-ghost use Rattle.place.specs.Layouts.{GoOn, HoldOn, IsBoardOf, IsLackOf, IsNodesRoom, IsRoom, IsRoomAt, LinesAreShort, NodeIsShort, net_in, visit_by};
+ghost use Rattle.place.specs.Layouts.{GoOn, HoldOn, IsBoardOf, IsLackOf, IsNodesRoom, IsRoom, IsRoomAt, LinesAreShort, NodeIsShort, net_in};
+ghost use Rattle.place.specs.Layouts.{visit_by};
 ghost use Rattle.place.specs.Room.{HasTerminal};
 
 use crate::assign::assign;
@@ -59,8 +60,10 @@ fn choose_lines(
     requires node { node < nodes_of defects.now.shape }
     requires within { All (AreWires defects.now.shape) nets.now }
     requires board { IsBoardOf defects.now nets.now board.now }
-    ensures given { IfOk result (λ o. IfNone o (GoOn defects.now.shape defects.now.list (length nets.now) (HasTerminal nets.now) node visits.old.items visits.new.items)) }
-    ensures short { IfOk result (λ o. IfSome o (LinesAreShort defects.now.shape defects.now.list (length nets.now) (HasTerminal nets.now) node)) }
+    ensures given { IfOk result (λ o. IfNone o (GoOn defects.now.shape defects.now.list (length nets.now)
+        (HasTerminal nets.now) node visits.old.items visits.new.items)) }
+    ensures short { IfOk result (λ o. IfSome o (LinesAreShort defects.now.shape defects.now.list (length nets.now)
+        (HasTerminal nets.now) node)) }
 {
     hierarchy::the_numbering_is_sound();
     hierarchy::the_crosspoints_are_sound();
@@ -140,8 +143,10 @@ fn node_room(
     requires node { node < nodes_of defects.now.shape }
     requires within { All (AreWires defects.now.shape) nets.now }
     requires board { IsBoardOf defects.now nets.now board.now }
-    ensures enough { IfOk result (λ o. IfNone o (IsRoomAt defects.now.shape defects.now.list (length nets.now) (HasTerminal nets.now) node held.old.items visits.old.items held.new.items visits.new.items)) }
-    ensures short { IfOk result (λ o. IfSome o (NodeIsShort defects.now.shape defects.now.list (length nets.now) (HasTerminal nets.now) node)) }
+    ensures enough { IfOk result (λ o. IfNone o (IsRoomAt defects.now.shape defects.now.list (length nets.now)
+        (HasTerminal nets.now) node held.old.items visits.old.items held.new.items visits.new.items)) }
+    ensures short { IfOk result (λ o. IfSome o (NodeIsShort defects.now.shape defects.now.list (length nets.now)
+        (HasTerminal nets.now) node)) }
 {
     let crossing = board.crossing[node as usize].as_slice();
     let ports = board.ports[node as usize].as_slice();

@@ -1,8 +1,10 @@
 //! A line for each net that asks for one, by augmenting paths, or a set of nets that shows that lines are short.
-ghost use Rattle.std.specs.Prelude.{◌≡◌, ℕ, ◌+◌, ◌<◌, true, List, [], ◌∷◌, ◌++◌, OnOk, IfOk, IfSome, IfNone, MatchOption, All, Contains, Option, length};
+ghost use Rattle.std.specs.Prelude.{◌≡◌, ℕ, ◌+◌, ◌<◌, true, List, [], ◌∷◌, ◌++◌, OnOk, IfOk, IfSome, IfNone, MatchOption, All, Contains};
+ghost use Rattle.std.specs.Prelude.{Option, length};
 ghost use Rattle.hierarchy.specs.Shape.{wires_of};
 ghost use Rattle.place.specs.Choices.{AreWires, IsSite, is_shut, serves_all, serves_by};
-ghost use Rattle.place.specs.Search.{AreScanned, AreSeen, AskWithin, CanShift, GoesOn, IsDeadEnd, IsFree, IsPartial, IsShifted, IsStuck, IsTrail, OwnWithin, line_at, step_at};
+ghost use Rattle.place.specs.Search.{AreScanned, AreSeen, AskWithin, CanShift, GoesOn, IsDeadEnd, IsFree, IsPartial, IsShifted, IsStuck};
+ghost use Rattle.place.specs.Search.{IsTrail, OwnWithin, line_at, step_at};
 
 use defect_db::Defects;
 use hierarchy::Wire;
@@ -119,7 +121,9 @@ fn scan(
     ensures trail { OnOk result (IsTrail (serves_by defects.now asks.now) lines.now owners.now steps.new.items) }
     ensures marks { OnOk result (AreSeen lines.now steps.new.items seen.new) }
     ensures on { OnOk result (GoesOn steps.old.items steps.new.items) }
-    ensures found { IfOk result (λ r. MatchOption r (AreScanned (serves_by defects.now asks.now) lines.now steps.new.items seen.new (h + 1)) (λ j. IsFree (serves_by defects.now asks.now) lines.now owners.now steps.new.items h j)) }
+    ensures found { IfOk result (λ r. MatchOption r
+        (AreScanned (serves_by defects.now asks.now) lines.now steps.new.items seen.new (h + 1))
+        (λ j. IsFree (serves_by defects.now asks.now) lines.now owners.now steps.new.items h j)) }
 {
     let ask = steps[h].ask;
     for j in 0..lines.len() {
@@ -172,7 +176,8 @@ fn search(
     requires own { OwnWithin (length asks.now) owners.now }
     ensures trail { IfOk result (λ f. IsTrail (serves_by defects.now asks.now) lines.now owners.now f.steps.items) }
     ensures first { IfOk result (λ f. (step_at f.steps.items 0).ask ≡ ask) }
-    ensures found { IfOk result (λ f. MatchOption f.line (IsStuck (serves_by defects.now asks.now) lines.now f.steps.items) (λ j. IsFree (serves_by defects.now asks.now) lines.now owners.now f.steps.items f.from j)) }
+    ensures found { IfOk result (λ f. MatchOption f.line (IsStuck (serves_by defects.now asks.now) lines.now f.steps.items)
+        (λ j. IsFree (serves_by defects.now asks.now) lines.now owners.now f.steps.items f.from j)) }
 {
     let mut seen = vec![in alloc; false; lines.len()]?;
     let mut steps = Vec::new(alloc);
@@ -215,7 +220,8 @@ pub fn give(
     requires ask { ask < length asks.now }
     requires own { OwnWithin (length asks.now) owners.old }
     ensures sized { length owners.new ≡ length owners.old }
-    ensures given { IfOk result (λ r. IfNone r ((done : List ℕ) → IsPartial (serves_by defects.now asks.now) lines.now done owners.old → ¬ Contains done ask →
+    ensures given { IfOk result (λ r. IfNone r ((done : List ℕ) → IsPartial (serves_by defects.now asks.now) lines.now done owners.old →
+        ¬ Contains done ask →
         IsPartial (serves_by defects.now asks.now) lines.now (done ++ ask ∷ []) owners.new)) }
     ensures none { IfOk result (λ r. IfSome r (λ steps. IsDeadEnd (serves_by defects.now asks.now) lines.now owners.old ask steps.items)) }
 {

@@ -2,7 +2,8 @@
 ghost use Rattle.std.specs.Prelude.{◌≡◌, ◌+◌, ◌^◌, ◌<◌, ◌≤◌, ◌++◌, ◌∷◌, [], All, IfOk, OnOk, length, map, slice_set};
 ghost use Rattle.hierarchy.specs.Shape.{pins_of, tables_of};
 ghost use Rattle.place.specs.Plans.{IsPlan, net_by, number_of};
-ghost use Rattle.place.specs.Terminals.{AreGrouped, ArePlanNets, IsSized, NetsBelow, all_terminals, drives_of, gives_of, reads_of, reads_to, shows_of};
+ghost use Rattle.place.specs.Terminals.{AreGrouped, ArePlanNets, IsSized, NetsBelow, all_terminals, drives_of, gives_of, reads_of};
+ghost use Rattle.place.specs.Terminals.{reads_to, shows_of};
 ghost use Rattle.place.specs.Touches.{list_at};
 ghost use Rattle.table_map.specs.Networks.{IsNetwork};
 
@@ -56,7 +57,8 @@ fn push_gives(
 ) -> Result<(), AllocError>
     requires nets { inputs + length places.now < 2 ^ 32 }
     requires within { All (λ t. t < tables_of shape.now) (map number_of places.now) }
-    ensures { OnOk result (terminals.new.items ≡ terminals.old.items ++ gives_of shape.now inputs (map number_of places.now) (length places.now)) }
+    ensures { OnOk result (terminals.new.items ≡ terminals.old.items ++ gives_of shape.now inputs (map number_of places.now)
+        (length places.now)) }
 {
     for j in 0..places.len() {
         terminals.push(Terminal {
@@ -78,7 +80,8 @@ fn push_reads(
     requires within { place.0 < tables_of shape.now }
     requires few { length sources.now ≤ 6 }
     requires nets { NetsBelow inputs (2 ^ 32) sources.now }
-    ensures { OnOk result (terminals.new.items ≡ terminals.old.items ++ reads_of shape.now inputs place.0 sources.now (length sources.now)) }
+    ensures { OnOk result (terminals.new.items ≡ terminals.old.items ++ reads_of shape.now inputs place.0 sources.now
+        (length sources.now)) }
 {
     for k in 0..sources.len() {
         terminals.push(Terminal {
@@ -99,7 +102,8 @@ fn push_all_reads(
     requires lengths { length network.now.tables ≡ length places.now }
     requires within { All (λ t. t < tables_of shape.now) (map number_of places.now) }
     requires nets { All (λ t. NetsBelow network.now.inputs (2 ^ 32) t.ins) network.now.tables }
-    ensures { OnOk result (terminals.new.items ≡ terminals.old.items ++ reads_to shape.now network.now (map number_of places.now) (length places.now)) }
+    ensures { OnOk result (terminals.new.items ≡ terminals.old.items ++ reads_to shape.now network.now (map number_of places.now)
+        (length places.now)) }
 {
     for j in 0..places.len() {
         let table = &network.tables.as_slice()[j];

@@ -1,5 +1,5 @@
 -- The nets of a configuration, by the lowest wires of its groups.
-use Rattle.std.proofs.Common.{◌≡◌, ◌≢◌, ◌⊎◌, ℕ, ◌<◌, ◌≤◌, true, false, List, length, get_or, refl, sym, ap, ◌∙◌, subst, inl, inr, arith}
+use Rattle.std.proofs.Common.{◌≡◌, ◌≢◌, ◌⊎◌, ℕ, ◌<◌, ◌≤◌, true, List, length, get_or, refl, sym, ap, ◌∙◌, subst, inl, inr, arith}
 use Rattle.std.specs.List.{All, Contains}
 use Rattle.hierarchy.specs.Shape.{Ends, in_order, turned, ends_of, wires_of}
 use Rattle.hierarchy.specs.Laws.{IsNumbered}

@@ -1,7 +1,8 @@
 //! A rig that fails at chosen calls.
 ghost use Rattle.std.specs.Prelude.{◌≡◌, ◌⊎◌, ◌-◌, ◌^◌, ◌<◌, ◌≤◌, [], None, Some, min, length, IfErr, OnOk, OnErr, IsErrOf};
 ghost use Rattle.tm_outside.specs.Counts.{Rose, next_count};
-ghost use Rattle.rig.specs.Rig.{Asked, shape_of, width_of, IsDetached, Attaches, AttachFails, HasFaultsOf, Begins, LoadFails, GoesOn, CycleFails};
+ghost use Rattle.rig.specs.Rig.{Asked, shape_of, width_of, IsDetached, Attaches, AttachFails, HasFaultsOf, Begins, LoadFails, GoesOn};
+ghost use Rattle.rig.specs.Rig.{CycleFails};
 ghost use Rattle.rig.specs.Flaky.{flaky_state, IsChosen, WantsMemory};
 
 use crate::{AskedMachines, AttachFail, PinBits, Rig, RigFail};
@@ -57,23 +58,29 @@ impl<R: Rig> Rig for FlakyRig<R> {
     ghost rig_state = { λ s. flaky_state (R.rig_state s.inner) s.asked s.is_attached s.in_session s.failures };
 
     fn attach(&mut self, shape: &Shape, name: &str) -> Result<(), AttachFail>
-        ensures texts { (⟦<FlakyRig<R> as Rig>⟧.rig_state self.new).machine.texts ≡ (⟦<FlakyRig<R> as Rig>⟧.rig_state self.old).machine.texts }
+        ensures texts { (⟦<FlakyRig<R> as Rig>⟧.rig_state self.new).machine.texts ≡
+            (⟦<FlakyRig<R> as Rig>⟧.rig_state self.old).machine.texts }
         ensures loads { (⟦<FlakyRig<R> as Rig>⟧.rig_state self.new).loads ≡ (⟦<FlakyRig<R> as Rig>⟧.rig_state self.old).loads }
         ensures later { (⟦<FlakyRig<R> as Rig>⟧.rig_state self.old).failures ≤ (⟦<FlakyRig<R> as Rig>⟧.rig_state self.new).failures }
         ensures count { (⟦<FlakyRig<R> as Rig>⟧.rig_state self.new).failures < 2 ^ 64 }
-        ensures attached { OnOk result (Attaches (record { shape = shape.now; name = name.now }) (⟦<FlakyRig<R> as Rig>⟧.rig_state self.old) (⟦<FlakyRig<R> as Rig>⟧.rig_state self.new)) }
+        ensures attached { OnOk result (Attaches (record { shape = shape.now; name = name.now })
+            (⟦<FlakyRig<R> as Rig>⟧.rig_state self.old) (⟦<FlakyRig<R> as Rig>⟧.rig_state self.new)) }
         ensures detached { OnErr result (IsDetached (⟦<FlakyRig<R> as Rig>⟧.rig_state self.new)) }
-        ensures refused { IfErr result (λ e. AttachFails e (record { shape = shape.now; name = name.now }) (⟦<FlakyRig<R> as Rig>⟧.rig_state self.old) (⟦<FlakyRig<R> as Rig>⟧.rig_state self.new)) }
+        ensures refused { IfErr result (λ e. AttachFails e (record { shape = shape.now; name = name.now })
+            (⟦<FlakyRig<R> as Rig>⟧.rig_state self.old) (⟦<FlakyRig<R> as Rig>⟧.rig_state self.new)) }
 
         // A chosen call fails and doesn't reach the inner rig; another call fails only where that one's count rose.
         // It is short of memory without reaching the inner rig, or because that one is.
         ensures fails { self.new.fails.items ≡ self.old.fails.items }
         ensures calls { self.new.calls ≡ next_count self.old.calls }
-        ensures chosen { IsChosen self.old.fails.items self.old.calls → IsErrOf result AttachFail.Failed ⊎ IsErrOf result AttachFail.Memory }
+        ensures chosen { IsChosen self.old.fails.items self.old.calls → IsErrOf result AttachFail.Failed
+            ⊎ IsErrOf result AttachFail.Memory }
         ensures unreached { IsChosen self.old.fails.items self.old.calls → R.rig_state self.new.inner ≡ R.rig_state self.old.inner }
-        ensures failed { IsErrOf result AttachFail.Failed → IsChosen self.old.fails.items self.old.calls ⊎ Rose (R.rig_state self.old.inner).failures (R.rig_state self.new.inner).failures }
+        ensures failed { IsErrOf result AttachFail.Failed → IsChosen self.old.fails.items self.old.calls
+            ⊎ Rose (R.rig_state self.old.inner).failures (R.rig_state self.new.inner).failures }
         ensures wanting { let machine : Asked = record { shape = shape.now; name = name.now } in
-            IsErrOf result AttachFail.Memory → (R.rig_state self.new.inner ≡ R.rig_state self.old.inner) ⊎ WantsMemory machine (R.rig_state self.old.inner) (R.rig_state self.new.inner) }
+            IsErrOf result AttachFail.Memory → (R.rig_state self.new.inner ≡ R.rig_state self.old.inner)
+            ⊎ WantsMemory machine (R.rig_state self.old.inner) (R.rig_state self.new.inner) }
     {
         self.is_attached = false;
         self.in_session = false;
@@ -106,17 +113,21 @@ impl<R: Rig> Rig for FlakyRig<R> {
         ensures count { (⟦<FlakyRig<R> as Rig>⟧.rig_state self.new).failures < 2 ^ 64 }
         ensures begins { OnOk result (Begins config.now.config room (⟦<FlakyRig<R> as Rig>⟧.rig_state self.new)) }
         ensures told { OnOk result (HasFaultsOf config.now.config.shape (⟦<FlakyRig<R> as Rig>⟧.rig_state self.new)) }
-        ensures counted { OnOk result ((⟦<FlakyRig<R> as Rig>⟧.rig_state self.new).loads ≡ next_count (⟦<FlakyRig<R> as Rig>⟧.rig_state self.old).loads) }
+        ensures counted { OnOk result ((⟦<FlakyRig<R> as Rig>⟧.rig_state self.new).loads ≡ next_count
+            (⟦<FlakyRig<R> as Rig>⟧.rig_state self.old).loads) }
         ensures ended { OnErr result ((⟦<FlakyRig<R> as Rig>⟧.rig_state self.new).session ≡ None) }
-        ensures not_counted { OnErr result ((⟦<FlakyRig<R> as Rig>⟧.rig_state self.new).loads ≡ (⟦<FlakyRig<R> as Rig>⟧.rig_state self.old).loads) }
-        ensures refused { IfErr result (λ e. LoadFails e (⟦<FlakyRig<R> as Rig>⟧.rig_state self.old) (⟦<FlakyRig<R> as Rig>⟧.rig_state self.new)) }
+        ensures not_counted { OnErr result ((⟦<FlakyRig<R> as Rig>⟧.rig_state self.new).loads ≡
+            (⟦<FlakyRig<R> as Rig>⟧.rig_state self.old).loads) }
+        ensures refused { IfErr result (λ e. LoadFails e (⟦<FlakyRig<R> as Rig>⟧.rig_state self.old)
+            (⟦<FlakyRig<R> as Rig>⟧.rig_state self.new)) }
 
         // A chosen call fails and doesn't reach the inner rig; another call fails only where that one's count rose.
         ensures fails { self.new.fails.items ≡ self.old.fails.items }
         ensures calls { self.new.calls ≡ next_count self.old.calls }
         ensures chosen { IsChosen self.old.fails.items self.old.calls → IsErrOf result RigFail.Failed }
         ensures unreached { IsChosen self.old.fails.items self.old.calls → R.rig_state self.new.inner ≡ R.rig_state self.old.inner }
-        ensures failed { IsErrOf result RigFail.Failed → IsChosen self.old.fails.items self.old.calls ⊎ Rose (R.rig_state self.old.inner).failures (R.rig_state self.new.inner).failures }
+        ensures failed { IsErrOf result RigFail.Failed → IsChosen self.old.fails.items self.old.calls
+            ⊎ Rose (R.rig_state self.old.inner).failures (R.rig_state self.new.inner).failures }
     {
         self.in_session = false;
         self.calls = self.calls.saturating_add(1);
@@ -138,16 +149,19 @@ impl<R: Rig> Rig for FlakyRig<R> {
         ensures later { (⟦<FlakyRig<R> as Rig>⟧.rig_state self.old).failures ≤ (⟦<FlakyRig<R> as Rig>⟧.rig_state self.new).failures }
         ensures count { (⟦<FlakyRig<R> as Rig>⟧.rig_state self.new).failures < 2 ^ 64 }
         ensures length { length read.new ≡ length read.old }
-        ensures cycles { OnOk result (GoesOn drive.now read.new (⟦<FlakyRig<R> as Rig>⟧.rig_state self.old) (⟦<FlakyRig<R> as Rig>⟧.rig_state self.new)) }
+        ensures cycles { OnOk result (GoesOn drive.now read.new (⟦<FlakyRig<R> as Rig>⟧.rig_state self.old)
+            (⟦<FlakyRig<R> as Rig>⟧.rig_state self.new)) }
         ensures kept { OnErr result (read.new ≡ read.old) }
-        ensures refused { IfErr result (λ e. CycleFails e (⟦<FlakyRig<R> as Rig>⟧.rig_state self.old) (⟦<FlakyRig<R> as Rig>⟧.rig_state self.new)) }
+        ensures refused { IfErr result (λ e. CycleFails e (⟦<FlakyRig<R> as Rig>⟧.rig_state self.old)
+            (⟦<FlakyRig<R> as Rig>⟧.rig_state self.new)) }
 
         // A chosen call fails and doesn't reach the inner rig; another call fails only where that one's count rose.
         ensures fails { self.new.fails.items ≡ self.old.fails.items }
         ensures calls { self.new.calls ≡ next_count self.old.calls }
         ensures chosen { IsChosen self.old.fails.items self.old.calls → IsErrOf result RigFail.Failed }
         ensures unreached { IsChosen self.old.fails.items self.old.calls → R.rig_state self.new.inner ≡ R.rig_state self.old.inner }
-        ensures failed { IsErrOf result RigFail.Failed → IsChosen self.old.fails.items self.old.calls ⊎ Rose (R.rig_state self.old.inner).failures (R.rig_state self.new.inner).failures }
+        ensures failed { IsErrOf result RigFail.Failed → IsChosen self.old.fails.items self.old.calls
+            ⊎ Rose (R.rig_state self.old.inner).failures (R.rig_state self.new.inner).failures }
     {
         self.calls = self.calls.saturating_add(1);
         if self.fails.contains(&self.calls) {

@@ -31,9 +31,11 @@ impl<R: Rig> Rig for LogRig<R> {
         ensures loads { (⟦<LogRig<R> as Rig>⟧.rig_state self.new).loads ≡ (⟦<LogRig<R> as Rig>⟧.rig_state self.old).loads }
         ensures later { (⟦<LogRig<R> as Rig>⟧.rig_state self.old).failures ≤ (⟦<LogRig<R> as Rig>⟧.rig_state self.new).failures }
         ensures count { (⟦<LogRig<R> as Rig>⟧.rig_state self.new).failures < 2 ^ 64 }
-        ensures attached { OnOk result (Attaches (record { shape = shape.now; name = name.now }) (⟦<LogRig<R> as Rig>⟧.rig_state self.old) (⟦<LogRig<R> as Rig>⟧.rig_state self.new)) }
+        ensures attached { OnOk result (Attaches (record { shape = shape.now; name = name.now }) (⟦<LogRig<R> as Rig>⟧.rig_state self.old)
+            (⟦<LogRig<R> as Rig>⟧.rig_state self.new)) }
         ensures detached { OnErr result (IsDetached (⟦<LogRig<R> as Rig>⟧.rig_state self.new)) }
-        ensures refused { IfErr result (λ e. AttachFails e (record { shape = shape.now; name = name.now }) (⟦<LogRig<R> as Rig>⟧.rig_state self.old) (⟦<LogRig<R> as Rig>⟧.rig_state self.new)) }
+        ensures refused { IfErr result (λ e. AttachFails e (record { shape = shape.now; name = name.now })
+            (⟦<LogRig<R> as Rig>⟧.rig_state self.old) (⟦<LogRig<R> as Rig>⟧.rig_state self.new)) }
 
         ensures inner_loads { (R.rig_state self.new.inner).loads ≡ (R.rig_state self.old.inner).loads }
     {
@@ -49,10 +51,13 @@ impl<R: Rig> Rig for LogRig<R> {
         ensures count { (⟦<LogRig<R> as Rig>⟧.rig_state self.new).failures < 2 ^ 64 }
         ensures begins { OnOk result (Begins config.now.config room (⟦<LogRig<R> as Rig>⟧.rig_state self.new)) }
         ensures told { OnOk result (HasFaultsOf config.now.config.shape (⟦<LogRig<R> as Rig>⟧.rig_state self.new)) }
-        ensures counted { OnOk result ((⟦<LogRig<R> as Rig>⟧.rig_state self.new).loads ≡ next_count (⟦<LogRig<R> as Rig>⟧.rig_state self.old).loads) }
+        ensures counted { OnOk result ((⟦<LogRig<R> as Rig>⟧.rig_state self.new).loads ≡ next_count
+            (⟦<LogRig<R> as Rig>⟧.rig_state self.old).loads) }
         ensures ended { OnErr result ((⟦<LogRig<R> as Rig>⟧.rig_state self.new).session ≡ None) }
-        ensures not_counted { OnErr result ((⟦<LogRig<R> as Rig>⟧.rig_state self.new).loads ≡ (⟦<LogRig<R> as Rig>⟧.rig_state self.old).loads) }
-        ensures refused { IfErr result (λ e. LoadFails e (⟦<LogRig<R> as Rig>⟧.rig_state self.old) (⟦<LogRig<R> as Rig>⟧.rig_state self.new)) }
+        ensures not_counted { OnErr result ((⟦<LogRig<R> as Rig>⟧.rig_state self.new).loads ≡
+            (⟦<LogRig<R> as Rig>⟧.rig_state self.old).loads) }
+        ensures refused { IfErr result (λ e. LoadFails e (⟦<LogRig<R> as Rig>⟧.rig_state self.old)
+            (⟦<LogRig<R> as Rig>⟧.rig_state self.new)) }
 
         ensures passed_on { OnOk result ((R.rig_state self.new.inner).loads ≡ next_count (R.rig_state self.old.inner).loads) }
         ensures not_passed_on { OnErr result ((R.rig_state self.new.inner).loads ≡ (R.rig_state self.old.inner).loads) }
@@ -72,9 +77,11 @@ impl<R: Rig> Rig for LogRig<R> {
         ensures later { (⟦<LogRig<R> as Rig>⟧.rig_state self.old).failures ≤ (⟦<LogRig<R> as Rig>⟧.rig_state self.new).failures }
         ensures count { (⟦<LogRig<R> as Rig>⟧.rig_state self.new).failures < 2 ^ 64 }
         ensures length { length read.new ≡ length read.old }
-        ensures cycles { OnOk result (GoesOn drive.now read.new (⟦<LogRig<R> as Rig>⟧.rig_state self.old) (⟦<LogRig<R> as Rig>⟧.rig_state self.new)) }
+        ensures cycles { OnOk result (GoesOn drive.now read.new (⟦<LogRig<R> as Rig>⟧.rig_state self.old)
+            (⟦<LogRig<R> as Rig>⟧.rig_state self.new)) }
         ensures kept { OnErr result (read.new ≡ read.old) }
-        ensures refused { IfErr result (λ e. CycleFails e (⟦<LogRig<R> as Rig>⟧.rig_state self.old) (⟦<LogRig<R> as Rig>⟧.rig_state self.new)) }
+        ensures refused { IfErr result (λ e. CycleFails e (⟦<LogRig<R> as Rig>⟧.rig_state self.old)
+            (⟦<LogRig<R> as Rig>⟧.rig_state self.new)) }
 
         ensures inner_loads { (R.rig_state self.new.inner).loads ≡ (R.rig_state self.old.inner).loads }
     {

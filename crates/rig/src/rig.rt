@@ -1,7 +1,8 @@
 //! A rig as a trait.
 ghost use Rattle.std.specs.Prelude.{◌≡◌, ◌^◌, ◌<◌, ◌≤◌, None, Some, IfErr, OnOk, OnErr, length};
 ghost use Rattle.tm_outside.specs.Counts.{next_count};
-ghost use Rattle.rig.specs.Rig.{RigState, shape_of, width_of, IsDetached, Attaches, AttachFails, HasFaultsOf, Begins, LoadFails, GoesOn, CycleFails};
+ghost use Rattle.rig.specs.Rig.{RigState, shape_of, width_of, IsDetached, Attaches, AttachFails, HasFaultsOf, Begins, LoadFails, GoesOn};
+ghost use Rattle.rig.specs.Rig.{CycleFails};
 
 use crate::PinBits;
 use config_set::Config;
@@ -59,9 +60,11 @@ pub trait Rig: Drop {
         ensures loads { (rig_state self.new).loads ≡ (rig_state self.old).loads }
         ensures later { (rig_state self.old).failures ≤ (rig_state self.new).failures }
         ensures count { (rig_state self.new).failures < 2 ^ 64 }
-        ensures attached { OnOk result (Attaches (record { shape = shape.now; name = name.now }) (rig_state self.old) (rig_state self.new)) }
+        ensures attached { OnOk result (Attaches (record { shape = shape.now; name = name.now }) (rig_state self.old)
+            (rig_state self.new)) }
         ensures detached { OnErr result (IsDetached (rig_state self.new)) }
-        ensures refused { IfErr result (λ e. AttachFails e (record { shape = shape.now; name = name.now }) (rig_state self.old) (rig_state self.new)) };
+        ensures refused { IfErr result (λ e. AttachFails e (record { shape = shape.now; name = name.now }) (rig_state self.old)
+            (rig_state self.new)) };
 
     /// Begins a session with this configuration, no cycles, and room for at least `room` of them. Where the faults
     /// are told, they are faults of its shape. A refusal leaves no session. After `Failed` the count rose.

@@ -71,7 +71,8 @@ fn gather_tap(
     requires bar { IsHeld proof.now bar.now }
     requires right { AreRoutesTo proof.now u.0 routes.old.items }
     ensures takes { OnOk result (TakesRoutes proof.now u.0 routes.old.items routes.new.items) }
-    ensures has { OnOk result ((o : ℕ × ℕ) → bar.now.open_pair ≡ Some o → among bar.now.taps u.0 ≡ true → HasBoth proof.now tested.now routes.new.items bar.now o u.0 (u.0, u.0) false) }
+    ensures has { OnOk result ((o : ℕ × ℕ) → bar.now.open_pair ≡ Some o → among bar.now.taps u.0 ≡ true →
+        HasBoth proof.now tested.now routes.new.items bar.now o u.0 (u.0, u.0) false) }
     ensures memory { IsErrOf result RigFail.Failed → ⊥ }
 {
     let Some(pair) = bar.open_pair() else {
@@ -141,7 +142,8 @@ fn gather_bars(
     requires held { AreHeld proof.now tested.now }
     requires right { AreRoutesTo proof.now u.0 routes.old.items }
     ensures takes { OnOk result (TakesRoutes proof.now u.0 routes.old.items routes.new.items) }
-    ensures has { OnOk result ((i : ℕ) (t : Findings) → slice_get tested.now i ≡ Some t → HasBar proof.now tested.now routes.new.items u.0 t) }
+    ensures has { OnOk result ((i : ℕ) (t : Findings) → slice_get tested.now i ≡ Some t →
+        HasBar proof.now tested.now routes.new.items u.0 t) }
     ensures memory { IsErrOf result RigFail.Failed → ⊥ }
 {
     'bars: for i in 0..tested.len() {
@@ -175,7 +177,8 @@ fn gather_pin(alloc: Global, routes: &mut Vec<Route>, proof: &Proof, u: Wire) ->
     requires known { keeps_wire proof.now u.0 ≡ true }
     requires right { AreRoutesTo proof.now u.0 routes.old.items }
     ensures takes { OnOk result (TakesRoutes proof.now u.0 routes.old.items routes.new.items) }
-    ensures has { OnOk result ((j : ℕ) → j < pins_of proof.now.shape → u.0 ≡ pin_wire proof.now.shape j → HasRoute routes.new.items (u.0 ∷ [])) }
+    ensures has { OnOk result ((j : ℕ) → j < pins_of proof.now.shape → u.0 ≡ pin_wire proof.now.shape j →
+        HasRoute routes.new.items (u.0 ∷ [])) }
     ensures memory { IsErrOf result RigFail.Failed → ⊥ }
 {
     let shape = proof.shape();

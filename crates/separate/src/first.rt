@@ -113,7 +113,8 @@ fn side_to_tap(
     requires pair { bar.now.open_pair ≡ Some (pair.0.0, pair.1.0) }
     requires tap { among bar.now.taps u.0 ≡ true }
     ensures right { IfOk result (IsRouteTo proof.now u.0) }
-    ensures wires { IfOk result (λ r. r.wires ≡ (trunk_side bar.now left).wires ++ tap_way (pick left (pair.0.0, pair.1.0)) (trunk_side bar.now left).end u.0) }
+    ensures wires { IfOk result (λ r. r.wires ≡ (trunk_side bar.now left).wires ++ tap_way (pick left (pair.0.0, pair.1.0))
+        (trunk_side bar.now left).end u.0) }
     ensures memory { IsErrOf result RigFail.Failed → ⊥ }
 {
     the_numbering_serves();
@@ -163,7 +164,8 @@ fn tap_first(
     requires pair { bar.now.open_pair ≡ Some (pair.0.0, pair.1.0) }
     requires tap { among bar.now.taps u.0 ≡ true }
     ensures right { IfOk result (λ routes. AreRoutesTo proof.now u.0 routes.items) }
-    ensures two { IfOk result (λ routes. AreTwoRoutes routes.items (bar.now.left.wires ++ tap_way pair.0.0 bar.now.left.end u.0) (bar.now.right.wires ++ tap_way pair.1.0 bar.now.right.end u.0)) }
+    ensures two { IfOk result (λ routes. AreTwoRoutes routes.items (bar.now.left.wires ++ tap_way pair.0.0 bar.now.left.end u.0)
+        (bar.now.right.wires ++ tap_way pair.1.0 bar.now.right.end u.0)) }
     ensures memory { IsErrOf result RigFail.Failed → ⊥ }
 {
     let first = match side_to_tap(alloc, proof, bar, pair, u, true) {

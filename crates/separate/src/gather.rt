@@ -7,7 +7,8 @@ ghost use Rattle.evidence.specs.Kept.{keeps_wire};
 ghost use Rattle.separate.specs.Separated.{AreHeld};
 ghost use Rattle.separate.specs.Growing.{IsKnownRoute};
 ghost use Rattle.separate.specs.Tested.{pick};
-ghost use Rattle.separate.specs.Trials.{AreRoutesTo, HasBoth, HasFoot, HasOver, HasOwn, HasRoute, HasTurnAt, HasTurnPlace, HasTurns, HasWay, IsAim, IsMeeting, TakesRoutes, tail_of, tap_way, trunk_side, turned_way};
+ghost use Rattle.separate.specs.Trials.{AreRoutesTo, HasBoth, HasFoot, HasOver, HasOwn, HasRoute, HasTurnAt, HasTurnPlace, HasTurns};
+ghost use Rattle.separate.specs.Trials.{HasWay, IsAim, IsMeeting, TakesRoutes, tail_of, tap_way, trunk_side, turned_way};
 
 use crate::grow::take;
 use crate::laws::the_numbering_serves;
@@ -98,7 +99,8 @@ fn put_foot(
     requires way { IsKnownRoute proof.now way.now }
     requires end { among bar.now.taps way.now.end ≡ true }
     ensures takes { OnOk result (TakesRoutes proof.now aim.wire.0 routes.old.items routes.new.items) }
-    ensures has { OnOk result (HasFoot routes.new.items aim.wire.0 aim.line way.now.wires (tap_way (pick z (pair.0.0, pair.1.0)) way.now.end (pick j (aim.feet.0.0, aim.feet.1.0)))) }
+    ensures has { OnOk result (HasFoot routes.new.items aim.wire.0 aim.line way.now.wires
+        (tap_way (pick z (pair.0.0, pair.1.0)) way.now.end (pick j (aim.feet.0.0, aim.feet.1.0)))) }
     ensures memory { IsErrOf result RigFail.Failed → ⊥ }
 {
     the_numbering_serves();
@@ -132,7 +134,8 @@ fn put_way(
     requires way { IsKnownRoute proof.now way.now }
     requires end { among bar.now.taps way.now.end ≡ true }
     ensures takes { OnOk result (TakesRoutes proof.now aim.wire.0 routes.old.items routes.new.items) }
-    ensures has { OnOk result (HasWay routes.new.items (pair.0.0, pair.1.0) way.now.end aim.wire.0 (aim.feet.0.0, aim.feet.1.0) aim.line way.now.wires) }
+    ensures has { OnOk result (HasWay routes.new.items (pair.0.0, pair.1.0) way.now.end aim.wire.0
+        (aim.feet.0.0, aim.feet.1.0) aim.line way.now.wires) }
     ensures memory { IsErrOf result RigFail.Failed → ⊥ }
 {
     match put_foot(alloc, routes, proof, bar, pair, aim, way, true, true) {
@@ -167,7 +170,10 @@ fn put_crossed(
     requires aim { IsAim proof.now bar.now (pair.0.0, pair.1.0) aim.wire.0 (aim.feet.0.0, aim.feet.1.0) aim.line }
     requires right { AreRoutesTo proof.now aim.wire.0 routes.old.items }
     ensures takes { OnOk result (TakesRoutes proof.now aim.wire.0 routes.old.items routes.new.items) }
-    ensures has { OnOk result (HasFoot routes.new.items aim.wire.0 aim.line (trunk_side bar.now true).wires (tap_way (pick z (pair.0.0, pair.1.0)) (trunk_side bar.now true).end (pick j (aim.feet.0.0, aim.feet.1.0))) × HasFoot routes.new.items aim.wire.0 aim.line (trunk_side bar.now false).wires (tap_way (pick (not z) (pair.0.0, pair.1.0)) (trunk_side bar.now false).end (pick (not j) (aim.feet.0.0, aim.feet.1.0)))) }
+    ensures has { OnOk result (HasFoot routes.new.items aim.wire.0 aim.line (trunk_side bar.now true).wires
+        (tap_way (pick z (pair.0.0, pair.1.0)) (trunk_side bar.now true).end (pick j (aim.feet.0.0, aim.feet.1.0)))
+        × HasFoot routes.new.items aim.wire.0 aim.line (trunk_side bar.now false).wires
+        (tap_way (pick (not z) (pair.0.0, pair.1.0)) (trunk_side bar.now false).end (pick (not j) (aim.feet.0.0, aim.feet.1.0)))) }
     ensures memory { IsErrOf result RigFail.Failed → ⊥ }
 {
     match put_foot(
@@ -257,7 +263,8 @@ fn put_turn(
     requires place { place < length side.now.wires }
     requires tap { (r : ℕ) → slice_get side.now.wires place ≡ Some r → among other.now.taps r ≡ true }
     ensures takes { OnOk result (TakesRoutes proof.now aim.wire.0 routes.old.items routes.new.items) }
-    ensures has { OnOk result (HasWay routes.new.items (pair.0.0, pair.1.0) side.now.end aim.wire.0 (aim.feet.0.0, aim.feet.1.0) aim.line (turned_way other.now (pick z (turns.0.0, turns.1.0)) j side.now place)) }
+    ensures has { OnOk result (HasWay routes.new.items (pair.0.0, pair.1.0) side.now.end aim.wire.0 (aim.feet.0.0, aim.feet.1.0) aim.line
+        (turned_way other.now (pick z (turns.0.0, turns.1.0)) j side.now place)) }
     ensures memory { IsErrOf result RigFail.Failed → ⊥ }
 {
     let way = match turn(alloc, proof, other, turns, j, z, side, place) {
@@ -292,7 +299,8 @@ fn put_turn_at(
     requires place { place < length side.now.wires }
     requires tap { (r : ℕ) → slice_get side.now.wires place ≡ Some r → among other.now.taps r ≡ true }
     ensures takes { OnOk result (TakesRoutes proof.now aim.wire.0 routes.old.items routes.new.items) }
-    ensures has { OnOk result (HasTurnAt routes.new.items (pair.0.0, pair.1.0) aim.wire.0 (aim.feet.0.0, aim.feet.1.0) aim.line side.now other.now (turns.0.0, turns.1.0) place) }
+    ensures has { OnOk result (HasTurnAt routes.new.items (pair.0.0, pair.1.0) aim.wire.0
+        (aim.feet.0.0, aim.feet.1.0) aim.line side.now other.now (turns.0.0, turns.1.0) place) }
     ensures memory { IsErrOf result RigFail.Failed → ⊥ }
 {
     match put_turn(
@@ -340,7 +348,8 @@ fn put_place(
     requires other { IsHeld proof.now other.now }
     requires place { place < length side.now.wires }
     ensures takes { OnOk result (TakesRoutes proof.now aim.wire.0 routes.old.items routes.new.items) }
-    ensures has { OnOk result (HasTurnPlace proof.now routes.new.items (pair.0.0, pair.1.0) aim.wire.0 (aim.feet.0.0, aim.feet.1.0) aim.line side.now other.now place) }
+    ensures has { OnOk result (HasTurnPlace proof.now routes.new.items (pair.0.0, pair.1.0) aim.wire.0
+        (aim.feet.0.0, aim.feet.1.0) aim.line side.now other.now place) }
     ensures memory { IsErrOf result RigFail.Failed → ⊥ }
 {
     let Some(turns) = other.open_pair() else {
@@ -378,7 +387,8 @@ fn put_turns(
     requires end { among bar.now.taps side.now.end ≡ true }
     requires other { IsHeld proof.now other.now }
     ensures takes { OnOk result (TakesRoutes proof.now aim.wire.0 routes.old.items routes.new.items) }
-    ensures has { OnOk result (HasTurns proof.now routes.new.items (pair.0.0, pair.1.0) aim.wire.0 (aim.feet.0.0, aim.feet.1.0) aim.line side.now other.now) }
+    ensures has { OnOk result (HasTurns proof.now routes.new.items (pair.0.0, pair.1.0) aim.wire.0
+        (aim.feet.0.0, aim.feet.1.0) aim.line side.now other.now) }
     ensures memory { IsErrOf result RigFail.Failed → ⊥ }
 {
     'places: for place in 0..side.len() {
@@ -420,7 +430,8 @@ fn put_over(
     requires end { among bar.now.taps side.now.end ≡ true }
     requires held { AreHeld proof.now tested.now }
     ensures takes { OnOk result (TakesRoutes proof.now aim.wire.0 routes.old.items routes.new.items) }
-    ensures has { OnOk result (HasOver proof.now tested.now routes.new.items (pair.0.0, pair.1.0) aim.wire.0 (aim.feet.0.0, aim.feet.1.0) aim.line side.now) }
+    ensures has { OnOk result (HasOver proof.now tested.now routes.new.items (pair.0.0, pair.1.0) aim.wire.0
+        (aim.feet.0.0, aim.feet.1.0) aim.line side.now) }
     ensures memory { IsErrOf result RigFail.Failed → ⊥ }
 {
     'bars: for i in 0..tested.len() {
@@ -446,7 +457,8 @@ pub fn put_all(
     requires right { AreRoutesTo proof.now aim.wire.0 routes.old.items }
     requires held { AreHeld proof.now tested.now }
     ensures takes { OnOk result (TakesRoutes proof.now aim.wire.0 routes.old.items routes.new.items) }
-    ensures has { OnOk result (HasBoth proof.now tested.now routes.new.items bar.now (pair.0.0, pair.1.0) aim.wire.0 (aim.feet.0.0, aim.feet.1.0) aim.line) }
+    ensures has { OnOk result (HasBoth proof.now tested.now routes.new.items bar.now (pair.0.0, pair.1.0) aim.wire.0
+        (aim.feet.0.0, aim.feet.1.0) aim.line) }
     ensures memory { IsErrOf result RigFail.Failed → ⊥ }
 {
     match put_own(alloc, routes, proof, bar, pair, aim) {

@@ -1,5 +1,6 @@
 //! What is apart from a route, as far as routes grow beside it.
-ghost use Rattle.std.specs.Prelude.{◌≡◌, ◌⊎◌, IsTrue, ◌++◌, ◌∷◌, [], ◌+◌, ◌<◌, ℕ, true, false, Some, length, IfOk, OnOk, IsErrOf, slice_get};
+ghost use Rattle.std.specs.Prelude.{◌≡◌, ◌⊎◌, IsTrue, ◌++◌, ◌∷◌, [], ◌+◌, ◌<◌, ℕ, true, false, Some, length, IfOk, OnOk, IsErrOf};
+ghost use Rattle.std.specs.Prelude.{slice_get};
 ghost use Rattle.hierarchy.specs.Shape.{crosses_of, pin_wire, pins_of, wires_of};
 ghost use Rattle.test_configs.specs.Routes.{Walk, IsRoute, HasEnd, Extends, at_pin, other_end};
 ghost use Rattle.tm_outside.specs.Counts.{Rose};
@@ -7,7 +8,8 @@ ghost use Rattle.tm_bits.specs.Numbers.{has_number};
 ghost use Rattle.config_set.specs.Groups.{among};
 ghost use Rattle.rig.specs.Rig.{shape_of};
 ghost use Rattle.evidence.specs.Kept.{Advances, keeps_pair, keeps_wire};
-ghost use Rattle.separate.specs.Growing.{Grows, IsAside, GoesFurther, IsFresh, IsKnownRoute, IsLinkOf, AreLinks, AreLinksOf, HaveSeen, KeepsReached, SeesLinks, SeesPins};
+ghost use Rattle.separate.specs.Growing.{Grows, IsAside, GoesFurther, IsFresh, IsKnownRoute, IsLinkOf, AreLinks, AreLinksOf, HaveSeen};
+ghost use Rattle.separate.specs.Growing.{KeepsReached, SeesLinks, SeesPins};
 ghost use Rattle.separate.specs.Unsound.{AreUnsound, IsOther};
 ghost use Rattle.separate.specs.Parting.{HasSameMarks, KeepsBetween, PartPasses};
 
@@ -42,7 +44,8 @@ fn part_or_kept(
     requires attached { shape_of (rig_state rig.old) ≡ Some proof.old.shape }
     requires known { IsKnownRoute proof.old route.now }
     requires next { IsAside proof.old route.now.wires next.now }
-    requires apart { (w u : ℕ) → among route.now.wires w ≡ true → among next.now.wires u ≡ true → (u ≡ next.now.end) ⊎ (keeps_pair proof.old w u ≡ true) }
+    requires apart { (w u : ℕ) → among route.now.wires w ≡ true → among next.now.wires u ≡ true → (u ≡ next.now.end)
+        ⊎ (keeps_pair proof.old w u ≡ true) }
 
     ensures passes { IfOk result (PartPasses (rig_state rig.old).machine.faults proof.old.shape route.now next.now) }
     ensures gains { IfOk result (λ yes. IsTrue yes → KeepsBetween proof.new route.now.wires next.now.wires) }
@@ -134,7 +137,8 @@ fn visit_one(
 
     ensures grows { OnOk result (Grows (rig_state rig.old).machine.faults proof.new route.now.wires seen.new reached.new.items) }
     ensures further { OnOk result (GoesFurther seen.old seen.new reached.old.items reached.new.items) }
-    ensures seen { OnOk result ((r : Walk) → slice_get reached.old.items i ≡ Some r → has_number seen.new (other_end proof.old.shape c.0 r.end) ≡ true) }
+    ensures seen { OnOk result ((r : Walk) → slice_get reached.old.items i ≡ Some r →
+        has_number seen.new (other_end proof.old.shape c.0 r.end) ≡ true) }
     ensures marks { HasSameMarks proof.old proof.new }
     ensures advances { Advances (rig_state rig.old) (rig_state rig.new) proof.old proof.new }
     ensures cause { IsErrOf result RigFail.Failed → Rose (rig_state rig.old).failures (rig_state rig.new).failures }
@@ -351,7 +355,8 @@ fn mark_others(unsound: &mut BitSet, route: &Route, seen: &BitSet, ends: &BitSet
     requires seen { length seen.now ≡ length unsound.old }
     requires ends { length ends.now ≡ length unsound.old }
     ensures len { length unsound.new ≡ length unsound.old }
-    ensures those { (w : ℕ) → has_number unsound.new w ≡ true → (has_number unsound.old w ≡ true) ⊎ IsOther route.now.wires seen.now ends.now w }
+    ensures those { (w : ℕ) → has_number unsound.new w ≡ true → (has_number unsound.old w ≡ true)
+        ⊎ IsOther route.now.wires seen.now ends.now w }
 {
     'wires: for w in 0..seen.len() {
         if !seen.has(w) {

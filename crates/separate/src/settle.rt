@@ -7,7 +7,8 @@ ghost use Rattle.hierarchy.specs.Shape.{wires_of};
 ghost use Rattle.rig.specs.Rig.{shape_of};
 ghost use Rattle.separate.specs.Separated.{AreFull, AreHeld, AreSeparated, TakesFew};
 ghost use Rattle.separate.specs.Growing.{AreLinks};
-ghost use Rattle.separate.specs.Settling.{AreWanted, GoesOn, IsSettled, KeepsAll, Settles, SettlesFirst, SparesLoads, TakesEnough, TakesTwo};
+ghost use Rattle.separate.specs.Settling.{AreWanted, GoesOn, IsSettled, KeepsAll, Settles, SettlesFirst, SparesLoads, TakesEnough};
+ghost use Rattle.separate.specs.Settling.{TakesTwo};
 ghost use Rattle.separate.specs.Unsound.{AreUnsound, KeepsSound};
 ghost use Rattle.separate.specs.Trials.{AreRoutesTo, IsRouteTo};
 ghost use Rattle.test_configs.specs.Routes.{Walk};
@@ -123,7 +124,8 @@ fn try_one(
     requires unsound { AreUnsound (rig_state rig.old).machine.faults proof.old unsound.old }
 
     ensures settles { OnOk result (Settles (rig_state rig.old).machine.faults proof.old proof.new wanted.now u.0 route.now.wires) }
-    ensures loads { OnOk result (SparesLoads (rig_state rig.old).machine.faults proof.old wanted.now u.0 route.now.wires (rig_state rig.old).loads (rig_state rig.new).loads) }
+    ensures loads { OnOk result (SparesLoads (rig_state rig.old).machine.faults proof.old wanted.now u.0 route.now.wires
+        (rig_state rig.old).loads (rig_state rig.new).loads) }
     ensures unsound { OnOk result (AreUnsound (rig_state rig.old).machine.faults proof.new unsound.new) }
     ensures on { GoesOn (rig_state rig.old) (rig_state rig.new) proof.old proof.new }
     ensures cause { IsErrOf result RigFail.Failed → Rose (rig_state rig.old).failures (rig_state rig.new).failures }
@@ -153,8 +155,10 @@ fn try_all(
     requires wire { u.0 < wires_of proof.old.shape }
     requires len { length wanted.now ≡ wires_of proof.old.shape }
 
-    ensures settles { OnOk result ((m : ℕ) (r : Walk) → slice_get routes.now m ≡ Some r → Settles (rig_state rig.old).machine.faults proof.old proof.new wanted.now u.0 r.wires) }
-    ensures loads { OnOk result (TakesEnough (rig_state rig.old).machine.faults proof.old wanted.now u.0 routes.now (rig_state rig.old).loads (rig_state rig.new).loads) }
+    ensures settles { OnOk result ((m : ℕ) (r : Walk) → slice_get routes.now m ≡ Some r →
+        Settles (rig_state rig.old).machine.faults proof.old proof.new wanted.now u.0 r.wires) }
+    ensures loads { OnOk result (TakesEnough (rig_state rig.old).machine.faults proof.old wanted.now u.0 routes.now
+        (rig_state rig.old).loads (rig_state rig.new).loads) }
     ensures on { GoesOn (rig_state rig.old) (rig_state rig.new) proof.old proof.new }
     ensures cause { IsErrOf result RigFail.Failed → Rose (rig_state rig.old).failures (rig_state rig.new).failures }
 {
@@ -197,7 +201,8 @@ fn try_first(
     requires wanted { AreWanted proof.old tested.now wanted.now }
     requires wire { has_number wanted.now u.0 ≡ true }
 
-    ensures first { OnOk result (SettlesFirst (rig_state rig.old).machine.faults proof.old proof.new wanted.now u.0 (rig_state rig.old).loads (rig_state rig.new).loads) }
+    ensures first { OnOk result (SettlesFirst (rig_state rig.old).machine.faults proof.old proof.new wanted.now u.0
+        (rig_state rig.old).loads (rig_state rig.new).loads) }
     ensures on { GoesOn (rig_state rig.old) (rig_state rig.new) proof.old proof.new }
     ensures cause { IsErrOf result RigFail.Failed → Rose (rig_state rig.old).failures (rig_state rig.new).failures }
 {
@@ -261,7 +266,8 @@ fn settle(
     requires wire { has_number wanted.now u.0 ≡ true }
 
     ensures settled { OnOk result (IsSettled (rig_state rig.old).machine.faults proof.old proof.new tested.now u.0) }
-    ensures loads { OnOk result (TakesTwo (rig_state rig.old).machine.faults proof.old (rig_state rig.old).loads (rig_state rig.new).loads) }
+    ensures loads { OnOk result (TakesTwo (rig_state rig.old).machine.faults proof.old (rig_state rig.old).loads
+        (rig_state rig.new).loads) }
     ensures on { GoesOn (rig_state rig.old) (rig_state rig.new) proof.old proof.new }
     ensures cause { IsErrOf result RigFail.Failed → Rose (rig_state rig.old).failures (rig_state rig.new).failures }
 {
@@ -296,7 +302,8 @@ fn settle_all(
     requires wanted { AreWanted proof.old tested.now wanted.now }
 
     ensures separated { OnOk result (AreSeparated (rig_state rig.old).machine.faults proof.old proof.new tested.now) }
-    ensures loads { OnOk result (TakesFew (rig_state rig.old).machine.faults proof.old (rig_state rig.old).loads (rig_state rig.new).loads) }
+    ensures loads { OnOk result (TakesFew (rig_state rig.old).machine.faults proof.old (rig_state rig.old).loads
+        (rig_state rig.new).loads) }
     ensures on { GoesOn (rig_state rig.old) (rig_state rig.new) proof.old proof.new }
     ensures cause { IsErrOf result RigFail.Failed → Rose (rig_state rig.old).failures (rig_state rig.new).failures }
 {
@@ -327,7 +334,8 @@ pub fn separate_all(
     requires full { AreFull (rig_state rig.old).machine.faults proof.old tested.now }
 
     ensures separated { OnOk result (AreSeparated (rig_state rig.old).machine.faults proof.old proof.new tested.now) }
-    ensures loads { OnOk result (TakesFew (rig_state rig.old).machine.faults proof.old (rig_state rig.old).loads (rig_state rig.new).loads) }
+    ensures loads { OnOk result (TakesFew (rig_state rig.old).machine.faults proof.old (rig_state rig.old).loads
+        (rig_state rig.new).loads) }
     ensures advances { Advances (rig_state rig.old) (rig_state rig.new) proof.old proof.new }
     ensures cause { IsErrOf result RigFail.Failed → Rose (rig_state rig.old).failures (rig_state rig.new).failures }
 {

@@ -34,7 +34,8 @@ pub fn spread(
     requires unsound { AreUnsound (rig_state rig.old).machine.faults proof.old unsound.old }
 
     ensures reached { OnOk result (KeepsReached (rig_state rig.old).machine.faults proof.old proof.new route.now.wires) }
-    ensures loads { OnOk result (TakesOne (rig_state rig.old).machine.faults proof.old route.now.wires (rig_state rig.old).loads (rig_state rig.new).loads) }
+    ensures loads { OnOk result (TakesOne (rig_state rig.old).machine.faults proof.old route.now.wires (rig_state rig.old).loads
+        (rig_state rig.new).loads) }
     ensures unsound { OnOk result (AreUnsound (rig_state rig.old).machine.faults proof.new unsound.new) }
     ensures marks { HasSameMarks proof.old proof.new }
     ensures advances { Advances (rig_state rig.old) (rig_state rig.new) proof.old proof.new }

@@ -93,7 +93,8 @@ pub fn survey_link(
     ensures surveys { OnOk result (Surveys proof.now route.now.wires pin seen.new reached.new.items walk.new) }
     ensures end { OnOk result (walk.new.end ≡ walk.old.end) }
     ensures further { OnOk result (GoesFurther seen.old seen.new reached.old.items reached.new.items) }
-    ensures seen { OnOk result ((r : Walk) → slice_get reached.old.items i ≡ Some r → has_number seen.new (other_end proof.now.shape c.0 r.end) ≡ true) }
+    ensures seen { OnOk result ((r : Walk) → slice_get reached.old.items i ≡ Some r →
+        has_number seen.new (other_end proof.now.shape c.0 r.end) ≡ true) }
     ensures memory { IsErrOf result RigFail.Failed → ⊥ }
 {
     let shape = proof.shape();

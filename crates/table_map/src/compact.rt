@@ -4,7 +4,8 @@ ghost use Rattle.std.specs.Prelude.{◌≡◌, ◌<◌, ◌≤◌, ℕ, true, le
 ghost use Rattle.table_map.specs.Networks.{IsNetwork};
 ghost use Rattle.table_map.specs.Levels.{AreSourcesIn, IsSourceIn};
 ghost use Rattle.table_map.specs.Joining.{in_tables};
-ghost use Rattle.table_map.specs.Compacting.{kept_tables, named_by, renamed, renamed_table, AreKept, AreRanks, IsClosed, IsCompacted, IsKept};
+ghost use Rattle.table_map.specs.Compacting.{kept_tables, named_by, renamed, renamed_table, AreKept, AreRanks, IsClosed, IsCompacted};
+ghost use Rattle.table_map.specs.Compacting.{IsKept};
 
 use crate::network::{NetTable, Network};
 use crate::source::{Source, Sources};

@@ -2,7 +2,8 @@
 
 ghost use Rattle.std.specs.Prelude.{◌≡◌, ◌<◌, ◌≤◌, ◌+◌, ◌-◌, ◌++◌, ◌∷◌, [], false, length, map, OnOk, slice_index_or};
 ghost use Rattle.netlist.specs.Covers.{IsCoverOver};
-ghost use Rattle.table_map.specs.Plain.{distinct, row_wants, rows_wants, tree, trees, tree_ends, want_table, wide_tables, narrow_table, cover_tables, covers_tables, cover_size};
+ghost use Rattle.table_map.specs.Plain.{distinct, row_wants, rows_wants, tree, trees, tree_ends, want_table, wide_tables, narrow_table};
+ghost use Rattle.table_map.specs.Plain.{cover_tables, covers_tables, cover_size};
 ghost use Rattle.table_map.specs.declared.want.Gate.TheVariants.{All};
 ghost use Rattle.table_map.specs.Sizes.{want_of, rows_size, tree_size};
 ghost use Rattle.table_map.specs.Drives.{source_in};
@@ -75,7 +76,8 @@ fn push_rows(
 ) -> Result<(), AllocError>
     requires made { IsCoverOver cover.now (length sources.now) }
     requires room { length tables.old.items + rows_size cover.now.rows < 4294967296 }
-    ensures tables { OnOk result (tables.new.items ≡ tables.old.items ++ trees (length tables.old.items) (rows_wants (source_in sources.now) cover.now)) }
+    ensures tables { OnOk result (tables.new.items ≡ tables.old.items ++ trees (length tables.old.items)
+        (rows_wants (source_in sources.now) cover.now)) }
     ensures ends { OnOk result (ends.new.items ≡ tree_ends (length tables.old.items) (rows_wants (source_in sources.now) cover.now)) }
 {
     let rows = cover.rows.as_slice();
@@ -153,7 +155,8 @@ fn push_cover(
 ) -> Result<(), AllocError>
     requires made { IsCoverOver cover.now (length sources.now) }
     requires room { length tables.old.items + cover_size cover.now < 4294967296 }
-    ensures { OnOk result (tables.new.items ≡ tables.old.items ++ cover_tables (source_in sources.now) (length tables.old.items) cover.now) }
+    ensures { OnOk result (tables.new.items ≡ tables.old.items ++ cover_tables (source_in sources.now)
+        (length tables.old.items) cover.now) }
 {
     if let Some(names) = distinct_names(alloc, cover.ins.as_slice())? {
         push_narrow(alloc, tables, &names, sources, cover)?;

@@ -54,7 +54,8 @@ fn source_of_both(first: &[Source], second: &[Source], k: usize) -> Source
 fn together(alloc: Global, table: u32, first: &[Source], second: &[Source]) -> Option<Sources>
     requires first { length first.now ≤ 6 }
     requires second { length second.now ≤ 6 }
-    ensures { MatchOption result (6 < length (distinct (numbers_without table first.now second.now))) (λ sources. map number sources ≡ distinct (numbers_without table first.now second.now)) }
+    ensures { MatchOption result (6 < length (distinct (numbers_without table first.now second.now)))
+        (λ sources. map number sources ≡ distinct (numbers_without table first.now second.now)) }
 {
     let mut sources = Sources::new(alloc);
     'both: for k in 0..first.len() + second.len() {
@@ -173,7 +174,8 @@ fn joined_cells(ins: &[Source], table: u32, inner: &NetTable, reader: &NetTable)
 
 /// The reader with the table put into it, if they have at most six sources together.
 fn joined(alloc: Global, table: u32, inner: &NetTable, reader: &NetTable) -> Option<NetTable>
-    ensures { MatchOption result (6 < length (distinct (numbers_without table reader.now.ins inner.now.ins))) (λ joined. IsJoined table inner.now reader.now joined) }
+    ensures { MatchOption result (6 < length (distinct (numbers_without table reader.now.ins inner.now.ins)))
+        (λ joined. IsJoined table inner.now reader.now joined) }
 {
     let ins = together(alloc, table, reader.ins.as_slice(), inner.ins.as_slice())?;
     let cells = joined_cells(ins.as_slice(), table, inner, reader);
@@ -187,7 +189,8 @@ fn joined(alloc: Global, table: u32, inner: &NetTable, reader: &NetTable) -> Opt
 
 /// The reader with the table put into it, if this may be.
 pub fn joined_at(alloc: Global, tables: &[NetTable], table: u32, reader: u32) -> Option<NetTable>
-    ensures { MatchOption result (MayPut tables.now table reader → ⊥) (λ joined. MayPut tables.now table reader × IsJoined table (in_tables tables.now table) (in_tables tables.now reader) joined) }
+    ensures { MatchOption result (MayPut tables.now table reader → ⊥)
+        (λ joined. MayPut tables.now table reader × IsJoined table (in_tables tables.now table) (in_tables tables.now reader) joined) }
 {
     if table as usize >= tables.len() {
         return None;

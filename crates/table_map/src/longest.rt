@@ -4,7 +4,9 @@ ghost use Rattle.std.specs.Prelude.{◌≡◌, ◌<◌, ℕ, [], length, IfOk, O
 ghost use Rattle.table_map.specs.declared.longest.Mark.TheVariants.{New};
 ghost use Rattle.table_map.specs.Networks.{IsNetwork, table_at};
 ghost use Rattle.table_map.specs.Depths.{IsDepth};
-ghost use Rattle.table_map.specs.Levels.{mark_at, level_in, level_of, new_table, IsSourceIn, AreSourcesIn, IsNewAmong, IsMost, source_level, level_at, AreMarks, IsLastOf, IsReadByLast, IsDoneIn, source_at, IsSearching, StaysSeen, work_of};
+ghost use Rattle.table_map.specs.Levels.{mark_at, level_in, level_of, new_table, IsSourceIn, AreSourcesIn, IsNewAmong, IsMost};
+ghost use Rattle.table_map.specs.Levels.{source_level, level_at, AreMarks, IsLastOf, IsReadByLast, IsDoneIn, source_at, IsSearching};
+ghost use Rattle.table_map.specs.Levels.{StaysSeen, work_of};
 
 use crate::network::{NetTable, Network};
 use crate::source::Source;
@@ -152,7 +154,8 @@ fn close(search: &mut Search, network: &Network, table: u32)
     requires network { IsNetwork network.now }
     requires searching { IsSearching network.now search.old }
     requires last { IsLastOf search.old.path.items table }
-    requires visited { (k : ℕ) → k < length (table_at network.now table).ins → IsDoneIn search.old.marks.items (source_at (table_at network.now table).ins k) }
+    requires visited { (k : ℕ) → k < length (table_at network.now table).ins →
+        IsDoneIn search.old.marks.items (source_at (table_at network.now table).ins k) }
     ensures searching { IsSearching network.now search.new }
     ensures less { work_of search.new.marks.items < work_of search.old.marks.items }
     ensures seen { StaysSeen search.old.marks.items search.new.marks.items }

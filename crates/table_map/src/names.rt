@@ -25,7 +25,8 @@ fn is_among(names: &[u32], name: u32) -> bool
 
 /// The different names in order of first appearance, if they are at most six.
 pub fn distinct_names(alloc: Global, ins: &[u32]) -> Result<Option<Vec<u32>>, AllocError>
-    ensures { IfOk result (λ found. MatchOption found (6 < length (distinct ins.now)) (λ names. (names.items ≡ distinct ins.now) × (length names.items ≤ 6))) }
+    ensures { IfOk result (λ found. MatchOption found (6 < length (distinct ins.now))
+        (λ names. (names.items ≡ distinct ins.now) × (length names.items ≤ 6))) }
 {
     let mut names = Vec::with_capacity(alloc, MOST_NAMES)?;
     'ins: for k in 0..ins.len() {

@@ -1,5 +1,5 @@
 -- What the command `check` comes to.
-use Rattle.std.proofs.Common.{◌≡◌, ◌∙◌, ℕ, Bool, true, false, List, [], ◌∷◌, refl, subst}
+use Rattle.std.proofs.Common.{◌≡◌, ◌∙◌, ℕ, Bool, true, false, List, [], ◌∷◌, refl}
 use Rattle.hierarchy.specs.declared.Shape.{Shape}
 use Rattle.config_image.specs.Images.{ImageValue}
 use Rattle.steps.specs.Outside.{Around}
@@ -14,8 +14,8 @@ use Rattle.steps.proofs.ShapeLemmas.{one-machine}
 use Rattle.steps.proofs.Well.{IsWell, well-after, well-write, well-done}
 use Rattle.listing.specs.Lists.{Unloaded, lists}
 use Rattle.tera_check.specs.Answers.{answer_line}
-use Rattle.tera_check.specs.Testing.{Tried, tests}
-use Rattle.tera_check.specs.Check.{Lacks, answers, answer_written, image_looked_at, machine_listed, by_test, image_tried, image_tested, image_read, machine_attached, check_course}
+use Rattle.tera_check.specs.Testing.{tests}
+use Rattle.tera_check.specs.Check.{Lacks, answers, answer_written, image_looked_at, by_test, image_tried, image_tested, image_read, machine_attached, check_course}
 use Rattle.tera_check.specs.Check.{CheckFiles, CheckRight, check_files, check_job, StandsLoaded}
 use Rattle.tera_check.specs.declared.answer.Answer.TheVariants.{Sound}
 

@@ -1,6 +1,5 @@
 -- What a `check` that is done has done, from its course.
 use Rattle.std.proofs.Common.{◌≡◌, ◌∙◌, ℕ, Bool, true, false, List, [], ◌∷◌, ◌++◌, Some, IsTrue, refl, sym, ap, subst, inl, inr, append-nil}
-use Rattle.tm_outside.specs.Told.{IfTold}
 use Rattle.tm_outside.specs.Sink.{Wrote}
 use Rattle.hierarchy.specs.declared.Shape.{Shape}
 use Rattle.hierarchy.specs.Faults.{Faults, IsFaultless}
@@ -11,10 +10,10 @@ use Rattle.config_image.specs.Parts.{IsWideEnough}
 use Rattle.self_test.specs.Soundly.{TakesForParts}
 use Rattle.steps.specs.Outside.{Outside, around}
 use Rattle.steps.specs.Courses.{Course, Step, after, ends}
-use Rattle.listing.specs.Lists.{Listed, IsListed, lists}
-use Rattle.tera_check.specs.Answers.{IsAnswer, IsTrueUnder, answer_line}
+use Rattle.listing.specs.Lists.{lists}
+use Rattle.tera_check.specs.Answers.{IsTrueUnder, answer_line}
 use Rattle.tera_check.specs.Testing.{Tried, IsTried}
-use Rattle.tera_check.specs.Check.{StandsLoaded, answers, answer_written, image_looked_at, machine_listed, by_test, image_tested, check_course}
+use Rattle.tera_check.specs.Check.{answers, answer_written, image_looked_at, machine_listed, by_test, image_tested, check_course}
 use Rattle.tera_check.specs.Headline.{IsFound, tested, listed, IsChecked}
 use Rattle.tera_check.specs.declared.answer.Answer.{Answer}
 use Rattle.tera_check.specs.declared.answer.Answer.TheVariants.{Sound}

@@ -1,18 +1,16 @@
 -- How an image is judged: a lemma for each place where that ends, over plain states.
-use Rattle.std.proofs.Common.{◌≡◌, ◌∙◌, ℕ, ◌≤◌, Bool, true, false, List, [], refl, sym, subst}
+use Rattle.std.proofs.Common.{◌≡◌, ℕ, ◌≤◌, Bool, true, false, List, [], refl}
 use Rattle.std.specs.Prelude.{Result, Ok, Err}
 use Rattle.tm_outside.specs.Counts.{Rose}
 use Rattle.tm_outside.specs.Store.{StoreState}
 use Rattle.tm_outside.specs.Sink.{SinkState}
-use Rattle.hierarchy.specs.declared.Shape.{Shape}
-use Rattle.hierarchy.specs.Faults.{Faults}
 use Rattle.defect_db.specs.Lists.{DefectList}
 use Rattle.config_image.specs.Images.{ImageValue}
 use Rattle.rig.specs.Rig.{RigState}
 use Rattle.rig.specs.declared.rig.RigFail.{RigFail}
 use Rattle.rig.specs.declared.rig.RigFail.TheVariants as work
 use Rattle.self_test.specs.Soundly.{SoundIf, YesIf, TakesForParts}
-use Rattle.steps.specs.Outside.{Outside, StandsIn, outside}
+use Rattle.steps.specs.Outside.{StandsIn, outside}
 use Rattle.steps.specs.Stops.{IsCounted, StepStops, stop_of_rig}
 use Rattle.steps.specs.Took.{Took, Puts, Follows}
 use Rattle.steps.specs.declared.refusal.Refusal.TheVariants.{Memory}
@@ -21,7 +19,7 @@ use Rattle.steps.specs.declared.refusal.Stop.TheVariants.{Refused, Sink}
 use Rattle.steps.proofs.Keeping.{kept-stops, kept-gives, line-kept}
 use Rattle.steps.proofs.Making.{rig-took, rig-stopped}
 use Rattle.steps.proofs.Taking.{took-stop, took-value}
-use Rattle.listing.specs.Lists.{Listed, lists, lists_now}
+use Rattle.listing.specs.Lists.{lists, lists_now}
 use Rattle.listing.proofs.ListedLemmas.{few-stops}
 use Rattle.tera_check.specs.Answers.{IsAnswer, answer_line}
 use Rattle.tera_check.specs.Testing.{Tried, IsTried, tests, tests_now}

@@ -1,5 +1,5 @@
 -- What a list says of an image, from the first of its wires, crosspoints and tables that aren't free.
-use Rattle.std.proofs.Common.{◌≡◌, ◌∙◌, ◌⊎◌, ℕ, ◌<◌, ◌≤◌, Bool, true, false, Option, Some, None, IsSome, List, ◌++◌, length, get_or, All, refl, sym, ap, subst, inl, inr, arith}
+use Rattle.std.proofs.Common.{◌≡◌, ◌∙◌, ◌⊎◌, ℕ, ◌<◌, ◌≤◌, Bool, true, false, Option, None, IsSome, List, ◌++◌, length, get_or, refl, sym, subst, inl, inr}
 use Rattle.std.proofs.lemmas.Bool.{false≢true, cases_lt}
 use Rattle.std.proofs.lemmas.List.{get_or_past}
 use Rattle.std.proofs.lemmas.List.Elements.{Contains-get_or}
@@ -21,7 +21,7 @@ use Rattle.config_image.specs.Images.{ImageValue, IsImage}
 use Rattle.config_image.specs.Parts.{IsFreeImage, Uses, at_pin, at_tap, at_line, at_table}
 use Rattle.self_test.specs.Soundly.{RunsSoundly}
 use Rattle.self_test.specs.Used.{AreUsed}
-use Rattle.tera_check.specs.Answers.{IsFirstOf, AreFree, WiresAreFree, CrossesAreFree, IsAnswer}
+use Rattle.tera_check.specs.Answers.{IsFirstOf, WiresAreFree, CrossesAreFree, IsAnswer}
 use Rattle.tera_check.specs.declared.answer.Answer.TheVariants as answer
 
 -- marked numbers are below the length

@@ -4,7 +4,7 @@ ghost use Rattle.tm_bits.specs.Numbers.{has_number};
 ghost use Rattle.hierarchy.specs.Shape.{wires_of, crosses_of, tables_of};
 ghost use Rattle.hierarchy.specs.Defects.{IsFreeWire, IsFreeCross, IsFreeTable};
 ghost use Rattle.config_set.specs.Configuration.{is_closed, setting_of};
-ghost use Rattle.tera_check.specs.Answers.{AreFree, IsAnswer, IsFirstOf, IsOfMachine};
+ghost use Rattle.tera_check.specs.Answers.{IsAnswer, IsFirstOf, IsOfMachine};
 
 use crate::answer::Answer;
 use config_image::Image;

@@ -1,16 +1,16 @@
 -- What the old image is right for without faults, the new one is right for under all faults that the list covers.
-use Rattle.std.proofs.Common.{◌≡◌, ◌∙◌, ℕ, List, Bool, true, false, Option, None, IsSome, All, map, length, sym, ap, subst}
+use Rattle.std.proofs.Common.{◌≡◌, ◌∙◌, List, Bool, true, false, Option, None, IsSome, All, map, length, sym, subst}
 use Rattle.std.proofs.lemmas.Bool.{false≢true}
 use Rattle.hierarchy.specs.declared.Shape.{Shape}
 use Rattle.hierarchy.specs.Circuit.{Pins}
 use Rattle.hierarchy.specs.Defects.{Covers}
-use Rattle.hierarchy.specs.Faults.{Faults, AreFaultsOf, IsFaultless, stuck_wire, stuck_cross, wrong_cell, stuck_register, is_bridge}
+use Rattle.hierarchy.specs.Faults.{Faults, AreFaultsOf, IsFaultless, stuck_wire, stuck_cross, wrong_cell, stuck_register}
 use Rattle.defect_db.specs.Lists.{DefectList}
 use Rattle.netlist.specs.declared.draft.Draft.{Draft}
 use Rattle.netlist.specs.Rows.{AreRows}
 use Rattle.config_set.specs.Configuration.{Configuration, IsConfiguration}
 use Rattle.config_set.specs.Faulty.{IsRun}
-use Rattle.config_image.specs.Images.{ImageValue, IsImage, drive_of, image_row}
+use Rattle.config_image.specs.Images.{ImageValue, IsImage, drive_of}
 use Rattle.crossbar_route.specs.RightImages.{IsRightImage}
 use Rattle.repair.specs.Repairs.{IsRepair, HasSameRows}
 

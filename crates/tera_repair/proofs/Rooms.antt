@@ -1,6 +1,5 @@
 -- A repair has room on a list or lacks it, and never both.
-use Rattle.std.proofs.Common.{◌≡◌, ◌⊎◌, ◌<◌, ap, refl, inl, inr, subst}
-use Rattle.hierarchy.specs.declared.Shape.{Shape}
+use Rattle.std.proofs.Common.{◌≡◌, ◌⊎◌, ◌<◌, refl, inl, inr}
 use Rattle.hierarchy.specs.Shape.{nodes_of}
 use Rattle.hierarchy.specs.Defects.{Defects}
 use Rattle.hierarchy.proofs.Totals.{nodes_are}
@@ -11,13 +10,12 @@ use Rattle.place.specs.declared.short.Resource.{Resource}
 use Rattle.place.specs.declared.short.Resource.TheVariants.{Tables, Pins, Ports, Lines}
 use Rattle.repair.specs.Plans.{AreSeats, AreNets, HasRoom, IsShortPlan, IsFirstShortBy, Nets}
 use Rattle.repair.specs.declared.seats.Seats.{Seats}
-use Rattle.steps.specs.Faults.{ShortPlace}
 use Rattle.steps.specs.Outside.{Around}
 use Rattle.steps.specs.Stops.{status_of}
 use Rattle.steps.specs.Jobs.{IsExcused}
 use Rattle.steps.specs.declared.refusal.Refusal.{Refusal}
 use Rattle.steps.specs.declared.refusal.Refusal.TheVariants as refused
-use Rattle.tera_repair.specs.Repairing.{HasPlanRoom, LacksPlanRoom, IsRepairOf, HasTooMany, NotRepaired}
+use Rattle.tera_repair.specs.Repairing.{HasPlanRoom, LacksPlanRoom, IsRepairOf, NotRepaired}
 
 -- what is short is short at a node of the machine
 resource-node : (r : Resource) (d : Defects) (i : ImageValue) (s : Seats) (short : Short) → IsFirstShortBy r d i s short → short.node.0 < nodes_of i.config.shape

@@ -1,5 +1,6 @@
 //! Files in memory as a store.
-ghost use Rattle.std.specs.Prelude.{◌≡◌, ◌⊎◌, ◌↔◌, ◌+◌, ◌^◌, ◌<◌, ◌≤◌, [], ◌∷◌, ◌++◌, Some, None, length, drop, min, option_copied, find, string_bytes, bytes_eq, is_some, IsSome, IsNone, IfSome, IfOk, IfErr, OnOk, IsErrOf, Contains};
+ghost use Rattle.std.specs.Prelude.{◌≡◌, ◌⊎◌, ◌↔◌, ◌+◌, ◌^◌, ◌<◌, ◌≤◌, [], ◌∷◌, ◌++◌, Some, None, length, drop, min, option_copied, find};
+ghost use Rattle.std.specs.Prelude.{string_bytes, bytes_eq, is_some, IsSome, IsNone, IfSome, IfOk, IfErr, OnOk, IsErrOf, Contains};
 ghost use Rattle.tm_outside.specs.Counts.{next_count};
 ghost use Rattle.tm_outside.specs.Told.{IsPresent};
 ghost use Rattle.tm_outside.specs.Store.{StartFails, ReadFails, AreNext, moved, rest_of};
@@ -57,7 +58,8 @@ impl Model for MemoryStore {
 impl MemoryStore {
     /// A store of these files, whose reads give as many bytes as the slice takes and the file has.
     pub fn new(alloc: Global, files: Vec<File>, fails: Vec<u64>) -> Self
-        ensures { result ≡ record { files = files.items; fails = fails.items; most = None; calls = 0; asked = []; current = None; failures = 0 } }
+        ensures { result ≡ record { files = files.items; fails = fails.items; most = None; calls = 0; asked = []; current = None;
+            failures = 0 } }
     {
         MemoryStore {
             alloc,
@@ -74,7 +76,8 @@ impl MemoryStore {
     /// The same, but a read gives at most `most` bytes, which isn't 0.
     pub fn in_pieces(alloc: Global, files: Vec<File>, fails: Vec<u64>, most: usize) -> Self
         requires { 0 < most }
-        ensures { result ≡ record { files = files.items; fails = fails.items; most = Some most; calls = 0; asked = []; current = None; failures = 0 } }
+        ensures { result ≡ record { files = files.items; fails = fails.items; most = Some most; calls = 0; asked = []; current = None;
+            failures = 0 } }
     {
         MemoryStore {
             alloc,
@@ -148,8 +151,10 @@ impl Store for MemoryStore {
         ensures most { self.new.most ≡ self.old.most }
         ensures calls { ¬ IsErrOf result StoreFail.Memory → self.new.calls ≡ next_count self.old.calls }
         ensures memory { IsErrOf result StoreFail.Memory → self.new ≡ self.old }
-        ensures fails { IsErrOf result StoreFail.Failed → Contains self.old.fails (next_count self.old.calls) ⊎ IsNone (bytes_named self.old.files name.now) }
-        ensures succeeds { OnOk result (¬ Contains self.old.fails (next_count self.old.calls) × IsSome (bytes_named self.old.files name.now)) }
+        ensures fails { IsErrOf result StoreFail.Failed → Contains self.old.fails (next_count self.old.calls)
+            ⊎ IsNone (bytes_named self.old.files name.now) }
+        ensures succeeds { OnOk result (¬ Contains self.old.fails (next_count self.old.calls)
+            × IsSome (bytes_named self.old.files name.now)) }
     {
         let Ok(asked) = String::from_str(self.alloc, name) else {
             return Err(StoreFail::Memory);
@@ -197,7 +202,8 @@ impl Store for MemoryStore {
         ensures most { self.new.most ≡ self.old.most }
         ensures calls { self.new.calls ≡ next_count self.old.calls }
         ensures fails { IsErrOf result StoreFail.Failed ↔ Contains self.old.fails (next_count self.old.calls) }
-        ensures gives { IfOk result (λ n. IfSome (rest_of (memory_store_state self.old)) (λ rest. n ≡ min (room_of self.old.most (length into.new)) (length rest))) }
+        ensures gives { IfOk result (λ n. IfSome (rest_of (memory_store_state self.old))
+            (λ rest. n ≡ min (room_of self.old.most (length into.new)) (length rest))) }
     {
         self.calls = self.calls.saturating_add(1);
         let Some(mut opened) = self.current.take() else {

@@ -23,7 +23,8 @@ fn read_whole<S: Store>(
     ensures asked { OnOk result ((S.store_state store.new).asked ≡ (S.store_state store.old).asked ++ name.now ∷ []) }
     ensures place { IfOk result (λ text. (S.store_state store.new).current ≡ Some (record { name = name.now; at = length text.items })) }
     ensures short { IfOk result (λ text. length text.items ≤ most + 1) }
-    ensures text { IfOk result (λ text. IfTold ((S.store_state store.old).contents name.now) (λ bytes. text.items ≡ take (most + 1) bytes)) }
+    ensures text { IfOk result (λ text. IfTold ((S.store_state store.old).contents name.now)
+        (λ bytes. text.items ≡ take (most + 1) bytes)) }
     ensures within { ReadsWithin most name.now (S.store_state store.old) (S.store_state store.new) }
     ensures refused { IfErr result (λ e. WholeFails e name.now (S.store_state store.old) (S.store_state store.new)) }
 {

@@ -1,6 +1,7 @@
 //! The logical lines of a text.
 
-ghost use Rattle.std.specs.Prelude.{if◌then◌else◌, ◌≡◌, ◌∷◌, ◌+◌, ◌<◌, ◌≤◌, ◌^◌, ℕ, false, List, length, map, IfOk, OnErr, Ok, Err, None, Some, slice_get, option_copied, IfErr, All};
+ghost use Rattle.std.specs.Prelude.{if◌then◌else◌, ◌≡◌, ◌∷◌, ◌+◌, ◌<◌, ◌≤◌, ◌^◌, ℕ, false, List, length, map, IfOk, OnErr, Ok, Err, None};
+ghost use Rattle.std.specs.Prelude.{Some, slice_get, option_copied, IfErr, All};
 ghost use Rattle.std.specs.Fmt.{decimal};
 ghost use Rattle.tm_text.specs.Bytes.{physical_lines, joining_part, has_bad_byte};
 ghost use Rattle.tm_text.specs.Written.{AreRows, IsWord, written, numbered};
@@ -96,7 +97,8 @@ fn first_logical<'a>(
     requires some { 0 < length bytes.now }
     requires room { number + length bytes.now < 2 ^ 64 }
     ensures line { IfOk result (λ t. map line_of (texts_of joined number (physical_lines bytes.now))
-        ≡ record { number = number; words = map (λ w. w.now) t.words.items } ∷ map line_of (texts_of joined t.number (physical_lines t.rest.now))) }
+        ≡ record { number = number; words = map (λ w. w.now) t.words.items } ∷ map line_of
+        (texts_of joined t.number (physical_lines t.rest.now))) }
     ensures room { IfOk result (λ t. t.number + length t.rest.now ≤ number + length bytes.now) }
     ensures shorter { IfOk result (λ t. length t.rest.now < length bytes.now) }
 {

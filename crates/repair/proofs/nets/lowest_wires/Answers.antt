@@ -1,4 +1,4 @@
-use Rattle.std.proofs.Common.{◌≡◌, ◌<◌, true, sym, ap, ◌∙◌, subst, arith}
+use Rattle.std.proofs.Common.{◌≡◌, ◌<◌, sym, ap, ◌∙◌, subst, arith}
 use Rattle.hierarchy.specs.Shape.{wires_of}
 use Rattle.repair.specs.Nets.{IsLowest}
 use Rattle.repair.proofs.Sieving.{sieve_next, sieve_all}

@@ -1,4 +1,4 @@
-use Rattle.std.proofs.Common.{true, false, inl, inr, refl}
+use Rattle.std.proofs.Common.{inl, inr, refl}
 use Rattle.repair.proofs.Taking.{unfree_listed, listed_unfree}
 use Rattle.repair.proofs.rest.is_taken.Goals as goal
 

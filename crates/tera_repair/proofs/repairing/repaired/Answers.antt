@@ -1,8 +1,4 @@
-use Rattle.std.proofs.Common.{refl, sym, subst}
-use Rattle.std.proofs.lemmas.Result.{err_from_is_err_and}
-use Rattle.steps.specs.declared.refusal.Refusal.TheVariants.{Memory}
-use Rattle.steps.specs.declared.refusal.Stop.TheVariants.{Refused}
-use Rattle.steps.proofs.Taking.{took-stop, took-value}
+use Rattle.steps.proofs.Taking.{took-value}
 use Rattle.tera_repair.specs.Repairing.{repairs}
 use Rattle.tera_repair.proofs.Rights.{right-too}
 use Rattle.tera_repair.proofs.Rooms.{short-node}
