@@ -249,7 +249,6 @@ module _ (n a : ℕ) (numbers old new : List Bool) (in_a : a < n) (size : length
           (rw here at (joined_all y (omega arith) (omega (arith, size))))
           ∙ by_both (a == x) (get_or numbers y false) (get_or old (place_of n x y) false) (get_or all y false) (sym (row_with x y in_x in_y) ∙ h) (has.at x y in_x in_y)
 
--- no bits are no pairs
 no_bit : (count k : ℕ) → get_or (replicate count false) k false ≡ false
 no_bit count k =
     elim (cases_lt k count) [
@@ -257,9 +256,7 @@ no_bit count k =
       | inr le ↦ get_or-eq_default (replicate count false) false (omega (arith, length-replicate {A = Bool} count false))
     ]
 
-pub none_has_each : (n count : ℕ) (all : List Bool) → HasEach n (replicate count false) all
-none_has_each n count all = record { at = λ x y in_x in_y h. absurd (false≢true (sym (no_bit count (place_of n x y)) ∙ h)) }
-
+-- no bits are no pairs
 pub none_is_empty : (n count : ℕ) (a b : ℕ) → has_pair (record { n = n; marks = replicate count false }) a b ≡ false
 none_is_empty n count a b =
     has_pair_is n (replicate count false) a b

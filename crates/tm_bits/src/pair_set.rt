@@ -28,7 +28,8 @@ impl Model for PairSet {
 
     ghost view = { λ s. record { n = s.n; marks = s.bits } };
 
-    ghost invariant = { λ s. (length s.bits ≡ 64 * (words_of s.n * s.n)) × (length s.marked ≡ 64 * words_of s.n) × HasEach s.n s.bits s.marked };
+    ghost invariant = { λ s. (length s.bits ≡ 64 * (words_of s.n * s.n)) × (length s.marked ≡ 64 * words_of s.n)
+        × HasEach s.n s.bits s.marked };
 }
 
 /// How many words the row of a number has.
