@@ -11,8 +11,8 @@ use std::marker::Model;
 /// A set of unordered pairs of different numbers below `n`. Contracts see it by `has_pair`.
 ///
 /// Each number has a row of whole words, with a bit for each number, so that one is joined with many by words. A pair is
-/// in the set if its bit is set in one of its two rows. One more row has all marks of the others: most often it tells at
-/// once that the second of the two has none, and a look there is a jump in memory.
+/// in the set if its bit is set in one of its two rows. One more row has all marks of the others: where it has none of a
+/// number, no second row is looked at, which would be a jump in memory.
 #[derive(Debug, Drop)]
 pub struct PairSet {
     n: u32,
