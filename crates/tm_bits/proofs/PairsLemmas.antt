@@ -1,10 +1,10 @@
 -- The places of pairs, and what a mark more, or the marks of a set, say of each pair.
-use Rattle.std.proofs.Common.{◌≡◌, ◌≢◌, ℕ, ◌+◌, ◌-◌, ◌*◌, ◌/◌, ◌^◌, ◌<◌, ◌≤◌, ◌==◌, Bool, true, false, not, List, length, get_or, refl, sym, ap, ◌∙◌, arith, replicate, inl, inr, ◌⊎◌, ◌||◌, ◌&&◌}
+use Rattle.std.proofs.Common.{◌≡◌, ◌≢◌, ℕ, ◌+◌, ◌-◌, ◌*◌, ◌^◌, ◌<◌, ◌≤◌, ◌==◌, Bool, true, false, not, List, length, get_or, refl, sym, ap, ◌∙◌, arith, replicate, inl, inr, ◌⊎◌, ◌||◌, ◌&&◌}
 use Rattle.std.proofs.Math.ListN.{set, get_or-eq_default}
 use Rattle.std.proofs.lemmas.Nat.{mul-le}
 use Rattle.std.proofs.lemmas.Bool.{cases_lt, cases_eq, cases_Bool, false≢true}
 use Rattle.std.proofs.lemmas.List.{get_or-set_same, get_or-set_other, get_or-replicate, length-replicate}
-use Rattle.tm_bits.specs.Pairs.{Pairs, words_of, place_of, is_pair, has_pair, is_same_pair, is_with}
+use Rattle.tm_bits.specs.Pairs.{Pairs, HasEach, words_of, place_of, is_pair, has_pair, is_same_pair, is_with}
 
 -- ---- places
 
@@ -78,6 +78,21 @@ has_pair_is n marks a b = refl
 pub has_pair_inside : (n : ℕ) (marks : List Bool) (a b : ℕ) → a < n → b < n → a ≢ b → has_pair (record { n = n; marks = marks }) a b ≡ either n marks a b
 has_pair_inside n marks a b in_a in_b differ = has_pair_is n marks a b ∙ ap (λ t. t && either n marks a b) (pair_of n a b in_a in_b differ)
 
+-- a pair by its first row, and by its second where the first has no mark of it
+pub has_pair_first : (n : ℕ) (marks : List Bool) (a b : ℕ) → a < n → b < n → a ≢ b → get_or marks (place_of n a b) false ≡ true → has_pair (record { n = n; marks = marks }) a b ≡ true
+has_pair_first n marks a b in_a in_b differ h = has_pair_inside n marks a b in_a in_b differ ∙ ap (λ t. t || get_or marks (place_of n b a) false) h
+
+pub has_pair_second : (n : ℕ) (marks : List Bool) (a b : ℕ) → a < n → b < n → a ≢ b → get_or marks (place_of n a b) false ≡ false → has_pair (record { n = n; marks = marks }) a b ≡ get_or marks (place_of n b a) false
+has_pair_second n marks a b in_a in_b differ h = has_pair_inside n marks a b in_a in_b differ ∙ ap (λ t. t || get_or marks (place_of n b a) false) h
+
+-- no row has a mark where the row of all marks has none
+pub none_there : (n : ℕ) (marks all : List Bool) (a b : ℕ) → HasEach n marks all → a < n → b < n → get_or all b false ≡ false → get_or marks (place_of n a b) false ≡ false
+none_there n marks all a b has in_a in_b none =
+    elim (cases_Bool (get_or marks (place_of n a b) false)) [
+      | inl h ↦ absurd (false≢true (sym none ∙ has.at a b in_a in_b h))
+      | inr h ↦ h
+    ]
+
 has_no_pair : (n : ℕ) (marks : List Bool) (a b : ℕ) → is_pair n a b ≡ false → has_pair (record { n = n; marks = marks }) a b ≡ false
 has_no_pair n marks a b h = has_pair_is n marks a b ∙ ap (λ t. t && either n marks a b) h
 
@@ -133,6 +148,19 @@ module _ (n a b : ℕ) (marks : List Bool) (in_a : a < n) (in_b : b < n) (differ
     where
       same_turned : (c d : ℕ) → is_same_pair a b c d ≡ (((a == c) && (b == d)) || ((a == d) && (b == c)))
       same_turned c d = refl
+
+  pub has_each-mark : (all : List Bool) → length all ≡ 64 * words_of n → HasEach n marks all → HasEach n marked (set all b true)
+  has_each-mark all len_is has = record { at = there }
+    where
+      there : (x y : ℕ) → x < n → y < n → get_or marked (place_of n x y) false ≡ true → get_or (set all b true) y false ≡ true
+      there x y in_x in_y h =
+          elim (cases_eq b y) [
+            | inl e ↦ ap (λ k. get_or (set all b true) k false) (sym e) ∙ get_or-set_same all b true false (omega (arith, len_is))
+            | inr differ ↦
+                let apart : place_of n x y ≢ place_of n a b = λ e. differ (sym (one_place n x y a b in_y in_b e).1) in
+                get_or-set_other all b y true false (λ e. differ (sym e))
+                ∙ has.at x y in_x in_y (sym (get_or-set_other marks (place_of n a b) (place_of n x y) true false apart) ∙ h)
+          ]
 
 module _ (n a : ℕ) (numbers old new : List Bool) (in_a : a < n) (size : length numbers ≡ n)
     (joined : (i : ℕ) → i < 64 * words_of n → i < length numbers → get_or new (64 * (words_of n * a) + i) false ≡ (get_or old (64 * (words_of n * a) + i) false || get_or numbers i false))
@@ -202,20 +230,39 @@ module _ (n a : ℕ) (numbers old new : List Bool) (in_a : a < n) (size : length
   pub has_pair-with : (c d : ℕ) → has_pair (record { n = n; marks = new }) c d ≡ (put c d || has_pair (record { n = n; marks = old }) c d)
   has_pair-with = has_pair-put n old new put (λ c d. (a == c) && get_or numbers d false) row_with put_inside put_outside
 
+  pub has_each-with : (all now : List Bool)
+      → ((i : ℕ) → i < 64 * words_of n → i < length numbers → get_or now (64 * 0 + i) false ≡ (get_or all (64 * 0 + i) false || get_or numbers i false))
+      → HasEach n old all → HasEach n new now
+  has_each-with all now joined_all has = record { at = there }
+    where
+      -- a mark is of the set, or was there before
+      by_both : (p q r s : Bool) → ((p && q) || r) ≡ true → (r ≡ true → s ≡ true) → (s || q) ≡ true
+      by_both p q r true h f = refl
+      by_both p true r false h f = refl
+      by_both p false true false h f = f refl
+      by_both true false false false h f = h
+      by_both false false false false h f = h
+
+      there : (x y : ℕ) → x < n → y < n → get_or new (place_of n x y) false ≡ true → get_or now y false ≡ true
+      there x y in_x in_y h =
+          let here : 64 * 0 + y ≡ y = omega arith in
+          (rw here at (joined_all y (omega arith) (omega (arith, size))))
+          ∙ by_both (a == x) (get_or numbers y false) (get_or old (place_of n x y) false) (get_or all y false) (sym (row_with x y in_x in_y) ∙ h) (has.at x y in_x in_y)
+
+no_bit : (count k : ℕ) → get_or (replicate count false) k false ≡ false
+no_bit count k =
+    elim (cases_lt k count) [
+      | inl lt ↦ get_or-replicate count k false false lt
+      | inr le ↦ get_or-eq_default (replicate count false) false (omega (arith, length-replicate {A = Bool} count false))
+    ]
+
 -- no bits are no pairs
 pub none_is_empty : (n count : ℕ) (a b : ℕ) → has_pair (record { n = n; marks = replicate count false }) a b ≡ false
 none_is_empty n count a b =
     has_pair_is n (replicate count false) a b
-    ∙ ap (λ m. is_pair n a b && (m || get_or (replicate count false) (place_of n b a) false)) (nothing (place_of n a b))
-    ∙ ap (λ m. is_pair n a b && m) (nothing (place_of n b a)) ∙ and_none (is_pair n a b)
+    ∙ ap (λ m. is_pair n a b && (m || get_or (replicate count false) (place_of n b a) false)) (no_bit count (place_of n a b))
+    ∙ ap (λ m. is_pair n a b && m) (no_bit count (place_of n b a)) ∙ and_none (is_pair n a b)
   where
-    nothing : (k : ℕ) → get_or (replicate count false) k false ≡ false
-    nothing k =
-        elim (cases_lt k count) [
-          | inl lt ↦ get_or-replicate count k false false lt
-          | inr le ↦ get_or-eq_default (replicate count false) false (omega (arith, length-replicate {A = Bool} count false))
-        ]
-
     and_none : (t : Bool) → (t && false) ≡ false
     and_none true = refl
     and_none false = refl

@@ -1,5 +1,5 @@
 -- A set of unordered pairs of different numbers below n.
-use Rattle.std.specs.Prelude.{ℕ, ◌+◌, ◌*◌, ◌/◌, ◌==◌, nat_lt, Bool, false, not, ◌&&◌, ◌||◌, List, slice_index_or}
+use Rattle.std.specs.Prelude.{ℕ, ◌+◌, ◌*◌, ◌/◌, ◌==◌, ◌<◌, ◌≡◌, nat_lt, Bool, true, false, not, ◌&&◌, ◌||◌, List, slice_index_or}
 use Rattle.tm_bits.specs.Numbers.{has_number}
 
 -- the bits of a square: each number has a row, in which each number has a bit
@@ -14,6 +14,10 @@ words_of n = (n + 63) / 64
 -- the place of b in the row of a
 abbrev pub place_of : ℕ → ℕ → ℕ → ℕ
 place_of n a b = 64 * (words_of n * a) + b
+
+-- each row has marks only where the row of all marks has one
+pub record HasEach (n : ℕ) (marks all : List Bool) : Type 0 where
+  pub at : (a b : ℕ) → a < n → b < n → slice_index_or marks (place_of n a b) false ≡ true → has_number all b ≡ true
 
 -- two different numbers below n
 abbrev pub is_pair : ℕ → ℕ → ℕ → Bool

@@ -11,22 +11,25 @@ use std::marker::Model;
 /// A set of unordered pairs of different numbers below `n`. Contracts see it by `has_pair`.
 ///
 /// Each number has a row of whole words, with a bit for each number, so that one is joined with many by words. A pair is
-/// in the set if its bit is set in one of its two rows.
+/// in the set if its bit is set in one of its two rows. One more row has all marks of the others: where it has none of a
+/// number, no second row is looked at, which would be a jump in memory.
 #[derive(Debug, Drop)]
 pub struct PairSet {
     n: u32,
     bits: Bits,
+    marked: Bits,
 }
 
 impl Model for PairSet {
     ghost use Rattle.std.specs.Prelude.{◌≡◌, ◌*◌, length};
-    ghost use Rattle.tm_bits.specs.Pairs.{Pairs, words_of};
+    ghost use Rattle.tm_bits.specs.Pairs.{Pairs, HasEach, words_of};
 
     ghost Value = { Pairs };
 
     ghost view = { λ s. record { n = s.n; marks = s.bits } };
 
-    ghost invariant = { λ s. length s.bits ≡ 64 * (words_of s.n * s.n) };
+    ghost invariant = { λ s. (length s.bits ≡ 64 * (words_of s.n * s.n)) × (length s.marked ≡ 64 * words_of s.n)
+        × HasEach s.n s.bits s.marked };
 }
 
 /// How many words the row of a number has.
@@ -50,7 +53,8 @@ impl PairSet {
         ensures empty { IfOk result (λ set. (a b : ℕ) → has_pair set a b ≡ false) }
     {
         let bits = Bits::new(alloc, 64 * (words_of(n) * u64::from(n)))?;
-        Ok(PairSet { n, bits })
+        let marked = Bits::new(alloc, 64 * words_of(n))?;
+        Ok(PairSet { n, bits, marked })
     }
 
     /// The number that each number of a pair is below.
@@ -69,6 +73,7 @@ impl PairSet {
         ensures pairs { (c d : ℕ) → has_pair self.new c d ≡ (is_same_pair a b c d || has_pair self.old c d) }
     {
         self.bits.put(place_of(self.n, a, b), true);
+        self.marked.put(u64::from(b), true);
     }
 
     /// Puts a number in with each number of a set but itself. Every other pair is as it was.
@@ -81,6 +86,7 @@ impl PairSet {
     {
         let count = words_of(self.n) as usize;
         self.bits.join(count * a as usize, count, others.bits());
+        self.marked.join(0, count, others.bits());
     }
 
     /// Whether a pair is in the set, in either order.
@@ -90,7 +96,8 @@ impl PairSet {
         requires differ { a ≢ b }
         ensures { result ≡ has_pair self.now a b }
     {
-        self.bits.get(place_of(self.n, a, b)) || self.bits.get(place_of(self.n, b, a))
+        self.bits.get(place_of(self.n, a, b))
+            || (self.marked.get(u64::from(a)) && self.bits.get(place_of(self.n, b, a)))
     }
 }
 

@@ -1,4 +1,4 @@
-use Rattle.std.proofs.Common.{◌∙◌, arith, refl}
+use Rattle.std.proofs.Common.{◌∙◌, arith}
 use Rattle.std.proofs.lemmas.List.{length-set}
 use Rattle.tm_bits.proofs.WordsLemmas.{cleared_next, cleared_all}
 use Rattle.tm_bits.proofs.bits.clear_words.Goals as goal

@@ -1,5 +1,5 @@
-use Rattle.std.proofs.Common.{◌≡◌, ◌≤◌, inl, inr, arith, subst}
-use Rattle.tm_bits.proofs.WordsLemmas.{AreJoined, none_joined, one_joined}
+use Rattle.std.proofs.Common.{◌≡◌, arith}
+use Rattle.tm_bits.proofs.WordsLemmas.{none_joined, one_joined}
 use Rattle.tm_bits.proofs.bits.join_words.Goals as goal
 
 pub words-init : goal.words-init

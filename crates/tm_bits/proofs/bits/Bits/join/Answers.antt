@@ -1,4 +1,4 @@
-use Rattle.std.proofs.Common.{◌≡◌, ◌∙◌, ◌||◌, ◌+◌, ◌*◌, false, ap, sym, arith, length, get_or}
+use Rattle.std.proofs.Common.{◌∙◌, ◌||◌, ◌+◌, ◌*◌, false, ap, sym, arith, length, get_or}
 use Rattle.std.proofs.lemmas.List.{with_items_is}
 use Rattle.tm_bits.specs.Words.{bits_of}
 use Rattle.tm_bits.proofs.WordsLemmas.{AreJoined, bits_joined, bits_kept, length-bits_of}
