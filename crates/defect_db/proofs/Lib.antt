@@ -6,6 +6,7 @@ mod Counting
 mod Telling
 mod Queries
 mod Sweeping
+mod SweptRows
 mod Owning
 mod Putting
 mod PuttingWires
