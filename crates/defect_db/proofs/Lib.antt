@@ -7,6 +7,7 @@ mod Telling
 mod Queries
 mod Sweeping
 mod SweptRows
+mod SitesInRows
 mod Owning
 mod Putting
 mod PuttingWires

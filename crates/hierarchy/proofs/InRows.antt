@@ -2,7 +2,7 @@
 use Rattle.std.proofs.Common.{◌≡◌, ℕ, ◌+◌, ◌*◌, ◌<◌, refl, sym, ap, ◌∙◌, subst, arith}
 use Rattle.hierarchy.specs.declared.Shape.{Shape}
 use Rattle.hierarchy.specs.Walk.{start, crosses_in}
-use Rattle.hierarchy.specs.Shape.{levels_of, way_to, crosses_of, nodes_of, lines_of, taps_of, tap_at, line_at, port_at, cross_at, node_of_cross, ends_of}
+use Rattle.hierarchy.specs.Shape.{levels_of, way_to, crosses_of, lines_of, line_at, port_at, cross_at, node_of_cross, ends_of}
 use Rattle.hierarchy.specs.Rows.{first_cross_of, HasRows}
 use Rattle.hierarchy.proofs.Crossings as crossings
 
