@@ -6,6 +6,8 @@ mod Counting
 mod Telling
 mod Queries
 mod Sweeping
+mod SweptRows
+mod SitesInRows
 mod Owning
 mod Putting
 mod PuttingWires

@@ -248,21 +248,13 @@ module _ (m : Shape) (crosses : HasCrosses m) where
   pub ends_are : (x : ℕ) → x < crosses_of m → ends_of m x ≡ (tap_at m (node_of_cross m x) (tap_position m x), line_at m (node_of_cross m x) (line_position m x))
   ends_are x lt = ap (ends_of m) (sym (crosses.back x lt)) ∙ crosses.ends (node_of_cross m x) (tap_position m x) (line_position m x) (crosses.node x lt) (crosses.tap x lt) (crosses.line x lt)
 
-  -- with one crosspoint of a tap at a node there is one at each line, and with one of a line one at each tap
+  -- with one crosspoint of a tap at a node there is one at each line
   pub at_each_line : (n w i x : ℕ) → n < nodes_of m → i < lines_of m n → x < crosses_of m → node_of_cross m x ≡ n → (ends_of m x).0 ≡ w → (y : ℕ) × (y < crosses_of m) × (ends_of m y ≡ (w, line_at m n i))
   at_each_line n w i x ln li lt at e =
       let la : tap_position m x < taps_of m n = subst (λ k. tap_position m x < taps_of m k) at (crosses.tap x lt) in (
         cross_at m n (tap_position m x) i,
         crosses.within n (tap_position m x) i ln la li,
         crosses.ends n (tap_position m x) i ln la li ∙ ap (λ t. (t, line_at m n i)) (ap (λ k. tap_at m k (tap_position m x)) (sym at) ∙ sym (ap (λ p. p.0) (ends_are x lt)) ∙ e),
-      )
-
-  pub at_each_tap : (n w i x : ℕ) → n < nodes_of m → i < taps_of m n → x < crosses_of m → node_of_cross m x ≡ n → (ends_of m x).1 ≡ w → (y : ℕ) × (y < crosses_of m) × (ends_of m y ≡ (tap_at m n i, w))
-  at_each_tap n w i x ln li lt at e =
-      let lb : line_position m x < lines_of m n = subst (λ k. line_position m x < lines_of m k) at (crosses.line x lt) in (
-        cross_at m n i (line_position m x),
-        crosses.within n i (line_position m x) ln li lb,
-        crosses.ends n i (line_position m x) ln li lb ∙ ap (λ t. (tap_at m n i, t)) (ap (λ k. line_at m k (line_position m x)) (sym at) ∙ sym (ap (λ p. p.1) (ends_are x lt)) ∙ e),
       )
 
   -- the crosspoint of a tap and the line at a position is the one that is there
@@ -352,12 +344,9 @@ module _ (m : Shape) (crosses : HasCrosses m) (n w : ℕ) (c0 b0 c b : List Bool
   pub lines_done : (i : ℕ) → taps_of m n ≤ i → IsSwept m w (LinesTo i) c0 b0 c b s → IsSwept m w Lines c0 b0 c b s
   lines_done i le k = swept_by m w (LinesTo i) Lines c0 b0 c b s k (λ x lt h. (h.0, h.1, let l = subst (λ z. tap_position m x < taps_of m z) h.0 (crosses.tap x lt) in omega (arith, l, le)))
 
-  -- the wire is no tap here, or no line
+  -- the wire is no tap here
   pub no_tap : (i line : ℕ) → i < lines_of m n → line ≡ line_at m n i → ((y : ℕ) → y < crosses_of m → ends_of m y ≢ (w, line)) → IsSwept m w (TapsTo i) c0 b0 c b s → IsSwept m w Taps c0 b0 c b s
   no_tap i line li at none k = swept_by m w (TapsTo i) Taps c0 b0 c b s k (λ x lt h. absurd (let y = at_each_line m crosses n w i x ln li lt h.0 h.1 in none y.0 y.1 (y.2 ∙ ap (λ l. (w, l)) (sym at))))
-
-  pub no_line : (i tap : ℕ) → i < taps_of m n → tap ≡ tap_at m n i → ((y : ℕ) → y < crosses_of m → ends_of m y ≢ (tap, w)) → IsSwept m w (LinesTo i) c0 b0 c b s → IsSwept m w Lines c0 b0 c b s
-  no_line i tap li at none k = swept_by m w (LinesTo i) Lines c0 b0 c b s k (λ x lt h. absurd (let y = at_each_tap m crosses n w i x ln li lt h.0 h.1 in none y.0 y.1 (y.2 ∙ ap (λ l. (l, w)) (sym at))))
 
 -- ---- all of a wire's crosspoints
 

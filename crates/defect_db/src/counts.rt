@@ -5,7 +5,7 @@ ghost use Rattle.tm_bits.specs.Numbers.{has_number};
 ghost use Rattle.hierarchy.specs.Shape.{wires_of, nodes_of, parent_of};
 ghost use Rattle.defect_db.specs.Kept.{clear_lines_at, free_ports_at, free_pins_in, AreRecounted, IsRecounted, IsItOrAbove};
 
-use hierarchy::{Node, Shape};
+use hierarchy::{Node, Shape, Wire};
 use tm_bits::BitSet;
 
 /// How many lines of a node aren't listed and have no listed crosspoint.
@@ -15,9 +15,13 @@ fn clear_lines(shape: &Shape, wires: &BitSet, shut: &[u32], n: Node) -> u32
     requires shut { length shut.now ≡ wires_of shape.now }
     ensures { result ≡ clear_lines_at shape.now wires.now shut.now n.0 }
 {
+    hierarchy::the_numbering_is_sound();
+    hierarchy::crosspoints_stand_in_rows();
+    let lines = shape.lines(n);
+    let first = shape.line(n, 0);
     let mut count = 0u32;
-    'lines: for i in 0..shape.lines(n) {
-        let line = shape.line(n, i);
+    'lines: for i in 0..lines {
+        let line = Wire(first.0 + i);
         if !wires.has(line.0) && shut[line.0 as usize] == 0 {
             count += 1;
         }
@@ -31,9 +35,17 @@ fn free_ports(shape: &Shape, wires: &BitSet, n: Node) -> u32
     requires wires { length wires.now ≡ wires_of shape.now }
     ensures { result ≡ free_ports_at shape.now wires.now n.0 }
 {
+    hierarchy::the_numbering_is_sound();
+    hierarchy::crosspoints_stand_in_rows();
+    let ports = shape.ports(n);
+    if ports == 0 {
+        return 0;
+    }
+    let first = shape.port(n, 0);
     let mut count = 0u32;
-    'ports: for i in 0..shape.ports(n) {
-        if !wires.has(shape.port(n, i).0) {
+    'ports: for i in 0..ports {
+        let port = Wire(first.0 + i);
+        if !wires.has(port.0) {
             count += 1;
         }
     }

@@ -44,12 +44,16 @@ fn bar_tap(
     ensures { IsSwept shape.now w.0 (λ x. (node_of_cross shape.now x ≡ n.0) × ((ends_of shape.now x).0 ≡ w.0)) crosses.old barred.old crosses.new barred.new shut.new }
 {
     hierarchy::the_crosspoints_are_sound();
-    'lines: for i in 0..shape.lines(n) {
-        let line = shape.line(n, i);
-        match shape.cross(w, line) {
-            Some(x) => bar(crosses, barred, shut, x, line),
-            None => return,
-        }
+    hierarchy::crosspoints_stand_in_rows();
+    let width = shape.lines(n);
+    let first_line = shape.line(n, 0);
+    let Some(first) = shape.cross(w, first_line) else {
+        return;
+    };
+    'lines: for i in 0..width {
+        let x = Cross(first.0 + i);
+        let line = Wire(first_line.0 + i);
+        bar(crosses, barred, shut, x, line);
     }
 }
 
@@ -71,11 +75,20 @@ fn bar_line(
     ensures { IsSwept shape.now w.0 (λ x. (node_of_cross shape.now x ≡ n.0) × ((ends_of shape.now x).1 ≡ w.0)) crosses.old barred.old crosses.new barred.new shut.new }
 {
     hierarchy::the_crosspoints_are_sound();
+    hierarchy::crosspoints_stand_in_rows();
+    let width = shape.lines(n);
+    let first_line = shape.line(n, 0);
+    if w.0 < first_line.0 {
+        return;
+    }
+    let position = w.0 - first_line.0;
+    if position >= width {
+        return;
+    }
+    let first = shape.first_cross(n);
     'taps: for i in 0..shape.taps(n) {
-        match shape.cross(shape.tap(n, i), w) {
-            Some(x) => bar(crosses, barred, shut, x, w),
-            None => return,
-        }
+        let x = Cross(first + i * width + position);
+        bar(crosses, barred, shut, x, w);
     }
 }
 

@@ -21,6 +21,7 @@ mod Walks
 mod Ways
 mod Taps
 mod Numbering
+mod InRows
 mod Meanings
 mod Tapped
 mod Parents

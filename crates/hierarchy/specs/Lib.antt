@@ -7,6 +7,7 @@ pub mod Said
 pub mod Names
 pub mod Laws
 pub mod PartNames
+pub mod Rows
 pub mod Sites
 pub mod Faults
 pub mod Joined

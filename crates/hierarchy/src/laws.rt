@@ -2,6 +2,7 @@
 ghost use Rattle.std.specs.Prelude.{◌≡◌};
 ghost use Rattle.hierarchy.specs.Laws.{IsNumbered, IsTree, HasMeanings, HasTaps, HasCrosses, HasMeetings, HasParents, HasNames, IsNumberedAsTiny, tiny};
 ghost use Rattle.hierarchy.specs.PartNames.{HasPartNames};
+ghost use Rattle.hierarchy.specs.Rows.{HasRows};
 ghost use Rattle.hierarchy.specs.Sums.{HasSums};
 ghost use Rattle.hierarchy.specs.declared.Shape.{Shape};
 
@@ -23,6 +24,11 @@ pub fn the_crosspoints_are_sound()
     ensures taps { (m : Shape) → HasTaps m }
     ensures crosses { (m : Shape) → HasCrosses m }
     ensures meetings { (m : Shape) → HasMeetings m }
+{}
+
+/// The crosspoints of a node follow each other: a row for each tap, and in it one for each line.
+pub fn crosspoints_stand_in_rows()
+    ensures { (m : Shape) → HasRows m }
 {}
 
 /// What wires are called, and that no two wires, tables or nodes have one name.

@@ -32,8 +32,8 @@ pub use joining::{
     sound_wires_stay_apart, values_are_unique, values_exist, without_faults_all_is_sound,
 };
 pub use laws::{
-    a_small_machine_is_numbered_so, crossbars_add_up, names_are_one_to_one, names_follow_the_tree,
-    the_crosspoints_are_sound, the_numbering_is_sound,
+    a_small_machine_is_numbered_so, crossbars_add_up, crosspoints_stand_in_rows,
+    names_are_one_to_one, names_follow_the_tree, the_crosspoints_are_sound, the_numbering_is_sound,
 };
 pub use order::ports_and_lines_ascend;
 pub use part::PartName;

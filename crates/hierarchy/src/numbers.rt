@@ -1,12 +1,13 @@
 //! How many of each a machine has, and which wires its nodes and tables have.
 ghost use Rattle.std.specs.Prelude.{◌≡◌, ◌<◌, ◌≤◌, IfSome, IfNone};
 ghost use Rattle.hierarchy.specs.Bars.{IsNodeBar};
+ghost use Rattle.hierarchy.specs.Rows.{first_cross_of};
 ghost use Rattle.hierarchy.specs.Shape.{wires_of, crosses_of, tables_of, nodes_of, pins_of, taps_of, lines_of, own_ports_of, tap_at, line_at, port_at, pin_wire, table_wire, node_of, node_of_cross, hextant_of, parent_of};
 
 use crate::bars::{bar_of, tap_at};
 use crate::places::{
-    above_of, cross_place, first_wire, node_number, node_way, steps_of, table_way, total, trunk_of,
-    wire_place,
+    above_of, cross_place, first_cross, first_wire, node_number, node_way, steps_of, table_way,
+    total, trunk_of, wire_place,
 };
 use crate::way::{Bar, Kind};
 use crate::{Cross, Node, Shape, Table, Wire};
@@ -91,6 +92,16 @@ impl Shape {
         } else {
             node_bar(*self, n.0).ports
         }
+    }
+
+    /// The number of a node's first crosspoint. From there on its crosspoints stand in rows: one row for each
+    /// tap, and in it one crosspoint for each line.
+    pub fn first_cross(&self, n: Node) -> u32
+        requires { n.0 < nodes_of self.now }
+        ensures { result ≡ first_cross_of self.now n.0 }
+    {
+        let to_node = node_way(*self, n.0);
+        first_cross(*self, steps_of(&to_node))
     }
 
     /// The tap of a node's crossbar at a position.

@@ -1,18 +1,74 @@
-use Rattle.std.proofs.Common.{arith}
-use Rattle.defect_db.proofs.Sweeping.{sweep_none, line_some, line_more, lines_done, no_line}
+use Rattle.std.proofs.Common.{refl, ◌≡◌, ◌+◌, ◌<◌, ◌-◌, arith}
+use Rattle.hierarchy.specs.Shape.{taps_of}
+use Rattle.defect_db.proofs.Sweeping.{sweep_none, line_some, line_more, lines_done}
+use Rattle.defect_db.proofs.SweptRows.{in_rows, few_in_rows, not_a_line}
 use Rattle.defect_db.proofs.sweep.bar_line.Goals as goal
 
+pub returns-then-w-first_line : goal.returns-then-w-first_line
+returns-then-w-first_line c =
+    not_a_line c.args.shape.now (c.the_crosspoints_are_sound.ensures.crosses c.args.shape.now) (c.crosspoints_stand_in_rows.ensures c.args.shape.now) c.args.n.0 c.args.w.0 c.requires.node _ c.line-first_line.ensures.wire c.args.crosses.now c.args.barred.now c.args.shut.now c.requires.crosses c.requires.barred c.requires.shut c.requires.counted
+    (λ j lj e. let no : ⊥ = omega (arith, c.if-w-first_line.true, e) in no)
+
+pub returns-then-position-width : goal.returns-then-position-width
+returns-then-position-width c =
+    not_a_line c.args.shape.now (c.the_crosspoints_are_sound.ensures.crosses c.args.shape.now) (c.crosspoints_stand_in_rows.ensures c.args.shape.now) c.args.n.0 c.args.w.0 c.requires.node _ c.line-first_line.ensures.wire c.args.crosses.now c.args.barred.now c.args.shut.now c.requires.crosses c.requires.barred c.requires.shut c.requires.counted
+    (λ j lj e. let no : ⊥ = omega (arith, c.if-w-first_line.false, c.if-position-width.true, c.lines-width.ensures.lines, lj, e) in no)
+
 pub taps-init : goal.taps-init
-taps-init c = sweep_none c.args.shape.now c.args.w.0 _ c.args.crosses.now c.args.barred.now c.args.shut.now c.requires.crosses c.requires.barred c.requires.shut c.requires.counted (λ x h. let no : ⊥ = omega (arith, h.2) in no)
+taps-init c =
+    sweep_none c.args.shape.now c.args.w.0 _ c.args.crosses.now c.args.barred.now c.args.shut.now c.requires.crosses c.requires.barred c.requires.shut c.requires.counted
+    (λ x h. let no : ⊥ = omega (arith, h.2) in no)
+
+pub overflow_mul-x : goal.overflow_mul-x
+overflow_mul-x c =
+    let li : c.taps.i < taps_of c.args.shape.now c.args.n.0 = omega (arith, c.taps-test.true, c.taps-i-end.ensures) in
+    let lj : c.args.w.0 - c.line-first_line.result.0 < c.lines-width.result = omega (arith, c.if-position-width.false) in
+    let e : c.line-first_line.result.0 + (c.args.w.0 - c.line-first_line.result.0) ≡ c.args.w.0 = omega (arith, c.if-w-first_line.false) in
+    let f = few_in_rows c.args.shape.now (c.the_crosspoints_are_sound.ensures.crosses c.args.shape.now) (c.crosspoints_stand_in_rows.ensures c.args.shape.now) c.args.n.0 c.args.w.0 c.requires.node _ c.line-first_line.ensures.wire _ _ c.first_cross-first.ensures c.lines-width.ensures.lines c.taps.i _ li lj e in omega (arith, f)
+
+pub overflow_add-x : goal.overflow_add-x
+overflow_add-x c =
+    let li : c.taps.i < taps_of c.args.shape.now c.args.n.0 = omega (arith, c.taps-test.true, c.taps-i-end.ensures) in
+    let lj : c.args.w.0 - c.line-first_line.result.0 < c.lines-width.result = omega (arith, c.if-position-width.false) in
+    let e : c.line-first_line.result.0 + (c.args.w.0 - c.line-first_line.result.0) ≡ c.args.w.0 = omega (arith, c.if-w-first_line.false) in
+    let f = few_in_rows c.args.shape.now (c.the_crosspoints_are_sound.ensures.crosses c.args.shape.now) (c.crosspoints_stand_in_rows.ensures c.args.shape.now) c.args.n.0 c.args.w.0 c.requires.node _ c.line-first_line.ensures.wire _ _ c.first_cross-first.ensures c.lines-width.ensures.lines c.taps.i _ li lj e in omega (arith, f)
+
+pub overflow_add-x-in-taps : goal.overflow_add-x-in-taps
+overflow_add-x-in-taps c =
+    let li : c.taps.i < taps_of c.args.shape.now c.args.n.0 = omega (arith, c.taps-test.true, c.taps-i-end.ensures) in
+    let lj : c.args.w.0 - c.line-first_line.result.0 < c.lines-width.result = omega (arith, c.if-position-width.false) in
+    let e : c.line-first_line.result.0 + (c.args.w.0 - c.line-first_line.result.0) ≡ c.args.w.0 = omega (arith, c.if-w-first_line.false) in
+    let f = few_in_rows c.args.shape.now (c.the_crosspoints_are_sound.ensures.crosses c.args.shape.now) (c.crosspoints_stand_in_rows.ensures c.args.shape.now) c.args.n.0 c.args.w.0 c.requires.node _ c.line-first_line.ensures.wire _ _ c.first_cross-first.ensures c.lines-width.ensures.lines c.taps.i _ li lj e in omega (arith, f)
+
+pub bar-requires-clause-listed : goal.bar-requires-clause-listed
+bar-requires-clause-listed c =
+    let li : c.taps.i < taps_of c.args.shape.now c.args.n.0 = omega (arith, c.taps-test.true, c.taps-i-end.ensures) in
+    let lj : c.args.w.0 - c.line-first_line.result.0 < c.lines-width.result = omega (arith, c.if-position-width.false) in
+    let e : c.line-first_line.result.0 + (c.args.w.0 - c.line-first_line.result.0) ≡ c.args.w.0 = omega (arith, c.if-w-first_line.false) in
+    let r = in_rows c.args.shape.now (c.the_crosspoints_are_sound.ensures.crosses c.args.shape.now) (c.crosspoints_stand_in_rows.ensures c.args.shape.now) c.args.n.0 c.args.w.0 c.requires.node _ c.line-first_line.ensures.wire _ _ c.first_cross-first.ensures c.lines-width.ensures.lines c.taps.i _ li lj e in omega (arith, r.0, c.taps.invariant.crosses_width)
+
+pub bar-requires-clause-barred : goal.bar-requires-clause-barred
+bar-requires-clause-barred c =
+    let li : c.taps.i < taps_of c.args.shape.now c.args.n.0 = omega (arith, c.taps-test.true, c.taps-i-end.ensures) in
+    let lj : c.args.w.0 - c.line-first_line.result.0 < c.lines-width.result = omega (arith, c.if-position-width.false) in
+    let e : c.line-first_line.result.0 + (c.args.w.0 - c.line-first_line.result.0) ≡ c.args.w.0 = omega (arith, c.if-w-first_line.false) in
+    let r = in_rows c.args.shape.now (c.the_crosspoints_are_sound.ensures.crosses c.args.shape.now) (c.crosspoints_stand_in_rows.ensures c.args.shape.now) c.args.n.0 c.args.w.0 c.requires.node _ c.line-first_line.ensures.wire _ _ c.first_cross-first.ensures c.lines-width.ensures.lines c.taps.i _ li lj e in omega (arith, r.0, c.taps.invariant.barred_width)
 
 pub bar-requires-clause-some : goal.bar-requires-clause-some
-bar-requires-clause-some c = line_some c.args.shape.now (c.the_crosspoints_are_sound.ensures.crosses c.args.shape.now) c.args.n.0 c.args.w.0 _ _ _ _ _ c.requires.node _ c.in-Some.x.0 _ c.taps.invariant c.in-Some.ensures.found c.requires.wire
-
-pub returns-in-None : goal.returns-in-None
-returns-in-None c = no_line c.args.shape.now (c.the_crosspoints_are_sound.ensures.crosses c.args.shape.now) c.args.n.0 c.args.w.0 _ _ _ _ _ c.requires.node c.taps.i _ (omega (arith, c.taps-test.true, c.taps-i-end.ensures)) c.tap.ensures.wire c.in-None.ensures.none c.taps.invariant
+bar-requires-clause-some c =
+    let li : c.taps.i < taps_of c.args.shape.now c.args.n.0 = omega (arith, c.taps-test.true, c.taps-i-end.ensures) in
+    let lj : c.args.w.0 - c.line-first_line.result.0 < c.lines-width.result = omega (arith, c.if-position-width.false) in
+    let e : c.line-first_line.result.0 + (c.args.w.0 - c.line-first_line.result.0) ≡ c.args.w.0 = omega (arith, c.if-w-first_line.false) in
+    line_some c.args.shape.now (c.the_crosspoints_are_sound.ensures.crosses c.args.shape.now) c.args.n.0 c.args.w.0 _ _ _ _ _ c.requires.node _ _ _ c.taps.invariant (in_rows c.args.shape.now (c.the_crosspoints_are_sound.ensures.crosses c.args.shape.now) (c.crosspoints_stand_in_rows.ensures c.args.shape.now) c.args.n.0 c.args.w.0 c.requires.node _ c.line-first_line.ensures.wire _ _ c.first_cross-first.ensures c.lines-width.ensures.lines c.taps.i _ li lj e) c.requires.wire
 
 pub taps-preserved : goal.taps-preserved
-taps-preserved c = line_more c.args.shape.now (c.the_crosspoints_are_sound.ensures.crosses c.args.shape.now) c.args.n.0 c.args.w.0 _ _ _ _ _ c.requires.node _ _ _ c.in-Some.x.0 c.bar.ensures.listed c.bar.ensures.barred c.taps.i _ (omega (arith, c.taps-test.true, c.taps-i-end.ensures)) c.in-Some.ensures.found c.tap.ensures.wire c.requires.wire c.taps.invariant c.bar.ensures.shut
+taps-preserved c =
+    let li : c.taps.i < taps_of c.args.shape.now c.args.n.0 = omega (arith, c.taps-test.true, c.taps-i-end.ensures) in
+    let lj : c.args.w.0 - c.line-first_line.result.0 < c.lines-width.result = omega (arith, c.if-position-width.false) in
+    let e : c.line-first_line.result.0 + (c.args.w.0 - c.line-first_line.result.0) ≡ c.args.w.0 = omega (arith, c.if-w-first_line.false) in
+    line_more c.args.shape.now (c.the_crosspoints_are_sound.ensures.crosses c.args.shape.now) c.args.n.0 c.args.w.0 _ _ _ _ _ c.requires.node _ _ _ _ c.bar.ensures.listed c.bar.ensures.barred c.taps.i _ li
+    (in_rows c.args.shape.now (c.the_crosspoints_are_sound.ensures.crosses c.args.shape.now) (c.crosspoints_stand_in_rows.ensures c.args.shape.now) c.args.n.0 c.args.w.0 c.requires.node _ c.line-first_line.ensures.wire _ _ c.first_cross-first.ensures c.lines-width.ensures.lines c.taps.i _ li lj e) refl c.requires.wire c.taps.invariant c.bar.ensures.shut
 
 pub returns : goal.returns
-returns c = lines_done c.args.shape.now (c.the_crosspoints_are_sound.ensures.crosses c.args.shape.now) c.args.n.0 c.args.w.0 _ _ _ _ _ c.requires.node c.taps.i (omega (arith, c.taps-test.false, c.taps-i-end.ensures)) c.taps.invariant
+returns c =
+    lines_done c.args.shape.now (c.the_crosspoints_are_sound.ensures.crosses c.args.shape.now) c.args.n.0 c.args.w.0 _ _ _ _ _ c.requires.node c.taps.i (omega (arith, c.taps-test.false, c.taps-i-end.ensures)) c.taps.invariant
