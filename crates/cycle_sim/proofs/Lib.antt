@@ -3,6 +3,7 @@ mod Joining
 mod Links
 mod Bases
 mod Touching
+mod Knowing
 mod Marking
 mod Levels
 mod Ticking

@@ -6,16 +6,18 @@ use Rattle.hierarchy.specs.Faults.{Faults}
 use Rattle.config_set.specs.Configuration.{Configuration}
 use Rattle.cycle_sim.specs.declared.board.Board.{Board}
 use Rattle.cycle_sim.specs.Building.{AreBase, AreKept}
+use Rattle.cycle_sim.specs.Known.{AreKnown}
 use Rattle.cycle_sim.specs.Gates.{IsClear, Fits}
 use Rattle.cycle_sim.specs.Cycles.{IsWired}
 use Rattle.cycle_sim.specs.Settling.{Settles}
 use Rattle.cycle_sim.specs.Pulls.{AreZero}
 use Rattle.cycle_sim.specs.Events.{AreEvents}
 
--- its faults are prepared, and no class has a mark or a count
+-- its faults are prepared, what is kept of crosspoints is true, and no class has a mark or a count
 pub record IsPrepared (m : Shape) (f : Faults) (b : Board) : Type 0 where
   pub base : AreBase m f b.classes.base.items
   pub kept : AreKept b.classes
+  pub known : AreKnown m f b.known.items
   pub low_pins : length b.low_pins.items ≡ wires_of m
   pub low_tables : length b.low_tables.items ≡ wires_of m
   pub ranks : length b.ranks.items ≡ wires_of m

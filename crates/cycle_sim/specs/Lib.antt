@@ -1,6 +1,7 @@
 -- What a simulated machine keeps.
 pub mod Classes
 pub mod Building
+pub mod Known
 pub mod Gates
 pub mod Cycles
 pub mod Settling

@@ -14,16 +14,19 @@ use crate::classes::{Classes, Knot, root_of};
 use crate::closing::close_all;
 use crate::events::{Events, list_tables, new_events};
 use crate::gates::Gate;
+use crate::known::{Closing, nothing_known};
 use crate::ranks::{FEW_TICKS, Turn, order_gates};
 use config_set::{Config, Setting};
 use fault_model::FaultSet;
 use hierarchy::{Shape, Table};
 use std::alloc::{AllocError, Global};
 
-/// What is kept of a machine: its wires in classes, its tables that are on, its pins, and marks.
+/// What is kept of a machine: its wires in classes, what its crosspoints do, its tables that are on, its pins, and marks.
 #[derive(Drop)]
 pub struct Board {
     pub classes: Classes,
+    /// For each crosspoint, once it was closed, what it does then.
+    pub known: Vec<Option<Closing>>,
     pub gates: Vec<Gate>,
     /// The roots of the pins.
     pub pins: Vec<u32>,
@@ -135,6 +138,7 @@ pub fn prepare(alloc: Global, faults: &FaultSet) -> Result<Board, AllocError>
     let wires = faults.shape().wires() as usize;
     Ok(Board {
         classes: classes_of(alloc, faults)?,
+        known: nothing_known(alloc, faults)?,
         gates: Vec::new(alloc),
         pins: Vec::new(alloc),
         low_pins: vec![in alloc; false; wires]?,
@@ -157,7 +161,12 @@ pub fn load(board: &mut Board, faults: &FaultSet, config: &Config) -> Result<(),
     ensures first { OnOk result (AreOutputs config.now.config board.new.gates.items (at_load (circuit_of faults.now.faults config.now.config))) }
 {
     let shape = config.shape();
-    close_all(&mut board.classes, faults, config.closed())?;
+    close_all(
+        &mut board.classes,
+        &mut board.known,
+        faults,
+        config.closed(),
+    )?;
     fill_gates(&mut board.gates, faults, &board.classes.knots, config)?;
     fill_pins(&mut board.pins, &board.classes.knots, shape)?;
     board.ranked = order_gates(

@@ -6,8 +6,10 @@ ghost use Rattle.hierarchy.specs.Joined.{Net};
 ghost use Rattle.hierarchy.specs.Shape.{crosses_of};
 ghost use Rattle.cycle_sim.specs.Classes.{AreTied, AreRooted, HasLink};
 ghost use Rattle.cycle_sim.specs.Building.{closed_net, base_most, AreBase, AreKept};
+ghost use Rattle.cycle_sim.specs.Known.{AreKnown};
 
 use crate::classes::{Classes, root_of, tie};
+use crate::known::{Closing, closing_of};
 use fault_model::FaultSet;
 use hierarchy::Cross;
 use std::alloc::AllocError;
@@ -47,23 +49,23 @@ fn close(classes: &mut Classes, a: u32, b: u32) -> Result<(), AllocError>
 /// Joins what these crosspoints join where they are closed and no others are.
 pub fn close_all(
     classes: &mut Classes,
+    known: &mut [Option<Closing>],
     faults: &FaultSet,
     crosses: &[Cross],
 ) -> Result<(), AllocError>
     requires base { AreBase faults.now.shape faults.now.faults classes.old.base.items }
     requires touched { AreKept classes.old }
+    requires known { AreKnown faults.now.shape faults.now.faults known.old }
     requires within { All (λ c. c.0 < crosses_of faults.now.shape) crosses.now }
     ensures base { classes.new.base.items ≡ classes.old.base.items }
     ensures touched { AreKept classes.new }
+    ensures known { AreKnown faults.now.shape faults.now.faults known.new }
     ensures tied { OnOk result (AreTied (closed_net faults.now.shape faults.now.faults crosses.now) (stuck_wire faults.now.faults) classes.new.knots.items (base_most + length crosses.now)) }
 {
     put_back(classes);
-    let shape = faults.shape();
     'crosses: for i in 0..crosses.len() {
-        let cross = crosses[i];
-        if faults.cross_stuck(cross).is_none() {
-            let (tap, line) = shape.ends(cross);
-            close(classes, tap.0, line.0)?;
+        if let Closing::Joins(tap, line) = closing_of(known, faults, crosses[i]) {
+            close(classes, tap as u32, line as u32)?;
         }
     }
     Ok(())

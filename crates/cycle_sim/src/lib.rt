@@ -9,6 +9,7 @@ mod closing;
 mod cycle;
 mod events;
 mod gates;
+mod known;
 mod marks;
 mod named;
 mod pulls;

@@ -1,23 +1,16 @@
-use Rattle.std.proofs.Common.{◌≡◌, ◌+◌, ℕ, Bool, Option, None, Some, true, false, take, get_or, subst, ap, ◌∙◌, sym, refl, arith}
-use Rattle.std.specs.Prelude.{is_some}
-use Rattle.hierarchy.specs.declared.Shape.{Shape}
+use Rattle.std.proofs.Common.{◌≡◌, ◌+◌, ◌∙◌, ℕ, Bool, Option, None, Some, IsSome, take, get_or, subst, ap, sym, refl, arith}
 use Rattle.hierarchy.specs.declared.Cross.{Cross}
-use Rattle.hierarchy.specs.Shape.{ends_of}
 use Rattle.hierarchy.specs.Faults.{stuck_wire, stuck_cross}
 use Rattle.cycle_sim.specs.Classes.{AreTied, HasLink}
 use Rattle.cycle_sim.specs.Building.{AreTouched, closed_net, base_most}
 use Rattle.cycle_sim.proofs.Joining.{tied_alike}
 use Rattle.cycle_sim.proofs.Links.{closed_more, stuck_same}
 use Rattle.cycle_sim.proofs.closing.close_all.Goals as goal
-use Rattle.cycle_sim.proofs.closing.close_all.Goals.{then-is_none+in_ok-close, else-is_none}
+use Rattle.cycle_sim.proofs.closing.close_all.Goals.{in-Joins+in_ok-close, in_default}
 
-is_None : (o : Option Bool) → is_some o ≡ false → o ≡ None
-is_None None e = refl
-is_None (Some v) e = cc
-
-is_Some : (o : Option Bool) → is_some o ≡ true → (v : Bool) × (o ≡ Some v)
-is_Some None e = cc
-is_Some (Some v) e = (v, refl)
+the_value : (o : Option Bool) → IsSome o → (v : Bool) × (o ≡ Some v)
+the_value None e = cc
+the_value (Some v) e = (v, refl)
 
 pub crosses-preserved : goal.crosses-preserved
 crosses-preserved c =
@@ -26,25 +19,27 @@ crosses-preserved c =
     let i = c.crosses.i in
     let xs = c.args.crosses.now in
     let d : Cross = record { 0 = 0 } in
-    elim c.if-is_none.branch [
-      | then-is_none+in_ok-close w ↦
+    elim c.match-closing_of.branch [
+      | in-Joins+in_ok-close w ↦
+          let is = w.in-Joins.ensures.closing in
           let sum : base_most + i + 1 ≡ base_most + (i + 1) = omega arith in
-          let free : stuck_cross f (get_or xs i d).0 ≡ None = sym c.cross_stuck.ensures ∙ is_None c.cross_stuck.result w.if-is_none.ensures in
-          let link = closed_more m f xs i d c.crosses-test.true free in
+          let link = closed_more m f xs i d c.crosses-test.true is.free in
           record {
             base = ap (λ k. k.base.items) w.classes-is ∙ w.close.ensures.base ∙ c.crosses.invariant.base;
             touched = subst (λ k. AreTouched k.base.items k.knots.items k.touched.items) (sym w.classes-is) w.close.ensures.touched;
+            known = c.closing_of.ensures.known;
             tied = subst (λ k. AreTied (closed_net m f (take (i + 1) xs)) (stuck_wire f) k.knots.items (base_most + (i + 1))) (sym w.classes-is)
                 (subst (AreTied (closed_net m f (take (i + 1) xs)) (stuck_wire f) w.close.new.classes.knots.items) sum
                 (w.in_ok-close.ensures.joined (closed_net m f (take i xs)) (closed_net m f (take (i + 1) xs)) (stuck_wire f) (base_most + i) c.crosses.invariant.tied
-                (subst (λ (e : ℕ × ℕ). HasLink (closed_net m f (take i xs)) (closed_net m f (take (i + 1) xs)) e.0 e.1) (sym (w.ends.ensures.ends ∙ ap (λ (s : Shape). ends_of s (get_or xs i d).0) c.shape-shape.ensures.shape)) link)));
+                (subst (λ (e : ℕ × ℕ). HasLink (closed_net m f (take i xs)) (closed_net m f (take (i + 1) xs)) e.0 e.1) is.joined link)));
           }
-      | else-is_none w ↦
-          let some = is_Some c.cross_stuck.result w.if-is_none.ensures in
-          let same = stuck_same m f xs i d c.crosses-test.true some.0 (sym c.cross_stuck.ensures ∙ some.1) in
+      | in_default w ↦
+          let some = the_value (stuck_cross f (get_or xs i d).0) w.in_default.ensures.closing in
+          let same = stuck_same m f xs i d c.crosses-test.true some.0 some.1 in
           record {
             base = ap (λ k. k.base.items) w.classes-is ∙ c.crosses.invariant.base;
             touched = subst (λ k. AreTouched k.base.items k.knots.items k.touched.items) (sym w.classes-is) c.crosses.invariant.touched;
+            known = c.closing_of.ensures.known;
             tied = subst (λ k. AreTied (closed_net m f (take (i + 1) xs)) (stuck_wire f) k.knots.items (base_most + (i + 1))) (sym w.classes-is)
                 (tied_alike (base_most + (i + 1)) same (omega arith) c.crosses.invariant.tied);
           }

@@ -2,11 +2,13 @@ use Rattle.std.proofs.Common.{◌≡◌, ◌+◌, take}
 use Rattle.hierarchy.specs.Faults.{stuck_wire}
 use Rattle.cycle_sim.specs.Classes.{AreTied}
 use Rattle.cycle_sim.specs.Building.{closed_net, base_most, AreKept}
+use Rattle.cycle_sim.specs.Known.{AreKnown}
 use Rattle.cycle_sim.proofs.closing.close_all.Given as goal
 
 abbrev pub invariant-crosses : goal.invariant-crosses
 invariant-crosses l = record {
   base : l.classes.base.items ≡ l.fn.classes.base.items;
   touched : AreKept l.classes;
+  known : AreKnown l.faults.shape l.faults.faults l.known;
   tied : AreTied (closed_net l.faults.shape l.faults.faults (take l.i l.crosses)) (stuck_wire l.faults.faults) l.classes.knots.items (base_most + l.i);
 }
