@@ -21,7 +21,8 @@ use Rattle.self_test.specs.Used.{AreUsed, AreInvolved}
 use Rattle.self_test.specs.declared.picks.Frame.{Frame}
 use Rattle.self_test.specs.declared.picks.Picks.{Picks}
 use Rattle.self_test.specs.declared.picks.Side.TheVariants.{Own, Lines}
-use Rattle.self_test.proofs.Counting.{list_fits, to_told}
+use Rattle.config_image.proofs.Keyed.{to_set}
+use Rattle.self_test.proofs.Counting.{list_fits}
 use Rattle.self_test.proofs.Getting.{marked_within}
 use Rattle.self_test.proofs.Wholly.{involved_too}
 
@@ -293,7 +294,7 @@ module _ (i : ImageValue) (used nodes : List Bool) (f : Frame) (closed : List Cr
       (λ w h. built.wires.all w (record { place = w; early = (let l = marked_within used w h in let len = are.len in omega (arith, l, len)); marked = h; is = refl }))
       (λ x o. built.closings.stays x (built.hung.stays x (built.joints.all x o)))
       (λ x o. built.closings.stays x (built.hung.all x o))
-      (λ x e. built.closings.all x (to_told (λ (y : Cross). y.0) closed (is_closed i.config) counts (IsCrossBefore closed (length closed)) (each_listed closed) x e))
+      (λ x e. built.closings.all x (to_set (λ (y : Cross). y.0) closed (is_closed i.config) counts (IsCrossBefore closed (length closed)) (each_listed closed) x e))
 
 -- the steps of the code, over the shape that it was lent
 pub built_of : (i : ImageValue) (m : Shape) (e : m ≡ i.config.shape) (used nodes : List Bool) (f : Frame) (closed : List Cross) (a b c : Field) (mid : List Bool) →
