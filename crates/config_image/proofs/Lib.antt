@@ -1,6 +1,7 @@
 -- What is cited above.
 pub mod Driven
 pub mod FreeWires
+pub mod Keyed
 -- For the proofs of this crate alone.
 mod Bytes
 mod Wrong

@@ -1,13 +1,11 @@
 -- What an image touches.
-use Rattle.std.proofs.Common.{◌≡◌, ℕ, zero, suc, ◌+◌, ◌<◌, ◌≤◌, List, [], ◌∷◌, ◌++◌, Bool, true, false, Option, Some, None, length, get_or, All, refl, sym, ap, ◌∙◌, subst, arith, inl, inr}
-use Rattle.std.specs.Prelude.{◌⊎◌, ◌==◌, IsSome, if◌then◌else◌, is_some, count_by}
+use Rattle.std.proofs.Common.{◌≡◌, ℕ, ◌+◌, ◌<◌, ◌≤◌, List, ◌++◌, true, false, Option, Some, None, length, All, refl, sym, ap, ◌∙◌, subst, arith, inl, inr}
+use Rattle.std.specs.Prelude.{◌⊎◌, IsSome, is_some}
 use Rattle.std.proofs.lemmas.Bool.{false≢true}
-use Rattle.std.proofs.lemmas.Bool.Decides.{nat_tests}
 use Rattle.std.proofs.lemmas.Bool.{cases_lt}
 use Rattle.std.proofs.lemmas.List.{length-append, get_or-append-add, get_or_past}
 use Rattle.std.proofs.Math.ListN.{get_or-append}
 use Rattle.std.proofs.lemmas.List.Elements.{All-append}
-use Rattle.std.proofs.lemmas.List.Sums.{sum_by-cons}
 use Rattle.hierarchy.specs.declared.Shape.{Shape}
 use Rattle.hierarchy.specs.Shape.{pins_of, tables_of, pin_wire}
 use Rattle.hierarchy.specs.Defects.{Defects, IsFreeWire, IsFreeCross, IsFreeTable}
@@ -15,37 +13,6 @@ use Rattle.config_set.specs.declared.Setting.{Setting}
 use Rattle.config_set.specs.Configuration.{Configuration, IsConfiguration, is_closed, setting_of}
 use Rattle.config_image.specs.Images.{ImageValue, IsImage}
 use Rattle.config_image.specs.Parts.{IsFreeImage}
-
--- a list in which each number of a set stands once
-module _ {X : Type 0} (key : X → ℕ) where
-  stands : (q : ℕ) (P : ℕ → Type 0) (xs : List X) → All (λ x. P (key x)) xs → 0 < count_by (λ x. key x == q) xs → P q
-  stands q P [] all h = absurd (let no : ⊥ = omega (arith, h) in no)
-  stands q P (x ∷ xs) all h = by_head (key x == q) refl (sum_by-cons (λ y. if key y == q then 1 else 0) x xs) (stands q P xs (λ k d l. all (suc k) d (omega (arith, l))))
-    where
-      by_head : (b : Bool) → (key x == q) ≡ b → count_by (λ x. key x == q) (x ∷ xs) ≡ (if key x == q then 1 else 0) + count_by (λ x. key x == q) xs → (0 < count_by (λ x. key x == q) xs → P q) → P q
-      by_head true e s more = let same : key x ≡ q = grind (arith, nat_tests, e) in subst P same (all 0 x (omega arith))
-      by_head false e s more = more (let t = ap (λ b. (if b then 1 else 0) + count_by (λ x. key x == q) xs) e in omega (arith, h, s, t))
-
-  counted : (xs : List X) (k : ℕ) (d : X) → k < length xs → 0 < count_by (λ x. key x == key (get_or xs k d)) xs
-  counted [] k d l = absurd (let no : ⊥ = omega (arith, l) in no)
-  counted (x ∷ xs) zero d l =
-      let s = sum_by-cons (λ y. if key y == key x then 1 else 0) x xs in
-      let t = ap (λ b. (if b then 1 else 0) + count_by (λ y. key y == key x) xs) (let same : (key x == key x) ≡ true = grind (arith, nat_tests) in same) in
-      omega (arith, s, t)
-  counted (x ∷ xs) (suc k) d l =
-      let s = sum_by-cons (λ y. if key y == key (get_or xs k d) then 1 else 0) x xs in
-      omega (arith, s, counted xs k d (omega (arith, l)))
-
-  module _ (xs : List X) (f : ℕ → Bool) (counts : (q : ℕ) → count_by (λ x. key x == q) xs ≡ (if f q then 1 else 0)) (P : ℕ → Type 0) where
-    pub of_set : ((q : ℕ) → f q ≡ true → P q) → All (λ x. P (key x)) xs
-    of_set h k d l = h (key (get_or xs k d)) (by_bool (f (key (get_or xs k d))) (counts (key (get_or xs k d))))
-      where
-        by_bool : (b : Bool) → count_by (λ x. key x == key (get_or xs k d)) xs ≡ (if b then 1 else 0) → b ≡ true
-        by_bool true e = refl
-        by_bool false e = absurd (let no : ⊥ = omega (arith, e, counted xs k d l) in no)
-
-    pub to_set : All (λ x. P (key x)) xs → (q : ℕ) → f q ≡ true → P q
-    to_set all q e = stands q P xs all (let one : ◌≡◌ {A = ℕ} (if f q then 1 else 0) 1 = ap {B = ℕ} (λ b. if b then 1 else 0) e in omega (arith, counts q, one))
 
 -- ---- the whole
 

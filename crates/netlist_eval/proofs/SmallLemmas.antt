@@ -1,11 +1,9 @@
 -- Covers of at most four inputs as tables.
-use Rattle.std.proofs.Common.{◌≡◌, ◌⊎◌, ℕ, zero, suc, ◌+◌, ◌-◌, ◌*◌, ◌/◌, ◌%◌, ◌==◌, ◌<◌, ◌≤◌, Bool, false, List, [], ◌∷◌, length, take, drop, get_or, map, refl, sym, ap, subst, ◌∙◌, inl, inr, arith, get_or-set_same, get_or-set_other}
+use Rattle.std.proofs.Common.{◌≡◌, ◌⊎◌, ℕ, zero, suc, ◌+◌, ◌-◌, ◌/◌, ◌%◌, ◌==◌, ◌<◌, ◌≤◌, Bool, false, List, [], ◌∷◌, length, take, get_or, map, refl, sym, ap, subst, ◌∙◌, inl, inr, arith, get_or-set_same, get_or-set_other}
 use Rattle.std.specs.Prelude.{slice_set}
-use Rattle.std.specs.Int.{from_bool}
 use Rattle.std.proofs.lemmas.Bool.{cases_eq}
-use Rattle.std.proofs.lemmas.List.{take-map, get_or-take, length-take-le, drop_more, drop_all, length-drop}
+use Rattle.std.proofs.lemmas.List.{take-map, get_or-take, length-take-le}
 use Rattle.netlist.specs.declared.draft.Cover.{Cover}
-use Rattle.netlist.specs.Valuations.{bit_at}
 use Rattle.netlist_eval.specs.Tables.{truth_at, address, six_bits, AreCells, AreWires}
 use Rattle.netlist_eval.specs.declared.readers.Readers.{Readers}
 use Rattle.netlist_eval.specs.declared.turns.Turn.{Turn}
@@ -13,7 +11,7 @@ use Rattle.netlist_eval.specs.declared.smalls.Quick.{Quick}
 use Rattle.netlist_eval.specs.Turns.{turn_at, AreTurns}
 use Rattle.netlist_eval.specs.Marks.{HasGiven}
 use Rattle.netlist_eval.specs.Smalls.{quick_at, IsSmall, AreQuick}
-use Rattle.netlist_eval.proofs.TableLemmas.{address-nil, address-more, address-half, address-low, address-few, address-sixteen, wires-below, bool-is}
+use Rattle.netlist_eval.proofs.TableLemmas.{address-half, address-low, address-sixteen, wires-below}
 
 four-of : (given : ℕ → Bool) (a b c d : ℕ) → six_bits (address given (a ∷ b ∷ c ∷ d ∷ [])) ≡ given a ∷ given b ∷ given c ∷ given d ∷ (address given [] % 2 == 1) ∷ (address given [] / 2 % 2 == 1) ∷ []
 four-of given a b c d =
@@ -70,24 +68,6 @@ cells-copied some cells a size lt h j lj = by (cases_eq j a)
     by : (j ≡ a) ⊎ (j ≡ a → ⊥) → get_or (slice_set some a (get_or cells a false)) j false ≡ get_or cells j false
     by (inl same) = subst (λ (i : ℕ). get_or (slice_set some a (get_or cells a false)) i false ≡ get_or cells i false) (sym same) (get_or-set_same some a (get_or cells a false) false (omega arith))
     by (inr other) = get_or-set_other some a j (get_or cells a false) false other ∙ h j (omega arith)
-
-pub small-start : (given : ℕ → Bool) (wires : List ℕ) → length wires ≡ 4 → 0 ≡ address given (drop 4 wires)
-small-start given wires size = sym (ap (address given) (drop_all 4 wires (omega arith)) ∙ address-nil given)
-
-pub small-part : (given : ℕ → Bool) (wires : List ℕ) (k place : ℕ) → length wires ≡ 4 → k < 4 → place ≡ address given (drop (4 - k) wires) → place < 32
-small-part given wires k place size lt e = omega (arith, e, address-few given (drop (4 - k) wires) (omega (arith, length-drop (4 - k) wires)))
-
-pub small-step : (values : List Bool) (wires : List ℕ) (k place bit : ℕ) → length wires ≡ 4 → k < 4 → place ≡ address (bit_at values) (drop (4 - k) wires) → bit ≡ from_bool (bit_at values (get_or wires (3 - k) 0)) → 2 * place + bit ≡ address (bit_at values) (drop (4 - (k + 1)) wires)
-small-step values wires k place bit size lt e b =
-    let here : 4 - (k + 1) ≡ 3 - k = omega arith in
-    let next : 3 - k + 1 ≡ 4 - k = omega arith in
-    let within : 3 - k < length wires = omega arith in
-    let split : drop (4 - (k + 1)) wires ≡ get_or wires (3 - k) 0 ∷ drop (4 - k) wires = ap (λ (n : ℕ). drop n wires) here ∙ drop_more wires (3 - k) 0 within ∙ ap (λ (n : ℕ). get_or wires (3 - k) 0 ∷ drop n wires) next in
-    let is = b ∙ bool-is (bit_at values (get_or wires (3 - k) 0)) in
-    sym (ap (address (bit_at values)) split ∙ address-more (bit_at values) (get_or wires (3 - k) 0) (drop (4 - k) wires) ∙ sum _ _ place bit is e)
-  where
-    sum : (x y place bit : ℕ) → bit ≡ x → place ≡ y → x + 2 * y ≡ 2 * place + bit
-    sum x y place bit p q = omega arith
 
 pub quick-out : (covers : List Cover) (turns : List Turn) (quicks : List Quick) → AreTurns covers turns → AreQuick covers turns quicks → (k : ℕ) → k < length turns → (quick_at quicks k).out ≡ (turn_at turns k).out
 quick-out covers turns quicks are quick k lk = (quick.each k lk).out ∙ sym (are.each k lk).out

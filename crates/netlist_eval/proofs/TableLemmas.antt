@@ -13,6 +13,7 @@ use Rattle.netlist.specs.Covers.{no_cover, cover_at, truth, IsCoverOver, cover_o
 use Rattle.netlist.specs.Valuations.{bit_at}
 use Rattle.netlist.proofs.BitLemmas.{halved, lowest}
 use Rattle.netlist_eval.specs.Bits.{AreBelow}
+use Rattle.netlist_eval.specs.Lanes.{addresses}
 use Rattle.netlist_eval.specs.Tables.{truth_at, address, six_bits, AreCells, AreWires, IsTable}
 
 pub address-half : (given : ℕ → Bool) (s : ℕ) (ss : List ℕ) → address given (s ∷ ss) / 2 ≡ address given ss
@@ -48,30 +49,26 @@ six-bits given (a ∷ b ∷ c ∷ d ∷ e ∷ f ∷ []) size =
     rw (h1, h2, h3, h4, h5, address-low given a (b ∷ c ∷ d ∷ e ∷ f ∷ []), address-low given b (c ∷ d ∷ e ∷ f ∷ []), address-low given c (d ∷ e ∷ f ∷ []), address-low given d (e ∷ f ∷ []), address-low given e (f ∷ []), address-low given f []) refl
 six-bits given (a ∷ b ∷ c ∷ d ∷ e ∷ f ∷ g ∷ gs) size = absurd (omega arith)
 
--- n bits make an address below the number that is n times twice one
-doubled : ℕ → ℕ
-doubled zero = 1
-doubled (suc n) = 2 * doubled n
-
-address-below : (given : ℕ → Bool) (ss : List ℕ) → address given ss < doubled (length ss)
-unfolding doubled
+-- n inputs have so many addresses
+pub address-below : (given : ℕ → Bool) (ss : List ℕ) → address given ss < addresses (length ss)
+unfolding addresses
 address-below given [] = rw (address-nil given) (omega arith)
 address-below given (s ∷ ss) = rw (address-more given s ss) (by (given s) (address-below given ss))
   where
-    by : (b : Bool) → address given ss < doubled (length ss) → (if b then 1 else 0) + 2 * address given ss < 2 * doubled (length ss)
+    by : (b : Bool) → address given ss < addresses (length ss) → (if b then 1 else 0) + 2 * address given ss < 2 * addresses (length ss)
     by true h = omega arith
     by false h = omega arith
 
 pub address-small : (given : ℕ → Bool) (wires : List ℕ) → length wires ≡ 6 → address given wires < 64
-unfolding doubled
-address-small given wires size = let h : address given wires < doubled 6 = subst (λ (n : ℕ). address given wires < doubled n) size (address-below given wires) in h
+unfolding addresses
+address-small given wires size = let h : address given wires < addresses 6 = subst (λ (n : ℕ). address given wires < addresses n) size (address-below given wires) in h
 
 pub address-sixteen : (given : ℕ → Bool) (wires : List ℕ) → length wires ≡ 4 → address given wires < 16
-unfolding doubled
-address-sixteen given wires size = let h : address given wires < doubled 4 = subst (λ (n : ℕ). address given wires < doubled n) size (address-below given wires) in h
+unfolding addresses
+address-sixteen given wires size = let h : address given wires < addresses 4 = subst (λ (n : ℕ). address given wires < addresses n) size (address-below given wires) in h
 
-few : (n : ℕ) → n ≤ 5 → doubled n ≤ 32
-unfolding doubled
+few : (n : ℕ) → n ≤ 5 → addresses n ≤ 32
+unfolding addresses
 few zero h = omega arith
 few (suc zero) h = omega arith
 few (suc (suc zero)) h = omega arith
@@ -132,20 +129,21 @@ pub bool-is : (b : Bool) → from_bool b ≡ (if b then 1 else 0)
 bool-is true = refl
 bool-is false = refl
 
-pub address-start : (given : ℕ → Bool) (wires : List ℕ) → length wires ≡ 6 → 0 ≡ address given (drop 6 wires)
-address-start given wires size = sym (ap (address given) (drop_all 6 wires (omega arith)) ∙ address-nil given)
+pub address-start : (given : ℕ → Bool) (most : ℕ) (wires : List ℕ) → length wires ≡ most → 0 ≡ address given (drop most wires)
+address-start given most wires size = sym (ap (address given) (drop_all most wires (omega arith)) ∙ address-nil given)
 
-pub address-part : (given : ℕ → Bool) (wires : List ℕ) (k place : ℕ) → length wires ≡ 6 → k < 6 → place ≡ address given (drop (6 - k) wires) → place < 32
-address-part given wires k place size lt e = omega (arith, e, address-few given (drop (6 - k) wires) (omega (arith, length-drop (6 - k) wires)))
+pub address-part : (given : ℕ → Bool) (most : ℕ) (wires : List ℕ) (k place : ℕ) → length wires ≡ most → most ≤ 6 → k < most → place ≡ address given (drop (most - k) wires) → place < 32
+address-part given most wires k place size few lt e =
+    omega (arith, e, address-few given (drop (most - k) wires) (omega (arith, length-drop (most - k) wires)))
 
-pub address-step : (values : List Bool) (wires : List ℕ) (k place bit : ℕ) → length wires ≡ 6 → k < 6 → place ≡ address (bit_at values) (drop (6 - k) wires) → bit ≡ from_bool (bit_at values (get_or wires (5 - k) 0)) → 2 * place + bit ≡ address (bit_at values) (drop (6 - (k + 1)) wires)
-address-step values wires k place bit size lt e b =
-    let here : 6 - (k + 1) ≡ 5 - k = omega arith in
-    let next : 5 - k + 1 ≡ 6 - k = omega arith in
-    let within : 5 - k < length wires = omega arith in
-    let split : drop (6 - (k + 1)) wires ≡ get_or wires (5 - k) 0 ∷ drop (6 - k) wires = ap (λ (n : ℕ). drop n wires) here ∙ drop_more wires (5 - k) 0 within ∙ ap (λ (n : ℕ). get_or wires (5 - k) 0 ∷ drop n wires) next in
-    let is = b ∙ bool-is (bit_at values (get_or wires (5 - k) 0)) in
-    sym (ap (address (bit_at values)) split ∙ address-more (bit_at values) (get_or wires (5 - k) 0) (drop (6 - k) wires) ∙ sum _ _ place bit is e)
+-- the bit of the wire `at`, before the last k
+pub address-step : (values : List Bool) (most : ℕ) (wires : List ℕ) (k at place bit : ℕ) → length wires ≡ most → k < most → at ≡ most - (k + 1) → place ≡ address (bit_at values) (drop (most - k) wires) → bit ≡ from_bool (bit_at values (get_or wires at 0)) → 2 * place + bit ≡ address (bit_at values) (drop (most - (k + 1)) wires)
+address-step values most wires k at place bit size lt here e b =
+    let next : at + 1 ≡ most - k = omega arith in
+    let within : at < length wires = omega arith in
+    let split : drop (most - (k + 1)) wires ≡ get_or wires at 0 ∷ drop (most - k) wires = ap (λ (n : ℕ). drop n wires) (sym here) ∙ drop_more wires at 0 within ∙ ap (λ (n : ℕ). get_or wires at 0 ∷ drop n wires) next in
+    let is = b ∙ bool-is (bit_at values (get_or wires at 0)) in
+    sym (ap (address (bit_at values)) split ∙ address-more (bit_at values) (get_or wires at 0) (drop (most - k) wires) ∙ sum _ _ place bit is e)
   where
     sum : (x y place bit : ℕ) → bit ≡ x → place ≡ y → x + 2 * y ≡ 2 * place + bit
     sum x y place bit p q = omega arith

@@ -49,15 +49,6 @@ addresses-more n = refl
 pub half-addresses : (count k size : ℕ) → k < count → size ≡ addresses (count - k) → size ≡ 2 * addresses (count - (k + 1))
 half-addresses count k size lk e = let at : count - k ≡ suc (count - (k + 1)) = omega arith in e ∙ ap addresses at ∙ addresses-more (count - (k + 1))
 
-pub address-below : (given : ℕ → Bool) (ss : List ℕ) → address given ss < addresses (length ss)
-unfolding addresses
-address-below given [] = rw (address-nil given) (omega arith)
-address-below given (s ∷ ss) = rw (address-more given s ss) (by (given s) (address-below given ss))
-  where
-    by : (b : Bool) → address given ss < addresses (length ss) → (if b then 1 else 0) + 2 * address given ss < 2 * addresses (length ss)
-    by true h = omega arith
-    by false h = omega arith
-
 pub choice-is : (a b c : Bool) → ((b && not a) || (c && a)) ≡ (if a then c else b)
 choice-is true true true = refl
 choice-is true true false = refl

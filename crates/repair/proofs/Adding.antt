@@ -16,7 +16,7 @@ use Rattle.repair.specs.declared.plan.Plan.{Plan}
 use Rattle.repair.specs.Marks.{HasMark}
 use Rattle.repair.specs.Nets.{HasWire}
 use Rattle.repair.specs.Making.{IsAdded, IsNetWire, IsMovedTo, IsPinTerminal, IsFirstPinTerminal, IsTablePinTerminal, IsFirstTableTerminal, IsTableTerminal, AreTerminalsOf, no_table}
-use Rattle.repair.proofs.Marking.{of_list, listed}
+use Rattle.config_image.proofs.Keyed.{of_list, listed}
 use Rattle.repair.proofs.Using.{on_is, is_on}
 
 pub added_none : (claims : ℕ → ℕ → Type 0) (lists : List (List ℕ)) → ((k w : ℕ) → claims k w → ⊥) → IsAdded claims lists lists

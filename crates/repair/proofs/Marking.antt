@@ -1,10 +1,9 @@
 -- Giving marks to numbers.
-use Rattle.std.proofs.Common.{◌≡◌, ◌≢◌, ◌⊎◌, ℕ, zero, suc, ◌+◌, ◌<◌, ◌≤◌, Bool, true, false, List, [], ◌∷◌, length, get_or, set, replicate, refl, sym, ap, ◌∙◌, subst, inl, inr, arith}
+use Rattle.std.proofs.Common.{◌≡◌, ◌≢◌, ◌⊎◌, ℕ, ◌+◌, ◌<◌, ◌≤◌, Bool, true, false, List, length, get_or, set, replicate, refl, sym, ◌∙◌, subst, inl, inr, arith}
 use Rattle.std.specs.Prelude.{◌==◌, if◌then◌else◌, count_by}
 use Rattle.std.proofs.lemmas.Bool.{cases_eq, cases_lt, false≢true}
-use Rattle.std.proofs.lemmas.Bool.Decides.{nat_tests}
 use Rattle.std.proofs.lemmas.List.{get_or-set_same, get_or-set_other, get_or_past, get_or-replicate, length-set, length-replicate}
-use Rattle.std.proofs.lemmas.List.Sums.{sum_by-cons}
+use Rattle.config_image.proofs.Keyed.{of_list, listed}
 use Rattle.repair.specs.Marks.{HasMark, IsMarked, AreMarks, IsThis, IsOfFirst}
 
 pub marked_none : (claims : ℕ → Type 0) (marks : List Bool) → ((w : ℕ) → claims w → ⊥) → IsMarked claims marks marks
@@ -111,41 +110,10 @@ module _ {X : Type 0} (claims : X → ℕ → Type 0) (d : X) (xs : List X) wher
   marked_more n old mid new p q = marked_then (IsOfFirst claims d xs n) (claims (get_or xs n d)) (IsOfFirst claims d xs (n + 1)) old mid new p q (first_before n) (first_last n) (first_more n)
 
 -- a list in which each number of a set stands once
-module _ {X : Type 0} (key : X → ℕ) where
-  -- where a number stands
-  found : (q : ℕ) (d : X) (xs : List X) → 0 < count_by (λ x. key x == q) xs → (j : ℕ) × (j < length xs) × (key (get_or xs j d) ≡ q)
-  found q d [] h = absurd (let no : ⊥ = omega (arith, h) in no)
-  found q d (x ∷ xs) h = by_head (key x == q) refl (sum_by-cons (λ y. if key y == q then 1 else 0) x xs) (found q d xs)
-    where
-      by_head : (b : Bool) → (key x == q) ≡ b → count_by (λ x. key x == q) (x ∷ xs) ≡ (if key x == q then 1 else 0) + count_by (λ x. key x == q) xs →
-          (0 < count_by (λ x. key x == q) xs → (j : ℕ) × (j < length xs) × (key (get_or xs j d) ≡ q)) → (j : ℕ) × (j < length (x ∷ xs)) × (key (get_or (x ∷ xs) j d) ≡ q)
-      by_head true e s more = (0, omega arith, grind (arith, nat_tests, e))
-      by_head false e s more = let r = more (let t = ap (λ b. (if b then 1 else 0) + count_by (λ x. key x == q) xs) e in omega (arith, h, s, t)) in (suc r.0, omega (arith, r.1), r.2)
+module _ {X : Type 0} (key : X → ℕ) (xs : List X) (f : ℕ → Bool) (counts : (q : ℕ) → count_by (λ x. key x == q) xs ≡ (if f q then 1 else 0)) where
+  -- what all of the list claim is what the set's claim
+  pub first_all : (claims : ℕ → ℕ → Type 0) (d : X) (n w : ℕ) → length xs ≤ n → n ≤ length xs → IsOfFirst (λ x. claims (key x)) d xs n w → (q : ℕ) × (f q ≡ true) × claims q w
+  first_all claims d n w ge le c = (key (get_or xs c.0 d), of_list key xs f counts c.0 d (omega (arith, c.1, le)), c.2)
 
-  counted : (xs : List X) (k : ℕ) (d : X) → k < length xs → 0 < count_by (λ x. key x == key (get_or xs k d)) xs
-  counted [] k d l = absurd (let no : ⊥ = omega (arith, l) in no)
-  counted (x ∷ xs) zero d l =
-      let s = sum_by-cons (λ y. if key y == key x then 1 else 0) x xs in
-      let t = ap (λ b. (if b then 1 else 0) + count_by (λ y. key y == key x) xs) (let same : (key x == key x) ≡ true = grind (arith, nat_tests) in same) in
-      omega (arith, s, t)
-  counted (x ∷ xs) (suc k) d l =
-      let s = sum_by-cons (λ y. if key y == key (get_or xs k d) then 1 else 0) x xs in
-      omega (arith, s, counted xs k d (omega (arith, l)))
-
-  module _ (xs : List X) (f : ℕ → Bool) (counts : (q : ℕ) → count_by (λ x. key x == q) xs ≡ (if f q then 1 else 0)) where
-    pub listed : (q : ℕ) (d : X) → f q ≡ true → (j : ℕ) × (j < length xs) × (key (get_or xs j d) ≡ q)
-    listed q d e = found q d xs (let one : ◌≡◌ {A = ℕ} (if f q then 1 else 0) 1 = ap {B = ℕ} (λ b. if b then 1 else 0) e in omega (arith, counts q, one))
-
-    pub of_list : (k : ℕ) (d : X) → k < length xs → f (key (get_or xs k d)) ≡ true
-    of_list k d l = by_bool (f (key (get_or xs k d))) (counts (key (get_or xs k d)))
-      where
-        by_bool : (b : Bool) → count_by (λ x. key x == key (get_or xs k d)) xs ≡ (if b then 1 else 0) → b ≡ true
-        by_bool true e = refl
-        by_bool false e = absurd (let no : ⊥ = omega (arith, e, counted xs k d l) in no)
-
-    -- what all of the list claim is what the set's claim
-    pub first_all : (claims : ℕ → ℕ → Type 0) (d : X) (n w : ℕ) → length xs ≤ n → n ≤ length xs → IsOfFirst (λ x. claims (key x)) d xs n w → (q : ℕ) × (f q ≡ true) × claims q w
-    first_all claims d n w ge le c = (key (get_or xs c.0 d), of_list c.0 d (omega (arith, c.1, le)), c.2)
-
-    pub all_first : (claims : ℕ → ℕ → Type 0) (d : X) (n w : ℕ) → length xs ≤ n → (q : ℕ) → f q ≡ true → claims q w → IsOfFirst (λ x. claims (key x)) d xs n w
-    all_first claims d n w ge q on c = let r = listed q d on in (r.0, omega (arith, r.1, ge), subst (λ z. claims z w) (sym r.2) c)
+  pub all_first : (claims : ℕ → ℕ → Type 0) (d : X) (n w : ℕ) → length xs ≤ n → (q : ℕ) → f q ≡ true → claims q w → IsOfFirst (λ x. claims (key x)) d xs n w
+  all_first claims d n w ge q on c = let r = listed key xs f counts q d on in (r.0, omega (arith, r.1, ge), subst (λ z. claims z w) (sym r.2) c)

@@ -20,7 +20,8 @@ use Rattle.place.specs.Lists.{nth_of}
 use Rattle.repair.specs.declared.plan.Plan.{Plan}
 use Rattle.repair.specs.Making.{HasStayingWire, IsKeptCross, IsKeptCrossOf, AreSeated, no_cross}
 use Rattle.repair.specs.Marks.{IsOfFirst}
-use Rattle.repair.proofs.Marking.{first_more, first_before, first_last, of_list, listed}
+use Rattle.config_image.proofs.Keyed.{of_list, listed}
+use Rattle.repair.proofs.Marking.{first_more, first_before, first_last}
 
 -- ---- how many are closed
 

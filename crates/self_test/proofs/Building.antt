@@ -14,14 +14,15 @@ use Rattle.config_set.specs.Configuration.{is_closed}
 use Rattle.config_image.specs.Images.{ImageValue}
 use Rattle.config_image.specs.Parts.{Uses, IsInvolved, by_wire, IsWideEnough}
 use Rattle.growth.specs.declared.field.Field.{Field}
-use Rattle.self_test.specs.Fields.{Gets, IsFewFor, IsCrossBefore, IsBetween, IsPicksOf, ArePicksOf, of_own, of_lines, IsPickOf, IsJointOf, own_joint, up_joint, OfMarked, on_line, on_port, IsHungOn}
+use Rattle.self_test.specs.Fields.{Gets, IsFewFor, IsCrossBefore, IsBetween, IsPicksOf, ArePicksOf, of_own, of_lines, IsPickOf, IsJointOf, own_joint, up_joint, OfMarked, IsCrossOf, IsHungAt, on_line, on_port, IsHungOn}
 use Rattle.self_test.specs.Picked.{width_of, IsAmong, IsOfSide, HasFirstTwo, IsPickedAt, ArePickedUpTo}
 use Rattle.self_test.specs.Skeleton.{IsMet, AreMet, IsOwn, own_pin, own_port, HasSkeleton}
 use Rattle.self_test.specs.Used.{AreUsed, AreInvolved}
 use Rattle.self_test.specs.declared.picks.Frame.{Frame}
 use Rattle.self_test.specs.declared.picks.Picks.{Picks}
 use Rattle.self_test.specs.declared.picks.Side.TheVariants.{Own, Lines}
-use Rattle.self_test.proofs.Counting.{list_fits, to_told}
+use Rattle.config_image.proofs.Keyed.{to_set}
+use Rattle.self_test.proofs.Counting.{list_fits}
 use Rattle.self_test.proofs.Getting.{marked_within}
 use Rattle.self_test.proofs.Wholly.{involved_too}
 
@@ -199,11 +200,11 @@ module _ (i : ImageValue) (tree : IsTree i.config.shape) (parents : HasParents i
   used_within : (w : ℕ) → Uses i w → w < wires_of m
   used_within w uses = let l = marked_within used w (are.all w uses) in let len = are.len in omega (arith, l, len)
 
-  -- a used line meets the node's picked ports, a used tap its picked lines
-  line_met : (w p : ℕ) (uses : Uses i w) → IsLine m (node_of m w) w → IsAmong (used_at w uses).picks_here.own.items p → IsMet m a.crosses p w
-  line_met w p uses line g =
+  -- a tap and a line of a used wire's node meet where their crosspoint is one that hangs the wire
+  hung_met : (w t l : ℕ) (uses : Uses i w) → IsTap m (node_of m w) t → IsLine m (node_of m w) l → ((x : ℕ) → IsCrossOf m t l x → IsHungAt m (used_at w uses).picks_here w x) → IsMet m a.crosses t l
+  hung_met w t l uses tap line hangs =
       let at = used_at w uses in
-      let x = meetings.meet (node_of m w) p w (tap_of (node_of m w) p (at.is_own p g)) line in
+      let x = meetings.meet (node_of m w) t l tap line in
       record {
         cross = x.0;
         ends = x.2;
@@ -214,41 +215,29 @@ module _ (i : ImageValue) (tree : IsTree i.config.shape) (parents : HasParents i
           is = record {
             picks_here = at.picks_here;
             here = at.here;
-            is = on_port (record {
-              place = g.place;
-              tap = g.wire;
-              early = slice_get_within at.picks_here.own.items g.place g.wire g.here;
-              here = g.here;
-              cross = record { within = x.1; tap = ap (λ e. e.0) x.2 ∙ sym g.is; line = ap (λ e. e.1) x.2 };
-            });
+            is = hangs x.0 (record { within = x.1; tap = ap (λ e. e.0) x.2; line = ap (λ e. e.1) x.2 });
           };
         });
       }
 
+  -- a used line meets the node's picked ports, a used tap its picked lines
+  line_met : (w p : ℕ) (uses : Uses i w) → IsLine m (node_of m w) w → IsAmong (used_at w uses).picks_here.own.items p → IsMet m a.crosses p w
+  line_met w p uses line g = hung_met w p w uses (tap_of (node_of m w) p ((used_at w uses).is_own p g)) line (λ x c. on_port (record {
+    place = g.place;
+    tap = g.wire;
+    early = slice_get_within (used_at w uses).picks_here.own.items g.place g.wire g.here;
+    here = g.here;
+    cross = record { within = c.within; tap = c.tap ∙ sym g.is; line = c.line };
+  }))
+
   tap_met : (w l : ℕ) (uses : Uses i w) → IsTap m (node_of m w) w → IsAmong (used_at w uses).picks_here.lines.items l → IsMet m a.crosses w l
-  tap_met w l uses tap g =
-      let at = used_at w uses in
-      let x = meetings.meet (node_of m w) w l tap (at.is_line l g) in
-      record {
-        cross = x.0;
-        ends = x.2;
-        marked = has_hung x.0 (record {
-          place = w;
-          early = used_within w uses;
-          marked = are.all w uses;
-          is = record {
-            picks_here = at.picks_here;
-            here = at.here;
-            is = on_line (record {
-              place = g.place;
-              line = g.wire;
-              early = slice_get_within at.picks_here.lines.items g.place g.wire g.here;
-              here = g.here;
-              cross = record { within = x.1; tap = ap (λ e. e.0) x.2; line = ap (λ e. e.1) x.2 ∙ sym g.is };
-            });
-          };
-        });
-      }
+  tap_met w l uses tap g = hung_met w w l uses tap ((used_at w uses).is_line l g) (λ x c. on_line (record {
+    place = g.place;
+    line = g.wire;
+    early = slice_get_within (used_at w uses).picks_here.lines.items g.place g.wire g.here;
+    here = g.here;
+    cross = record { within = c.within; tap = c.tap; line = c.line ∙ sym g.is };
+  }))
 
   pub skeleton : HasSkeleton i a
   skeleton = record {
@@ -305,7 +294,7 @@ module _ (i : ImageValue) (used nodes : List Bool) (f : Frame) (closed : List Cr
       (λ w h. built.wires.all w (record { place = w; early = (let l = marked_within used w h in let len = are.len in omega (arith, l, len)); marked = h; is = refl }))
       (λ x o. built.closings.stays x (built.hung.stays x (built.joints.all x o)))
       (λ x o. built.closings.stays x (built.hung.all x o))
-      (λ x e. built.closings.all x (to_told (λ (y : Cross). y.0) closed (is_closed i.config) counts (IsCrossBefore closed (length closed)) (each_listed closed) x e))
+      (λ x e. built.closings.all x (to_set (λ (y : Cross). y.0) closed (is_closed i.config) counts (IsCrossBefore closed (length closed)) (each_listed closed) x e))
 
 -- the steps of the code, over the shape that it was lent
 pub built_of : (i : ImageValue) (m : Shape) (e : m ≡ i.config.shape) (used nodes : List Bool) (f : Frame) (closed : List Cross) (a b c : Field) (mid : List Bool) →

@@ -24,7 +24,8 @@ use Rattle.self_test.specs.Skeleton.{HasSkeleton}
 use Rattle.self_test.specs.Soundly.{KeepsRoutes, KeepsTables, KeepsParts, SoundIf, YesIf, RunsSoundly}
 use Rattle.self_test.specs.Used.{AreUsed}
 use Rattle.self_test.proofs.Covering.{on_within, used_within}
-use Rattle.self_test.proofs.Counting.{list_fits, of_told, to_told}
+use Rattle.config_image.proofs.Keyed.{of_set, to_set}
+use Rattle.self_test.proofs.Counting.{list_fits}
 use Rattle.self_test.proofs.Looking.{on_of, routes_stay, tables_kept, tests_keep}
 use Rattle.self_test.proofs.Wholly.{routes_known, seated}
 
@@ -56,8 +57,8 @@ routes_if told old new ss i used a answer laws right are fits shape closed holds
 pub tables_if : (told : Option Faults) (k l : Kept) (ss : List Step) (i : ImageValue) (tables : List Table) (answer : Bool) → ((t : ℕ) → count_by (λ (y : Table). y.0 == t) tables ≡ (if is_some (setting_of i.config t) then 1 else 0)) →
     SeatedAreKept told k l ss tables → (KeepsTables l i → IsTrue answer) → TablesIf told k ss i answer
 tables_if told k l ss i tables answer counts kept known = record {
-  at = λ f is holds none seated_all. known (tables_kept l i (to_told (λ (t : Table). t.0) tables (λ q. is_some (setting_of i.config q)) counts (KeepsTableOf l i)
-      (tests_keep told k l ss i f tables kept is holds none seated_all (of_told (λ (t : Table). t.0) tables (λ q. is_some (setting_of i.config q)) counts (λ q. is_some (setting_of i.config q) ≡ true) (λ q e. e)))));
+  at = λ f is holds none seated_all. known (tables_kept l i (to_set (λ (t : Table). t.0) tables (λ q. is_some (setting_of i.config q)) counts (KeepsTableOf l i)
+      (tests_keep told k l ss i f tables kept is holds none seated_all (of_set (λ (t : Table). t.0) tables (λ q. is_some (setting_of i.config q)) counts (λ q. is_some (setting_of i.config q) ≡ true) (λ q e. e)))));
 }
 
 -- so many loads for each of them are so many for any list that has them

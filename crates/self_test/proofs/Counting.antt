@@ -1,5 +1,5 @@
 -- How many numbers are marked, or stand in a list, that are all in another list.
-use Rattle.std.proofs.Common.{◌≡◌, ◌≢◌, ◌⊎◌, ℕ, zero, suc, ◌+◌, ◌*◌, ◌<◌, ◌≤◌, ◌==◌, ◌||◌, eqb, if◌then◌else◌, Bool, true, false, cond, List, [], ◌∷◌, length, map, get_or, All, refl, sym, ap, ◌∙◌, subst, inl, inr, arith}
+use Rattle.std.proofs.Common.{◌≡◌, ◌≢◌, ◌⊎◌, ℕ, zero, suc, ◌+◌, ◌*◌, ◌<◌, ◌≤◌, ◌==◌, ◌||◌, eqb, if◌then◌else◌, Bool, true, false, cond, List, [], ◌∷◌, length, map, refl, sym, ap, ◌∙◌, inl, inr, arith}
 use Rattle.std.specs.Prelude.{Contains, slice_index_or}
 use Rattle.std.specs.List.{count_by, AllByRecursion, IsDistinct}
 use Rattle.std.specs.Set.{is_member}
@@ -97,35 +97,12 @@ module _ {X : Type 0} (key : X → ℕ) where
             let rest = again (sym (ap (λ b. b || is_member eqb (map key ys) q) out) ∙ h) in
             let e = counted_head y ys q in omega (arith, e, rest)
 
-    counted : (ys : List X) (j : ℕ) (d : X) → j < length ys → 0 < count_by (λ x. key x == key (get_or ys j d)) ys
-    counted [] j d l = absurd (let no : ⊥ = omega (arith, l) in no)
-    counted (y ∷ ys) zero d l = let one : ◌≡◌ {A = ℕ} (if key y == key y then 1 else 0) 1 = (let t : (key y == key y) ≡ true = grind (arith, nat_tests) in ap {B = ℕ} (λ b. if b then 1 else 0) t) in let e = counted_head y ys (key y) in omega (arith, e, one)
-    counted (y ∷ ys) (suc j) d l = let e = counted_head y ys (key (get_or ys j d)) in let rest = counted ys j d (omega (arith, l)) in omega (arith, e, rest)
-
-    found : (q : ℕ) (P : ℕ → Type 0) (ys : List X) → All (λ x. P (key x)) ys → 0 < count_by (λ x. key x == q) ys → P q
-    found q P [] all l = absurd (let no : ⊥ = omega (arith, l) in no)
-    found q P (y ∷ ys) all l = by (λ g. found q P ys (λ j d k. all (suc j) d (omega (arith, k))) g) (cases_eq (key y) q)
-      where
-        by : (0 < count_by (λ x. key x == q) ys → P q) → (key y ≡ q) ⊎ (key y ≡ q → ⊥) → P q
-        by again (inl same) = subst P same (all 0 y (omega arith))
-        by again (inr other) =
-            let none : ◌≡◌ {A = ℕ} (if key y == q then 1 else 0) 0 = (let t : (key y == q) ≡ false = grind (arith, nat_tests, other) in ap {B = ℕ} (λ b. if b then 1 else 0) t) in
-            let e = counted_head y ys q in
-            again (omega (arith, e, none, l))
-
     told : (q : ℕ) → 0 < count_by (λ x. key x == q) xs → f q ≡ true
     told q l = by (f q) (counts q)
       where
         by : (b : Bool) → count_by (λ x. key x == q) xs ≡ (if b then 1 else 0) → b ≡ true
         by true e = refl
         by false e = absurd (let no : ⊥ = omega (arith, e, l) in no)
-
-    -- what holds of each that is told holds of the list's elements, and the other way round
-    pub of_told : (P : ℕ → Type 0) → ((q : ℕ) → f q ≡ true → P q) → All (λ x. P (key x)) xs
-    of_told P h j d l = h (key (get_or xs j d)) (told (key (get_or xs j d)) (counted xs j d l))
-
-    pub to_told : (P : ℕ → Type 0) → All (λ x. P (key x)) xs → (q : ℕ) → f q ≡ true → P q
-    to_told P all q e = found q P xs all (let one : ◌≡◌ {A = ℕ} (if f q then 1 else 0) 1 = ap {B = ℕ} (λ b. if b then 1 else 0) e in let c = counts q in omega (arith, c, one))
 
     pub list_fits : (ys : List ℕ) → ((q : ℕ) → f q ≡ true → Contains ys q) → length xs ≤ length ys
     list_fits ys each =

@@ -15,7 +15,7 @@ use Rattle.config_image.specs.Images.{ImageValue, IsImage}
 use Rattle.config_image.specs.Parts.{Uses, at_pin, at_tap, at_line, at_table}
 use Rattle.self_test.specs.Marks.{Adds, IsPinAmong, IsEndAmong, tap_among, line_among, IsTablePinAmong}
 use Rattle.self_test.specs.Used.{AreUsed}
-use Rattle.self_test.proofs.Counting.{of_told, to_told}
+use Rattle.config_image.proofs.Keyed.{of_set, to_set}
 use Rattle.self_test.proofs.Covering.{on_within}
 use Rattle.self_test.proofs.Fielding.{all_at}
 use Rattle.self_test.proofs.Getting.{none_marked}
@@ -39,10 +39,10 @@ module _ (i : ImageValue) (closed : List Cross) (tables : List Table)
   by_outputs w p = at_pin (get_or i.outputs p.place 0) (Contains-append_right i.inputs i.outputs _ (Contains-get_or i.outputs p.place 0 p.early)) p.wire
 
   are_closed : All (λ (y : Cross). is_closed i.config y.0 ≡ true) closed
-  are_closed = of_told (λ (y : Cross). y.0) closed (is_closed i.config) closed_counts (λ q. is_closed i.config q ≡ true) (λ q e. e)
+  are_closed = of_set (λ (y : Cross). y.0) closed (is_closed i.config) closed_counts (λ q. is_closed i.config q ≡ true) (λ q e. e)
 
   are_on : All (λ (y : Table). is_some (setting_of i.config y.0) ≡ true) tables
-  are_on = of_told (λ (y : Table). y.0) tables (λ q. is_some (setting_of i.config q)) table_counts (λ q. is_some (setting_of i.config q) ≡ true) (λ q e. e)
+  are_on = of_set (λ (y : Table). y.0) tables (λ q. is_some (setting_of i.config q)) table_counts (λ q. is_some (setting_of i.config q) ≡ true) (λ q e. e)
 
   by_ends : (w : ℕ) → IsEndAmong m closed (length closed) w → Uses i w
   by_ends w (tap_among j x l here e) = at_tap x.0 (all_at (λ (y : Cross). is_closed i.config y.0 ≡ true) closed j x are_closed here) e
@@ -80,11 +80,11 @@ module _ (i : ImageValue) (closed : List Cross) (tables : List Table)
       by : Contains i.inputs k ⊎ Contains i.outputs k → has_number last w ≡ true
       by (inl p) = from_second w (outputs.stays w (inputs.all w (record { place = p.0; early = p.1; wire = e ∙ ap (pin_wire m) (sym (get_or_default i.inputs p.0 0 k p.1 ∙ p.2)) })))
       by (inr p) = from_second w (outputs.all w (record { place = p.0; early = p.1; wire = e ∙ ap (pin_wire m) (sym (get_or_default i.outputs p.0 0 k p.1 ∙ p.2)) }))
-  all_last w (at_tap x c e) = subst (λ u. has_number last u ≡ true) (sym e) (to_told (λ (y : Cross). y.0) closed (is_closed i.config) closed_counts (λ q. has_number last (ends_of m q).0 ≡ true)
+  all_last w (at_tap x c e) = subst (λ u. has_number last u ≡ true) (sym e) (to_set (λ (y : Cross). y.0) closed (is_closed i.config) closed_counts (λ q. has_number last (ends_of m q).0 ≡ true)
       (λ j d l. pins.stays _ (ends.all _ (tap_among j (get_or closed j d) l (slice_get-get_or closed j d l) refl))) x c)
-  all_last w (at_line x c e) = subst (λ u. has_number last u ≡ true) (sym e) (to_told (λ (y : Cross). y.0) closed (is_closed i.config) closed_counts (λ q. has_number last (ends_of m q).1 ≡ true)
+  all_last w (at_line x c e) = subst (λ u. has_number last u ≡ true) (sym e) (to_set (λ (y : Cross). y.0) closed (is_closed i.config) closed_counts (λ q. has_number last (ends_of m q).1 ≡ true)
       (λ j d l. pins.stays _ (ends.all _ (line_among j (get_or closed j d) l (slice_get-get_or closed j d l) refl))) x c)
-  all_last w (at_table t k on l e) = subst (λ u. has_number last u ≡ true) (sym e) (to_told (λ (y : Table). y.0) tables (λ q. is_some (setting_of i.config q)) table_counts (λ q. has_number last (table_wire m q k) ≡ true)
+  all_last w (at_table t k on l e) = subst (λ u. has_number last u ≡ true) (sym e) (to_set (λ (y : Table). y.0) tables (λ q. is_some (setting_of i.config q)) table_counts (λ q. has_number last (table_wire m q k) ≡ true)
       (λ j d b. pins.all _ (record { place = j; table = get_or tables j d; early = b; here = slice_get-get_or tables j d b; pin = record { pin = k; early = l; wire = refl } })) t (true_of (setting_of i.config t) on))
 
   pub are_used : AreUsed i last
@@ -98,7 +98,7 @@ module _ (i : ImageValue) (g : Configuration) (same : g ≡ i.config) where
     closed_counts x = counts x ∙ ap {B = ℕ} (λ (z : Configuration). if is_closed z x then 1 else 0) same
 
     pub closed_within : IsImage i → (m : Shape) → m ≡ i.config.shape → All (λ x. x.0 < crosses_of m) xs
-    closed_within is m e = subst (λ (s : Shape). All (λ x. x.0 < crosses_of s) xs) (sym e) (of_told (λ (y : Cross). y.0) xs (is_closed i.config) closed_counts (λ q. q < crosses_of i.config.shape) is.config.crosses)
+    closed_within is m e = subst (λ (s : Shape). All (λ x. x.0 < crosses_of s) xs) (sym e) (of_set (λ (y : Cross). y.0) xs (is_closed i.config) closed_counts (λ q. q < crosses_of i.config.shape) is.config.crosses)
 
   module _ (ts : List Table) (counts : (t : ℕ) → count_by (λ (y : Table). y.0 == t) ts ≡ (if is_some (setting_of g t) then 1 else 0)) where
     pub table_counts : (t : ℕ) → count_by (λ (y : Table). y.0 == t) ts ≡ (if is_some (setting_of i.config t) then 1 else 0)
@@ -106,7 +106,7 @@ module _ (i : ImageValue) (g : Configuration) (same : g ≡ i.config) where
 
     pub tables_within : IsImage i → (m : Shape) → m ≡ i.config.shape → All (λ t. t.0 < tables_of m) ts
     tables_within is m e = subst (λ (s : Shape). All (λ t. t.0 < tables_of s) ts) (sym e)
-        (of_told (λ (y : Table). y.0) ts (λ q. is_some (setting_of i.config q)) table_counts (λ q. q < tables_of i.config.shape) (λ q on. on_within i is q (on_of i q on)))
+        (of_set (λ (y : Table). y.0) ts (λ q. is_some (setting_of i.config q)) table_counts (λ q. q < tables_of i.config.shape) (λ q on. on_within i is q (on_of i q on)))
 
 module _ (i : ImageValue) (is : IsImage i) (m : Shape) (e : m ≡ i.config.shape) (ps : List ℕ) where
   pub first_pins : ps ≡ i.inputs → All (λ k. k < pins_of m) ps

@@ -1,5 +1,5 @@
 -- How a job ends the program.
-use Rattle.std.proofs.Common.{◌≡◌, ◌⊎◌, ℕ, ◌≤◌, List, [], ◌++◌, Bool, false, IsTrue, refl, sym, subst, inl, inr, ◌∙◌, arith, ap, append_assoc, append-nil}
+use Rattle.std.proofs.Common.{◌≡◌, ◌⊎◌, ℕ, ◌<◌, ◌≤◌, List, [], ◌++◌, Bool, false, IsTrue, refl, sym, subst, inl, inr, ◌∙◌, arith, ap, append_assoc, append-nil}
 use Rattle.tm_outside.specs.Counts.{Rose}
 use Rattle.tm_outside.specs.Sink.{SinkState, Wrote}
 use Rattle.tm_outside.specs.declared.sink.SinkFail.TheVariants.{Failed, Memory}
@@ -56,54 +56,38 @@ no-lack can_lack is lacks =
 -- ---- each status has its cause
 
 module _ (words : Type 0) (course : Course) (old new : Outside) where
-  -- a status of a refusal other than want of memory: that refusal, with its line
-  stands-refused : (refusal : Refusal) (text : List ℕ) → (refusal ≡ NoMemory → ⊥) → Stands words course old new refusal text → Wrote old.sink.written new.sink.written (text ++ refusal_text refusal) → IsRefused course old new refusal
-  stands-refused refusal text other (inl s) wrote = (text, s.1, wrote)
-  stands-refused refusal text other (inr s) wrote = absurd (other s.0)
+  -- a status from 1 to 4 is that of a refusal, whose line was written
+  by-refusal : (status : ℕ) → EndWrote words course old new status → 0 < status → status < 5 → (refusal : Refusal) × (status_of refusal ≡ status) × IsCounted words (Refused refusal) old new × IsRefused course old new refusal
+  by-refusal _ (whole text f w) some few = absurd (let no : ⊥ = omega (arith, some) in no)
+  by-refusal _ (refused refusal text (inl s) w) some few = (refusal, refl, s.0, (text, s.1, w))
+  by-refusal _ (refused refusal text (inr s) w) some few = absurd (let less : status_of NoMemory < 5 = subst (λ r. status_of r < 5) s.0 few in let no : ⊥ = omega (arith, less) in no)
+  by-refusal _ (cut_line refusal text n s r w) some few = absurd (let no : ⊥ = omega (arith, few) in no)
+  by-refusal _ (no_line refusal text s l w) some few = absurd (let no : ⊥ = omega (arith, few) in no)
+  by-refusal _ (cut text line n p r w) some few = absurd (let no : ⊥ = omega (arith, few) in no)
 
   pub end-text : (status : ℕ) → EndWrote words course old new status → status ≡ 1 → (refusal : Refusal) × (status_of refusal ≡ 1) × IsRefused course old new refusal
-  end-text _ (whole text f w) h = absurd cc
-  end-text _ (refused refusal text s w) h =
-      (refusal, h, stands-refused refusal text (λ is. let no : status_of NoMemory ≡ 1 = subst (λ r. status_of r ≡ 1) is h in absurd cc) s w)
-  end-text _ (cut_line refusal text n s r w) h = absurd cc
-  end-text _ (no_line refusal text s l w) h = absurd cc
-  end-text _ (cut text line n p r w) h = absurd cc
+  end-text status e h = let r = by-refusal status e (omega (arith, h)) (omega (arith, h)) in (r.0, r.1 ∙ h, r.3)
 
   room-refused : (refusal : Refusal) → status_of refusal ≡ 3 → IsRefused course old new refusal → (place : ShortPlace) × IsRefused course old new (Room place)
   room-refused (Room place) h is = (place, is)
   room-refused refusal h is = absurd cc
 
   pub end-room : (status : ℕ) → EndWrote words course old new status → status ≡ 3 → (place : ShortPlace) × IsRefused course old new (Room place)
-  end-room _ (whole text f w) h = absurd cc
-  end-room _ (refused refusal text s w) h =
-      room-refused refusal h (stands-refused refusal text (λ is. let no : status_of NoMemory ≡ 3 = subst (λ r. status_of r ≡ 3) is h in absurd cc) s w)
-  end-room _ (cut_line refusal text n s r w) h = absurd cc
-  end-room _ (no_line refusal text s l w) h = absurd cc
-  end-room _ (cut text line n p r w) h = absurd cc
+  end-room status e h = let r = by-refusal status e (omega (arith, h)) (omega (arith, h)) in room-refused r.0 (r.1 ∙ h) r.3
 
-  words-refused : (refusal : Refusal) (text : List ℕ) → status_of refusal ≡ 2 → Stands words course old new refusal text → words
-  words-refused Words text h (inl s) = s.0
-  words-refused refusal text h (inl s) = absurd cc
-  words-refused refusal text h (inr s) = let no : status_of NoMemory ≡ 2 = subst (λ r. status_of r ≡ 2) s.0 h in absurd cc
+  words-counted : (refusal : Refusal) → status_of refusal ≡ 2 → IsCounted words (Refused refusal) old new → words
+  words-counted Words h why = why
+  words-counted refusal h why = absurd cc
 
   pub end-words : (status : ℕ) → EndWrote words course old new status → status ≡ 2 → words
-  end-words _ (whole text f w) h = absurd cc
-  end-words _ (refused refusal text s w) h = words-refused refusal text h s
-  end-words _ (cut_line refusal text n s r w) h = absurd cc
-  end-words _ (no_line refusal text s l w) h = absurd cc
-  end-words _ (cut text line n p r w) h = absurd cc
+  end-words status e h = let r = by-refusal status e (omega (arith, h)) (omega (arith, h)) in words-counted r.0 (r.1 ∙ h) r.2
 
-  rig-refused : (refusal : Refusal) (text : List ℕ) → status_of refusal ≡ 4 → Stands words course old new refusal text → Rose old.rig.failures new.rig.failures
-  rig-refused Rig text h (inl s) = s.0
-  rig-refused refusal text h (inl s) = absurd cc
-  rig-refused refusal text h (inr s) = let no : status_of NoMemory ≡ 4 = subst (λ r. status_of r ≡ 4) s.0 h in absurd cc
+  rig-counted : (refusal : Refusal) → status_of refusal ≡ 4 → IsCounted words (Refused refusal) old new → Rose old.rig.failures new.rig.failures
+  rig-counted Rig h why = why
+  rig-counted refusal h why = absurd cc
 
   pub end-rig : (status : ℕ) → EndWrote words course old new status → status ≡ 4 → Rose old.rig.failures new.rig.failures
-  end-rig _ (whole text f w) h = absurd cc
-  end-rig _ (refused refusal text s w) h = rig-refused refusal text h s
-  end-rig _ (cut_line refusal text n s r w) h = absurd cc
-  end-rig _ (no_line refusal text s l w) h = absurd cc
-  end-rig _ (cut text line n p r w) h = absurd cc
+  end-rig status e h = let r = by-refusal status e (omega (arith, h)) (omega (arith, h)) in rig-counted r.0 (r.1 ∙ h) r.2
 
   store-refused : (refusal : Refusal) (text : List ℕ) → status_of refusal ≡ 5 → Stands words course old new refusal text → Rose old.store.failures new.store.failures
   store-refused Store text h (inl s) = s.0

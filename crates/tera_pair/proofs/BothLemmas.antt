@@ -1,5 +1,5 @@
 -- Where two designs are laid, and where they aren't.
-use Rattle.std.proofs.Common.{◌≡◌, ◌⊎◌, ◌∙◌, ◌+◌, ℕ, [], map, length, ap, subst, refl, sym, inl, inr, append-nil, length-append}
+use Rattle.std.proofs.Common.{◌≡◌, ◌⊎◌, ◌∙◌, ◌+◌, ℕ, [], map, length, ap, subst, refl, inl, inr, length-append}
 use Rattle.std.specs.Prelude.{Result, Ok, Err, IfOk, IfErr}
 use Rattle.std.specs.List.{All}
 use Rattle.hierarchy.specs.Defects.{Covers}
@@ -23,7 +23,7 @@ use Rattle.steps.specs.declared.refusal.Refusal.{Refusal}
 use Rattle.steps.specs.declared.refusal.Refusal.TheVariants as refused
 use Rattle.steps.specs.declared.refusal.Stop.{Stop}
 use Rattle.steps.specs.declared.refusal.Stop.TheVariants.{Refused}
-use Rattle.steps.proofs.Taking.{later-same}
+use Rattle.steps.proofs.Taking.{took-stop, took-value}
 use Rattle.lay.specs.Wants.{PlanStops}
 use Rattle.lay.proofs.PlainWidths.{plain-inputs, plain-outputs}
 use Rattle.lay.proofs.Rooms.{AreDecided}
@@ -84,24 +84,8 @@ module _ (d : DefectList) (first second : Draft) where
   both-counted stop o stops = absurd stops
 
   pub both-took : (result : Result ImageValue Stop) (o : Outside) → IfOk result (lays_both d first second).gives → IfErr result (StepStops (lays_both d first second)) → Took [] (lays_both d first second) result o o
-  both-took (Ok i) o found stops = record {
-    later = later-same o;
-    silent = refl;
-    asked = record { all = sym (append-nil o.store.asked); some = tt };
-    place = refl;
-    gives = found;
-    stops = tt;
-    counted = tt;
-  }
-  both-took (Err stop) o found stops = record {
-    later = later-same o;
-    silent = refl;
-    asked = record { all = tt; some = refl };
-    place = refl;
-    gives = tt;
-    stops = stops;
-    counted = both-counted stop o stops;
-  }
+  both-took (Ok i) o found stops = took-value (lays_both d first second) i o found
+  both-took (Err stop) o found stops = took-stop (lays_both d first second) stop o stops (both-counted stop o stops)
 
   -- ---- they have room on a list or lack it, and never both
 

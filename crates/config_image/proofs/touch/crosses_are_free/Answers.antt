@@ -3,7 +3,7 @@ use Rattle.hierarchy.specs.declared.Cross.{Cross}
 use Rattle.hierarchy.specs.Shape.{crosses_of}
 use Rattle.hierarchy.specs.Defects.{IsFreeCross}
 use Rattle.config_set.specs.Configuration.{is_closed}
-use Rattle.config_image.proofs.Touching.{of_set, to_set}
+use Rattle.config_image.proofs.Keyed.{of_set, to_set}
 use Rattle.config_image.proofs.touch.crosses_are_free.Goals as goal
 
 pub free_crosses-requires : goal.free_crosses-requires

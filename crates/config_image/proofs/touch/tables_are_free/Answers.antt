@@ -4,7 +4,8 @@ use Rattle.hierarchy.specs.declared.Table.{Table}
 use Rattle.hierarchy.specs.Shape.{tables_of}
 use Rattle.hierarchy.specs.Defects.{IsFreeTable}
 use Rattle.config_set.specs.Configuration.{setting_of}
-use Rattle.config_image.proofs.Touching.{of_set, to_set, on_below}
+use Rattle.config_image.proofs.Keyed.{of_set, to_set}
+use Rattle.config_image.proofs.Touching.{on_below}
 use Rattle.config_image.proofs.touch.tables_are_free.Goals as goal
 
 pub free_tables-requires : goal.free_tables-requires

@@ -4,8 +4,8 @@ use Rattle.netlist.specs.Valuations.{number_at, bit_at}
 use Rattle.netlist_eval.specs.Lanes.{is_bit, lane_bits, addresses}
 use Rattle.netlist_eval.specs.Tables.{address}
 use Rattle.netlist_eval.proofs.LaneLemmas.{lane-at}
-use Rattle.netlist_eval.proofs.TableLemmas.{address-nil}
-use Rattle.netlist_eval.proofs.TableWordLemmas.{few-addresses, half-addresses, address-below, part-kept}
+use Rattle.netlist_eval.proofs.TableLemmas.{address-nil, address-below}
+use Rattle.netlist_eval.proofs.TableWordLemmas.{few-addresses, half-addresses, part-kept}
 use Rattle.netlist_eval.proofs.table_word.table_word.Goals as goal
 
 pub put_cells-requires : goal.put_cells-requires

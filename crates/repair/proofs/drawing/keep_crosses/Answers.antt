@@ -5,7 +5,8 @@ use Rattle.crossbar_route.proofs.Joining.{closes_none}
 use Rattle.repair.specs.Making.{IsKeptCrossOf, no_cross}
 use Rattle.repair.specs.Marks.{IsOfFirst}
 use Rattle.repair.proofs.Redone.{kept_more, kept_all}
-use Rattle.repair.proofs.Marking.{first_none, of_list}
+use Rattle.config_image.proofs.Keyed.{of_list}
+use Rattle.repair.proofs.Marking.{first_none}
 use Rattle.repair.proofs.drawing.keep_crosses.Goals as goal
 
 pub keep_cross-requires-clause-shape : goal.keep_cross-requires-clause-shape

@@ -7,7 +7,8 @@ use Rattle.place.specs.Lists.{nth_of}
 use Rattle.repair.specs.Making.{IsOn, IsTable, no_table}
 use Rattle.repair.specs.Marks.{IsOfFirst}
 use Rattle.repair.proofs.Redone.{seated_none, seated_more, seated_same}
-use Rattle.repair.proofs.Marking.{first_none, first_more, first_before, first_last, of_list, first_all, all_first}
+use Rattle.config_image.proofs.Keyed.{of_list}
+use Rattle.repair.proofs.Marking.{first_none, first_more, first_before, first_last, first_all, all_first}
 use Rattle.repair.proofs.Placed.{on_within}
 use Rattle.repair.proofs.Using.{on_is, is_on}
 use Rattle.repair.proofs.drawing.seat_all.Goals as goal

@@ -7,7 +7,8 @@ use Rattle.repair.specs.Groups.{IsUnited}
 use Rattle.repair.specs.Making.{IsCross, no_cross}
 use Rattle.repair.specs.Marks.{IsOfFirst}
 use Rattle.repair.proofs.Grouping.{joined_none, joined_more, joined_same, range_alone}
-use Rattle.repair.proofs.Marking.{first_none, first_more, of_list, all_first}
+use Rattle.config_image.proofs.Keyed.{of_list}
+use Rattle.repair.proofs.Marking.{first_none, first_more, all_first}
 use Rattle.repair.proofs.groups.join_all.Goals as goal
 
 pub join-requires-clause-sized : goal.join-requires-clause-sized

@@ -3,7 +3,8 @@ use Rattle.hierarchy.specs.declared.Cross.{Cross}
 use Rattle.config_set.specs.Configuration.{is_closed}
 use Rattle.repair.specs.Making.{IsUnfreeCrossOf, no_cross}
 use Rattle.repair.proofs.Unbroken.{crosses_first}
-use Rattle.repair.proofs.Marking.{marked_none, marked_more, first_none, of_list}
+use Rattle.config_image.proofs.Keyed.{of_list}
+use Rattle.repair.proofs.Marking.{marked_none, marked_more, first_none}
 use Rattle.repair.proofs.keeping.mark_crosses.Goals as goal
 
 pub mark_cross-requires-clause-sized : goal.mark_cross-requires-clause-sized

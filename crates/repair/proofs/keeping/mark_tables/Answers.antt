@@ -4,7 +4,8 @@ use Rattle.hierarchy.specs.declared.Table.{Table}
 use Rattle.config_set.specs.Configuration.{setting_of}
 use Rattle.repair.specs.Making.{IsBrokenHere, no_table}
 use Rattle.repair.proofs.Unbroken.{tables_first}
-use Rattle.repair.proofs.Marking.{marked_none, marked_more, first_none, of_list}
+use Rattle.config_image.proofs.Keyed.{of_list}
+use Rattle.repair.proofs.Marking.{marked_none, marked_more, first_none}
 use Rattle.repair.proofs.Placed.{on_within}
 use Rattle.repair.proofs.Using.{on_is}
 use Rattle.repair.proofs.keeping.mark_tables.Goals as goal

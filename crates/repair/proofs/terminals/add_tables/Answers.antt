@@ -7,7 +7,7 @@ use Rattle.config_set.specs.Configuration.{setting_of}
 use Rattle.place.specs.Lists.{nth_of}
 use Rattle.repair.specs.Making.{IsAdded, IsFirstTableTerminal, IsTablePinTerminal, no_table}
 use Rattle.repair.proofs.Adding.{added_none, no_tables, tables_more, tables_all}
-use Rattle.repair.proofs.Marking.{of_list}
+use Rattle.config_image.proofs.Keyed.{of_list}
 use Rattle.repair.proofs.Placed.{on_within}
 use Rattle.repair.proofs.Using.{on_is}
 use Rattle.repair.proofs.terminals.add_tables.Goals as goal

@@ -5,7 +5,8 @@ use Rattle.hierarchy.specs.Shape.{wires_of, crosses_of}
 use Rattle.config_set.specs.Configuration.{is_closed}
 use Rattle.repair.specs.Making.{IsEndOf, no_cross}
 use Rattle.repair.specs.Marks.{IsOfFirst}
-use Rattle.repair.proofs.Marking.{marked_none, marked_more, first_none, of_list}
+use Rattle.config_image.proofs.Keyed.{of_list}
+use Rattle.repair.proofs.Marking.{marked_none, marked_more, first_none}
 use Rattle.repair.proofs.Using.{ends_first}
 use Rattle.repair.proofs.uses.mark_ends.Goals as goal
 

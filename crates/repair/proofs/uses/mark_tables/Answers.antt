@@ -6,7 +6,8 @@ use Rattle.hierarchy.specs.Shape.{wires_of, tables_of}
 use Rattle.config_set.specs.Configuration.{setting_of}
 use Rattle.repair.specs.Making.{IsTablePin, no_table}
 use Rattle.repair.specs.Marks.{IsOfFirst}
-use Rattle.repair.proofs.Marking.{marked_none, marked_more, first_none, of_list}
+use Rattle.config_image.proofs.Keyed.{of_list}
+use Rattle.repair.proofs.Marking.{marked_none, marked_more, first_none}
 use Rattle.repair.proofs.Using.{on_first, on_is}
 use Rattle.repair.proofs.Placed.{on_within}
 use Rattle.repair.proofs.uses.mark_tables.Goals as goal

@@ -3,7 +3,7 @@ use Rattle.std.specs.Prelude.{is_some}
 use Rattle.hierarchy.specs.declared.Table.{Table}
 use Rattle.config_set.specs.Configuration.{setting_of}
 use Rattle.self_test.specs.Looks.{KeepsTableOf}
-use Rattle.self_test.proofs.Counting.{of_told, to_told}
+use Rattle.config_image.proofs.Keyed.{of_set, to_set}
 use Rattle.self_test.proofs.Looking.{tables_each, tables_kept}
 use Rattle.self_test.proofs.Using.{table_counts, tables_within}
 use Rattle.self_test.proofs.look.keeps_tables.Goals as goal
@@ -16,6 +16,6 @@ returns c =
     let k = c.args.proof.now in
     let i = c.args.image.now in
     let counts = table_counts i c.config-config.result.now.config c.config-config.ensures.config c.tables_on.result.now c.tables_on.ensures in (
-      λ e. tables_kept k i (to_told (λ (t : Table). t.0) c.tables_on.result.now (λ q. is_some (setting_of i.config q)) counts (KeepsTableOf k i) (c.keeps_each.ensures.0 e)),
-      λ keeps. c.keeps_each.ensures.1 (of_told (λ (t : Table). t.0) c.tables_on.result.now (λ q. is_some (setting_of i.config q)) counts (KeepsTableOf k i) (tables_each k i keeps)),
+      λ e. tables_kept k i (to_set (λ (t : Table). t.0) c.tables_on.result.now (λ q. is_some (setting_of i.config q)) counts (KeepsTableOf k i) (c.keeps_each.ensures.0 e)),
+      λ keeps. c.keeps_each.ensures.1 (of_set (λ (t : Table). t.0) c.tables_on.result.now (λ q. is_some (setting_of i.config q)) counts (KeepsTableOf k i) (tables_each k i keeps)),
     )
