@@ -73,7 +73,9 @@ pub(crate) fn anchors(
     requires open { IsOpen proof.old node.0 near.now far.now (wire_numbers taps.now) lines.0.0 lines.1.0 }
     requires taps { AreGoodTaps proof.old node.0 (wire_numbers taps.now) }
 
-    ensures anchors { IfOk result (λ anchors. AreAnchors (rig_state rig.old).machine.faults proof.old proof.new node.0 near.now far.now lines.0.0 lines.1.0 (wire_numbers taps.now) (wire_numbers anchors.items)) }
+    ensures anchors { IfOk result (λ anchors. AreAnchors
+        (rig_state rig.old).machine.faults proof.old proof.new node.0 near.now far.now lines.0.0 lines.1.0 (wire_numbers taps.now)
+        (wire_numbers anchors.items)) }
     ensures advances { Advances (rig_state rig.old) (rig_state rig.new) proof.old proof.new }
     ensures loads { (rig_state rig.new).loads ≤ (rig_state rig.old).loads + length taps.now }
     ensures cause { IsErrOf result RigFail.Failed → Rose (rig_state rig.old).failures (rig_state rig.new).failures }

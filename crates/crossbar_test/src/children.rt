@@ -41,9 +41,11 @@ fn over_joined(
     requires joined { AreJoined proof.old near.now far.now lines.0.0 lines.1.0 }
 
     ensures held { IfOk result (λ found. IfSome found (λ trunk. IsHeldTrunk proof.new child.0 trunk.left trunk.right)) }
-    ensures passes { IfOk result (λ found. PortsIf (rig_state rig.old).machine.faults proof.old child.0 lines.0.0 lines.1.0 (own_ports_of proof.old.shape child.0) (is_some found)) }
+    ensures passes { IfOk result (λ found. PortsIf (rig_state rig.old).machine.faults proof.old child.0 lines.0.0 lines.1.0
+        (own_ports_of proof.old.shape child.0) (is_some found)) }
     ensures advances { Advances (rig_state rig.old) (rig_state rig.new) proof.old proof.new }
-    ensures cost { IfOk result (λ found. CostsOne (rig_state rig.old).machine.faults proof.old (is_some found) (rig_state rig.old).loads (rig_state rig.new).loads) }
+    ensures cost { IfOk result (λ found. CostsOne (rig_state rig.old).machine.faults proof.old (is_some found) (rig_state rig.old).loads
+        (rig_state rig.new).loads) }
     ensures cause { IsErrOf result RigFail.Failed → Rose (rig_state rig.old).failures (rig_state rig.new).failures }
 {
     the_laws_hold();
@@ -72,7 +74,8 @@ fn over_pair(
     requires second_kept { keeps_wire proof.old lines.1.0 ≡ true }
 
     ensures held { IfOk result (λ found. IfSome found (λ trunk. IsHeldTrunk proof.new child.0 trunk.left trunk.right)) }
-    ensures passes { IfOk result (λ found. WaysIf (rig_state rig.old).machine.faults proof.old child.0 (lines.0.0 ∷ []) (lines.1.0 ∷ []) (is_some found)) }
+    ensures passes { IfOk result (λ found. WaysIf (rig_state rig.old).machine.faults proof.old child.0 (lines.0.0 ∷ []) (lines.1.0 ∷ [])
+        (is_some found)) }
     ensures advances { Advances (rig_state rig.old) (rig_state rig.new) proof.old proof.new }
     ensures cause { IsErrOf result RigFail.Failed → Rose (rig_state rig.old).failures (rig_state rig.new).failures }
 {
@@ -103,7 +106,8 @@ fn lines_from(
     requires lines { AreKeptLines proof.old node.0 (wire_numbers lines.now) }
 
     ensures held { IfOk result (λ found. IfSome found (λ trunk. IsHeldTrunk proof.new child.0 trunk.left trunk.right)) }
-    ensures passes { IfOk result (λ found. WaysIf (rig_state rig.old).machine.faults proof.old child.0 (first.0 ∷ []) (wire_numbers lines.now) (is_some found)) }
+    ensures passes { IfOk result (λ found. WaysIf (rig_state rig.old).machine.faults proof.old child.0 (first.0 ∷ [])
+        (wire_numbers lines.now) (is_some found)) }
     ensures advances { Advances (rig_state rig.old) (rig_state rig.new) proof.old proof.new }
     ensures cause { IsErrOf result RigFail.Failed → Rose (rig_state rig.old).failures (rig_state rig.new).failures }
 {
@@ -134,7 +138,8 @@ fn over_lines(
     requires lines { AreKeptLines proof.old node.0 (wire_numbers lines.now) }
 
     ensures held { IfOk result (λ found. IfSome found (λ trunk. IsHeldTrunk proof.new child.0 trunk.left trunk.right)) }
-    ensures passes { IfOk result (λ found. WaysIf (rig_state rig.old).machine.faults proof.old child.0 (wire_numbers lines.now) (wire_numbers lines.now) (is_some found)) }
+    ensures passes { IfOk result (λ found. WaysIf (rig_state rig.old).machine.faults proof.old child.0 (wire_numbers lines.now)
+        (wire_numbers lines.now) (is_some found)) }
     ensures advances { Advances (rig_state rig.old) (rig_state rig.new) proof.old proof.new }
     ensures cause { IsErrOf result RigFail.Failed → Rose (rig_state rig.old).failures (rig_state rig.new).failures }
 {
@@ -164,7 +169,8 @@ pub(crate) fn child_trunk(
     ensures held { IfOk result (λ found. IfSome found (λ trunk. IsHeldTrunk proof.new child.0 trunk.left trunk.right)) }
     ensures served { IfOk result (λ found. ServedIf (rig_state rig.old).machine.faults proof.old child.0 (is_some found)) }
     ensures advances { Advances (rig_state rig.old) (rig_state rig.new) proof.old proof.new }
-    ensures loads { OnOk result (FewLoads (rig_state rig.old).machine.faults proof.old child.0 (rig_state rig.old).loads (rig_state rig.new).loads 6) }
+    ensures loads { OnOk result (FewLoads (rig_state rig.old).machine.faults proof.old child.0 (rig_state rig.old).loads
+        (rig_state rig.new).loads 6) }
     ensures cause { IsErrOf result RigFail.Failed → Rose (rig_state rig.old).failures (rig_state rig.new).failures }
 {
     the_laws_hold();

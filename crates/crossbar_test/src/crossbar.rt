@@ -39,9 +39,11 @@ fn try_with(
     requires taps { AreGoodTaps proof.old node.0 (wire_numbers taps.now) }
     requires rest { AreLines proof.old.shape node.0 (wire_numbers rest.now) }
 
-    ensures tried { OnOk result (IfSome pair (λ _. AreTried (rig_state rig.old).machine.faults proof.old proof.new (wire_numbers taps.now) (wire_numbers rest.now))) }
+    ensures tried { OnOk result (IfSome pair (λ _. AreTried (rig_state rig.old).machine.faults proof.old proof.new (wire_numbers taps.now)
+        (wire_numbers rest.now))) }
     ensures advances { Advances (rig_state rig.old) (rig_state rig.new) proof.old proof.new }
-    ensures loads { (rig_state rig.new).loads ≤ (rig_state rig.old).loads + (2 * length taps.now + (4 * length taps.now + 1) * length rest.now) }
+    ensures loads { (rig_state rig.new).loads ≤ (rig_state rig.old).loads +
+        (2 * length taps.now + (4 * length taps.now + 1) * length rest.now) }
     ensures cause { IsErrOf result RigFail.Failed → Rose (rig_state rig.old).failures (rig_state rig.new).failures }
 {
     match pair {
@@ -67,7 +69,8 @@ pub fn test_crossbar(
     ensures held { IfOk result (IsHeld proof.new) }
     ensures full { IfOk result (FullIf (rig_state rig.old).machine.faults proof.old proof.new) }
     ensures advances { Advances (rig_state rig.old) (rig_state rig.new) proof.old proof.new }
-    ensures loads { OnOk result (let n = node_of proof.old.shape trunk.left.end in let taps = taps_of proof.old.shape n in let lines = lines_of proof.old.shape n in
+    ensures loads { OnOk result
+        (let n = node_of proof.old.shape trunk.left.end in let taps = taps_of proof.old.shape n in let lines = lines_of proof.old.shape n in
         (rig_state rig.new).loads ≤ (rig_state rig.old).loads + (6 * (taps * lines) + 4 * (taps + lines))) }
     ensures cause { IsErrOf result RigFail.Failed → Rose (rig_state rig.old).failures (rig_state rig.new).failures }
 {

@@ -42,7 +42,8 @@ pub fn link(
     requires line { IsLine proof.old.shape node.0 line.0 }
 
     ensures keeps { IfOk result (λ yes. IsTrue yes → KeepsEnds proof.new tap.0 line.0) }
-    ensures passes { IfOk result (LinksIf (rig_state rig.old).machine.faults proof.old near.now far.now (wire_numbers via.now) (wire_numbers taps.now) (wire_numbers lines.now) tap.0 line.0) }
+    ensures passes { IfOk result (LinksIf (rig_state rig.old).machine.faults proof.old near.now far.now (wire_numbers via.now)
+        (wire_numbers taps.now) (wire_numbers lines.now) tap.0 line.0) }
     ensures advances { Advances (rig_state rig.old) (rig_state rig.new) proof.old proof.new }
     ensures loads { (rig_state rig.new).loads ≤ (rig_state rig.old).loads + 2 }
     ensures none { KeepsEnds proof.old tap.0 line.0 → (rig_state rig.new).loads ≡ (rig_state rig.old).loads }

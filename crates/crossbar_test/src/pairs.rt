@@ -54,7 +54,8 @@ fn are_open(
     requires second { IsTied proof.old node.0 near.now far.now second.0 }
     requires kept { IsAllKept proof.old (wire_numbers taps.now) first.0 }
 
-    ensures pair { IfOk result (λ answer. IsTrue answer → IsOpen proof.new node.0 near.now far.now (wire_numbers taps.now) first.0 second.0) }
+    ensures pair { IfOk result (λ answer. IsTrue answer →
+        IsOpen proof.new node.0 near.now far.now (wire_numbers taps.now) first.0 second.0) }
     ensures passes { IfOk result (PairIf (rig_state rig.old).machine.faults proof.old (wire_numbers taps.now) first.0 second.0) }
     ensures advances { Advances (rig_state rig.old) (rig_state rig.new) proof.old proof.new }
     ensures loads { (rig_state rig.new).loads ≤ (rig_state rig.old).loads + 1 }
@@ -107,8 +108,10 @@ fn partner(
     requires first { IsTied proof.old node.0 near.now far.now first.0 }
     requires kept { IsAllKept proof.old (wire_numbers taps.now) first.0 }
 
-    ensures pair { IfOk result (λ line. IfSome line (λ second. IsOpen proof.new node.0 near.now far.now (wire_numbers taps.now) first.0 second.0)) }
-    ensures none { IfOk result (λ line. IfNone line (NoPartner (rig_state rig.old).machine.faults proof.old (wire_numbers taps.now) first.0 (wire_numbers tied.now))) }
+    ensures pair { IfOk result (λ line. IfSome line
+        (λ second. IsOpen proof.new node.0 near.now far.now (wire_numbers taps.now) first.0 second.0)) }
+    ensures none { IfOk result (λ line. IfNone line
+        (NoPartner (rig_state rig.old).machine.faults proof.old (wire_numbers taps.now) first.0 (wire_numbers tied.now))) }
     ensures advances { Advances (rig_state rig.old) (rig_state rig.new) proof.old proof.new }
     ensures loads { (rig_state rig.new).loads ≤ (rig_state rig.old).loads + length tied.now }
     ensures cause { IsErrOf result RigFail.Failed → Rose (rig_state rig.old).failures (rig_state rig.new).failures }
@@ -138,8 +141,10 @@ pub(crate) fn open_pair(
     requires taps { AreTaps proof.old.shape node.0 (wire_numbers taps.now) }
     requires tied { AreTied proof.old node.0 near.now far.now (wire_numbers tied.now) }
 
-    ensures pair { IfOk result (λ found. IfSome found (λ lines. IsOpen proof.new node.0 near.now far.now (wire_numbers taps.now) lines.0.0 lines.1.0)) }
-    ensures found { IfOk result (λ found. OpenIf (rig_state rig.old).machine.faults proof.old (wire_numbers taps.now) (wire_numbers tied.now) (is_some found)) }
+    ensures pair { IfOk result (λ found. IfSome found
+        (λ lines. IsOpen proof.new node.0 near.now far.now (wire_numbers taps.now) lines.0.0 lines.1.0)) }
+    ensures found { IfOk result (λ found. OpenIf (rig_state rig.old).machine.faults proof.old (wire_numbers taps.now)
+        (wire_numbers tied.now) (is_some found)) }
     ensures advances { Advances (rig_state rig.old) (rig_state rig.new) proof.old proof.new }
     ensures loads { (rig_state rig.new).loads ≤ (rig_state rig.old).loads + length tied.now }
     ensures cause { IsErrOf result RigFail.Failed → Rose (rig_state rig.old).failures (rig_state rig.new).failures }

@@ -110,9 +110,11 @@ pub(crate) fn second_pin(
 
     ensures pins { IfOk result (λ found. IfSome found (ArePins proof.new first)) }
     ensures before { IfOk result (λ found. IfSome found (NoSecond (rig_state rig.old).machine.faults proof.old first)) }
-    ensures none { IfOk result (λ found. IfNone found (NoSecond (rig_state rig.old).machine.faults proof.old first (pins_of proof.old.shape))) }
+    ensures none { IfOk result (λ found. IfNone found
+        (NoSecond (rig_state rig.old).machine.faults proof.old first (pins_of proof.old.shape))) }
     ensures advances { Advances (rig_state rig.old) (rig_state rig.new) proof.old proof.new }
-    ensures loads { IfOk result (λ found. IfSome found (λ pin. (rig_state rig.new).loads + 2 * first ≤ (rig_state rig.old).loads + 2 * pin)) }
+    ensures loads { IfOk result (λ found. IfSome found
+        (λ pin. (rig_state rig.new).loads + 2 * first ≤ (rig_state rig.old).loads + 2 * pin)) }
     ensures cause { IsErrOf result RigFail.Failed → Rose (rig_state rig.old).failures (rig_state rig.new).failures }
 {
     the_laws_hold();
@@ -138,7 +140,8 @@ pub(crate) fn root_trunk(
     ensures held { IfOk result (λ found. IfSome found (λ trunk. IsHeldTrunk proof.new 0 trunk.left trunk.right)) }
     ensures served { IfOk result (λ found. ServedIf (rig_state rig.old).machine.faults proof.old 0 (is_some found)) }
     ensures advances { Advances (rig_state rig.old) (rig_state rig.new) proof.old proof.new }
-    ensures loads { OnOk result (FewLoads (rig_state rig.old).machine.faults proof.old 0 (rig_state rig.old).loads (rig_state rig.new).loads 3) }
+    ensures loads { OnOk result (FewLoads (rig_state rig.old).machine.faults proof.old 0 (rig_state rig.old).loads
+        (rig_state rig.new).loads 3) }
     ensures cause { IsErrOf result RigFail.Failed → Rose (rig_state rig.old).failures (rig_state rig.new).failures }
 {
     the_laws_hold();

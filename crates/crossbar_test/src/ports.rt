@@ -51,9 +51,12 @@ fn try_ports(
     requires second { IsPort proof.old.shape child.0 ports.1.0 }
 
     ensures held { IfOk result (λ found. IfSome found (λ trunk. IsHeldTrunk proof.new child.0 trunk.left trunk.right)) }
-    ensures passes { IfOk result (λ found. TryIf (rig_state rig.old).machine.faults proof.old child.0 left.now.end right.now.end ports.0.0 ports.1.0 (is_some found)) }
+    ensures passes { IfOk result
+        (λ found. TryIf (rig_state rig.old).machine.faults proof.old child.0 left.now.end right.now.end ports.0.0 ports.1.0
+        (is_some found)) }
     ensures advances { Advances (rig_state rig.old) (rig_state rig.new) proof.old proof.new }
-    ensures cost { IfOk result (λ found. CostsOne (rig_state rig.old).machine.faults proof.old (is_some found) (rig_state rig.old).loads (rig_state rig.new).loads) }
+    ensures cost { IfOk result (λ found. CostsOne (rig_state rig.old).machine.faults proof.old (is_some found) (rig_state rig.old).loads
+        (rig_state rig.new).loads) }
     ensures cause { IsErrOf result RigFail.Failed → Rose (rig_state rig.old).failures (rig_state rig.new).failures }
 {
     the_laws_hold();
@@ -95,9 +98,11 @@ fn ports_from(
     requires first { IsPort proof.old.shape child.0 first.0 }
 
     ensures held { IfOk result (λ found. IfSome found (λ trunk. IsHeldTrunk proof.new child.0 trunk.left trunk.right)) }
-    ensures passes { IfOk result (λ found. FromIf (rig_state rig.old).machine.faults proof.old child.0 left.now.end right.now.end first.0 (own_ports_of proof.old.shape child.0) (is_some found)) }
+    ensures passes { IfOk result (λ found. FromIf (rig_state rig.old).machine.faults proof.old child.0 left.now.end right.now.end first.0
+        (own_ports_of proof.old.shape child.0) (is_some found)) }
     ensures advances { Advances (rig_state rig.old) (rig_state rig.new) proof.old proof.new }
-    ensures cost { IfOk result (λ found. CostsOne (rig_state rig.old).machine.faults proof.old (is_some found) (rig_state rig.old).loads (rig_state rig.new).loads) }
+    ensures cost { IfOk result (λ found. CostsOne (rig_state rig.old).machine.faults proof.old (is_some found) (rig_state rig.old).loads
+        (rig_state rig.new).loads) }
     ensures cause { IsErrOf result RigFail.Failed → Rose (rig_state rig.old).failures (rig_state rig.new).failures }
 {
     the_laws_hold();
@@ -128,9 +133,11 @@ pub(crate) fn two_ports(
     requires child { parent_of proof.old.shape child.0 ≡ Some node.0 }
 
     ensures held { IfOk result (λ found. IfSome found (λ trunk. IsHeldTrunk proof.new child.0 trunk.left trunk.right)) }
-    ensures passes { IfOk result (λ found. PortsIf (rig_state rig.old).machine.faults proof.old child.0 left.now.end right.now.end (own_ports_of proof.old.shape child.0) (is_some found)) }
+    ensures passes { IfOk result (λ found. PortsIf (rig_state rig.old).machine.faults proof.old child.0 left.now.end right.now.end
+        (own_ports_of proof.old.shape child.0) (is_some found)) }
     ensures advances { Advances (rig_state rig.old) (rig_state rig.new) proof.old proof.new }
-    ensures cost { IfOk result (λ found. CostsOne (rig_state rig.old).machine.faults proof.old (is_some found) (rig_state rig.old).loads (rig_state rig.new).loads) }
+    ensures cost { IfOk result (λ found. CostsOne (rig_state rig.old).machine.faults proof.old (is_some found) (rig_state rig.old).loads
+        (rig_state rig.new).loads) }
     ensures cause { IsErrOf result RigFail.Failed → Rose (rig_state rig.old).failures (rig_state rig.new).failures }
 {
     the_laws_hold();

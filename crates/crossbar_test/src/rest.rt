@@ -46,7 +46,8 @@ fn link_over(
     requires line { IsLine proof.old.shape node.0 line.0 }
 
     ensures keeps { IfOk result (λ yes. IsTrue yes → KeepsEnds proof.new tap.0 line.0) }
-    ensures passes { IfOk result (OverIf (rig_state rig.old).machine.faults proof.old near.now far.now (lines.0.0 ∷ []) (wire_numbers anchors.now) (lines.1.0 ∷ []) tap.0 line.0) }
+    ensures passes { IfOk result (OverIf (rig_state rig.old).machine.faults proof.old near.now far.now (lines.0.0 ∷ [])
+        (wire_numbers anchors.now) (lines.1.0 ∷ []) tap.0 line.0) }
     ensures advances { Advances (rig_state rig.old) (rig_state rig.new) proof.old proof.new }
     ensures loads { (rig_state rig.new).loads ≤ (rig_state rig.old).loads + 2 }
     ensures cause { IsErrOf result RigFail.Failed → Rose (rig_state rig.old).failures (rig_state rig.new).failures }
@@ -89,8 +90,10 @@ fn try_cross(
     requires sides { AreSides proof.old node.0 near.now far.now }
     requires open { IsOpen proof.old node.0 near.now far.now (wire_numbers taps.now) lines.0.0 lines.1.0 }
     requires taps { AreGoodTaps proof.old node.0 (wire_numbers taps.now) }
-    requires rights { AreAnchors (rig_state rig.old).machine.faults proof.old proof.old node.0 near.now far.now lines.0.0 lines.1.0 (wire_numbers taps.now) (wire_numbers rights.now) }
-    requires lefts { AreAnchors (rig_state rig.old).machine.faults proof.old proof.old node.0 far.now near.now lines.1.0 lines.0.0 (wire_numbers taps.now) (wire_numbers lefts.now) }
+    requires rights { AreAnchors (rig_state rig.old).machine.faults proof.old proof.old node.0 near.now far.now lines.0.0 lines.1.0
+        (wire_numbers taps.now) (wire_numbers rights.now) }
+    requires lefts { AreAnchors (rig_state rig.old).machine.faults proof.old proof.old node.0 far.now near.now lines.1.0 lines.0.0
+        (wire_numbers taps.now) (wire_numbers lefts.now) }
     requires tap { among (wire_numbers taps.now) tap.0 ≡ true }
     requires line { IsLine proof.old.shape node.0 line.0 }
 
@@ -136,11 +139,14 @@ fn try_taps(
     requires sides { AreSides proof.old node.0 near.now far.now }
     requires open { IsOpen proof.old node.0 near.now far.now (wire_numbers taps.now) lines.0.0 lines.1.0 }
     requires taps { AreGoodTaps proof.old node.0 (wire_numbers taps.now) }
-    requires rights { AreAnchors (rig_state rig.old).machine.faults proof.old proof.old node.0 near.now far.now lines.0.0 lines.1.0 (wire_numbers taps.now) (wire_numbers rights.now) }
-    requires lefts { AreAnchors (rig_state rig.old).machine.faults proof.old proof.old node.0 far.now near.now lines.1.0 lines.0.0 (wire_numbers taps.now) (wire_numbers lefts.now) }
+    requires rights { AreAnchors (rig_state rig.old).machine.faults proof.old proof.old node.0 near.now far.now lines.0.0 lines.1.0
+        (wire_numbers taps.now) (wire_numbers rights.now) }
+    requires lefts { AreAnchors (rig_state rig.old).machine.faults proof.old proof.old node.0 far.now near.now lines.1.0 lines.0.0
+        (wire_numbers taps.now) (wire_numbers lefts.now) }
     requires line { IsLine proof.old.shape node.0 line.0 }
 
-    ensures tried { OnOk result (CrossesTried (rig_state rig.old).machine.faults proof.old proof.new (wire_numbers taps.now) (wire_numbers taps.now) line.0) }
+    ensures tried { OnOk result (CrossesTried (rig_state rig.old).machine.faults proof.old proof.new (wire_numbers taps.now)
+        (wire_numbers taps.now) line.0) }
     ensures advances { Advances (rig_state rig.old) (rig_state rig.new) proof.old proof.new }
     ensures loads { (rig_state rig.new).loads ≤ (rig_state rig.old).loads + 4 * length taps.now }
     ensures cause { IsErrOf result RigFail.Failed → Rose (rig_state rig.old).failures (rig_state rig.new).failures }
@@ -221,8 +227,10 @@ fn try_line(
     requires sides { AreSides proof.old node.0 near.now far.now }
     requires open { IsOpen proof.old node.0 near.now far.now (wire_numbers taps.now) lines.0.0 lines.1.0 }
     requires taps { AreGoodTaps proof.old node.0 (wire_numbers taps.now) }
-    requires rights { AreAnchors (rig_state rig.old).machine.faults proof.old proof.old node.0 near.now far.now lines.0.0 lines.1.0 (wire_numbers taps.now) (wire_numbers rights.now) }
-    requires lefts { AreAnchors (rig_state rig.old).machine.faults proof.old proof.old node.0 far.now near.now lines.1.0 lines.0.0 (wire_numbers taps.now) (wire_numbers lefts.now) }
+    requires rights { AreAnchors (rig_state rig.old).machine.faults proof.old proof.old node.0 near.now far.now lines.0.0 lines.1.0
+        (wire_numbers taps.now) (wire_numbers rights.now) }
+    requires lefts { AreAnchors (rig_state rig.old).machine.faults proof.old proof.old node.0 far.now near.now lines.1.0 lines.0.0
+        (wire_numbers taps.now) (wire_numbers lefts.now) }
     requires line { IsLine proof.old.shape node.0 line.0 }
 
     ensures tried { OnOk result (IsTried (rig_state rig.old).machine.faults proof.old proof.new (wire_numbers taps.now) line.0) }
@@ -254,11 +262,14 @@ fn try_lines(
     requires sides { AreSides proof.old node.0 near.now far.now }
     requires open { IsOpen proof.old node.0 near.now far.now (wire_numbers taps.now) lines.0.0 lines.1.0 }
     requires taps { AreGoodTaps proof.old node.0 (wire_numbers taps.now) }
-    requires rights { AreAnchors (rig_state rig.old).machine.faults proof.old proof.old node.0 near.now far.now lines.0.0 lines.1.0 (wire_numbers taps.now) (wire_numbers rights.now) }
-    requires lefts { AreAnchors (rig_state rig.old).machine.faults proof.old proof.old node.0 far.now near.now lines.1.0 lines.0.0 (wire_numbers taps.now) (wire_numbers lefts.now) }
+    requires rights { AreAnchors (rig_state rig.old).machine.faults proof.old proof.old node.0 near.now far.now lines.0.0 lines.1.0
+        (wire_numbers taps.now) (wire_numbers rights.now) }
+    requires lefts { AreAnchors (rig_state rig.old).machine.faults proof.old proof.old node.0 far.now near.now lines.1.0 lines.0.0
+        (wire_numbers taps.now) (wire_numbers lefts.now) }
     requires rest { AreLines proof.old.shape node.0 (wire_numbers rest.now) }
 
-    ensures tried { OnOk result (AreTried (rig_state rig.old).machine.faults proof.old proof.new (wire_numbers taps.now) (wire_numbers rest.now)) }
+    ensures tried { OnOk result (AreTried (rig_state rig.old).machine.faults proof.old proof.new (wire_numbers taps.now)
+        (wire_numbers rest.now)) }
     ensures advances { Advances (rig_state rig.old) (rig_state rig.new) proof.old proof.new }
     ensures loads { (rig_state rig.new).loads ≤ (rig_state rig.old).loads + (4 * length taps.now + 1) * length rest.now }
     ensures cause { IsErrOf result RigFail.Failed → Rose (rig_state rig.old).failures (rig_state rig.new).failures }
@@ -289,9 +300,11 @@ pub(crate) fn try_rest(
     requires taps { AreGoodTaps proof.old node.0 (wire_numbers taps.now) }
     requires rest { AreLines proof.old.shape node.0 (wire_numbers rest.now) }
 
-    ensures tried { OnOk result (AreTried (rig_state rig.old).machine.faults proof.old proof.new (wire_numbers taps.now) (wire_numbers rest.now)) }
+    ensures tried { OnOk result (AreTried (rig_state rig.old).machine.faults proof.old proof.new (wire_numbers taps.now)
+        (wire_numbers rest.now)) }
     ensures advances { Advances (rig_state rig.old) (rig_state rig.new) proof.old proof.new }
-    ensures loads { (rig_state rig.new).loads ≤ (rig_state rig.old).loads + (2 * length taps.now + (4 * length taps.now + 1) * length rest.now) }
+    ensures loads { (rig_state rig.new).loads ≤ (rig_state rig.old).loads +
+        (2 * length taps.now + (4 * length taps.now + 1) * length rest.now) }
     ensures cause { IsErrOf result RigFail.Failed → Rose (rig_state rig.old).failures (rig_state rig.new).failures }
 {
     let rights = anchors(alloc, rig, proof, node, near, far, lines, taps)?;

@@ -52,7 +52,8 @@ pub(crate) fn split_lines(
     requires attached { shape_of (rig_state rig.old) ≡ Some proof.old.shape }
     requires sides { AreSides proof.old node.0 near.now far.now }
 
-    ensures split { IfOk result (λ split. IsSplit (rig_state rig.old).machine.faults proof.old proof.new node.0 near.now far.now (wire_numbers split.tied.items) (wire_numbers split.rest.items) (lines_of proof.old.shape node.0)) }
+    ensures split { IfOk result (λ split. IsSplit (rig_state rig.old).machine.faults proof.old proof.new node.0 near.now far.now
+        (wire_numbers split.tied.items) (wire_numbers split.rest.items) (lines_of proof.old.shape node.0)) }
     ensures advances { Advances (rig_state rig.old) (rig_state rig.new) proof.old proof.new }
     ensures loads { (rig_state rig.new).loads ≤ (rig_state rig.old).loads + 7 * lines_of proof.old.shape node.0 }
     ensures cause { IsErrOf result RigFail.Failed → Rose (rig_state rig.old).failures (rig_state rig.new).failures }

@@ -47,7 +47,8 @@ fn take_tap(
     requires tied { AreTied proof.old node.0 near.now far.now (wire_numbers tied.now) }
     requires tap { IsTap proof.old.shape node.0 tap.0 }
 
-    ensures taken { IfOk result (IsTaken (rig_state rig.old).machine.faults proof.old proof.new near.now far.now (wire_numbers tied.now) tap.0) }
+    ensures taken { IfOk result (IsTaken (rig_state rig.old).machine.faults proof.old proof.new near.now far.now
+        (wire_numbers tied.now) tap.0) }
     ensures advances { Advances (rig_state rig.old) (rig_state rig.new) proof.old proof.new }
     ensures loads { (rig_state rig.new).loads ≤ (rig_state rig.old).loads + (4 * length tied.now + 1) }
     ensures cause { IsErrOf result RigFail.Failed → Rose (rig_state rig.old).failures (rig_state rig.new).failures }
@@ -78,7 +79,8 @@ pub(crate) fn good_taps(
     requires sides { AreSides proof.old node.0 near.now far.now }
     requires tied { AreTied proof.old node.0 near.now far.now (wire_numbers tied.now) }
 
-    ensures taken { IfOk result (λ taps. AreTaken (rig_state rig.old).machine.faults proof.old proof.new node.0 near.now far.now (wire_numbers tied.now) (wire_numbers taps.items) (taps_of proof.old.shape node.0)) }
+    ensures taken { IfOk result (λ taps. AreTaken (rig_state rig.old).machine.faults proof.old proof.new node.0 near.now far.now
+        (wire_numbers tied.now) (wire_numbers taps.items) (taps_of proof.old.shape node.0)) }
     ensures advances { Advances (rig_state rig.old) (rig_state rig.new) proof.old proof.new }
     ensures loads { (rig_state rig.new).loads ≤ (rig_state rig.old).loads + (4 * length tied.now + 1) * taps_of proof.old.shape node.0 }
     ensures cause { IsErrOf result RigFail.Failed → Rose (rig_state rig.old).failures (rig_state rig.new).failures }

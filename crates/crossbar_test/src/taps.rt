@@ -96,7 +96,8 @@ pub(crate) fn hang_tap(
     requires not_near { tap.0 ≢ near.now.end }
     requires not_far { tap.0 ≢ far.now.end }
 
-    ensures hung { OnOk result (IsHung (rig_state rig.old).machine.faults proof.old proof.new (wire_numbers tied.now) (wire_numbers tied.now) tap.0) }
+    ensures hung { OnOk result (IsHung (rig_state rig.old).machine.faults proof.old proof.new (wire_numbers tied.now)
+        (wire_numbers tied.now) tap.0) }
     ensures advances { Advances (rig_state rig.old) (rig_state rig.new) proof.old proof.new }
     ensures loads { (rig_state rig.new).loads ≤ (rig_state rig.old).loads + 4 * length tied.now }
     ensures cause { IsErrOf result RigFail.Failed → Rose (rig_state rig.old).failures (rig_state rig.new).failures }

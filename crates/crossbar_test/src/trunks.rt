@@ -38,7 +38,8 @@ pub fn find_trunk(
     ensures node { IfOk result (λ found. IfSome found (λ trunk. node_of proof.old.shape trunk.left.end ≡ node.0)) }
     ensures served { IfOk result (λ found. ServedIf (rig_state rig.old).machine.faults proof.old node.0 (is_some found)) }
     ensures advances { Advances (rig_state rig.old) (rig_state rig.new) proof.old proof.new }
-    ensures loads { OnOk result (FewLoads (rig_state rig.old).machine.faults proof.old node.0 (rig_state rig.old).loads (rig_state rig.new).loads 32) }
+    ensures loads { OnOk result (FewLoads (rig_state rig.old).machine.faults proof.old node.0 (rig_state rig.old).loads
+        (rig_state rig.new).loads 32) }
     ensures cause { IsErrOf result RigFail.Failed → Rose (rig_state rig.old).failures (rig_state rig.new).failures }
 {
     the_laws_hold();

@@ -62,7 +62,8 @@ fn gate_of(faults: &FaultSet, knots: &[Knot], table: Table, setting: Setting) ->
     requires rooted { AreRooted knots.now }
     requires table { table.0 < tables_of faults.now.shape }
     ensures fits { Fits (tables_of faults.now.shape) (wires_of faults.now.shape) result }
-    ensures gate { (g : Configuration) (most : ℕ) (root : ℕ → ℕ) → g.shape ≡ faults.now.shape → setting_of g table.0 ≡ Some setting → HasRoots knots.now most root → IsGate faults.now.faults g root result }
+    ensures gate { (g : Configuration) (most : ℕ) (root : ℕ → ℕ) → g.shape ≡ faults.now.shape → setting_of g table.0 ≡ Some setting →
+        HasRoots knots.now most root → IsGate faults.now.faults g root result }
     ensures table { result.table ≡ table }
     ensures first { result.output ≡ unwrap_or result.held result.setting.init }
 {
@@ -100,7 +101,8 @@ fn fill_gates(
     requires len { length knots.now ≡ wires_of faults.now.shape }
     requires rooted { AreRooted knots.now }
     ensures fits { OnOk result (All (Fits (tables_of faults.now.shape) (wires_of faults.now.shape)) gates.new.items) }
-    ensures gates { OnOk result ((most : ℕ) (root : ℕ → ℕ) → HasRoots knots.now most root → AreGates faults.now.faults config.now.config root gates.new.items) }
+    ensures gates { OnOk result ((most : ℕ) (root : ℕ → ℕ) → HasRoots knots.now most root →
+        AreGates faults.now.faults config.now.config root gates.new.items) }
     ensures first { OnOk result (AreOutputs config.now.config gates.new.items (at_load (circuit_of faults.now.faults config.now.config))) }
 {
     // Each table of the shape has its setting, and only these have one.
@@ -122,7 +124,8 @@ fn fill_pins(pins: &mut Vec<u32>, knots: &[Knot], shape: Shape) -> Result<(), Al
     requires rooted { AreRooted knots.now }
     ensures len { OnOk result (length pins.new.items ≡ pins_of shape) }
     ensures within { OnOk result (All (λ r. r < wires_of shape) pins.new.items) }
-    ensures roots { OnOk result ((most : ℕ) (root : ℕ → ℕ) → HasRoots knots.now most root → (k : ℕ) → k < pins_of shape → slice_index pins.new.items k ≡ root (pin_wire shape k)) }
+    ensures roots { OnOk result ((most : ℕ) (root : ℕ → ℕ) → HasRoots knots.now most root → (k : ℕ) → k < pins_of shape →
+        slice_index pins.new.items k ≡ root (pin_wire shape k)) }
 {
     pins.clear();
     'pins: for k in 0..shape.pins() {
@@ -158,7 +161,8 @@ pub fn load(board: &mut Board, faults: &FaultSet, config: &Config) -> Result<(),
     requires shape { config.now.config.shape ≡ faults.now.shape }
     ensures prepared { IsPrepared faults.now.shape faults.now.faults board.new }
     ensures loaded { OnOk result (IsLoaded faults.now.faults config.now.config board.new) }
-    ensures first { OnOk result (AreOutputs config.now.config board.new.gates.items (at_load (circuit_of faults.now.faults config.now.config))) }
+    ensures first { OnOk result (AreOutputs config.now.config board.new.gates.items
+        (at_load (circuit_of faults.now.faults config.now.config))) }
 {
     let shape = config.shape();
     close_all(

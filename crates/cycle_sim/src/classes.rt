@@ -104,7 +104,8 @@ pub fn join(knots: &mut [Knot], a: u32, b: u32)
     requires b { b < length knots.old }
     requires rooted { AreRooted knots.old }
     ensures len { length knots.new ≡ length knots.old }
-    ensures joined { (old new : Net) (stuck : ℕ → Option Bool) (most : ℕ) → AreTied old stuck knots.old most → HasLink old new a b → AreTied new stuck knots.new (most + 1) }
+    ensures joined { (old new : Net) (stuck : ℕ → Option Bool) (most : ℕ) → AreTied old stuck knots.old most → HasLink old new a b →
+        AreTied new stuck knots.new (most + 1) }
 {
     let root = root_of(knots, a);
     let other = root_of(knots, b);

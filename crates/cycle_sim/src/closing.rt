@@ -34,7 +34,8 @@ fn close(classes: &mut Classes, a: u32, b: u32) -> Result<(), AllocError>
     requires rooted { AreRooted classes.old.knots.items }
     ensures base { classes.new.base.items ≡ classes.old.base.items }
     ensures touched { AreKept classes.new }
-    ensures joined { OnOk result ((old new : Net) (stuck : ℕ → Option Bool) (most : ℕ) → AreTied old stuck classes.old.knots.items most → HasLink old new a b → AreTied new stuck classes.new.knots.items (most + 1)) }
+    ensures joined { OnOk result ((old new : Net) (stuck : ℕ → Option Bool) (most : ℕ) → AreTied old stuck classes.old.knots.items most →
+        HasLink old new a b → AreTied new stuck classes.new.knots.items (most + 1)) }
 {
     let root = root_of(&classes.knots, a);
     let other = root_of(&classes.knots, b);
@@ -60,7 +61,8 @@ pub fn close_all(
     ensures base { classes.new.base.items ≡ classes.old.base.items }
     ensures touched { AreKept classes.new }
     ensures known { AreKnown faults.now.shape faults.now.faults known.new }
-    ensures tied { OnOk result (AreTied (closed_net faults.now.shape faults.now.faults crosses.now) (stuck_wire faults.now.faults) classes.new.knots.items (base_most + length crosses.now)) }
+    ensures tied { OnOk result (AreTied (closed_net faults.now.shape faults.now.faults crosses.now)
+        (stuck_wire faults.now.faults) classes.new.knots.items (base_most + length crosses.now)) }
 {
     put_back(classes);
     'crosses: for i in 0..crosses.len() {

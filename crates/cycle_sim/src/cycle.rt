@@ -98,7 +98,8 @@ fn settle(
     ensures pulls { length events.new.pulls.items ≡ length knots.now }
     ensures zero { AreZero events.new.pulls.items }
     ensures events { events.new.listed ≡ true → AreEvents gates.new events.new }
-    ensures ticked { (ranked ≡ true → Settles gates.old ticks) → HaveTicked faults.now.faults knots.now low_pins.now gates.old ticks gates.new }
+    ensures ticked { (ranked ≡ true → Settles gates.old ticks) →
+        HaveTicked faults.now.faults knots.now low_pins.now gates.old ticks gates.new }
 {
     if events.listed {
         let busy = settle_listed(events, faults, knots, low_pins, low_tables, gates, ticks);
@@ -148,8 +149,10 @@ pub fn cycle(board: &mut Board, faults: &FaultSet, ticks: u16, drive: &PinBits, 
     requires drive { length drive.now ≡ length board.old.pins.items }
     requires read { length read.old ≡ length board.old.pins.items }
     ensures prepared { IsPrepared faults.now.shape faults.now.faults board.new }
-    ensures loaded { (g : Configuration) (before : Outputs) → g.shape ≡ faults.now.shape → g.ticks ≡ ticks → IsLoaded faults.now.faults g board.old → AreOutputs g board.old.gates.items before → IsLoaded faults.now.faults g board.new }
-    ensures cycled { (g : Configuration) (before : Outputs) → g.shape ≡ faults.now.shape → g.ticks ≡ ticks → IsLoaded faults.now.faults g board.old → AreOutputs g board.old.gates.items before →
+    ensures loaded { (g : Configuration) (before : Outputs) → g.shape ≡ faults.now.shape → g.ticks ≡ ticks →
+        IsLoaded faults.now.faults g board.old → AreOutputs g board.old.gates.items before → IsLoaded faults.now.faults g board.new }
+    ensures cycled { (g : Configuration) (before : Outputs) → g.shape ≡ faults.now.shape → g.ticks ≡ ticks →
+        IsLoaded faults.now.faults g board.old → AreOutputs g board.old.gates.items before →
         GivesCycle faults.now.faults g before drive.now read.new board.new.gates.items }
     ensures length { length read.new ≡ length read.old }
 {

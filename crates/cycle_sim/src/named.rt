@@ -49,8 +49,10 @@ fn faults_of_file<S: Store>(
     ensures later { (S.store_state store.old).failures ≤ (S.store_state store.new).failures }
     ensures asks { OnOk result (Asks None name.now (S.store_state store.old) (S.store_state store.new)) }
     ensures asks_at_most { AsksAtMost None name.now (S.store_state store.old) (S.store_state store.new) }
-    ensures refused { IfErr result (λ e. NamesFail e shape.now (bytes_of ((S.store_state store.old).contents name.now)) (S.store_state store.old) (S.store_state store.new)) }
-    ensures missing { (S.store_state store.old).contents name.now ≡ absent → IsErrOf result AttachFail.Failed ⊎ IsErrOf result AttachFail.Memory }
+    ensures refused { IfErr result (λ e. NamesFail e shape.now (bytes_of ((S.store_state store.old).contents name.now))
+        (S.store_state store.old) (S.store_state store.new)) }
+    ensures missing { (S.store_state store.old).contents name.now ≡ absent → IsErrOf result AttachFail.Failed
+        ⊎ IsErrOf result AttachFail.Memory }
 {
     match read_within(alloc, store, name, MOST_BYTES) {
         Ok(Some(text)) => match read_faults(alloc, shape, &text) {
@@ -82,8 +84,10 @@ pub fn faults_of<S: Store>(
     ensures later { (S.store_state store.old).failures ≤ (S.store_state store.new).failures }
     ensures asks { OnOk result (Asks (generated_of name.now) name.now (S.store_state store.old) (S.store_state store.new)) }
     ensures asks_at_most { AsksAtMost (generated_of name.now) name.now (S.store_state store.old) (S.store_state store.new) }
-    ensures refused { IfErr result (λ e. NamesFail e shape.now (texts_of (S.store_state store.old).contents name.now) (S.store_state store.old) (S.store_state store.new)) }
-    ensures missing { generated_of name.now ≡ None → (S.store_state store.old).contents name.now ≡ absent → IsErrOf result AttachFail.Failed ⊎ IsErrOf result AttachFail.Memory }
+    ensures refused { IfErr result (λ e. NamesFail e shape.now (texts_of (S.store_state store.old).contents name.now)
+        (S.store_state store.old) (S.store_state store.new)) }
+    ensures missing { generated_of name.now ≡ None → (S.store_state store.old).contents name.now ≡ absent →
+        IsErrOf result AttachFail.Failed ⊎ IsErrOf result AttachFail.Memory }
 {
     match generated_of(name) {
         Some(n) => match bench_faults(alloc, n, shape) {

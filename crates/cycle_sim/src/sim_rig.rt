@@ -1,6 +1,7 @@
 //! The simulated rig.
 
-ghost use Rattle.std.specs.Prelude.{◌≡◌, ◌⊎◌, ◌^◌, ◌<◌, ◌≤◌, [], None, Some, IfOk, IfErr, IsErrOf, OnOk, OnErr, length, option_map, option_and_then, string_bytes};
+ghost use Rattle.std.specs.Prelude.{◌≡◌, ◌⊎◌, ◌^◌, ◌<◌, ◌≤◌, [], None, Some, IfOk, IfErr, IsErrOf, OnOk, OnErr, length, option_map};
+ghost use Rattle.std.specs.Prelude.{option_and_then, string_bytes};
 ghost use Rattle.hierarchy.specs.Faults.{AreFaultsOf};
 ghost use Rattle.tm_outside.specs.Counts.{next_count, Rose};
 ghost use Rattle.tm_outside.specs.Told.{absent};
@@ -48,12 +49,15 @@ fn sim_of<S: Store>(
     ensures shape { IfOk result (λ s. s.machine.shape ≡ shape.now) }
     ensures session { IfOk result (λ s. s.session ≡ None) }
     ensures sound { IfOk result (λ s. AreFaultsOf shape.now s.machine.faults) }
-    ensures faults { IfOk result (λ s. AreNamed (generated_of name.now) shape.now ((S.store_state store.old).contents name.now) s.machine.faults) }
+    ensures faults { IfOk result (λ s. AreNamed (generated_of name.now) shape.now
+        ((S.store_state store.old).contents name.now) s.machine.faults) }
     ensures contents { (S.store_state store.new).contents ≡ (S.store_state store.old).contents }
     ensures asks { OnOk result (Asks (generated_of name.now) name.now (S.store_state store.old) (S.store_state store.new)) }
     ensures asks_at_most { AsksAtMost (generated_of name.now) name.now (S.store_state store.old) (S.store_state store.new) }
-    ensures refused { IfErr result (λ e. NamesFail e shape.now (texts_of (S.store_state store.old).contents name.now) (S.store_state store.old) (S.store_state store.new)) }
-    ensures missing { generated_of name.now ≡ None → (S.store_state store.old).contents name.now ≡ absent → IsErrOf result AttachFail.Failed ⊎ IsErrOf result AttachFail.Memory }
+    ensures refused { IfErr result (λ e. NamesFail e shape.now (texts_of (S.store_state store.old).contents name.now)
+        (S.store_state store.old) (S.store_state store.new)) }
+    ensures missing { generated_of name.now ≡ None → (S.store_state store.old).contents name.now ≡ absent →
+        IsErrOf result AttachFail.Failed ⊎ IsErrOf result AttachFail.Memory }
 {
     match faults_of(alloc, store, shape, name) {
         Ok(faults) => match Sim::new(alloc, faults) {
@@ -109,15 +113,21 @@ impl<S: Store + Drop> Rig for SimRig<S> {
         ensures loads { (⟦<SimRig<S> as Rig>⟧.rig_state self.new).loads ≡ (⟦<SimRig<S> as Rig>⟧.rig_state self.old).loads }
         ensures later { (⟦<SimRig<S> as Rig>⟧.rig_state self.old).failures ≤ (⟦<SimRig<S> as Rig>⟧.rig_state self.new).failures }
         ensures count { (⟦<SimRig<S> as Rig>⟧.rig_state self.new).failures < 2 ^ 64 }
-        ensures attached { OnOk result (Attaches (record { shape = shape.now; name = name.now }) (⟦<SimRig<S> as Rig>⟧.rig_state self.old) (⟦<SimRig<S> as Rig>⟧.rig_state self.new)) }
+        ensures attached { OnOk result (Attaches (record { shape = shape.now; name = name.now }) (⟦<SimRig<S> as Rig>⟧.rig_state self.old)
+            (⟦<SimRig<S> as Rig>⟧.rig_state self.new)) }
         ensures detached { OnErr result (IsDetached (⟦<SimRig<S> as Rig>⟧.rig_state self.new)) }
-        ensures refused { IfErr result (λ e. AttachFails e (record { shape = shape.now; name = name.now }) (⟦<SimRig<S> as Rig>⟧.rig_state self.old) (⟦<SimRig<S> as Rig>⟧.rig_state self.new)) }
-        ensures told { OnOk result (TellsNamed (generated_of name.now) shape.now ((S.store_state self.old.store).contents name.now) (⟦<SimRig<S> as Rig>⟧.rig_state self.new).machine.faults) }
+        ensures refused { IfErr result (λ e. AttachFails e (record { shape = shape.now; name = name.now })
+            (⟦<SimRig<S> as Rig>⟧.rig_state self.old) (⟦<SimRig<S> as Rig>⟧.rig_state self.new)) }
+        ensures told { OnOk result (TellsNamed (generated_of name.now) shape.now ((S.store_state self.old.store).contents name.now)
+            (⟦<SimRig<S> as Rig>⟧.rig_state self.new).machine.faults) }
         ensures asks { OnOk result (Asks (generated_of name.now) name.now (S.store_state self.old.store) (S.store_state self.new.store)) }
         ensures asks_at_most { AsksAtMost (generated_of name.now) name.now (S.store_state self.old.store) (S.store_state self.new.store) }
-        ensures caused { IfErr result (λ e. NamesFail e shape.now ((⟦<SimRig<S> as Rig>⟧.rig_state self.old).machine.texts name.now) (S.store_state self.old.store) (S.store_state self.new.store)) }
-        ensures missing { generated_of name.now ≡ None → (S.store_state self.old.store).contents name.now ≡ absent → IsErrOf result AttachFail.Failed ⊎ IsErrOf result AttachFail.Memory }
-        ensures rises { ((⟦<SimRig<S> as Rig>⟧.rig_state self.new).failures ≡ (⟦<SimRig<S> as Rig>⟧.rig_state self.old).failures) ⊎ Rose (S.store_state self.old.store).failures (S.store_state self.new.store).failures }
+        ensures caused { IfErr result (λ e. NamesFail e shape.now ((⟦<SimRig<S> as Rig>⟧.rig_state self.old).machine.texts name.now)
+            (S.store_state self.old.store) (S.store_state self.new.store)) }
+        ensures missing { generated_of name.now ≡ None → (S.store_state self.old.store).contents name.now ≡ absent →
+            IsErrOf result AttachFail.Failed ⊎ IsErrOf result AttachFail.Memory }
+        ensures rises { ((⟦<SimRig<S> as Rig>⟧.rig_state self.new).failures ≡ (⟦<SimRig<S> as Rig>⟧.rig_state self.old).failures)
+            ⊎ Rose (S.store_state self.old.store).failures (S.store_state self.new.store).failures }
     {
         // A count that was read is known to be a u64.
         let _failures = self.failures;
@@ -160,10 +170,13 @@ impl<S: Store + Drop> Rig for SimRig<S> {
         ensures count { (⟦<SimRig<S> as Rig>⟧.rig_state self.new).failures < 2 ^ 64 }
         ensures begins { OnOk result (Begins config.now.config room (⟦<SimRig<S> as Rig>⟧.rig_state self.new)) }
         ensures told { OnOk result (HasFaultsOf config.now.config.shape (⟦<SimRig<S> as Rig>⟧.rig_state self.new)) }
-        ensures counted { OnOk result ((⟦<SimRig<S> as Rig>⟧.rig_state self.new).loads ≡ next_count (⟦<SimRig<S> as Rig>⟧.rig_state self.old).loads) }
+        ensures counted { OnOk result ((⟦<SimRig<S> as Rig>⟧.rig_state self.new).loads ≡ next_count
+            (⟦<SimRig<S> as Rig>⟧.rig_state self.old).loads) }
         ensures ended { OnErr result ((⟦<SimRig<S> as Rig>⟧.rig_state self.new).session ≡ None) }
-        ensures not_counted { OnErr result ((⟦<SimRig<S> as Rig>⟧.rig_state self.new).loads ≡ (⟦<SimRig<S> as Rig>⟧.rig_state self.old).loads) }
-        ensures refused { IfErr result (λ e. LoadFails e (⟦<SimRig<S> as Rig>⟧.rig_state self.old) (⟦<SimRig<S> as Rig>⟧.rig_state self.new)) }
+        ensures not_counted { OnErr result ((⟦<SimRig<S> as Rig>⟧.rig_state self.new).loads ≡
+            (⟦<SimRig<S> as Rig>⟧.rig_state self.old).loads) }
+        ensures refused { IfErr result (λ e. LoadFails e (⟦<SimRig<S> as Rig>⟧.rig_state self.old)
+            (⟦<SimRig<S> as Rig>⟧.rig_state self.new)) }
         ensures store { self.new.store ≡ self.old.store }
         ensures never_fails { IfErr result (λ e. e ≡ work.Memory) }
         ensures no_failure { (⟦<SimRig<S> as Rig>⟧.rig_state self.new).failures ≡ (⟦<SimRig<S> as Rig>⟧.rig_state self.old).failures }
@@ -193,9 +206,11 @@ impl<S: Store + Drop> Rig for SimRig<S> {
         ensures later { (⟦<SimRig<S> as Rig>⟧.rig_state self.old).failures ≤ (⟦<SimRig<S> as Rig>⟧.rig_state self.new).failures }
         ensures count { (⟦<SimRig<S> as Rig>⟧.rig_state self.new).failures < 2 ^ 64 }
         ensures length { length read.new ≡ length read.old }
-        ensures cycles { OnOk result (GoesOn drive.now read.new (⟦<SimRig<S> as Rig>⟧.rig_state self.old) (⟦<SimRig<S> as Rig>⟧.rig_state self.new)) }
+        ensures cycles { OnOk result (GoesOn drive.now read.new (⟦<SimRig<S> as Rig>⟧.rig_state self.old)
+            (⟦<SimRig<S> as Rig>⟧.rig_state self.new)) }
         ensures kept { OnErr result (read.new ≡ read.old) }
-        ensures refused { IfErr result (λ e. CycleFails e (⟦<SimRig<S> as Rig>⟧.rig_state self.old) (⟦<SimRig<S> as Rig>⟧.rig_state self.new)) }
+        ensures refused { IfErr result (λ e. CycleFails e (⟦<SimRig<S> as Rig>⟧.rig_state self.old)
+            (⟦<SimRig<S> as Rig>⟧.rig_state self.new)) }
         ensures store { self.new.store ≡ self.old.store }
         ensures never_fails { IfErr result (λ e. e ≡ work.Memory) }
         ensures no_failure { (⟦<SimRig<S> as Rig>⟧.rig_state self.new).failures ≡ (⟦<SimRig<S> as Rig>⟧.rig_state self.old).failures }

@@ -101,7 +101,8 @@ fn recount_above(
     requires shut { length shut.now ≡ wires_of shape.now }
     requires open { length open_lines.old ≡ nodes_of shape.now }
     requires ports { length free_ports_by.old ≡ nodes_of shape.now }
-    ensures { IsRecounted shape.now wires.now shut.now (λ i. parent_of shape.now n.0 ≡ Some i) open_lines.old free_ports_by.old open_lines.new free_ports_by.new }
+    ensures { IsRecounted shape.now wires.now shut.now
+        (λ i. parent_of shape.now n.0 ≡ Some i) open_lines.old free_ports_by.old open_lines.new free_ports_by.new }
 {
     if let Some(above) = shape.parent(n) {
         recount(shape, wires, shut, open_lines, free_ports_by, above);
@@ -122,7 +123,8 @@ pub fn recount_both(
     requires shut { length shut.now ≡ wires_of shape.now }
     requires open { length open_lines.old ≡ nodes_of shape.now }
     requires ports { length free_ports_by.old ≡ nodes_of shape.now }
-    ensures { IsRecounted shape.now wires.now shut.now (IsItOrAbove shape.now n.0) open_lines.old free_ports_by.old open_lines.new free_ports_by.new }
+    ensures { IsRecounted shape.now wires.now shut.now
+        (IsItOrAbove shape.now n.0) open_lines.old free_ports_by.old open_lines.new free_ports_by.new }
 {
     recount(shape, wires, shut, open_lines, free_ports_by, n);
     recount_above(shape, wires, shut, open_lines, free_ports_by, n);

@@ -82,7 +82,8 @@ fn two_words(bytes: &[u8]) -> Option<(&[u8], &[u8])>
 
 /// The form of a line that lists something.
 pub fn form_of(line: &[u8]) -> Option<Form<'_>>
-    ensures { MatchOption result ((row : List (List ℕ)) → IsEntryForm row → spaced row ≢ line.now) (λ f. IsEntryForm (row_of f) × (spaced (row_of f) ≡ line.now)) }
+    ensures { MatchOption result ((row : List (List ℕ)) → IsEntryForm row → spaced row ≢ line.now)
+        (λ f. IsEntryForm (row_of f) × (spaced (row_of f) ≡ line.now)) }
 {
     if let Some(name) = behind(line, b"wire ") {
         return match word(name) {
@@ -109,7 +110,8 @@ pub fn form_of(line: &[u8]) -> Option<Form<'_>>
 fn first_numeral(text: &[u8]) -> Option<(u16, &[u8])>
     ensures some { IfSome result (λ p. (text.now ≡ 32 ∷ decimal p.0 ++ p.1.now) × (p.0 ≤ 65535)) }
     ensures none { IfNone result ((n : ℕ) (ns : List ℕ) → n ≤ 65535 → text.now ≢ 32 ∷ decimal n ++ numerals ns) }
-    ensures one { IfSome result (λ p. (n : ℕ) (ns : List ℕ) → n ≤ 65535 → text.now ≡ 32 ∷ decimal n ++ numerals ns → (n ≡ p.0) × (p.1.now ≡ numerals ns)) }
+    ensures one { IfSome result (λ p. (n : ℕ) (ns : List ℕ) → n ≤ 65535 → text.now ≡ 32 ∷ decimal n ++ numerals ns → (n ≡ p.0)
+        × (p.1.now ≡ numerals ns)) }
 {
     let Some(digits) = behind(text, b" ") else {
         return None;
@@ -141,7 +143,8 @@ fn numbers_of(text: &[u8]) -> Option<[u16; 12]>
 
 /// The counts of a line of the shape.
 pub fn counts_in(line: &[u8]) -> Option<[u16; 12]>
-    ensures { MatchOption result ((ns : List ℕ) → AreCounts ns → spaced (shape_row ns) ≢ line.now) (λ ns. AreCounts ns × (spaced (shape_row ns) ≡ line.now)) }
+    ensures { MatchOption result ((ns : List ℕ) → AreCounts ns → spaced (shape_row ns) ≢ line.now)
+        (λ ns. AreCounts ns × (spaced (shape_row ns) ≡ line.now)) }
 {
     match behind(line, b"shape") {
         Some(numbers) => numbers_of(numbers),

@@ -1,6 +1,7 @@
 //! The marks and counts that are kept of a list of defects.
 
-ghost use Rattle.std.specs.Prelude.{◌≡◌, ◌<◌, ◌+◌, ◌-◌, ◌==◌, if◌then◌else◌, false, None, Option, IfOk, IfSome, length, slice_index_or, slice_set};
+ghost use Rattle.std.specs.Prelude.{◌≡◌, ◌<◌, ◌+◌, ◌-◌, ◌==◌, if◌then◌else◌, false, None, Option, IfOk, IfSome, length, slice_index_or};
+ghost use Rattle.std.specs.Prelude.{slice_set};
 ghost use Rattle.tm_bits.specs.Numbers.{has_number};
 ghost use Rattle.hierarchy.specs.Shape.{wires_of, crosses_of, tables_of};
 ghost use Rattle.defect_db.specs.Kept.{IsKept, AreOwners, AreOwnersBefore, Loses, count_at, list_in};
@@ -157,7 +158,8 @@ fn shut_line(shut: &mut [u32], open_lines: &mut [u32], line: Wire, n: Node)
     requires few { count_at shut.old line.0 < 4294967295 }
     requires clear { count_at shut.old line.0 ≡ 0 → 0 < count_at open_lines.old n.0 }
     ensures shut { shut.new ≡ slice_set shut.old line.0 (count_at shut.old line.0 + 1) }
-    ensures open { open_lines.new ≡ (if count_at shut.old line.0 == 0 then slice_set open_lines.old n.0 (count_at open_lines.old n.0 - 1) else open_lines.old) }
+    ensures open { open_lines.new ≡ (if count_at shut.old line.0 == 0 then slice_set open_lines.old n.0
+        (count_at open_lines.old n.0 - 1) else open_lines.old) }
 {
     if shut[line.0 as usize] == 0 {
         open_lines[n.0 as usize] -= 1;

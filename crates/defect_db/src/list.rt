@@ -4,7 +4,8 @@ ghost use Rattle.std.specs.Prelude.{◌≡◌, ◌<◌, ◌↔◌, IfOk, IsTrue}
 ghost use Rattle.std.specs.FinSet as set;
 ghost use Rattle.hierarchy.specs.Shape.{wires_of, crosses_of, tables_of, nodes_of};
 ghost use Rattle.hierarchy.specs.Defects.{IsFreeWire, IsFreeCross, IsFreeTable, IsOpenLine};
-ghost use Rattle.defect_db.specs.Lists.{IsDefectList, IsWithWire, no_defects, with_cross, with_table, open_lines_of, free_ports_of, free_tables_of, free_pins_of};
+ghost use Rattle.defect_db.specs.Lists.{IsDefectList, IsWithWire, no_defects, with_cross, with_table, open_lines_of, free_ports_of};
+ghost use Rattle.defect_db.specs.Lists.{free_tables_of, free_pins_of};
 
 use crate::kept::{self, Kept};
 use hierarchy::{Cross, Node, Shape, Table, Wire};

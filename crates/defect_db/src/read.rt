@@ -1,6 +1,7 @@
 //! Reads a list of defects.
 
-ghost use Rattle.std.specs.Prelude.{◌≡◌, ◌≢◌, ◌↔◌, ◌<◌, ◌≤◌, ◌++◌, ◌∷◌, [], ℕ, List, None, codes, length, IsTrue, IfOk, IfErr, MatchOption, MatchResult, OnOk};
+ghost use Rattle.std.specs.Prelude.{◌≡◌, ◌≢◌, ◌↔◌, ◌<◌, ◌≤◌, ◌++◌, ◌∷◌, [], ℕ, List, None, codes, length, IsTrue, IfOk, IfErr, MatchOption};
+ghost use Rattle.std.specs.Prelude.{MatchResult, OnOk};
 ghost use Rattle.tm_text.specs.Written.{written_line};
 ghost use Rattle.defect_db.specs.Lists.{IsDefectList, DefectList, no_defects};
 ghost use Rattle.defect_db.specs.Text.{IsEntryOf, IsFreeEntry, words_of, counts_of, entries_of, is_before, first_row, shape_row};
@@ -53,14 +54,16 @@ pub fn counts_of(counts: &Counts) -> [u16; 12]
 
 /// What stands behind the first line.
 fn behind_first(bytes: &[u8]) -> Option<&[u8]>
-    ensures { MatchOption result ((rest : List ℕ) → bytes.now ≢ written_line first_row ++ rest) (λ rest. bytes.now ≡ written_line first_row ++ rest.now) }
+    ensures { MatchOption result ((rest : List ℕ) → bytes.now ≢ written_line first_row ++ rest)
+        (λ rest. bytes.now ≡ written_line first_row ++ rest.now) }
 {
     behind(bytes, b"defects 1\n")
 }
 
 /// What stands behind the line of the shape.
 fn behind_shape<'a>(shape: &Shape, bytes: &'a [u8]) -> Result<&'a [u8], DefectsKind>
-    ensures { MatchResult result (λ rest. bytes.now ≡ written_line (shape_row (counts_of shape.now.counts)) ++ rest.now) (IsLineFault (record { shape = shape.now; list = no_defects }) 1 bytes.now) }
+    ensures { MatchResult result (λ rest. bytes.now ≡ written_line (shape_row (counts_of shape.now.counts)) ++ rest.now)
+        (IsLineFault (record { shape = shape.now; list = no_defects }) 1 bytes.now) }
 {
     let Some((line, rest)) = cut(bytes, b'\n') else {
         return Err(DefectsKind::Word);
@@ -77,7 +80,8 @@ fn behind_shape<'a>(shape: &Shape, bytes: &'a [u8]) -> Result<&'a [u8], DefectsK
 
 /// The crosspoint of two names.
 fn cross_of(shape: &Shape, tap: &[u8], line: &[u8]) -> Option<Entry>
-    ensures { MatchOption result ((e : Entry) → IsEntryOf shape.now e → words_of shape.now e ≢ codes "cross" ∷ tap.now ∷ line.now ∷ []) (λ e. IsEntryOf shape.now e × (words_of shape.now e ≡ codes "cross" ∷ tap.now ∷ line.now ∷ [])) }
+    ensures { MatchOption result ((e : Entry) → IsEntryOf shape.now e → words_of shape.now e ≢ codes "cross" ∷ tap.now ∷ line.now ∷ [])
+        (λ e. IsEntryOf shape.now e × (words_of shape.now e ≡ codes "cross" ∷ tap.now ∷ line.now ∷ [])) }
 {
     hierarchy::names_are_one_to_one();
     hierarchy::the_numbering_is_sound();
@@ -95,7 +99,8 @@ fn cross_of(shape: &Shape, tap: &[u8], line: &[u8]) -> Option<Entry>
 
 /// What a line of this form lists.
 fn entry_of(shape: &Shape, form: &Form<'_>) -> Option<Entry>
-    ensures { MatchOption result ((e : Entry) → IsEntryOf shape.now e → words_of shape.now e ≢ row_of form.now) (λ e. IsEntryOf shape.now e × (words_of shape.now e ≡ row_of form.now)) }
+    ensures { MatchOption result ((e : Entry) → IsEntryOf shape.now e → words_of shape.now e ≢ row_of form.now)
+        (λ e. IsEntryOf shape.now e × (words_of shape.now e ≡ row_of form.now)) }
 {
     match form {
         Form::Wire { name } => match shape.wire_of(name) {

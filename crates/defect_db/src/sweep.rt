@@ -41,7 +41,8 @@ fn bar_tap(
     requires barred { length barred.old ≡ crosses_of shape.now }
     requires shut { length shut.old ≡ wires_of shape.now }
     requires counted { AreShutBy shape.now crosses.old shut.old }
-    ensures { IsSwept shape.now w.0 (λ x. (node_of_cross shape.now x ≡ n.0) × ((ends_of shape.now x).0 ≡ w.0)) crosses.old barred.old crosses.new barred.new shut.new }
+    ensures { IsSwept shape.now w.0 (λ x. (node_of_cross shape.now x ≡ n.0)
+        × ((ends_of shape.now x).0 ≡ w.0)) crosses.old barred.old crosses.new barred.new shut.new }
 {
     hierarchy::the_crosspoints_are_sound();
     hierarchy::crosspoints_stand_in_rows();
@@ -72,7 +73,8 @@ fn bar_line(
     requires barred { length barred.old ≡ crosses_of shape.now }
     requires shut { length shut.old ≡ wires_of shape.now }
     requires counted { AreShutBy shape.now crosses.old shut.old }
-    ensures { IsSwept shape.now w.0 (λ x. (node_of_cross shape.now x ≡ n.0) × ((ends_of shape.now x).1 ≡ w.0)) crosses.old barred.old crosses.new barred.new shut.new }
+    ensures { IsSwept shape.now w.0 (λ x. (node_of_cross shape.now x ≡ n.0)
+        × ((ends_of shape.now x).1 ≡ w.0)) crosses.old barred.old crosses.new barred.new shut.new }
 {
     hierarchy::the_crosspoints_are_sound();
     hierarchy::crosspoints_stand_in_rows();
@@ -107,7 +109,8 @@ fn bar_above(
     requires barred { length barred.old ≡ crosses_of shape.now }
     requires shut { length shut.old ≡ wires_of shape.now }
     requires counted { AreShutBy shape.now crosses.old shut.old }
-    ensures { IsSwept shape.now w.0 (λ x. (parent_of shape.now n.0 ≡ Some (node_of_cross shape.now x)) × ((ends_of shape.now x).0 ≡ w.0)) crosses.old barred.old crosses.new barred.new shut.new }
+    ensures { IsSwept shape.now w.0 (λ x. (parent_of shape.now n.0 ≡ Some (node_of_cross shape.now x))
+        × ((ends_of shape.now x).0 ≡ w.0)) crosses.old barred.old crosses.new barred.new shut.new }
 {
     if let Some(above) = shape.parent(n) {
         bar_tap(shape, crosses, barred, shut, above, w);

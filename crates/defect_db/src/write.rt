@@ -29,7 +29,8 @@ fn put_numbers(text: &mut Vec<u8>, numbers: &[u16]) -> Result<(), AllocError>
 
 /// Appends the first two lines.
 fn put_heads(text: &mut Vec<u8>, shape: &Shape) -> Result<(), AllocError>
-    ensures { OnOk result (text.new.items ≡ text.old.items ++ (written_line first_row ++ written_line (shape_row (counts_of shape.now.counts)))) }
+    ensures { OnOk result (text.new.items ≡ text.old.items ++
+        (written_line first_row ++ written_line (shape_row (counts_of shape.now.counts)))) }
 {
     text.extend_from_slice(b"defects 1\nshape")?;
     put_numbers(text, &counts_of(&shape.counts()))?;
@@ -84,7 +85,8 @@ fn put_listed(text: &mut Vec<u8>, shape: &Shape, listed: bool, e: Entry) -> Resu
 
 /// Appends the listed wires.
 fn put_wires(text: &mut Vec<u8>, list: &Defects) -> Result<(), AllocError>
-    ensures { OnOk result (text.new.items ≡ text.old.items ++ written (map (words_of list.now.shape) (map as_wire (those (set.contains list.now.list.wires) (wires_of list.now.shape))))) }
+    ensures { OnOk result (text.new.items ≡ text.old.items ++ written
+        (map (words_of list.now.shape) (map as_wire (those (set.contains list.now.list.wires) (wires_of list.now.shape))))) }
 {
     let shape = list.shape();
     'wires: for w in 0..shape.wires() {
@@ -96,7 +98,8 @@ fn put_wires(text: &mut Vec<u8>, list: &Defects) -> Result<(), AllocError>
 
 /// Appends the listed crosspoints.
 fn put_crosses(text: &mut Vec<u8>, list: &Defects) -> Result<(), AllocError>
-    ensures { OnOk result (text.new.items ≡ text.old.items ++ written (map (words_of list.now.shape) (map as_cross (those (set.contains list.now.list.crosses) (crosses_of list.now.shape))))) }
+    ensures { OnOk result (text.new.items ≡ text.old.items ++ written
+        (map (words_of list.now.shape) (map as_cross (those (set.contains list.now.list.crosses) (crosses_of list.now.shape))))) }
 {
     let shape = list.shape();
     'crosses: for x in 0..shape.crosses() {
@@ -113,7 +116,8 @@ fn put_crosses(text: &mut Vec<u8>, list: &Defects) -> Result<(), AllocError>
 
 /// Appends the listed tables.
 fn put_tables(text: &mut Vec<u8>, list: &Defects) -> Result<(), AllocError>
-    ensures { OnOk result (text.new.items ≡ text.old.items ++ written (map (words_of list.now.shape) (map as_table (those (set.contains list.now.list.tables) (tables_of list.now.shape))))) }
+    ensures { OnOk result (text.new.items ≡ text.old.items ++ written
+        (map (words_of list.now.shape) (map as_table (those (set.contains list.now.list.tables) (tables_of list.now.shape))))) }
 {
     let shape = list.shape();
     'tables: for t in 0..shape.tables() {

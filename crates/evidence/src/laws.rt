@@ -37,25 +37,35 @@ pub fn tests_add_up()
 /// Where just two routes and the ties are closed, the tests pass that are bound to by lists: a toggle of a tie in a
 /// loop, a swing of a route, and two routes apart.
 pub fn tests_by_lists_pass()
-    ensures toggle { (told : Option Faults) (k : Kept) (g : Configuration) (left right : Walk) (ties : List ℕ) (x : ℕ) (drive : Pins) (yes : Bool) →
+    ensures toggle { (told : Option Faults) (k : Kept) (g : Configuration) (left right : Walk) (ties : List ℕ) (x : ℕ) (drive : Pins)
+        (yes : Bool) →
         IsLoopConfig k.shape left right ties g → IsRoute k.shape left → IsRoute k.shape right →
-        ((y : ℕ) → among left.crosses y ≡ true → keeps_cross k y ≡ true) → ((y : ℕ) → among right.crosses y ≡ true → keeps_cross k y ≡ true) →
-        among ties x ≡ true → IsDrivenAlone drive left.pin → CrossPasses told g x drive right.pin yes → LoopPasses told k left right ties x yes }
+        ((y : ℕ) → among left.crosses y ≡ true → keeps_cross k y ≡ true) →
+        ((y : ℕ) → among right.crosses y ≡ true → keeps_cross k y ≡ true) →
+        among ties x ≡ true → IsDrivenAlone drive left.pin → CrossPasses told g x drive right.pin yes →
+        LoopPasses told k left right ties x yes }
     ensures swing { (told : Option Faults) (m : Shape) (g : Configuration) (r : Walk) (low high : Pins) (yes : Bool) →
-        IsLoopConfig m r r [] g → IsRoute m r → IsDrivenAlone low r.pin → AreReleased high → SwingPasses told g low high r.pin yes → RoutePasses told m r yes }
+        IsLoopConfig m r r [] g → IsRoute m r → IsDrivenAlone low r.pin → AreReleased high → SwingPasses told g low high r.pin yes →
+        RoutePasses told m r yes }
     ensures apart { (told : Option Faults) (m : Shape) (g : Configuration) (left right : Walk) (drive : Pins) (yes : Bool) →
-        IsLoopConfig m left right [] g → IsRoute m left → IsRoute m right → IsDrivenAlone drive left.pin → ApartPasses told g drive left.pin right.pin yes → RoutesPass told m left right yes }
+        IsLoopConfig m left right [] g → IsRoute m left → IsRoute m right → IsDrivenAlone drive left.pin →
+        ApartPasses told g drive left.pin right.pin yes → RoutesPass told m left right yes }
 {}
 
 /// Where just two routes and the ties are closed and one table is on, the tests of its cells and its register pass that
 /// are bound to by lists.
 pub fn table_tests_by_lists_pass()
-    ensures cell { (told : Option Faults) (k : Kept) (g : Configuration) (left right : Walk) (ties : List ℕ) (t cells a : ℕ) (drive : Pins) (yes : Bool) →
+    ensures cell { (told : Option Faults) (k : Kept) (g : Configuration) (left right : Walk) (ties : List ℕ) (t cells a : ℕ)
+        (drive : Pins) (yes : Bool) →
         IsCellConfig k.shape left right ties t cells g → IsRoute k.shape left → IsRoute k.shape right →
-        ((y : ℕ) → among left.crosses y ≡ true → keeps_cross k y ≡ true) → ((y : ℕ) → among right.crosses y ≡ true → keeps_cross k y ≡ true) →
+        ((y : ℕ) → among left.crosses y ≡ true → keeps_cross k y ≡ true) →
+        ((y : ℕ) → among right.crosses y ≡ true → keeps_cross k y ≡ true) →
         IsDrivenAlone drive left.pin → CellPasses told g t a drive right.pin yes → CellPassesBy told k left right ties t a yes }
-    ensures register { (told : Option Faults) (k : Kept) (g : Configuration) (left right : Walk) (ties : List ℕ) (t cells : ℕ) (s : Setting) (drive : Pins) (yes : Bool) →
+    ensures register { (told : Option Faults) (k : Kept) (g : Configuration) (left right : Walk) (ties : List ℕ) (t cells : ℕ)
+        (s : Setting) (drive : Pins) (yes : Bool) →
         IsCellConfig k.shape left right ties t cells g → IsRoute k.shape left → IsRoute k.shape right →
-        ((y : ℕ) → among left.crosses y ≡ true → keeps_cross k y ≡ true) → ((y : ℕ) → among right.crosses y ≡ true → keeps_cross k y ≡ true) →
-        IsDrivenAlone drive left.pin → s.latched ≡ true → RegisterPasses told (with_setting g t (Some s)) t drive right.pin yes → RegisterPassesBy told k left right ties t yes }
+        ((y : ℕ) → among left.crosses y ≡ true → keeps_cross k y ≡ true) →
+        ((y : ℕ) → among right.crosses y ≡ true → keeps_cross k y ≡ true) →
+        IsDrivenAlone drive left.pin → s.latched ≡ true → RegisterPasses told (with_setting g t (Some s)) t drive right.pin yes →
+        RegisterPassesBy told k left right ties t yes }
 {}

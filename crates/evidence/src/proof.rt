@@ -5,7 +5,8 @@ ghost use Rattle.tm_bits.specs.Pairs.{has_pair};
 ghost use Rattle.hierarchy.specs.Shape.{crosses_of, wires_of, tables_of};
 ghost use Rattle.config_set.specs.Groups.{among};
 ghost use Rattle.test_configs.specs.Routes.{IsRoute};
-ghost use Rattle.evidence.specs.Kept.{KeepsNothing, Gains, keeps_cross, keeps_wire, keeps_pair, keeps_cell, keeps_register, one_cross, these_wires, these_pairs, one_cell, one_register, is_between, is_across};
+ghost use Rattle.evidence.specs.Kept.{KeepsNothing, Gains, keeps_cross, keeps_wire, keeps_pair, keeps_cell, keeps_register, one_cross};
+ghost use Rattle.evidence.specs.Kept.{these_wires, these_pairs, one_cell, one_register, is_between, is_across};
 ghost use Rattle.evidence.specs.Readings.{wires_over};
 
 use crate::pins::Pins;
@@ -44,9 +45,24 @@ impl Model for Proof {
 
     ghost coded = { coded_kept };
 
-    ghost view = { λ p. record { shape = p.shape; crosses = p.crosses; wires = p.wires; pairs = p.pairs; cells = p.cells; registers = p.registers } };
+    ghost view = { λ p. record {
+      shape = p.shape;
+      crosses = p.crosses;
+      wires = p.wires;
+      pairs = p.pairs;
+      cells = p.cells;
+      registers = p.registers;
+    } };
 
-    ghost invariant = { λ p. AreMarksOf (record { shape = p.shape; crosses = p.crosses; wires = p.wires; pairs = p.pairs; cells = p.cells; registers = p.registers }) × IfSome p.done (λ g. g.config.shape ≡ p.shape) × (p.pins ≡ pins_of p.shape) × (length p.others ≡ wires_of p.shape) };
+    ghost invariant = { λ p. AreMarksOf (record {
+      shape = p.shape;
+      crosses = p.crosses;
+      wires = p.wires;
+      pairs = p.pairs;
+      cells = p.cells;
+      registers = p.registers;
+    }) × IfSome p.done (λ g. g.config.shape ≡ p.shape) × (p.pins ≡ pins_of p.shape)
+        × (length p.others ≡ wires_of p.shape) };
 }
 
 impl Proof {
@@ -235,7 +251,8 @@ fn mark_all(pairs: &mut PairSet, others: &mut BitSet, left: &Route, rights: &[Ro
     requires rights { All (λ s. (w : ℕ) → among s.wires w ≡ true → w < pairs.old.n) rights.now }
     requires apart { (w : ℕ) → among left.now.wires w ≡ true → among (wires_over rights.now) w ≡ false }
     requires others { length others.old ≡ pairs.old.n }
-    ensures marked { (a b : ℕ) → has_pair pairs.new a b ≡ (is_between left.now.wires (wires_over rights.now) a b || has_pair pairs.old a b) }
+    ensures marked { (a b : ℕ) → has_pair pairs.new a b ≡
+        (is_between left.now.wires (wires_over rights.now) a b || has_pair pairs.old a b) }
     ensures n { pairs.new.n ≡ pairs.old.n }
     ensures len { length others.new ≡ length others.old }
 {

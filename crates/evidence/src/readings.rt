@@ -1,5 +1,6 @@
 //! Readings of a rig.
-ghost use Rattle.std.specs.Prelude.{◌≡◌, ◌≢◌, ◌≤◌, ◌<◌, ◌+◌, true, false, Some, [], ◌∷◌, All, length, slice_index_or, IfOk, OnOk, IsTrue, IsErrOf};
+ghost use Rattle.std.specs.Prelude.{◌≡◌, ◌≢◌, ◌≤◌, ◌<◌, ◌+◌, true, false, Some, [], ◌∷◌, All, length, slice_index_or, IfOk, OnOk, IsTrue};
+ghost use Rattle.std.specs.Prelude.{IsErrOf};
 ghost use Rattle.tm_outside.specs.Counts.{Rose};
 ghost use Rattle.hierarchy.specs.Shape.{pins_of};
 ghost use Rattle.rig.specs.Rig.{shape_of, Begins};
@@ -141,7 +142,8 @@ pub(crate) fn read_pins(
     ensures loads { (rig_state rig.new).loads ≤ (rig_state rig.old).loads + 1 }
     ensures cause { IsErrOf result RigFail.Failed → Rose (rig_state rig.old).failures (rig_state rig.new).failures }
     ensures session { OnOk result (HasCycled config.now.config (drive.now ∷ []) (rig_state rig.new)) }
-    ensures reads { IfOk result (λ bits. ReadsPins (rig_state rig.old).machine.faults config.now.config drive.now first second bits.0 bits.1) }
+    ensures reads { IfOk result (λ bits. ReadsPins
+        (rig_state rig.old).machine.faults config.now.config drive.now first second bits.0 bits.1) }
 {
     let Ok(mut read) = pins.take() else {
         return Err(RigFail::Memory);
@@ -173,7 +175,8 @@ pub(crate) fn read_twice(
     ensures loads { (rig_state rig.new).loads ≤ (rig_state rig.old).loads + 1 }
     ensures cause { IsErrOf result RigFail.Failed → Rose (rig_state rig.old).failures (rig_state rig.new).failures }
     ensures session { OnOk result (HasCycled config.now.config (low.now ∷ high.now ∷ []) (rig_state rig.new)) }
-    ensures reads { IfOk result (λ bits. ReadsTwice (rig_state rig.old).machine.faults config.now.config low.now high.now at bits.0 bits.1) }
+    ensures reads { IfOk result (λ bits. ReadsTwice
+        (rig_state rig.old).machine.faults config.now.config low.now high.now at bits.0 bits.1) }
 {
     let Ok(mut read) = pins.take() else {
         return Err(RigFail::Memory);

@@ -5,7 +5,8 @@ ghost use Rattle.hierarchy.specs.Shape.{pins_of};
 ghost use Rattle.config_set.specs.Groups.{among};
 ghost use Rattle.rig.specs.Rig.{shape_of};
 ghost use Rattle.evidence.specs.Kept.{Gains, Advances, these_wires, these_pairs};
-ghost use Rattle.evidence.specs.Readings.{HasCycled, IsReady, TellsSwing, TellsPins, TellsFromAll, SwingPasses, ApartPasses, AllApartPasses, wires_over};
+ghost use Rattle.evidence.specs.Readings.{HasCycled, IsReady, TellsSwing, TellsPins, TellsFromAll, SwingPasses, ApartPasses};
+ghost use Rattle.evidence.specs.Readings.{AllApartPasses, wires_over};
 
 use crate::Proof;
 use crate::readings::{all_differ, read_all, read_pins, read_twice};
@@ -66,7 +67,8 @@ impl Proof {
         requires disjoint { (w : ℕ) → among left.now.wires w ≡ true → among right.now.wires w ≡ false }
 
         ensures exact { IfOk result (TellsPins (rig_state rig.old).machine.faults config.now.config drive.now left.now.pin right.now.pin) }
-        ensures passes { IfOk result (ApartPasses (rig_state rig.old).machine.faults config.now.config drive.now left.now.pin right.now.pin) }
+        ensures passes { IfOk result
+            (ApartPasses (rig_state rig.old).machine.faults config.now.config drive.now left.now.pin right.now.pin) }
         ensures gains { IfOk result (λ yes. IsTrue yes → Gains (these_pairs left.now.wires right.now.wires) self.old self.new) }
         ensures same { IfOk result (λ yes. yes ≡ false → self.new ≡ self.old) }
         ensures refused { OnErr result (self.new ≡ self.old) }

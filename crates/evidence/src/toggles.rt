@@ -1,5 +1,6 @@
 //! Tests that read a pin twice, with one thing changed between.
-ghost use Rattle.std.specs.Prelude.{◌≡◌, ◌≤◌, ◌<◌, ◌+◌, true, false, Some, [], ◌∷◌, length, IfOk, OnOk, IsTrue, IfSome, IsSome, OnErr, IsErrOf};
+ghost use Rattle.std.specs.Prelude.{◌≡◌, ◌≤◌, ◌<◌, ◌+◌, true, false, Some, [], ◌∷◌, length, IfOk, OnOk, IsTrue, IfSome, IsSome, OnErr};
+ghost use Rattle.std.specs.Prelude.{IsErrOf};
 ghost use Rattle.tm_outside.specs.Counts.{Rose};
 ghost use Rattle.hierarchy.specs.Shape.{pins_of, crosses_of, tables_of};
 ghost use Rattle.config_set.specs.Configuration.{is_closed, setting_of, with_open, with_setting, with_cell, with_init};
@@ -83,7 +84,8 @@ fn read_with(
     ensures loads { (rig_state rig.new).loads ≤ (rig_state rig.old).loads + 1 }
     ensures cause { IsErrOf result RigFail.Failed → Rose (rig_state rig.old).failures (rig_state rig.new).failures }
     ensures session { OnOk result (HasCycled (with_setting config.old.config t.0 (Some s)) (drive.now ∷ []) (rig_state rig.new)) }
-    ensures reads { IfOk result (λ bit. Reads (rig_state rig.old).machine.faults (with_setting config.old.config t.0 (Some s)) drive.now at bit) }
+    ensures reads { IfOk result (λ bit. Reads (rig_state rig.old).machine.faults
+        (with_setting config.old.config t.0 (Some s)) drive.now at bit) }
     ensures config { config.new.config ≡ config.old.config }
 {
     let Some(was) = config.setting(t) else {
@@ -113,7 +115,8 @@ impl Proof {
         requires drive { length drive.now ≡ pins_of self.old.shape }
         requires at { at < pins_of self.old.shape }
 
-        ensures exact { IfOk result (TellsApart (rig_state rig.old).machine.faults config.old.config (with_open config.old.config c.0) drive.now at) }
+        ensures exact { IfOk result (TellsApart (rig_state rig.old).machine.faults config.old.config
+            (with_open config.old.config c.0) drive.now at) }
         ensures passes { IfOk result (CrossPasses (rig_state rig.old).machine.faults config.old.config c.0 drive.now at) }
         ensures gains { IfOk result (λ yes. IsTrue yes → Gains (one_cross c.0) self.old self.new) }
         ensures same { IfOk result (λ yes. yes ≡ false → self.new ≡ self.old) }
@@ -161,7 +164,8 @@ impl Proof {
         ensures refused { OnErr result (self.new ≡ self.old) }
         ensures advances { Advances (rig_state rig.old) (rig_state rig.new) self.old self.new }
         ensures loads { (rig_state rig.new).loads ≤ (rig_state rig.old).loads + 2 }
-        ensures session { OnOk result (IfSome (setting_of config.old.config t.0) (λ s. HasCycled (with_setting config.old.config t.0 (Some (with_cell s address true))) (drive.now ∷ []) (rig_state rig.new))) }
+        ensures session { OnOk result (IfSome (setting_of config.old.config t.0)
+            (λ s. HasCycled (with_setting config.old.config t.0 (Some (with_cell s address true))) (drive.now ∷ []) (rig_state rig.new))) }
         ensures cause { IsErrOf result RigFail.Failed → Rose (rig_state rig.old).failures (rig_state rig.new).failures }
         ensures config { config.new.config ≡ config.old.config }
     {
@@ -207,7 +211,8 @@ impl Proof {
         ensures refused { OnErr result (self.new ≡ self.old) }
         ensures advances { Advances (rig_state rig.old) (rig_state rig.new) self.old self.new }
         ensures loads { (rig_state rig.new).loads ≤ (rig_state rig.old).loads + 2 }
-        ensures session { OnOk result (IfSome (setting_of config.old.config t.0) (λ s. HasCycled (with_setting config.old.config t.0 (Some (with_init s true))) (drive.now ∷ []) (rig_state rig.new))) }
+        ensures session { OnOk result (IfSome (setting_of config.old.config t.0)
+            (λ s. HasCycled (with_setting config.old.config t.0 (Some (with_init s true))) (drive.now ∷ []) (rig_state rig.new))) }
         ensures cause { IsErrOf result RigFail.Failed → Rose (rig_state rig.old).failures (rig_state rig.new).failures }
         ensures config { config.new.config ≡ config.old.config }
     {

@@ -38,8 +38,7 @@ impl Model for FaultSet {
 
     ghost view = { λ s. record { shape = s.shape; faults = faults_in s.entries } };
 
-    ghost invariant =
-        { λ s. IsFaultSet (record { shape = s.shape; faults = faults_in s.entries })
+    ghost invariant = { λ s. IsFaultSet (record { shape = s.shape; faults = faults_in s.entries })
         × Lists s.entries.bridges.items (faults_in s.entries).bridges × (s.count ≡ count_of (faults_in s.entries)) };
 }
 

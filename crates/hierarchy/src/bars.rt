@@ -68,8 +68,10 @@ pub fn tap_at(bar: Bar, position: u32) -> u32
 fn child_port(bar: Bar, further: u32) -> Option<u32>
     requires fits { FitsBelow bar 16384 }
     requires step { 0 < bar.step }
-    ensures found { IfSome result (λ a. (bar.ports ≤ a) × (a < bar.ports + bar.children * bar.each) × (tap_by bar a ≡ bar.first + bar.ports + bar.lines + further)) }
-    ensures none { IfNone result ((a : ℕ) → bar.ports ≤ a → a < bar.ports + bar.children * bar.each → tap_by bar a ≢ bar.first + bar.ports + bar.lines + further) }
+    ensures found { IfSome result (λ a. (bar.ports ≤ a) × (a < bar.ports + bar.children * bar.each)
+        × (tap_by bar a ≡ bar.first + bar.ports + bar.lines + further)) }
+    ensures none { IfNone result ((a : ℕ) → bar.ports ≤ a → a < bar.ports + bar.children * bar.each →
+        tap_by bar a ≢ bar.first + bar.ports + bar.lines + further) }
 {
     let (child, position) = divided(further, bar.step);
     if child < bar.children && position < bar.each {

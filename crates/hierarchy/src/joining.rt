@@ -30,8 +30,10 @@ pub fn joined_grows()
 
 /// A wire has one value at most, and joined wires have the same.
 pub fn values_are_unique()
-    ensures one { (c : Circuit) (drive : Pins) (outputs : Outputs) (w : ℕ) (a b : Bool) → IsValue c drive outputs w a → IsValue c drive outputs w b → a ≡ b }
-    ensures same { (c : Circuit) (drive : Pins) (outputs : Outputs) (w u : ℕ) (b : Bool) → Joined c.net w u → IsValue c drive outputs w b → IsValue c drive outputs u b }
+    ensures one { (c : Circuit) (drive : Pins) (outputs : Outputs) (w : ℕ) (a b : Bool) → IsValue c drive outputs w a →
+        IsValue c drive outputs w b → a ≡ b }
+    ensures same { (c : Circuit) (drive : Pins) (outputs : Outputs) (w u : ℕ) (b : Bool) → Joined c.net w u →
+        IsValue c drive outputs w b → IsValue c drive outputs u b }
 {}
 
 /// In a finite circuit each wire has a value, whatever its pins and tables drive.
@@ -70,11 +72,16 @@ pub fn every_list_covers_no_faults()
 /// Where a list covers the faults, it lists each stuck wire, and one end of each bridge at least. A stuck
 /// crosspoint is not free, and neither is a table with a wrong cell or a stuck register.
 pub fn listed_is_what_is_faulty()
-    ensures wires { (m : Shape) (d : Defects) (f : Faults) → Covers m d f → (w : ℕ) → w < wires_of m → IsSome (stuck_wire f w) → ¬ IsFreeWire d w }
-    ensures crosses { (m : Shape) (d : Defects) (f : Faults) → Covers m d f → (x : ℕ) → x < crosses_of m → IsSome (stuck_cross f x) → ¬ IsFreeCross m d x }
-    ensures cells { (m : Shape) (d : Defects) (f : Faults) → Covers m d f → (t a : ℕ) → t < tables_of m → a < 64 → IsSome (wrong_cell f t a) → ¬ IsFreeTable m d t }
-    ensures registers { (m : Shape) (d : Defects) (f : Faults) → Covers m d f → (t : ℕ) → t < tables_of m → IsSome (stuck_register f t) → ¬ IsFreeTable m d t }
-    ensures bridges { (m : Shape) (d : Defects) (f : Faults) → Covers m d f → (w u : ℕ) → w < wires_of m → u < wires_of m → is_bridge f (w, u) ≡ true → w ≢ u → IsFreeWire d w → ¬ IsFreeWire d u }
+    ensures wires { (m : Shape) (d : Defects) (f : Faults) → Covers m d f → (w : ℕ) → w < wires_of m → IsSome (stuck_wire f w) →
+        ¬ IsFreeWire d w }
+    ensures crosses { (m : Shape) (d : Defects) (f : Faults) → Covers m d f → (x : ℕ) → x < crosses_of m → IsSome (stuck_cross f x) →
+        ¬ IsFreeCross m d x }
+    ensures cells { (m : Shape) (d : Defects) (f : Faults) → Covers m d f → (t a : ℕ) → t < tables_of m → a < 64 →
+        IsSome (wrong_cell f t a) → ¬ IsFreeTable m d t }
+    ensures registers { (m : Shape) (d : Defects) (f : Faults) → Covers m d f → (t : ℕ) → t < tables_of m → IsSome (stuck_register f t) →
+        ¬ IsFreeTable m d t }
+    ensures bridges { (m : Shape) (d : Defects) (f : Faults) → Covers m d f → (w u : ℕ) → w < wires_of m → u < wires_of m →
+        is_bridge f (w, u) ≡ true → w ≢ u → IsFreeWire d w → ¬ IsFreeWire d u }
 {}
 
 /// Where a list covers the faults and all closed crosspoints are free, a free wire is joined to no stuck

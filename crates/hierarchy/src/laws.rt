@@ -1,6 +1,7 @@
 //! What later crates rest on, of the numbering.
 ghost use Rattle.std.specs.Prelude.{◌≡◌};
-ghost use Rattle.hierarchy.specs.Laws.{IsNumbered, IsTree, HasMeanings, HasTaps, HasCrosses, HasMeetings, HasParents, HasNames, IsNumberedAsTiny, tiny};
+ghost use Rattle.hierarchy.specs.Laws.{IsNumbered, IsTree, HasMeanings, HasTaps, HasCrosses, HasMeetings, HasParents, HasNames};
+ghost use Rattle.hierarchy.specs.Laws.{IsNumberedAsTiny, tiny};
 ghost use Rattle.hierarchy.specs.PartNames.{HasPartNames};
 ghost use Rattle.hierarchy.specs.Rows.{HasRows};
 ghost use Rattle.hierarchy.specs.Sums.{HasSums};

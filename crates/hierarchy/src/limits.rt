@@ -99,7 +99,8 @@ fn crosses_from(c: Counts) -> u128
 fn first_passed(counts: Counts) -> Option<ShapeFault>
     requires { IsFull counts }
     ensures found { IfSome result (λ fault. IsShapeFault counts fault) }
-    ensures none { IfNone result ((size tables_in (levels_from counts) ≤ 4096) × (size wires_in (levels_from counts) ≤ 16384) × (size crosses_in (levels_from counts) ≤ 4194304)) }
+    ensures none { IfNone result ((size tables_in (levels_from counts) ≤ 4096) × (size wires_in (levels_from counts) ≤ 16384)
+        × (size crosses_in (levels_from counts) ≤ 4194304)) }
 {
     let tables = tables_from(counts);
     if tables > 4096 {

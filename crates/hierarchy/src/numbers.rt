@@ -2,7 +2,8 @@
 ghost use Rattle.std.specs.Prelude.{◌≡◌, ◌<◌, ◌≤◌, IfSome, IfNone};
 ghost use Rattle.hierarchy.specs.Bars.{IsNodeBar};
 ghost use Rattle.hierarchy.specs.Rows.{first_cross_of};
-ghost use Rattle.hierarchy.specs.Shape.{wires_of, crosses_of, tables_of, nodes_of, pins_of, taps_of, lines_of, own_ports_of, tap_at, line_at, port_at, pin_wire, table_wire, node_of, node_of_cross, hextant_of, parent_of};
+ghost use Rattle.hierarchy.specs.Shape.{wires_of, crosses_of, tables_of, nodes_of, pins_of, taps_of, lines_of, own_ports_of, tap_at};
+ghost use Rattle.hierarchy.specs.Shape.{line_at, port_at, pin_wire, table_wire, node_of, node_of_cross, hextant_of, parent_of};
 
 use crate::bars::{bar_of, tap_at};
 use crate::places::{

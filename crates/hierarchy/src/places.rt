@@ -2,7 +2,8 @@
 ghost use Rattle.std.specs.Prelude.{◌≡◌, ◌<◌, ◌^◌, take};
 ghost use Rattle.hierarchy.specs.Counts.{AreFull};
 ghost use Rattle.hierarchy.specs.Kinds.{numbers_in, path_of};
-ghost use Rattle.hierarchy.specs.Shape.{levels_of, wires_of, nodes_of, tables_of, crosses_of, way_to, way_to_table, place_of, place_of_cross, node_at};
+ghost use Rattle.hierarchy.specs.Shape.{levels_of, wires_of, nodes_of, tables_of, crosses_of, way_to, way_to_table, place_of};
+ghost use Rattle.hierarchy.specs.Shape.{place_of_cross, node_at};
 ghost use Rattle.hierarchy.specs.Walk.{IsSpot, place_in, size, start, wires_in, crosses_in, tables_in, above};
 ghost use Rattle.hierarchy.specs.declared.way.Kind.{Kind};
 

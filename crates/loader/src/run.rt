@@ -32,15 +32,17 @@ impl Model for Run {
 
     ghost view = { λ r. record { pins = length r.drive; inputs = r.inputs.items; outputs = r.outputs.items } };
 
-    ghost invariant =
-        { λ r. ArePinsOfRows (record { pins = length r.drive; inputs = r.inputs.items; outputs = r.outputs.items })
+    ghost invariant = { λ r. ArePinsOfRows (record { pins = length r.drive; inputs = r.inputs.items; outputs = r.outputs.items })
         × (length r.read ≡ length r.drive) };
 }
 
 // Copies of an image's pins, and the bits of its rows.
 fn prepare(alloc: Global, image: &Image) -> Result<Run, AllocError>
-    ensures { IfOk result (λ run. run ≡ record { pins = pins_of image.now.config.shape; inputs = image.now.inputs;
-        outputs = image.now.outputs }) }
+    ensures { IfOk result (λ run. run ≡ record {
+      pins = pins_of image.now.config.shape;
+      inputs = image.now.inputs;
+      outputs = image.now.outputs;
+    }) }
 {
     let pins = image.config().shape().pins();
     let inputs = Vec::from_slice(alloc, image.inputs())?;
@@ -67,8 +69,11 @@ pub fn begin(
 
     ensures machine { (rig_state rig.new).machine ≡ (rig_state rig.old).machine }
     ensures later { (rig_state rig.old).failures ≤ (rig_state rig.new).failures }
-    ensures run { IfOk result (λ run. run ≡ record { pins = pins_of image.now.config.shape; inputs = image.now.inputs;
-        outputs = image.now.outputs }) }
+    ensures run { IfOk result (λ run. run ≡ record {
+      pins = pins_of image.now.config.shape;
+      inputs = image.now.inputs;
+      outputs = image.now.outputs;
+    }) }
     ensures begins { OnOk result (Begins image.now.config room (rig_state rig.new)) }
     ensures told { OnOk result (HasFaultsOf image.now.config.shape (rig_state rig.new)) }
     ensures counted { OnOk result ((rig_state rig.new).loads ≡ next_count (rig_state rig.old).loads) }

@@ -59,7 +59,9 @@ impl<'a> Model for Eval<'a> {
 
     ghost view = { λ e. record { netlist = e.netlist.now; state = e.state.items } };
 
-    ghost invariant = { λ e. IsPlan e.netlist.now e.plan × AreReady e.netlist.now e.values.items e.state.items × IsMarked e.netlist.now e.plan e.marks.items e.values.items × IsHeld e.plan e.hints.items e.marks.items e.last.items e.state.items e.values.items × IsBlock e.netlist.now e.block };
+    ghost invariant = { λ e. IsPlan e.netlist.now e.plan × AreReady e.netlist.now e.values.items e.state.items
+        × IsMarked e.netlist.now e.plan e.marks.items e.values.items
+        × IsHeld e.plan e.hints.items e.marks.items e.last.items e.state.items e.values.items × IsBlock e.netlist.now e.block };
 }
 
 impl<'a> Eval<'a> {
@@ -177,7 +179,8 @@ fn run(
     ensures given { HaveBits plan.now.wiring.drives.items last.new values.new }
     ensures next { state.new ≡ map (bit_at values.new) plan.now.wiring.reads.items }
     ensures hold { AllHold netlist.now values.new }
-    ensures step { IsStep (record { netlist = netlist.now; state = state.old }) vector.now out.new (record { netlist = netlist.now; state = state.new }) }
+    ensures step { IsStep (record { netlist = netlist.now; state = state.old }) vector.now out.new
+        (record { netlist = netlist.now; state = state.new }) }
 {
     let draft = netlist.parts();
     put_bits(values, &plan.wiring.inputs, vector);
@@ -214,7 +217,8 @@ fn run_marked(
     ensures given { HaveBits plan.now.wiring.drives.items last.new values.new }
     ensures next { state.new ≡ map (bit_at values.new) plan.now.wiring.reads.items }
     ensures marked { IsMarked netlist.now plan.now marks.new values.new }
-    ensures step { IsStep (record { netlist = netlist.now; state = state.old }) vector.now out.new (record { netlist = netlist.now; state = state.new }) }
+    ensures step { IsStep (record { netlist = netlist.now; state = state.old }) vector.now out.new
+        (record { netlist = netlist.now; state = state.new }) }
 {
     let draft = netlist.parts();
     put_marked(

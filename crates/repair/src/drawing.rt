@@ -47,7 +47,8 @@ fn keep_cross(
 fn keep_crosses(config: &mut Config, old: &Config, plan: &Plan) -> Result<(), AllocError>
     requires plan { AreSizedFor old.now.config plan.now }
     requires shape { config.old.config.shape ≡ old.now.config.shape }
-    ensures { OnOk result (Closes (IsKeptCross old.now.config plan.now) (set.len old.now.config.closed) config.old.config config.new.config) }
+    ensures { OnOk result (Closes (IsKeptCross old.now.config plan.now)
+        (set.len old.now.config.closed) config.old.config config.new.config) }
 {
     let _shape = old.shape();
     let closed = old.closed();
@@ -63,7 +64,8 @@ fn seat(config: &mut Config, old: &Config, plan: &Plan, table: Table)
     requires shape { config.old.config.shape ≡ old.now.config.shape }
     requires within { table.0 < tables_of old.now.config.shape }
     requires on { IsOn old.now.config table.0 }
-    ensures { config.new.config ≡ with_setting config.old.config (nth_of plan.now.tables.items table.0) (setting_of old.now.config table.0) }
+    ensures { config.new.config ≡ with_setting config.old.config (nth_of plan.now.tables.items table.0)
+        (setting_of old.now.config table.0) }
 {
     match old.setting(table) {
         None => {}

@@ -8,7 +8,8 @@ ghost use Rattle.repair.specs.Plans.{AreNets, AreSeats, HasRoom, IsShortPlan, Ne
 /// An image has one repair plan for a list of defects: where there is room by one, nothing is short by any. So a refusal for want of room
 /// and a repair exclude each other.
 pub fn repair_plans_are_decided()
-    ensures never_both { (d : Defects) (i : ImageValue) (s : Seats) (n : Nets) (short : Short) → AreSeats d i s → AreNets d i s n → HasRoom i s n → ¬ IsShortPlan d i short }
+    ensures never_both { (d : Defects) (i : ImageValue) (s : Seats) (n : Nets) (short : Short) → AreSeats d i s → AreNets d i s n →
+        HasRoom i s n → ¬ IsShortPlan d i short }
 {
     place::room_is_decided();
 }

@@ -89,7 +89,8 @@ pub record IsPickOf (picks : List Picks) (k w : ℕ) : Type 0 where
 
 -- a crosspoint of a picked port of this node with a picked line of it, or of the node above
 pub data IsJointOf (m : Shape) (picks : List Picks) (k x : ℕ) : Type 0 where
-  own_joint : (p : Picks) → slice_get picks k ≡ Some p → IsBetween m p.own.items p.lines.items (length p.own.items) x → IsJointOf m picks k x
+  own_joint : (p : Picks) → slice_get picks k ≡ Some p → IsBetween m p.own.items p.lines.items (length p.own.items) x →
+      IsJointOf m picks k x
   up_joint : (p q : Picks) (n : ℕ) → slice_get picks k ≡ Some p → parent_of m k ≡ Some n → slice_get picks n ≡ Some q →
       IsBetween m p.own.items q.lines.items (length p.own.items) x → IsJointOf m picks k x
 

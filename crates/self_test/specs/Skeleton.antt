@@ -42,7 +42,9 @@ pub record HasSkeleton (i : ImageValue) (a : Field) : Type 0 where
   pub above : (n p : ℕ) → IsInvolved i n → parent_of i.config.shape n ≡ Some p → AreMet i.config.shape a.crosses (ports n) (lines p)
   pub used : (w : ℕ) → Uses i w → has_number a.wires w ≡ true
   pub used_lines : (w : ℕ) → Uses i w → IsLine i.config.shape (node_of i.config.shape w) w →
-      IsMet i.config.shape a.crosses (ports (node_of i.config.shape w)).0 w × IsMet i.config.shape a.crosses (ports (node_of i.config.shape w)).1 w
+      IsMet i.config.shape a.crosses (ports (node_of i.config.shape w)).0 w
+      × IsMet i.config.shape a.crosses (ports (node_of i.config.shape w)).1 w
   pub used_taps : (w : ℕ) → Uses i w → IsTap i.config.shape (node_of i.config.shape w) w →
-      IsMet i.config.shape a.crosses w (lines (node_of i.config.shape w)).0 × IsMet i.config.shape a.crosses w (lines (node_of i.config.shape w)).1
+      IsMet i.config.shape a.crosses w (lines (node_of i.config.shape w)).0
+      × IsMet i.config.shape a.crosses w (lines (node_of i.config.shape w)).1
   pub closed : (x : ℕ) → is_closed i.config x ≡ true → has_number a.crosses x ≡ true

@@ -73,7 +73,8 @@ fn look_at_tables(
     ensures keeps { IfOk result (λ yes. IsTrue yes → KeepsTables proof.new image.now) }
     ensures whole { IfOk result (TablesIf (rig_state rig.old).machine.faults proof.old known.now.steps image.now) }
     ensures advances { Advances (rig_state rig.old) (rig_state rig.new) proof.old proof.new }
-    ensures loads { (ts : List ℕ) → ((t : ℕ) → IsSome (setting_of image.now.config t) → Contains ts t) → (rig_state rig.new).loads ≤ (rig_state rig.old).loads + 130 * length ts }
+    ensures loads { (ts : List ℕ) → ((t : ℕ) → IsSome (setting_of image.now.config t) → Contains ts t) →
+        (rig_state rig.new).loads ≤ (rig_state rig.old).loads + 130 * length ts }
     ensures cause { IsErrOf result RigFail.Failed → Rose (rig_state rig.old).failures (rig_state rig.new).failures }
 {
     without_faults_all_is_sound();
@@ -103,7 +104,8 @@ fn check_in(
     ensures whole { IfOk result (FieldIf (rig_state rig.old).machine.faults proof.old image.now field.now) }
     ensures advances { Advances (rig_state rig.old) (rig_state rig.new) proof.old proof.new }
     ensures loads { TakesInField image.now field.now (rig_state rig.old).loads (rig_state rig.new).loads }
-    ensures none { IfOk result (λ found. IfNone found ((rig_state rig.new).loads ≤ (rig_state rig.old).loads + (8 * size_of field.now.crosses + 3 * size_of field.now.wires))) }
+    ensures none { IfOk result (λ found. IfNone found
+        ((rig_state rig.new).loads ≤ (rig_state rig.old).loads + (8 * size_of field.now.crosses + 3 * size_of field.now.wires))) }
     ensures cause { IsErrOf result RigFail.Failed → Rose (rig_state rig.old).failures (rig_state rig.new).failures }
 {
     tests_add_up();

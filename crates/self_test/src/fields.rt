@@ -4,7 +4,8 @@ ghost use Rattle.tm_bits.specs.Numbers.{size_of};
 ghost use Rattle.hierarchy.specs.Shape.{wires_of, crosses_of, nodes_of};
 ghost use Rattle.config_image.specs.Parts.{IsWideEnough};
 ghost use Rattle.growth.specs.Field.{IsFieldOf};
-ghost use Rattle.self_test.specs.Fields.{ArePicksOf, Gets, IsBetween, IsCrossBefore, IsCrossOf, IsFewFor, IsHungAt, IsHungOn, IsJointOf, IsOfEither, IsOnLines, IsOnTaps, IsPickOf, IsWireBefore, OfMarked};
+ghost use Rattle.self_test.specs.Fields.{ArePicksOf, Gets, IsBetween, IsCrossBefore, IsCrossOf, IsFewFor, IsHungAt, IsHungOn, IsJointOf};
+ghost use Rattle.self_test.specs.Fields.{IsOfEither, IsOnLines, IsOnTaps, IsPickOf, IsWireBefore, OfMarked};
 ghost use Rattle.self_test.specs.Skeleton.{HasSkeleton};
 ghost use Rattle.self_test.specs.Used.{AreInvolved, AreUsed};
 
@@ -72,7 +73,8 @@ fn meet_all(crosses: &mut BitSet, shape: &Shape, taps: &Vec<Wire>, lines: &Vec<W
     requires taps { All (λ w. w.0 < wires_of shape.now) taps.now.items }
     requires lines { All (λ w. w.0 < wires_of shape.now) lines.now.items }
     requires crosses { length crosses.old ≡ crosses_of shape.now }
-    ensures { Gets (IsBetween shape.now taps.now.items lines.now.items (length taps.now.items)) (length taps.now.items * length lines.now.items) crosses.old crosses.new }
+    ensures { Gets (IsBetween shape.now taps.now.items lines.now.items (length taps.now.items))
+        (length taps.now.items * length lines.now.items) crosses.old crosses.new }
 {
     'taps: for j in 0..taps.len() {
         meet_lines(crosses, shape, taps[j], lines);
@@ -85,7 +87,8 @@ fn join_own(field: &mut Field, shape: &Shape, here: &Picks)
     requires own { All (λ w. w.0 < wires_of shape.now) here.now.own.items }
     requires lines { All (λ w. w.0 < wires_of shape.now) here.now.lines.items }
     ensures wires { Gets (IsOfEither here.now) (length here.now.own.items + length here.now.lines.items) field.old.wires field.new.wires }
-    ensures crosses { Gets (IsBetween shape.now here.now.own.items here.now.lines.items (length here.now.own.items)) (length here.now.own.items * length here.now.lines.items) field.old.crosses field.new.crosses }
+    ensures crosses { Gets (IsBetween shape.now here.now.own.items here.now.lines.items (length here.now.own.items))
+        (length here.now.own.items * length here.now.lines.items) field.old.crosses field.new.crosses }
 {
     add_wires(&mut field.wires, &here.own);
     add_wires(&mut field.wires, &here.lines);
@@ -98,7 +101,8 @@ fn join_node(field: &mut Field, shape: &Shape, frame: &Frame, node: Node)
     requires frame { ArePicksOf shape.now frame.now }
     requires node { node.0 < nodes_of shape.now }
     ensures wires { Gets (IsPickOf frame.now.picks.items node.0) (2 * frame.now.most) field.old.wires field.new.wires }
-    ensures crosses { Gets (IsJointOf shape.now frame.now.picks.items node.0) (2 * frame.now.most * frame.now.most) field.old.crosses field.new.crosses }
+    ensures crosses { Gets (IsJointOf shape.now frame.now.picks.items node.0)
+        (2 * frame.now.most * frame.now.most) field.old.crosses field.new.crosses }
 {
     let here = &frame.picks[node.0 as usize];
     join_own(field, shape, here);
@@ -114,8 +118,10 @@ fn join_nodes(field: &mut Field, shape: &Shape, frame: &Frame, nodes: &BitSet)
     requires field { IsFieldOf shape.now field.old }
     requires frame { ArePicksOf shape.now frame.now }
     requires nodes { length nodes.now ≡ nodes_of shape.now }
-    ensures wires { Gets (OfMarked nodes.now (IsPickOf frame.now.picks.items) (nodes_of shape.now)) (2 * frame.now.most * size_of nodes.now) field.old.wires field.new.wires }
-    ensures crosses { Gets (OfMarked nodes.now (IsJointOf shape.now frame.now.picks.items) (nodes_of shape.now)) (2 * frame.now.most * frame.now.most * size_of nodes.now) field.old.crosses field.new.crosses }
+    ensures wires { Gets (OfMarked nodes.now (IsPickOf frame.now.picks.items) (nodes_of shape.now))
+        (2 * frame.now.most * size_of nodes.now) field.old.wires field.new.wires }
+    ensures crosses { Gets (OfMarked nodes.now (IsJointOf shape.now frame.now.picks.items) (nodes_of shape.now))
+        (2 * frame.now.most * frame.now.most * size_of nodes.now) field.old.crosses field.new.crosses }
 {
     'nodes: for n in 0..shape.nodes() {
         if !nodes.has(n) {
@@ -132,7 +138,8 @@ fn hang(field: &mut Field, shape: &Shape, here: &Picks, wire: Wire)
     requires lines { All (λ w. w.0 < wires_of shape.now) here.now.lines.items }
     requires wire { wire.0 < wires_of shape.now }
     ensures wires { Gets (λ w. w ≡ wire.0) 1 field.old.wires field.new.wires }
-    ensures crosses { Gets (IsHungAt shape.now here.now wire.0) (length here.now.lines.items + length here.now.own.items) field.old.crosses field.new.crosses }
+    ensures crosses { Gets (IsHungAt shape.now here.now wire.0)
+        (length here.now.lines.items + length here.now.own.items) field.old.crosses field.new.crosses }
 {
     field.wires.insert(wire.0);
     meet_lines(&mut field.crosses, shape, wire, &here.lines);
@@ -157,7 +164,8 @@ fn hang_used(field: &mut Field, shape: &Shape, frame: &Frame, used: &BitSet)
     requires frame { ArePicksOf shape.now frame.now }
     requires used { length used.now ≡ wires_of shape.now }
     ensures wires { Gets (OfMarked used.now (λ k w. w ≡ k) (wires_of shape.now)) (size_of used.now) field.old.wires field.new.wires }
-    ensures crosses { Gets (OfMarked used.now (IsHungOn shape.now frame.now.picks.items) (wires_of shape.now)) (2 * frame.now.most * size_of used.now) field.old.crosses field.new.crosses }
+    ensures crosses { Gets (OfMarked used.now (IsHungOn shape.now frame.now.picks.items) (wires_of shape.now))
+        (2 * frame.now.most * size_of used.now) field.old.crosses field.new.crosses }
 {
     'wires: for w in 0..shape.wires() {
         if !used.has(w) {

@@ -90,7 +90,8 @@ fn next_pick(
     requires node { node.0 < nodes_of shape.now }
     requires used { length used.now ≡ wires_of shape.now }
     ensures some { IfSome result (λ w. IsOfSide shape.now side node.0 w.0 × (¬ IsAmong picked.now.items w.0)) }
-    ensures none { IfNone result ((k : ℕ) → k < width_of shape.now side node.0 → IsAmong picked.now.items (side_wire shape.now side node.0 k)) }
+    ensures none { IfNone result ((k : ℕ) → k < width_of shape.now side node.0 →
+        IsAmong picked.now.items (side_wire shape.now side node.0 k)) }
 {
     let mut other = None;
     'positions: for k in 0..width(shape, side, node) {

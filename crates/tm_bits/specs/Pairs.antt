@@ -25,7 +25,8 @@ is_pair n a b = nat_lt a n && nat_lt b n && not (a == b)
 
 -- whether the pair of these two numbers is in the set: one of them has its bit in the row of the other
 unfoldable pub has_pair : Pairs → ℕ → ℕ → Bool
-has_pair set a b = is_pair set.n a b && (slice_index_or set.marks (place_of set.n a b) false || slice_index_or set.marks (place_of set.n b a) false)
+has_pair set a b =
+    is_pair set.n a b && (slice_index_or set.marks (place_of set.n a b) false || slice_index_or set.marks (place_of set.n b a) false)
 
 -- whether two pairs are one, in either order
 abbrev pub is_same_pair : ℕ → ℕ → ℕ → ℕ → Bool

@@ -1,6 +1,7 @@
 //! A list of bits, 64 to a word.
 
-ghost use Rattle.std.specs.Prelude.{◌≡◌, ◌≢◌, ℕ, ◌*◌, ◌/◌, ◌%◌, ◌-◌, ◌+◌, ◌<◌, ◌≤◌, ◌==◌, ◌||◌, ◌⊎◌, false, Bool, List, length, replicate, IfOk, slice_set, slice_index, slice_index_or};
+ghost use Rattle.std.specs.Prelude.{◌≡◌, ◌≢◌, ℕ, ◌*◌, ◌/◌, ◌%◌, ◌-◌, ◌+◌, ◌<◌, ◌≤◌, ◌==◌, ◌||◌, ◌⊎◌, false, Bool, List, length, replicate};
+ghost use Rattle.std.specs.Prelude.{IfOk, slice_set, slice_index, slice_index_or};
 ghost use Rattle.tm_bits.specs.Words.{is_bit, is_bit_in, bits_of};
 
 use std::alloc::{AllocError, Global};

@@ -58,8 +58,15 @@ impl Model for MemoryStore {
 impl MemoryStore {
     /// A store of these files, whose reads give as many bytes as the slice takes and the file has.
     pub fn new(alloc: Global, files: Vec<File>, fails: Vec<u64>) -> Self
-        ensures { result ≡ record { files = files.items; fails = fails.items; most = None; calls = 0; asked = []; current = None;
-            failures = 0 } }
+        ensures { result ≡ record {
+          files = files.items;
+          fails = fails.items;
+          most = None;
+          calls = 0;
+          asked = [];
+          current = None;
+          failures = 0;
+        } }
     {
         MemoryStore {
             alloc,
@@ -76,8 +83,15 @@ impl MemoryStore {
     /// The same, but a read gives at most `most` bytes, which isn't 0.
     pub fn in_pieces(alloc: Global, files: Vec<File>, fails: Vec<u64>, most: usize) -> Self
         requires { 0 < most }
-        ensures { result ≡ record { files = files.items; fails = fails.items; most = Some most; calls = 0; asked = []; current = None;
-            failures = 0 } }
+        ensures { result ≡ record {
+          files = files.items;
+          fails = fails.items;
+          most = Some most;
+          calls = 0;
+          asked = [];
+          current = None;
+          failures = 0;
+        } }
     {
         MemoryStore {
             alloc,
