@@ -71,9 +71,9 @@ fn tick_times(
     }
 }
 
-/// Makes so many ticks. Where the readers are listed, each tick costs what changed, unless nearly everything does. Where what the combinational tables
-/// gave before doesn't matter after the ticks, all that is left to do is to come to rest, for which the tables are
-/// evaluated in their order first.
+/// Makes so many ticks. Where the readers are listed, each tick costs what changed, unless nearly everything does. Where
+/// what the combinational tables gave before doesn't matter after the ticks, all that is left to do is to come to rest,
+/// for which the tables are evaluated in their order first.
 fn settle(
     faults: &FaultSet,
     knots: &[Knot],
