@@ -51,6 +51,7 @@ fn bar_tap(
     let Some(first) = shape.cross(w, first_line) else {
         return;
     };
+    // A tap's crosspoints follow each other as the node's lines do.
     'lines: for i in 0..width {
         let x = Cross(first.0 + i);
         let line = Wire(first_line.0 + i);
@@ -88,6 +89,7 @@ fn bar_line(
         return;
     }
     let first = shape.first_cross(n);
+    // The row of each tap has a crosspoint of the line, at the line's position.
     'taps: for i in 0..shape.taps(n) {
         let x = Cross(first + i * width + position);
         bar(crosses, barred, shut, x, w);
