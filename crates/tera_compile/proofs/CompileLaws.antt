@@ -7,13 +7,13 @@ use Rattle.netlist.specs.declared.draft.Draft.{Draft}
 use Rattle.config_image.specs.Images.{image_bytes}
 use Rattle.steps.specs.Outside.{Around, StandsIn}
 use Rattle.steps.specs.Courses.{Course, Next, done, refuses}
-use Rattle.steps.specs.Texts.{reads_machine, reads_defects, reads_design, IsDefectsText}
+use Rattle.steps.specs.Texts.{reads_machine, reads_defects, reads_design}
 use Rattle.steps.specs.Jobs.{IsLawful, IsExcused, Leads, Fronts, EndsWell, EndsShort}
 use Rattle.steps.specs.declared.refusal.Refusal.{Refusal}
 use Rattle.steps.specs.declared.design_file.DesignFile.TheVariants.{Design}
 use Rattle.steps.proofs.Leading.{after-leads, write-leads, done-leads}
 use Rattle.steps.proofs.Excused.{machine-excused, defects-excused, design-excused}
-use Rattle.steps.proofs.ShapeLemmas.{one-machine, one-design}
+use Rattle.steps.proofs.ShapeLemmas.{one-machine, one-list, one-design}
 use Rattle.lay.specs.Laying.{lays}
 use Rattle.lay.proofs.Rooms.{AreDecided, never-lacks, never-refused, lay-excused, lay-short}
 use Rattle.tera_compile.specs.Compile.{compile_course, list_read, design_read, design_laid, image_written}
@@ -40,9 +40,7 @@ module _ (decided : AreDecided) (machine defects design : List ℕ) (old new : A
   the-shape right m is = one-machine t.machine right.machine_file right.list.shape m right.machine_told right.machine is
 
   the-list : (right : AreRightFiles t) (m : Shape) (d : DefectList) → right.list.shape ≡ m → (reads_defects t.defects m).gives d → right.list ≡ d
-  the-list right m d shape is =
-      let text : IsDefectsText m right.defects_file d = rw right.defects_told at is.1 in
-      text.only right.list (subst (λ (s : Shape). IsText s right.defects_file right.list) shape right.defects)
+  the-list right m d shape is = one-list t.defects right.defects_file m right.list d right.defects_told shape right.defects is
 
   the-draft : (right : AreRightFiles t) (draft : Draft) → (reads_design Design t.design).gives draft → right.draft ≡ draft
   the-draft right draft is = one-design Design t.design right.design_file right.draft draft right.design_told right.design is

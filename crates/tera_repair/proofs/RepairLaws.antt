@@ -4,16 +4,16 @@ use Rattle.std.specs.FinSet as set
 use Rattle.hierarchy.specs.declared.Shape.{Shape}
 use Rattle.defect_db.specs.Lists.{DefectList}
 use Rattle.defect_db.specs.Faults.{IsText}
-use Rattle.config_image.specs.Images.{ImageValue, Reads, image_bytes}
+use Rattle.config_image.specs.Images.{ImageValue, image_bytes}
 use Rattle.steps.specs.Outside.{Around, StandsIn}
 use Rattle.steps.specs.Courses.{Course, Next, done, refuses}
-use Rattle.steps.specs.Texts.{reads_machine, reads_defects, reads_image, IsDefectsText}
+use Rattle.steps.specs.Texts.{reads_machine, reads_defects, reads_image}
 use Rattle.steps.specs.Jobs.{IsLawful, IsExcused, Leads, Fronts, EndsWell, EndsShort}
 use Rattle.steps.specs.declared.refusal.Refusal.{Refusal}
 use Rattle.steps.specs.declared.refusal.Refusal.TheVariants as refused
 use Rattle.steps.proofs.Leading.{after-leads, write-leads, done-leads}
 use Rattle.steps.proofs.Excused.{machine-excused, defects-excused, image-excused}
-use Rattle.steps.proofs.ShapeLemmas.{one-machine}
+use Rattle.steps.proofs.ShapeLemmas.{one-machine, one-list, one-image}
 use Rattle.tera_repair.specs.Repairing.{most_closed, takes_few, repairs, HasTooMany}
 use Rattle.tera_repair.specs.Repair.{repair_course, list_read, image_read, image_taken, image_repaired, image_written}
 use Rattle.tera_repair.specs.Repair.{repair_files, repair_job, RepairFiles, AreRightFiles, RepairRight, RepairShort}
@@ -45,14 +45,10 @@ module _ (decided : AreDecided) (machine defects image : List ℕ) (old new : Ar
   the-shape right m is = one-machine t.machine right.machine_file right.list.shape m right.machine_told right.machine is
 
   the-list : (right : AreRightFiles t) (m : Shape) (d : DefectList) → right.list.shape ≡ m → (reads_defects t.defects m).gives d → right.list ≡ d
-  the-list right m d shape is =
-      let text : IsDefectsText m right.defects_file d = rw right.defects_told at is.1 in
-      text.only right.list (subst (λ (s : Shape). IsText s right.defects_file right.list) shape right.defects)
+  the-list right m d shape is = one-list t.defects right.defects_file m right.list d right.defects_told shape right.defects is
 
   the-image : (right : AreRightFiles t) (m : Shape) (i : ImageValue) → right.list.shape ≡ m → (reads_image t.image m).gives i → right.image ≡ i
-  the-image right m i shape is =
-      let text : Reads m right.image_file i = rw right.image_told at is.1 in
-      text.only right.image right.image_right (right.image_shape ∙ shape) right.image_is
+  the-image right m i shape is = one-image t.image right.image_file m right.image i right.image_told (right.image_shape ∙ shape) right.image_right right.image_is is
 
   -- right files are read and the image is taken, whatever follows
   files-lead : (next_is : Next → Type 0) (right : AreRightFiles t) → ((refusal : Refusal) → IsExcused refusal old new → next_is (refuses refusal)) → Leads any (on_list right.list right.image) next_is → Leads any (repair_course machine defects image old.store new.store) next_is

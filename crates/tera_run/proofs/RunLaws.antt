@@ -1,7 +1,7 @@
 -- What the command `run` comes to.
 use Rattle.std.proofs.Common.{◌≡◌, ◌∙◌, ℕ, ◌≤◌, List, [], ◌∷◌, ◌++◌, length, None, refl, subst, inl, inr}
 use Rattle.hierarchy.specs.declared.Shape.{Shape}
-use Rattle.config_image.specs.Images.{ImageValue, Reads}
+use Rattle.config_image.specs.Images.{ImageValue}
 use Rattle.steps.specs.Files.{says_at, vectors_at}
 use Rattle.steps.specs.Lines.{outputs_line}
 use Rattle.steps.specs.Outside.{Around}
@@ -11,7 +11,7 @@ use Rattle.steps.specs.Jobs.{IsLawful, Leads, Fronts, EndsWell}
 use Rattle.steps.specs.declared.refusal.Refusal.TheVariants.{Memory}
 use Rattle.steps.proofs.Leading.{after-leads}
 use Rattle.steps.proofs.Excused.{machine-excused, image-excused, attach-excused}
-use Rattle.steps.proofs.ShapeLemmas.{one-machine}
+use Rattle.steps.proofs.ShapeLemmas.{one-machine, one-image}
 use Rattle.image_rows.specs.Rows.{most_rows, RowsBegin, image_rows}
 use Rattle.image_rows.proofs.CourseLemmas.{image-well, image-few}
 use Rattle.tera_run.specs.Run.{run_course, machine_attached, image_read, image_run, IsUnloadedIn, run_files, run_job, RunFiles, RunRight, RunFew}
@@ -25,9 +25,7 @@ module _ (machine name image vectors : List ℕ) (old new : Around) where
   the-shape right m is = one-machine t.machine right.machine_file right.shape m right.machine_told right.machine is
 
   the-image : (right : RunRight t) (m : Shape) (i : ImageValue) → right.shape ≡ m → (reads_image t.image m).gives i → right.image ≡ i
-  the-image right m i shape is =
-      let text : Reads m right.image_file i = rw right.image_told at is.1 in
-      text.only right.image right.image_right (right.image_shape ∙ shape) right.image_is
+  the-image right m i shape is = one-image t.image right.image_file m right.image i right.image_told (right.image_shape ∙ shape) right.image_right right.image_is is
 
   -- the rows of an image, and where its work begins
   abbrev rows : ImageValue → RowWork
