@@ -20,7 +20,7 @@ import tempfile
 sys.path.insert(0, os.path.join(os.path.dirname(os.path.abspath(__file__)), "../studies"))  # first: faults.py stands here too
 import teramac_texts as texts
 from faults import amount, count_of, make_faults
-from program import add_program, call, put
+from program import add_program, call
 
 BENCH = (2, 2, 4, 8, 24, 24, 24, 32, 32, 32, 32, 28)
 HEAD = "Faults | Number | Sound wires, crosspoints, tables listed, of 100 | Loads | Seconds of processor | Entries | Lists that cover"
@@ -31,30 +31,30 @@ def faults_of(machine, kind, rate, seed):
     if kind == "open":
         return make_faults(machine, {"open": rate}, seed)
     faults = make_faults(machine, {"open": rate, "closed": rate / 10, "wires": rate / 10}, seed)
-    chance, last = random.Random(f"mix {seed}"), machine.wire_count - 1
-    for _ in range(count_of(rate / 10, machine.wire_count, chance)):
+    chance, last = random.Random(f"mix {seed}"), machine.sizes["wire"] - 1
+    for _ in range(count_of(rate / 10, machine.sizes["wire"], chance)):
         wire = chance.randrange(last)
         faults.add("bridge", (wire, min(wire + chance.randint(1, 4), last)))
-    for table in chance.sample(range(machine.table_count), count_of(0.01, machine.table_count, chance)):
+    for table in chance.sample(range(machine.sizes["table"]), count_of(0.01, machine.sizes["table"], chance)):
         faults.add("cell", (table, chance.randrange(64)), chance.randrange(2))
     return faults
 
 
 def covers(machine, faults, defects):
     """Whether no free crosspoint or table has a fault, and no free wire is stuck, or shorted to a stuck one or to another free one."""
-    groups = [(set(group) - defects.wires, faults.stuck.isdisjoint(group)) for group in texts.short_groups(machine, faults)]
-    free = [cross for cross in faults.crosses if defects.is_free_cross(machine, cross)]
-    free += [table for table in faults.tables if defects.is_free_table(machine, table)]
-    return not free and faults.stuck <= defects.wires and all(len(left) <= (1 if clear else 0) for left, clear in groups)
+    bad = faults.parts
+    groups = [(set(group) - defects["wire"], bad["wire"].isdisjoint(group)) for group in texts.short_groups(machine, faults)]
+    free = [at for kind in texts.PARTS for at in bad[kind] if defects.is_free(machine, kind, at)]
+    return not free and all(len(left) <= (1 if clear else 0) for left, clear in groups)
 
 
 def sound_and_listed(machine, faults, defects):
     """How many wires, crosspoints and tables are sound, and then how many of each the list doesn't leave free."""
-    sound = set(range(machine.wire_count)).difference(faults.stuck, *texts.short_groups(machine, faults))
-    crosses = [c for c in set(range(machine.cross_count)) - faults.crosses if sound.issuperset(machine.ends(c))]
-    tables = [t for t in set(range(machine.table_count)) - faults.tables if sound.issuperset(machine.table_pins[t])]
-    lost = sum(not defects.is_free_cross(machine, c) for c in crosses), sum(not defects.is_free_table(machine, t) for t in tables)
-    return len(sound), len(crosses), len(tables), len(sound & defects.wires), *lost
+    bad = faults.parts
+    wires = set(range(machine.sizes["wire"])).difference(bad["wire"], *texts.short_groups(machine, faults))
+    sound = {kind: [at for at in range(machine.sizes[kind]) if at not in bad[kind] and wires.issuperset(machine.wires_of(kind, at))]
+             for kind in texts.PARTS}
+    return *map(len, sound.values()), *(sum(not defects.is_free(machine, kind, at) for at in sound[kind]) for kind in texts.PARTS)
 
 
 def rig_names(program):
@@ -86,10 +86,12 @@ def row(program, names, machine, kind, rate, seeds):
     for seed in seeds:
         faults = faults_of(machine, kind, rate / 100, seed)
         with tempfile.TemporaryDirectory() as folder:
-            files = [put(folder, "machine", machine.text), put(folder, "faults", texts.faults_text(machine, faults)), f"{folder}/defects"]
+            files = [f"{folder}/{name}" for name in ("machine", "faults", "defects")]
+            for path, text in zip(files, (machine.text, texts.faults_text(machine, faults))):
+                texts.write_new(path, text)
             taken = diagnosed(program, names, *files)
-            defects = texts.read_defects(machine, texts.read_file(files[2]))
-        entries = len(defects.wires) + len(defects.crosses) + len(defects.tables)
+            defects = texts.read_text(texts.read_defects, files[2], machine)
+        entries = sum(map(len, defects.values()))
         columns.append((*sound_and_listed(machine, faults, defects), faults.count, *taken, entries, covers(machine, faults, defects)))
     sums = [sum(column) for column in zip(*columns)]
     shares = ", ".join(f"{100 * listed / sound:.4g}" if sound else "-" for sound, listed in zip(sums[:3], sums[3:6]))
@@ -113,7 +115,7 @@ def main():
     for kind, rate in [(kind, rate) for kind in args.kinds for rate in args.rates]:
         try:
             print(row(args.program, names, machine, kind, rate, seeds), flush=True)
-        except (ValueError, texts.Refused) as error:
+        except ValueError as error:
             sys.exit(f"{kind} {rate:g} %: {error}")
 
 

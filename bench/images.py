@@ -17,6 +17,14 @@ COUNTS = (4, 2, 4, 24, 64, 64, 64, 96, 96, 96, 96, 56)
 CLOSED = 1_000_000
 
 
+def image_bytes(machine, image):
+    words = [*machine.counts, image.ticks, len(image.inputs), len(image.outputs), *image.inputs, *image.outputs, len(image.tables)]
+    parts = [b"TERAIMG1"] + [word.to_bytes(2, "big") for word in words]
+    for table, latched, initial, cells in image.tables:
+        parts.append(table.to_bytes(2, "big") + bytes([latched + 2 * initial]) + cells.to_bytes(8, "big"))
+    return b"".join(parts + [number.to_bytes(4, "big") for number in [len(image.crosses), *image.crosses]])
+
+
 def main():
     if len(sys.argv) != 2:
         sys.exit(__doc__)
@@ -29,9 +37,9 @@ def main():
         closed += [machine.cross(tap, line) for tap in node.taps]
     image = texts.Image(1, [0], [1], [], sorted(closed[:CLOSED]))
     lists = {"none": texts.Defects(), "line": texts.Defects()}
-    lists["line"].wires.add(machine.nodes[0].lines[0])
+    lists["line"]["wire"].add(machine.nodes[0].lines[0])
     (folder / "d.machine").write_text(machine.text)
-    (folder / "d.image").write_bytes(texts.image_bytes(machine, image))
+    (folder / "d.image").write_bytes(image_bytes(machine, image))
     for name, found in lists.items():
         (folder / f"{name}.defects").write_text(texts.defects_text(machine, found))
 

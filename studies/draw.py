@@ -25,89 +25,60 @@ CYCLES = 256
 
 
 class Picture:
-    """What is to be seen: for each wire, crosspoint and table a colour, or none."""
+    """What is to be seen: for each wire, crosspoint and table a colour, or none; and the shapes that show it, with their extent."""
 
-    def __init__(self, machine, faults, defects, image):
-        self.machine, self.image = machine, image
-        self.nets, self.net_of, self.names = [], {}, {}
-        if image:
-            self.nets = image.nets(machine)
-            self.net_of = {wire: k for k, net in enumerate(self.nets) for wire in net}
-        self.wires, self.crosses, self.tables = marks(machine, faults, defects)
-        self.closed = set(image.crosses) if image else set()
-        self.used = {table for table, *_ in image.tables} if image else set()
+    def __init__(self, machine, faults, defects, image, compared):
+        self.machine, self.compared = machine, compared
+        self.wires, self.crosses, self.tables = marks(machine, faults, defects, compared)
+        self.net_of, self.names = image.net_of(machine), {}
+        self.closed, self.used = set(image.crosses), {table for table, *_ in image.tables}
+        self.shapes, self.width, self.height = [], 0, 0
 
     def colour(self, net):
         red, green, blue = colorsys.hls_to_rgb(net * 0.381966 % 1, 0.42, 0.62)
         return f"#{int(red * 255):02x}{int(green * 255):02x}{int(blue * 255):02x}"
 
+    def rect(self, x, y, width, height, fill, end="/>"):
+        self.shapes.append(f'<rect x="{x}" y="{y}" width="{width}" height="{height}" fill="{fill}"{end}')
+        self.width, self.height = max(self.width, x + width), max(self.height, y + height)
 
-def marks(machine, faults, defects):
+    def text(self, x, y, text, more=""):
+        self.shapes.append(f'<text x="{x}" y="{y}"{more}>{escape(text)}</text>')
+        self.width, self.height = max(self.width, x + 6 * len(text)), max(self.height, y + 4)
+
+    def wire(self, wire, *ends):
+        """The line of a wire in the colour of its net, and its mark."""
+        path = '<path d="M{} {}L{} {}"'.format(*ends)
+        if wire in self.net_of:
+            self.shapes.append(f'{path} stroke="{self.colour(self.net_of[wire])}" stroke-width="1.6"/>')
+        if wire in self.wires:
+            self.shapes.append(f'{path} stroke="{self.wires[wire]}" stroke-width="{3 if wire not in self.net_of else 1}"/>')
+
+
+def marks(machine, faults, defects, compared):
     """The colour of each part that is faulty or listed. A crosspoint with a listed wire, and a table with a listed pin, count as listed."""
-    bad = [set(), set(), set()]
-    if faults:
-        shorted = {wire for group in texts.short_groups(machine, faults) for wire in left_over(faults, defects, group)}
-        bad = [faults.stuck | shorted, faults.crosses, faults.tables]
-    if not defects:
-        return [dict.fromkeys(part, FOUND) for part in bad]
-    listed = [defects.wires, defects.crosses, defects.tables]
-    gone = [
-        lambda wire: wire in defects.wires,
-        lambda cross: not defects.is_free_cross(machine, cross),
-        lambda table: not defects.is_free_table(machine, table),
-    ]
-    found = [{at: FOUND if is_gone(at) else MISSED for at in part} for part, is_gone in zip(bad, gone)]
-    for part, extra in zip(found, listed):
-        part.update({at: THROWN if faults else FOUND for at in extra if at not in part})
-    return found
-
-
-def left_over(faults, defects, group):
-    """The wires of a shorted group that do harm: all but the one that a list may leave free where nothing in it is stuck."""
-    free = [wire for wire in group if defects and wire not in defects.wires]
-    return set(group) - set(free) if len(free) == 1 and faults.stuck.isdisjoint(group) else group
+    bad = faults.parts
+    stuck = bad["wire"]
+    for group in map(set, texts.short_groups(machine, faults)):
+        # The one wire that a list may leave free, where nothing in the group is stuck, does no harm.
+        free = group - defects["wire"]
+        bad["wire"] = bad["wire"] | (group - free if len(free) == 1 and stuck.isdisjoint(group) else group)
+    for kind in texts.PARTS:
+        found = dict.fromkeys(defects[kind], THROWN if compared else FOUND)
+        yield found | {at: MISSED if compared and defects.is_free(machine, kind, at) else FOUND for at in bad[kind]}
 
 
 def net_names(machine, image, design):
     """A name for each net: of its input or output pin, or of the signal that has its values."""
     chance = random.Random(1)
     vectors = [[chance.randrange(2) for _ in design.inputs] for _ in range(CYCLES)]
-    nets, values = designs.image_values(machine, image, vectors)
     history, by_values = designs.design_values(design, vectors), {}
     for signal in design.outputs + design.inputs + [latch[1] for latch in design.latches] + [cover[1] for cover in design.covers]:
         by_values.setdefault(history[signal], "".join(signal))
+    values, net_of = designs.image_values(machine, image, vectors), image.net_of(machine)
     names = {k: by_values[value] for k, value in enumerate(values) if value in by_values}
-    pins = list(zip(image.outputs, design.outputs)) + list(zip(image.inputs, design.inputs))
-    of = {wire: k for k, net in enumerate(nets) for wire in net}
-    names.update({of[pin]: "".join(signal) for pin, signal in pins if pin in of})
-    return names
-
-
-class Svg:
-    """Collects shapes and their extent."""
-
-    def __init__(self):
-        self.parts, self.width, self.height = [], 0, 0
-
-    def rect(self, x, y, width, height, fill, more=""):
-        self.parts.append(f'<rect x="{x}" y="{y}" width="{width}" height="{height}" fill="{fill}"{more}/>')
-        self.width, self.height = max(self.width, x + width), max(self.height, y + height)
-
-    def line(self, ends, colour, width):
-        self.parts.append('<path d="M{} {}L{} {}"'.format(*ends) + f' stroke="{colour}" stroke-width="{width}"/>')
-
-    def dot(self, x, y, radius, colour, title):
-        shown = f"<title>{escape(title)}</title>"
-        self.parts.append(f'<circle cx="{x}" cy="{y}" r="{radius}" fill="{colour}">{shown}</circle>')
-
-    def text(self, x, y, text, more=""):
-        self.parts.append(f'<text x="{x}" y="{y}"{more}>{escape(text)}</text>')
-        self.width, self.height = max(self.width, x + 6 * len(text)), max(self.height, y + 4)
-
-    def whole(self):
-        width, height = self.width + MARGIN, self.height + MARGIN
-        head = f'<svg xmlns="http://www.w3.org/2000/svg" width="{width}" height="{height}" font-family="sans-serif" font-size="8">'
-        return "\n".join([head, '<rect width="100%" height="100%" fill="white"/><g fill="#222222">', *self.parts, "</g></svg>", ""])
+    pins = zip(image.outputs + image.inputs, design.outputs + design.inputs)
+    return names | {net_of[pin]: "".join(signal) for pin, signal in pins if pin in net_of}
 
 
 def node_size(node):
@@ -119,12 +90,12 @@ def layout(nodes, top):
     places, x, y, height, level = {}, MARGIN, top, 0, 0
     area = sum((width + GAP) * (height + GAP) for width, height in map(node_size, nodes))
     limit = max(1080, node_size(nodes[0])[0] + GAP, 1.3 * math.sqrt(area))
-    for node in sorted(nodes, key=lambda node: (node.level, node.number)):
+    for node in sorted(nodes, key=lambda node: node.level):
         width = node_size(node)[0] + GAP
         rest = width * (sum(other.level == node.level for other in nodes) if node.level != level else 1)
         if x > MARGIN and x + rest > limit + MARGIN:
             x, y, height = MARGIN, y + height + GAP, 0
-        places[node.number] = (x, y)
+        places[node.name] = (x, y)
         x, height, level = x + width, max(height, node_size(node)[1]), node.level
     return places
 
@@ -134,76 +105,54 @@ def short_name(machine, wire):
     return " ".join(machine.names[wire].rsplit(".", 2 if ".t" in machine.names[wire] else 1)[1:])
 
 
-def draw_node(svg, picture, node, x, y):
-    """A crossbar: rows of taps, columns of lines, marks, and the closed crosspoints of the nets."""
+def draw_node(picture, node, x, y):
+    """A crossbar: rows of taps with the names of their nets, columns of lines, marks, and the closed crosspoints of the nets."""
     machine, left, top = picture.machine, x + LABEL, y + GAP
-    svg.text(x, y + 10, node.name, ' font-size="11" font-weight="bold"')
+    picture.text(x, y + 10, node.name, ' font-size="11" font-weight="bold"')
     width, height = CELL * len(node.lines), CELL * len(node.taps)
-    svg.rect(left, top, width, height, "#f3f4f6", ' stroke="#c9ccd1" stroke-width="0.5"')
+    picture.rect(left, top, width, height, "#f3f4f6", ' stroke="#c9ccd1" stroke-width="0.5"/>')
     for k, wire in enumerate(node.taps):
         middle = top + CELL * k + CELL / 2
-        draw_wire(svg, picture, wire, (left, middle, left + width, middle))
-        label(svg, picture, wire, left - 3, middle + 2.5)
+        picture.wire(wire, left, middle, left + width, middle)
+        net = picture.net_of.get(wire)
+        named, colour = picture.names.get(net), "#8a8f98" if net is None else picture.colour(net)
+        words = (named if len(named) < 13 else named[:5] + ".." + named[-5:]) if named else short_name(machine, wire)
+        picture.text(left - 3, middle + 2.5, words, f' text-anchor="end" font-size="6.5" fill="{colour}"')
     for k, wire in enumerate(node.lines):
         middle = left + CELL * k + CELL / 2
-        draw_wire(svg, picture, wire, (middle, top - 3, middle, top + height))
-    for cross in sorted(picture.crosses.keys() | picture.closed):
-        if 0 <= cross - node.first < len(node.taps) * len(node.lines):
-            draw_cross(svg, picture, node, cross, left, top)
+        picture.wire(wire, middle, top - 3, middle, top + height)
+    for cross in range(node.first, node.first + len(node.taps) * len(node.lines)):
+        a, b = divmod(cross - node.first, len(node.lines))
+        across, down = left + CELL * b + CELL / 2, top + CELL * a + CELL / 2
+        if cross in picture.crosses:
+            picture.rect(across - CELL / 2, down - CELL / 2, CELL, CELL, picture.crosses[cross])
+        if cross in picture.closed:
+            net = picture.net_of[node.taps[a]]
+            title = escape(f"{machine.name('cross', cross)} {picture.names.get(net, '')}".strip())
+            picture.shapes.append(f'<circle cx="{across}" cy="{down}" r="2.6" fill="{picture.colour(net)}"><title>{title}</title></circle>')
     for k, table in enumerate(node.tables):
         first = top + CELL * (len(node.taps) - 7 * (len(node.tables) - k))
         colour = picture.tables.get(table) or ("#3b6fb6" if table in picture.used else "#dfe3ea")
-        svg.rect(left + width + 3, first + 1, 5, 7 * CELL - 2, colour)
-        svg.parts[-1] = svg.parts[-1].replace("/>", f"><title>{machine.table_names[table]}</title></rect>")
+        picture.rect(left + width + 3, first + 1, 5, 7 * CELL - 2, colour, f"><title>{machine.table_names[table]}</title></rect>")
 
 
-def draw_wire(svg, picture, wire, ends):
-    if wire in picture.net_of:
-        svg.line(ends, picture.colour(picture.net_of[wire]), 1.6)
-    if wire in picture.wires:
-        svg.line(ends, picture.wires[wire], 3 if wire not in picture.net_of else 1)
-
-
-def draw_cross(svg, picture, node, cross, left, top):
-    a, b = divmod(cross - node.first, len(node.lines))
-    x, y = left + CELL * b + CELL / 2, top + CELL * a + CELL / 2
-    name = picture.machine.cross_name(cross)
-    if cross in picture.crosses:
-        svg.rect(round(x - CELL / 2, 1), round(y - CELL / 2, 1), CELL, CELL, picture.crosses[cross])
-    if cross in picture.closed:
-        net = picture.net_of[node.taps[a]]
-        svg.dot(x, y, 2.6, picture.colour(net), f"{name} {picture.names.get(net, '')}".strip())
-
-
-def label(svg, picture, wire, x, y):
-    """The name of a net at the tap, or that of the tap."""
-    net = picture.net_of.get(wire)
-    named = picture.names.get(net)
-    colour = picture.colour(net) if net is not None else "#8a8f98"
-    words = (named if len(named) < 13 else named[:5] + ".." + named[-5:]) if named else short_name(picture.machine, wire)
-    svg.text(x, y, words, f' text-anchor="end" font-size="6.5" fill="{colour}"')
-
-
-def legend(svg, picture, compared):
-    """What the colours say; the height that it takes."""
-    x = MARGIN
+def svg_text(picture, level):
+    """The picture of the nodes of a level, or of all, below what the colours say."""
+    x, nets = MARGIN, len(set(picture.net_of.values()))
     for colour, words in MARKS.items():
-        if compared or colour == FOUND:
-            svg.rect(x, MARGIN - 7, 9, 9, colour)
-            svg.text(x + 13, MARGIN, words if compared else "faulty or listed")
+        if picture.compared or colour == FOUND:
+            picture.rect(x, MARGIN - 7, 9, 9, colour)
+            picture.text(x + 13, MARGIN, words if picture.compared else "faulty or listed")
             x += 150
-    if picture.nets:
-        svg.text(x, MARGIN, f"{len(picture.nets)} nets in their colours; dots are closed crosspoints, blue bars switched-on tables")
-    return MARGIN + 14
-
-
-def svg_text(picture, compared, level):
-    svg = Svg()
+    if nets:
+        picture.text(x, MARGIN, f"{nets} nets in their colours; dots are closed crosspoints, blue bars switched-on tables")
     nodes = [node for node in picture.machine.nodes if level in (None, texts.LEVELS[node.level])]
-    places = layout(nodes, legend(svg, picture, compared))
+    places = layout(nodes, MARGIN + 14)
     for node in nodes:
-        draw_node(svg, picture, node, *places[node.number])
-    return svg.whole()
+        draw_node(picture, node, *places[node.name])
+    width, height = picture.width + MARGIN, picture.height + MARGIN
+    head = f'<svg xmlns="http://www.w3.org/2000/svg" width="{width}" height="{height}" font-family="sans-serif" font-size="8">'
+    return "\n".join([head, '<rect width="100%" height="100%" fill="white"/><g fill="#222222">', *picture.shapes, "</g></svg>", ""])
 
 
 def node_text(picture, name):
@@ -215,8 +164,7 @@ def node_text(picture, name):
     letters, rows = {FOUND: "#", MISSED: "!", THROWN: "~"}, []
     for a, tap in enumerate(node.taps):
         row = ""
-        for b, line in enumerate(node.lines):
-            cross = node.first + a * len(node.lines) + b
+        for cross, line in enumerate(node.lines, node.first + a * len(node.lines)):
             colour = picture.crosses.get(cross) or picture.wires.get(tap) or picture.wires.get(line)
             row += "o" if cross in picture.closed else letters.get(colour, ".")
         net = picture.net_of.get(tap)
@@ -238,17 +186,16 @@ def main():
     add_program(parser)
     args = parser.parse_args()
     machine = texts.read_text(texts.read_machine, args.machine)
-    faults = texts.read_text(texts.read_faults, args.faults, machine) if args.faults else None
-    defects = texts.read_text(texts.read_defects, args.defects, machine) if args.defects else None
-    image = texts.read_text(texts.read_image, args.image, machine) if args.image else None
-    picture = Picture(machine, faults, defects, image)
-    if args.design and image:
+    faults = texts.read_text(texts.read_faults, args.faults, machine) if args.faults else texts.Faults()
+    defects = texts.read_text(texts.read_defects, args.defects, machine) if args.defects else texts.Defects()
+    image = texts.read_text(texts.read_image, args.image, machine) if args.image else texts.Image(1, [], [], [], [])
+    picture = Picture(machine, faults, defects, image, args.faults is not None and args.defects is not None)
+    if args.design and args.image:
         design = checked_design(args.program, args.design)
         if (len(design.inputs), len(design.outputs)) != (len(image.inputs), len(image.outputs)):
             sys.exit(f"{args.image}: its inputs and outputs aren't as many as the design's")
         picture.names = net_names(machine, image, design)
-    compared = faults is not None and defects is not None
-    texts.write_new(args.output, node_text(picture, args.text) if args.text else svg_text(picture, compared, args.level))
+    texts.write_new(args.output, node_text(picture, args.text) if args.text else svg_text(picture, args.level))
 
 
 if __name__ == "__main__":

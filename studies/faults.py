@@ -9,16 +9,16 @@ import sys
 import teramac_texts as texts
 
 KINDS = {
-    "open": "crosspoints that never conduct",
-    "closed": "crosspoints that always conduct",
-    "wires": "stuck wires, half of them at 0 and half at 1",
-    "stuck0": "wires stuck at 0",
-    "stuck1": "wires stuck at 1",
-    "cells": "wrong cells of tables",
-    "registers": "stuck registers of tables",
-    "bridges": "pairs of wires joined for good, by the wires of the machine",
+    "open": ("cross", "crosspoints that never conduct"),
+    "closed": ("cross", "crosspoints that always conduct"),
+    "wires": ("wire", "stuck wires, half of them at 0 and half at 1"),
+    "stuck0": ("wire", "wires stuck at 0"),
+    "stuck1": ("wire", "wires stuck at 1"),
+    "cells": ("table", "wrong cells of tables"),
+    "registers": ("table", "stuck registers of tables"),
+    "bridges": ("wire", "pairs of wires joined for good, by the wires of the machine"),
 }
-TRIES = 200
+TRIES = 12_800
 
 
 def amount(word):
@@ -48,81 +48,62 @@ def count_of(wanted, parts, chance):
 
 
 class Places:
-    """Chooses parts: each alike, or near the middle of one of some clusters."""
+    """Chooses what is faulty: each part alike, or near the middle of one of some clusters."""
 
     def __init__(self, machine, chance, clustered):
-        self.machine, self.chance, self.clustered = machine, chance, clustered
-        self.middles = {}
+        self.machine, self.chance, self.clustered, self.middles = machine, chance, clustered, {}
 
     def near(self, parts, at, spread):
         return min(max(round(self.chance.gauss(at, spread)), 0), parts - 1)
 
-    def middle(self, group, parts, count):
-        """The middle of one of the clusters of a group of parts, each made when it is first wanted."""
+    def part(self, group, count):
+        """A wire, crosspoint or table, of so many; a cluster of crosspoints is a spot of a crossbar."""
+        parts = self.machine.sizes[group]
+        if not self.clustered:
+            return self.chance.randrange(parts)
         clusters = max(1, round(count / self.clustered))
-        made = self.middles.setdefault(group, [self.chance.randrange(parts) for _ in range(clusters)])
-        return self.chance.choice(made)
-
-    def number(self, group, parts, count):
-        """A wire or a table."""
-        if not self.clustered:
-            return self.chance.randrange(parts)
-        return self.near(parts, self.middle(group, parts, count), self.clustered)
-
-    def cross(self, count):
-        """A crosspoint; a cluster is a spot of a crossbar."""
-        parts = self.machine.cross_count
-        if not self.clustered:
-            return self.chance.randrange(parts)
-        at = self.middle("cross", parts, count)
-        node, spread = self.machine.node_of_cross(at), math.sqrt(self.clustered)
-        tap, line = divmod(at - node.first, len(node.lines))
+        middle = self.chance.choice(self.middles.setdefault(group, [self.chance.randrange(parts) for _ in range(clusters)]))
+        if group != "cross":
+            return self.near(parts, middle, self.clustered)
+        node, spread = self.machine.node_of_cross(middle), math.sqrt(self.clustered)
+        tap, line = divmod(middle - node.first, len(node.lines))
         tap = self.near(len(node.taps), tap, spread)
         return node.first + tap * len(node.lines) + self.near(len(node.lines), line, spread)
 
-
-def one_fault(machine, kind, places, chance, count):
-    """A fault of a kind as `Faults.add` takes it."""
-    if kind in ("open", "closed"):
-        return kind, places.cross(count), 1
-    if kind in ("cells", "registers"):
-        table, value = places.number("table", machine.table_count, count), chance.randrange(2)
-        return ("cell", (table, chance.randrange(64)), value) if kind == "cells" else ("register", table, value)
-    wire = places.number("wire", machine.wire_count, count)
-    if kind == "bridges":
-        other = places.number("wire", machine.wire_count, count)
-        return ("bridge", tuple(sorted((wire, other))), 1) if other != wire else None
-    return {"wires": chance.choice(("stuck0", "stuck1"))}.get(kind, kind), wire, 1
+    def fault(self, kind, count):
+        """A fault of a kind as `Faults.add` takes it; none for a wire drawn twice."""
+        at = self.part(KINDS[kind][0], count)
+        if kind in ("open", "closed"):
+            return kind, at, 1
+        if kind in ("cells", "registers"):
+            value = self.chance.randrange(2)
+            return ("cell", (at, self.chance.randrange(64)), value) if kind == "cells" else ("register", at, value)
+        if kind == "bridges":
+            ends = sorted((at, self.part("wire", count)))
+            return ("bridge", tuple(ends), 1) if ends[0] != ends[1] else None
+        return {"wires": self.chance.choice(("stuck0", "stuck1"))}.get(kind, kind), at, 1
 
 
 def make_faults(machine, amounts, seed, clustered=0):
     """Faults of the kinds that `amounts` names; the same seed gives the same faults."""
     chance, faults = random.Random(seed), texts.Faults()
     places = Places(machine, chance, clustered)
-    parts = {"open": machine.cross_count, "closed": machine.cross_count, "cells": 64 * machine.table_count}
-    parts["registers"] = machine.table_count
     for kind, wanted in amounts.items():
-        count = count_of(wanted, parts.get(kind, machine.wire_count), chance)
+        count = count_of(wanted, machine.sizes[KINDS[kind][0]] * (64 if kind == "cells" else 1), chance)
         if faults.count + count > texts.FAULT_LIMIT:
             raise ValueError(f"{kind}: {count} faults, and a fault file holds at most {texts.FAULT_LIMIT} in all")
         for _ in range(count):
-            put_one(machine, kind, places, chance, count, faults)
+            # What stands there already or against another is drawn anew.
+            drawn = (places.fault(kind, count) for _ in range(TRIES))
+            if not any(fault and faults.add(*fault) is None for fault in drawn):
+                raise ValueError(f"{kind}: {count} are too many for this machine" + (" in clusters so dense" if clustered else ""))
     return faults
-
-
-def put_one(machine, kind, places, chance, count, faults):
-    """Puts one more fault in; draws anew what stands there already or against another."""
-    for _ in range(TRIES * 64):
-        fault = one_fault(machine, kind, places, chance, count)
-        if fault and faults.add(*fault) is None:
-            return
-    raise ValueError(f"{kind}: {count} are too many for this machine" + (" in clusters so dense" if places.clustered else ""))
 
 
 def main():
     parser = argparse.ArgumentParser(description=__doc__, epilog="AMOUNT is a rate (0.01 or 1%%: each part by itself) or a count (12).")
     parser.add_argument("machine", help="the machine's file")
-    for kind, help_text in KINDS.items():
+    for kind, (_, help_text) in KINDS.items():
         parser.add_argument(f"--{kind}", metavar="AMOUNT", type=amount, help=help_text)
     parser.add_argument("--clustered", metavar="SIZE", type=float, default=0, help="in clusters of about SIZE faults (default: uniform)")
     parser.add_argument("--seed", type=int, default=1, help="the same seed gives the same file (default: 1)")

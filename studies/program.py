@@ -4,7 +4,9 @@ import math
 import os
 import subprocess
 import sys
+import tempfile
 import time
+from pathlib import Path
 
 import teramac_texts as texts
 
@@ -39,17 +41,23 @@ class Answer:
 
 
 def call(program, *words, seconds=None):
-    """Runs the program on these words, for at most so many seconds."""
-    start = time.monotonic()
-    try:
-        ran = subprocess.run([program, *map(str, words)], capture_output=True, timeout=seconds, check=False)
-    except subprocess.TimeoutExpired as cut:
-        return Answer(-1, cut.stdout or b"", time.monotonic() - start)
-    except OSError as error:
-        sys.exit(f"{program}: {error.strerror}; build it by 'rt run' in crates/teramac, or name it by --program")
+    """Runs the program on these words, for at most so many seconds; bytes among them become a file that holds them."""
+    with tempfile.TemporaryDirectory() as folder:
+        files = {k: Path(folder, str(k)) for k, word in enumerate(words) if isinstance(word, bytes)}
+        for k, path in files.items():
+            path.write_bytes(words[k])
+        words = [str(files.get(k, word)) for k, word in enumerate(words)]
+        start = time.monotonic()
+        try:
+            ran = subprocess.run([program, *words], capture_output=True, timeout=seconds, check=False)
+        except subprocess.TimeoutExpired as cut:
+            return Answer(-1, cut.stdout or b"", time.monotonic() - start)
+        except OSError as error:
+            sys.exit(f"{program}: {error.strerror}; build it by 'rt run' in crates/teramac, or name it by --program")
+        taken = time.monotonic() - start
     if ran.returncode < 0:
-        sys.exit(f"{program} {' '.join(map(str, words))}: ended by signal {-ran.returncode}")
-    return Answer(ran.returncode, ran.stdout, time.monotonic() - start)
+        sys.exit(f"{program} {' '.join(words)}: ended by signal {-ran.returncode}")
+    return Answer(ran.returncode, ran.stdout, taken)
 
 
 def checked_design(program, path):
@@ -62,14 +70,6 @@ def checked_design(program, path):
 
 def add_program(parser):
     parser.add_argument("--program", default=DEFAULT, help="the built teramac (default: %(default)s, or $TERAMAC)")
-
-
-def put(folder, name, data):
-    """Writes a file into a folder of the script's own; gives its path."""
-    path = os.path.join(folder, name)
-    with open(path, "wb") as file:
-        file.write(data if isinstance(data, bytes) else data.encode("utf-8", "surrogateescape"))
-    return path
 
 
 def wilson(hits, tries, z=1.959964):

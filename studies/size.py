@@ -8,12 +8,11 @@ With --rate it is tried how much must be spare so that the design fits with prob
 import argparse
 import math
 import sys
-import tempfile
 
 import designs
 import teramac_texts as texts
 from faults import KINDS, amount, make_faults
-from program import add_program, call, checked_design, put, wilson
+from program import add_program, call, checked_design, wilson
 
 TREES = [(m, c, h) for m in (1, 2, 4) for c in (1, 2, 4) for h in (1, 2, 4, 8)]
 STEP, MOST_SPARE = 0.05, 3.0
@@ -26,9 +25,8 @@ def spared(count, spare):
 def counts_for(network, tree, spare):
     """The counts of a machine on this tree with what the plan wants and so much to spare."""
     tables = -(-spared(len(network.tables), spare) // math.prod(tree))
-    ports, lines = designs.needs(network, *tree, tables)
-    pins = network.inputs + len(network.outputs)
-    return (*tree, tables, *(spared(count, spare) for count in [*ports, *lines, pins]))
+    wanted = [*designs.needs(network, *tree, tables), network.inputs + len(network.outputs)]
+    return (*tree, tables, *(spared(count, spare) for count in wanted))
 
 
 def best_machine(network, trees, spare):
@@ -37,32 +35,24 @@ def best_machine(network, trees, spare):
     found = [texts.Machine(counts) for counts in found if texts.are_within_limits(counts)]
     if not found:
         sys.exit("no machine within the limits (16,384 wires, 4,194,304 crosspoints, 4,096 tables) holds this design")
-    return min(found, key=lambda machine: machine.cross_count)
+    return min(found, key=lambda machine: machine.sizes["cross"])
 
 
-def compiles(program, machine, defects, design, folder):
+def compiles(program, machine, defects, design):
     """What compile says of the design on this machine with this list."""
-    list_file = put(folder, "defects", texts.defects_text(machine, defects))
-    return call(program, "compile", put(folder, "machine", machine.text), list_file, design)
+    return call(program, "compile", machine.text.encode(), texts.defects_text(machine, defects).encode(), design)
 
 
-def share_that_fits(args, machine, amounts, folder):
-    """Of so many fault sets how many leave room, by the exact list."""
-    fits = 0
-    for seed in range(args.seed, args.seed + args.trials):
-        defects = texts.exact_list(machine, make_faults(machine, amounts, seed))
-        fits += compiles(args.program, machine, defects, args.design, folder).status == 0
-        if seed - args.seed + 1 - fits > args.trials * 0.05:
-            break
-    return fits
-
-
-def with_faults(args, network, trees, folder):
-    """The first machine, with more and more to spare, on which 95 of 100 fault sets leave room."""
+def with_faults(args, network, trees):
+    """The first machine, with more and more to spare, on which by the exact lists 95 of 100 fault sets leave room."""
     spare, amounts = args.spare, {kind: args.rate for kind in args.kinds.split(",")}
     while spare <= MOST_SPARE:
-        machine = best_machine(network, trees, spare)
-        fits = share_that_fits(args, machine, amounts, folder)
+        machine, fits = best_machine(network, trees, spare), 0
+        for tried in range(args.trials):
+            defects = texts.exact_list(machine, make_faults(machine, amounts, args.seed + tried))
+            fits += compiles(args.program, machine, defects, args.design).status == 0
+            if tried + 1 - fits > args.trials * 0.05:
+                break
         if fits >= args.trials * 0.95:
             low, high = wilson(fits, args.trials)
             print(f"spare {spare:.0%}: {fits} of {args.trials} fit (95 % interval {low:.2f} to {high:.2f})", file=sys.stderr)
@@ -92,9 +82,8 @@ def main():
     if not set(args.kinds.split(",")) <= set(KINDS) or args.trials < 1:
         sys.exit(f"--kinds: some of {', '.join(KINDS)}; --trials: at least 1")
     network = designs.plain_network(checked_design(args.program, args.design))
-    with tempfile.TemporaryDirectory() as folder:
-        machine = with_faults(args, network, trees, folder) if args.rate else best_machine(network, trees, args.spare)
-        answer = compiles(args.program, machine, texts.Defects(), args.design, folder)
+    machine = with_faults(args, network, trees) if args.rate else best_machine(network, trees, args.spare)
+    answer = compiles(args.program, machine, texts.Defects(), args.design)
     if answer.status:
         sys.exit(f"compile of the design on this machine: {' '.join(answer.refusal)}")
     texts.write_new(args.output, machine.text)

@@ -8,13 +8,13 @@ rows that differ end the script with status 1, and a study with it.
 
 import argparse
 import csv
+import io
 import os
 import sys
-import tempfile
 
 import teramac_texts as texts
 from faults import KINDS, amount, make_faults
-from program import REPORT, add_program, call, put
+from program import REPORT, add_program, call
 
 COLUMNS = (
     "machine crosspoints kind rate seed faults design list status refusal listed_wires listed_crosses listed_tables "
@@ -23,45 +23,42 @@ COLUMNS = (
 
 
 class Trial:
-    """The files of one set of faults, and what is the same in all its rows."""
+    """One set of faults, and what is the same in all its rows."""
 
-    def __init__(self, args, folder):
-        self.args, self.folder = args, folder
+    def __init__(self, args):
+        self.args = args
         self.machine = texts.read_text(texts.read_machine, args.machine)
         self.faults = make_faults(self.machine, {args.kind: args.rate}, args.seed, args.clustered)
-        self.fault_file = self.put("faults", texts.faults_text(self.machine, self.faults))
+        self.fault_text = texts.faults_text(self.machine, self.faults).encode()
         name = os.path.splitext(os.path.basename(args.machine))[0]
-        given = (name, self.machine.cross_count, args.kind, args.rate, args.seed, self.faults.count)
+        given = (name, self.machine.sizes["cross"], args.kind, args.rate, args.seed, self.faults.count)
         self.head = dict(zip(COLUMNS, given))
-
-    def put(self, name, data):
-        return put(self.folder, name, data)
 
     def call(self, *words):
         return call(self.args.program, *words, seconds=self.args.seconds)
 
-    def row(self, design, kind, defects, answer, **more):
+    def row(self, design, kind, listed, answer, **more):
         """A row of the table about one design on one list."""
-        found = texts.Defects() if defects is None else defects
-        thrown = texts.sound_listed(self.machine, self.faults, found)
-        numbers = (len(found.wires), len(found.crosses), len(found.tables), *thrown)
-        return {
+        row = {
             **self.head,
             "design": os.path.splitext(os.path.basename(design))[0],
             "list": kind,
             "status": "cut off" if answer.status < 0 else answer.status,
             "refusal": " ".join(answer.refusal[1:3]),
-            **dict(zip(COLUMNS[10:16], numbers if defects is not None else [""] * 6)),
             "seconds": round(answer.seconds, 3),
             **more,
         }
+        if listed:
+            defects = texts.read_defects(self.machine, listed)
+            thrown = texts.sound_listed(self.machine, self.faults, defects)
+            row |= zip(COLUMNS[10:16], (*map(len, defects.values()), *thrown))
+        return row
 
     def shape_of(self, image):
         """Tables, nets, crossings and closed crosspoints of an image."""
         found = texts.read_image(self.machine, image)
-        nets = found.nets(self.machine)
-        ports = {wire for node in self.machine.nodes for wire in node.ports}
-        sizes = len(found.tables), len(nets), sum(wire in ports for net in nets for wire in net), len(found.crosses)
+        nets, ports = found.net_of(self.machine), {wire for node in self.machine.nodes for wire in node.ports}
+        sizes = len(found.tables), len(set(nets.values())), len(ports & nets.keys()), len(found.crosses)
         return dict(zip(("tables", "nets", "crossings", "closed"), sizes))
 
     def compared(self, answer, design, vectors):
@@ -70,16 +67,16 @@ class Trial:
             want = self.call("eval", design, vectors)
             if want.status == 0 and want.rows != answer.rows:
                 kept = f"wrong-{os.path.basename(design)}-{self.args.kind}-{self.args.rate}-{self.args.seed}.faults"
-                texts.write_new(kept, texts.read_file(self.fault_file))
+                texts.write_new(kept, self.fault_text)
                 sys.exit(f"{design}: the rows are not those of eval; the faults are in {kept}")
         return answer
 
-    def laid(self, list_file, design, vectors):
+    def laid(self, listed, design, vectors):
         """compile and run on a list; the answer with the seconds of both, and the image's sizes where there is one."""
-        image = self.call("compile", self.args.machine, list_file, design)
+        image = self.call("compile", self.args.machine, listed, design)
         if image.status:
             return image, {}
-        ran = self.call("run", self.args.machine, self.fault_file, self.put("image", image.written), vectors)
+        ran = self.call("run", self.args.machine, self.fault_text, image.written, vectors)
         ran.seconds += image.seconds
         return self.compared(ran, design, vectors), self.shape_of(image.written)
 
@@ -87,37 +84,33 @@ class Trial:
         """The loads of a diagnosis, by the program of reports; none without it."""
         if not self.args.report:
             return {}
-        answer = call(self.args.report, self.args.machine, self.fault_file, seconds=self.args.seconds)
+        answer = call(self.args.report, self.args.machine, self.fault_text, seconds=self.args.seconds)
         line = [words[-1] for words in map(bytes.split, answer.written.splitlines()) if words[:1] == [b"diagnosis"]]
         return {"loads": int(line[0])} if answer.status == 0 and line else {}
 
     def rows(self):
-        exact = texts.exact_list(self.machine, self.faults)
-        exact_file = self.put("exact", texts.defects_text(self.machine, exact))
+        listed = texts.defects_text(self.machine, texts.exact_list(self.machine, self.faults)).encode()
         for design, vectors in self.args.designs:
-            answer, sizes = self.laid(exact_file, design, vectors)
-            yield self.row(design, "exact", exact, answer, **sizes)
-        diagnosed = self.call("diagnose", self.args.machine, self.fault_file) if self.args.steps else None
+            answer, sizes = self.laid(listed, design, vectors)
+            yield self.row(design, "exact", listed, answer, **sizes)
+        diagnosed = self.call("diagnose", self.args.machine, self.fault_text) if self.args.steps else None
         loads = self.loads()
         for design, vectors in self.args.designs:
             yield {**self.by_diagnosis(diagnosed, design, vectors), **loads}
 
     def by_diagnosis(self, diagnosed, design, vectors):
         """One row by the tool's own list."""
-        if diagnosed:
-            if diagnosed.status:
-                return self.row(design, "diagnosed", None, diagnosed)
-            answer, sizes = self.laid(self.put("defects", diagnosed.written), design, vectors)
-            answer.seconds += diagnosed.seconds
-            found = texts.read_defects(self.machine, diagnosed.written)
-            return self.row(design, "diagnosed", found, answer, diagnose_seconds=round(diagnosed.seconds, 3), **sizes)
-        answer = self.compared(self.call("go", self.args.machine, self.fault_file, design, vectors), design, vectors)
+        answer = diagnosed or self.compared(self.call("go", self.args.machine, self.fault_text, design, vectors), design, vectors)
         if answer.status not in (0, 3):
             return self.row(design, "diagnosed", None, answer)
-        sizes = {}
-        if answer.status == 0:
-            sizes = self.shape_of(self.call("compile", self.args.machine, self.put("defects", answer.defects), design).written)
-        return self.row(design, "diagnosed", texts.read_defects(self.machine, answer.defects), answer, **sizes)
+        listed, more = answer.defects, {}
+        if diagnosed:
+            answer, more = self.laid(listed, design, vectors)
+            answer.seconds += diagnosed.seconds
+            more["diagnose_seconds"] = round(diagnosed.seconds, 3)
+        elif answer.status == 0:
+            more = self.shape_of(self.call("compile", self.args.machine, listed, design).written)
+        return self.row(design, "diagnosed", listed, answer, **more)
 
 
 def pair(word):
@@ -142,16 +135,15 @@ def main():
     parser.add_argument("-o", "--output", default="-", help="a new file (default: standard output)")
     add_program(parser)
     args = parser.parse_args()
-    with tempfile.TemporaryDirectory() as folder, open(os.path.join(folder, "csv"), "w+", encoding="utf-8", newline="") as file:
-        try:
-            rows = list(Trial(args, folder).rows())
-        except ValueError as error:
-            sys.exit(f"{args.machine}: {error}")
-        writer = csv.DictWriter(file, COLUMNS, lineterminator="\n", restval="")
-        writer.writeheader()
-        writer.writerows(rows)
-        file.seek(0)
-        texts.write_new(args.output, file.read())
+    try:
+        rows = list(Trial(args).rows())
+    except ValueError as error:
+        sys.exit(f"{args.machine}: {error}")
+    table = io.StringIO()
+    writer = csv.DictWriter(table, COLUMNS, lineterminator="\n", restval="")
+    writer.writeheader()
+    writer.writerows(rows)
+    texts.write_new(args.output, table.getvalue())
 
 
 if __name__ == "__main__":

@@ -1,0 +1,215 @@
+"""Tests with the built program ($TERAMAC or the default): python3 -m unittest.
+
+The readers and writers on random files, and the scripts by their command lines: what they write, what they refuse,
+and that they write over nothing.
+"""
+
+import os
+import random
+import subprocess
+import sys
+import tempfile
+import unittest
+
+import designs
+import teramac_texts as texts
+from faults import KINDS, make_faults
+from program import DEFAULT, HERE, call, wilson
+from size import compiles, counts_for
+
+sys.path.append(os.path.join(HERE, "../bench"))
+from images import image_bytes  # noqa: E402
+
+EXAMPLES = os.path.normpath(os.path.join(HERE, "../examples"))
+TURNS = int(os.environ.get("TURNS", "60"))
+
+
+def random_machine(chance, most=3):
+    counts = [chance.randint(1, 2) for _ in range(3)] + [chance.randint(1, most)]
+    return texts.Machine(tuple(counts + [chance.randint(1, 5) for _ in range(7)] + [chance.randint(2, 6)]))
+
+
+def random_blif(chance, inputs=3, covers=5, latches=2):
+    """A design whose covers read inputs, latches and covers before them; some of it in a model of its own."""
+    known = [f"x{k}" for k in range(inputs)] + [f"s{k}" for k in range(latches)]
+    lines = [".model top", ".inputs " + " ".join(known[:inputs])]
+    for k in range(covers):
+        names = [chance.choice(known) for _ in range(chance.randint(0, 8))]
+        last = chance.choice("01")
+        rows = {"".join(chance.choice("01-") for _ in names) for _ in range(chance.randint(0, 3))}
+        lines += [f".names {' '.join(names)} c{k}"] + [f"{row} {last}".strip() for row in sorted(rows)]
+        known.append(f"c{k}")
+    for k in range(latches):
+        lines.append(f".latch {chance.choice(known)} s{k} {chance.randint(0, 3)}")
+    pair = [chance.choice(known), chance.choice(known)]
+    lines += [f".subckt half a={pair[0]} b={pair[1]} q=sum", f".outputs {chance.choice(known)} \\", "  sum " + known[-1], ".end"]
+    return "\n".join(lines + [".model half", ".inputs a b", ".outputs q", ".names a b q", "10 1", "01 1", ".latch q t 1", ".end", ""])
+
+
+def mutated(chance, data):
+    """The text with a line or a word of it gone, doubled, or another."""
+    lines = data.split("\n")
+    at = chance.randrange(len(lines))
+    if chance.randrange(3) == 0:
+        lines[at : at + 1] = chance.choice([[], [chance.choice(lines), lines[at]]])
+    else:
+        words = lines[at].split(" ")
+        k = chance.randrange(len(words))
+        other = [chance.choice(chance.choice(lines).split(" ") + ["0", "01", "64", "65536", "m0.o0", "\x0b", "wire"])]
+        more = [chance.choice(["1", "r.l0", "#", "end", "", "\t"])]
+        words[k : k + 1] = chance.choice([[], other, other, more + words[k : k + 1], words[k : k + 1] + more])
+        lines[at] = " ".join(words)
+    return "\n".join(lines)
+
+
+def rows_of(words):
+    """Rows of bits from words of twenty bits, whose highest is of the first row."""
+    return ["".join(row).encode() for row in zip(*(f"{word:020b}" for word in words))]
+
+
+class Studies(unittest.TestCase):
+    def setUp(self):
+        self.chance, folder = random.Random(self.id()), tempfile.TemporaryDirectory()
+        self.addCleanup(folder.cleanup)
+        self.out = os.path.join(folder.name, "out")
+
+    def alike(self, file, data, words, *before):
+        """What the reader makes of a file, which it refuses by the same line as the program called by these words, or not at all."""
+        wrong, found = "", None
+        try:
+            found = getattr(texts, f"read_{file}")(*before, data)
+        except texts.Refused as refusal:
+            wrong = str(refusal)
+        said = " ".join(call(DEFAULT, *words).refusal)
+        self.assertEqual(wrong, said if said.startswith(f"refused {file} ") else "")
+        return found
+
+    def test_texts(self):
+        """What is written is read the same, and taken; with a change both sides refuse it alike, or neither does."""
+        design = b".model m\n.outputs f\n.names f\n1\n"
+        for _ in range(TURNS):
+            machine = random_machine(self.chance)
+            amounts = {kind: self.chance.randrange(min(3, machine.sizes["table"] + 1)) for kind in KINDS}
+            faults = make_faults(machine, amounts, self.chance.random(), self.chance.choice([0, 3]))
+            given = machine.text.encode(), texts.faults_text(machine, faults).encode()
+            found = call(DEFAULT, "diagnose", *given).defects
+            self.assertEqual(texts.read_machine(given[0]).counts, machine.counts)
+            self.assertEqual(texts.read_faults(machine, given[1]), faults)
+            self.assertEqual(texts.defects_text(machine, texts.read_defects(machine, found)).encode(), found)
+            for list_ in (texts.read_defects(machine, found), texts.exact_list(machine, faults)):
+                text = texts.defects_text(machine, list_).encode()
+                self.assertEqual(self.alike("defects", text, ("compile", given[0], text, design), machine), list_)
+            data = [mutated(self.chance, text.decode()).encode() for text in (*given, found)]
+            self.alike("machine", data[0], ("diagnose", data[0], "no-such-file"))
+            self.alike("faults", data[1], ("diagnose", given[0], data[1]), machine)
+            self.alike("defects", data[2], ("compile", given[0], data[2], design), machine)
+
+    def test_designs_and_images(self):
+        machine, seen = texts.Machine((1, 2, 2, 5, 24, 24, 24, 30, 30, 30, 30, 12)), 0
+        for _ in range(TURNS // 3):
+            data = random_blif(self.chance).encode()
+            vectors = [[self.chance.randrange(2) for _ in range(3)] for _ in range(20)]
+            rows = "".join(f"{a}{b}{c}\n" for a, b, c in vectors).encode()
+            design, want = texts.read_design(data), call(DEFAULT, "eval", data, rows)
+            self.assertEqual(want.status, 0, data)
+            values = designs.design_values(design, vectors)
+            self.assertEqual(rows_of([values[signal] for signal in design.outputs]), want.rows)
+            image = compiles(DEFAULT, machine, texts.Defects(), data)
+            if image.status == 0:
+                seen += 1
+                self.image(machine, image.written, vectors, rows, want.rows)
+        self.assertGreater(seen, TURNS // 6)
+
+    def image(self, machine, data, vectors, rows, want):
+        """The bytes are read and written the same; the values of the nets are the rows; changed bytes are refused alike."""
+        image = texts.read_image(machine, data)
+        self.assertEqual(image_bytes(machine, image), data)
+        values, net_of = designs.image_values(machine, image, vectors), image.net_of(machine)
+        # A pin that is joined to nothing reads 1.
+        self.assertEqual(rows_of([values[net_of[pin]] if pin in net_of else 2**20 - 1 for pin in image.outputs]), want)
+        for _ in range(4):
+            changed, at = bytearray(data), self.chance.randrange(len(data))
+            changed[at] = self.chance.choice([0, 1, changed[at] ^ 1, 255])
+            changed = bytes(changed[: self.chance.choice([len(data), at])]) + self.chance.choice([b"", b"", b"x"])
+            self.alike("image", changed, ("run", machine.text.encode(), b"", changed, rows), machine)
+
+    def test_needs(self):
+        """A machine of just what the plan wants has room; with one line or port less the program says these very numbers."""
+        for _ in range(TURNS // 3):
+            data = random_blif(self.chance, covers=self.chance.randint(2, 12)).encode()
+            network = designs.plain_network(texts.read_design(data))
+            counts = list(counts_for(network, [self.chance.randint(1, 2) for _ in range(3)], 0))
+            self.assertEqual(compiles(DEFAULT, texts.Machine(counts), texts.Defects(), data).status, 0)
+            at = self.chance.choice([k for k in range(4, 11) if counts[k] > 1])
+            need, counts[at] = counts[at], counts[at] - 1
+            refusal = compiles(DEFAULT, texts.Machine(counts), texts.Defects(), data).refusal
+            self.assertEqual(refusal[:3], ["refused", "noroom", "ports" if at < 7 else "lines"])
+            self.assertIn(refusal[4:6], [[str(need), str(need - 1)]])
+
+    def script(self, name, *words):
+        words = [os.path.join(EXAMPLES, word) if os.path.exists(os.path.join(EXAMPLES, word)) else word for word in words]
+        return subprocess.run([sys.executable, os.path.join(HERE, name), *words], capture_output=True, text=True, check=False)
+
+    def test_writes_over_nothing(self):
+        for words in (("faults.py", "tiny.machine"), ("size.py", "and.blif"), ("draw.py", "tiny.machine")):
+            self.assertEqual(self.script(*words, "-o", self.out).returncode, 0)
+            again = self.script(*words, "-o", self.out)
+            self.assertIn("stands there already", again.stderr)
+            self.assertNotEqual(again.returncode, 0)
+            os.remove(self.out)
+
+    def test_refuses_in_one_line(self):
+        for words, said in (
+            (("faults.py", "and.blif"), "refused machine 1 word"),
+            (("faults.py", "tiny.machine", "--registers", "3"), "too many"),
+            (("size.py", "tiny.machine"), "refused design 1 nomodel"),
+            (("draw.py", "tiny.machine", "--defects", "tiny.faults"), "refused defects 1 word"),
+            (("draw.py", "none.machine"), "No such file"),
+            (("trial.py", "tiny.machine", "and.blif:and.vec", "--rate", "2.0"), "a rate is from 0 to 1"),
+        ):
+            ran = self.script(*words)
+            self.assertIn(said, ran.stderr)
+            self.assertNotIn("Traceback", ran.stderr)
+            self.assertNotEqual(ran.returncode, 0)
+
+    def test_trial(self):
+        for more in ((), ("--steps",)):
+            designs_ = [f"{EXAMPLES}/{name}.blif:{EXAMPLES}/{name}.vec" for name in ("and", "counter")]
+            ran = self.script("trial.py", "tiny.machine", *designs_, "--rate", "0.0", *more)
+            rows = [line.split(",") for line in ran.stdout.splitlines()]
+            found = [row[6:9] for row in rows[1:]]
+            self.assertEqual(sorted(found), [[d, k, s] for d, s in (("and", "0"), ("counter", "3")) for k in ("diagnosed", "exact")])
+
+    def test_picture(self):
+        shown = self.script("draw.py", "tiny.machine", "--faults", "tiny.faults", "--defects", "tiny.defects", "--text", "r").stdout
+        self.assertEqual([line.split()[:2] for line in shown.splitlines()[1:4]], [["p0", "##.."], ["p1", "#..."], ["p2", "#..."]])
+        drawn = self.script("draw.py", "tiny.machine", "--defects", "tiny.defects", "--image", "and.image", "--design", "and.blif").stdout
+        self.assertIn("</svg>", drawn)
+
+    def test_sizes(self):
+        """The least counts of the counter, reckoned by hand: four tables in one hextant, the input and two latches go up."""
+        ran = self.script("size.py", "counter.blif", "--modules", "1", "--chips", "1", "--hextants", "1")
+        self.assertEqual(ran.stdout.split()[8:], "tables 4 ports 3 3 3 lines 3 3 3 5 pins 3 end".split())
+
+    def test_exact_list(self):
+        """It covers the faults: nothing faulty is free, and no free wire is shorted to a stuck or another free one."""
+        machine = texts.Machine((1, 1, 2, 3, 6, 6, 6, 6, 6, 6, 6, 6))
+        for seed in range(40):
+            faults = make_faults(machine, {"open": 4, "closed": 5, "wires": 3, "cells": 2, "registers": 1, "bridges": 3}, seed)
+            listed = texts.exact_list(machine, faults)
+            bad = faults.parts
+            self.assertFalse(any(listed.is_free(machine, kind, at) for kind in texts.PARTS for at in bad[kind]))
+            for group in texts.short_groups(machine, faults):
+                self.assertLessEqual(len(set(group) - listed["wire"]), int(bad["wire"].isdisjoint(group)))
+
+    def test_interval(self):
+        low, high = wilson(8, 10)
+        self.assertAlmostEqual(low, 0.4902, 3)
+        self.assertAlmostEqual(high, 0.9433, 3)
+        self.assertEqual(wilson(0, 0), (0.0, 1.0))
+
+    def test_plain_network(self):
+        """A cover of eight inputs with two rows: two trees of AND of two tables and one, and one table of OR."""
+        design = texts.read_design(b".model m\n.inputs a b c d e f g h\n.outputs y\n.names a b c d e f g h y\n1111111- 1\n-----111 1\n")
+        network = designs.plain_network(design)
+        self.assertEqual([len(sources) for sources in network.tables], [6, 1, 2, 3, 2])
