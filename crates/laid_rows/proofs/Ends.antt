@@ -1,77 +1,126 @@
--- What the course of such a command leads to, from what its files are and what laying refuses.
-use Rattle.std.proofs.Common.{◌≡◌, ◌⊎◌, ◌∙◌, ℕ, ◌≤◌, List, [], ◌++◌, length, None, refl, sym, subst, inl, inr, append-nil}
-use Rattle.tm_outside.specs.Told.{Told, holds}
+-- What the course of such a command leads to, where its files are right.
+use Rattle.std.proofs.Common.{◌≡◌, ◌⊎◌, ◌∙◌, ℕ, ◌≤◌, List, [], ◌++◌, length, None, refl, sym, ap, subst, inl, inr, append-nil}
+use Rattle.tm_outside.specs.Told.{holds}
+use Rattle.hierarchy.specs.declared.Shape.{Shape}
+use Rattle.machine_file.specs.Machine.{IsMachine}
+use Rattle.defect_db.specs.Lists.{DefectList}
 use Rattle.defect_db.specs.Text.{text_of}
+use Rattle.config_image.specs.Images.{ImageValue}
 use Rattle.steps.specs.Files.{says_at, vectors_at}
-use Rattle.steps.specs.Courses.{Next, refuses}
+use Rattle.steps.specs.Outside.{Around}
+use Rattle.steps.specs.Courses.{Next, RowWork, refuses}
 use Rattle.steps.specs.Stops.{status_of}
 use Rattle.steps.specs.Texts.{reads_machine}
-use Rattle.steps.specs.Jobs.{Fronts, IsExcused, EndsWell, EndsShort}
+use Rattle.steps.specs.Jobs.{Fronts, Leads, IsExcused, EndsWell, EndsShort}
 use Rattle.steps.specs.declared.refusal.Refusal.{Refusal}
 use Rattle.steps.specs.declared.refusal.Refusal.TheVariants as refused
+use Rattle.steps.proofs.Leading.{step-leads}
+use Rattle.steps.proofs.Excused.{rig-excused}
 use Rattle.steps.proofs.ShapeLemmas.{one-machine}
+use Rattle.listing.specs.Lists.{Listed, IsListed, lists}
 use Rattle.listing.proofs.Texts.{AreNamed, told-of, never-empty, never-alone}
-use Rattle.image_rows.specs.Rows.{most_rows}
+use Rattle.image_rows.specs.Rows.{most_rows, RowsBegin}
 use Rattle.image_rows.proofs.CourseLemmas.{image-well, image-few}
-use Rattle.laid_rows.specs.Runs.{HasOutputs}
-use Rattle.laid_rows.proofs.Stages.{RunCase, machine-told, vectors-told, HasMade, HasLaid, HasMachine, rows-of, begin-of, Stage, early, listing, unlaid, laid}
+use Rattle.laid_rows.specs.Laid.{Laid, rows_work}
+use Rattle.laid_rows.specs.Runs.{HasOutputs, machine_listed}
+use Rattle.laid_rows.proofs.Scripts.{AreLaidOn, Words, IsRight, begin-at, run-course, run-leads}
 
--- the file of vectors is told, and has no fault
-pub record HasNoFault (told : Told) (width : ℕ) : Type 0 where
-  pub file : List ℕ
-  pub is_told : told ≡ holds file
-  pub no_fault : (says_at width file).fault ≡ None
+module _ (w : Words) (old new : Around) where
+  -- the vectors have no fault, and where such a list stands written nothing is refused but what is excused
+  pub record Fits (front : List ℕ) (m : Shape) (x : Laid) : Type 0 where
+    pub file : List ℕ
+    pub is_told : old.store.contents w.vectors ≡ holds file
+    pub no_fault : (says_at x.width file).fault ≡ None
+    pub room : (l : Listed) → IsListed m old.rig.loads new.rig l → front ≡ text_of l.list
+        → (refusal : Refusal) → (x.lays l.list).stops refusal → IsExcused refusal old new
 
--- or has few vectors
-pub record HasFew (told : Told) (width : ℕ) : Type 0 where
-  pub file : List ℕ
-  pub is_told : told ≡ holds file
-  pub few : length (vectors_at width file) ≤ most_rows
+  -- or nothing is laid on it, for want of room
+  pub record Lacks (front : List ℕ) (m : Shape) (x : Laid) : Type 0 where
+    pub short : (d : DefectList) (refusal : Refusal) → (x.lays d).stops refusal → (status_of refusal ≡ 3) ⊎ IsExcused refusal old new
+    pub never : (l : Listed) → IsListed m old.rig.loads new.rig l → front ≡ text_of l.list
+        → (i : ImageValue) → (x.lays l.list).gives i → ⊥
 
--- there is one machine of a right text
-pub the-shape : {T : Type 0} (c : RunCase T) (m : HasMachine (machine-told c)) (h : HasMade c) → m.shape ≡ h.shape
-the-shape c m h = one-machine (machine-told c) m.file m.shape h.shape m.is_told m.is h.read
+  -- or there are few vectors
+  pub record HasFew (m : Shape) (x : Laid) : Type 0 where
+    pub file : List ℕ
+    pub is_told : old.store.contents w.vectors ≡ holds file
+    pub few : length (vectors_at x.width file) ≤ most_rows
 
-module _ {T : Type 0} (c : RunCase T) (right : Type 0) (P : List ℕ → Type 0) (files : (front : List ℕ) → P front → right) where
-  abbrev listed-text : HasMade c → List ℕ
-  listed-text h = text_of h.made.list
+  module _ (m : Shape) (files : List (List ℕ)) (x : Laid) (on : AreLaidOn x) where
+    abbrev rows-of : ImageValue → RowWork
+    rows-of i = rows_work x i (old.store.contents w.vectors) new.store.current new.rig
 
-  -- ---- there is room
+    abbrev rows-begin : Listed → ImageValue → RowsBegin
+    rows-begin l i = record { image = i; vectors = w.vectors; files = files; begun = old.store; before = l.loads }
 
-  pub ends-well : ((h : HasMade c) → P (listed-text h) → (refusal : Refusal) → ((c.work h.what).lays h.made.list).stops refusal → IsExcused refusal c.old c.new) → (right → (h : HasLaid c) → HasNoFault (vectors-told c) (length h.image.inputs)) → (text : List ℕ) (next : Next) → Fronts P text → Stage c right text next → EndsWell c.old c.new next
-  ends-well room vectors text next fronts (early refusal empty is why made) = rw is (why (files text (fronts text [] (sym (append-nil text)))))
-  ends-well room vectors text next fronts (listing h empty is made) = rw is tt
-  ends-well room vectors text next fronts (unlaid h refusal stands is short made) =
-      rw is (room h (fronts (listed-text h) [] (stands ∙ sym (append-nil (listed-text h)))) refusal short)
-  ends-well room vectors text next fronts (laid h more is at) =
-      let v = vectors (files text (fronts text [] (sym (append-nil text)))) h in
-      image-well (rows-of c h) (begin-of c h) c.old c.new v.file v.is_told v.no_fault more next tt at
+    -- ---- there is room
 
-  -- ---- there is no room
+    listed-well : (text : List ℕ) (next : Next) → Fronts (λ front. Fits front m x) text
+        → machine_listed x m old.rig.loads (begin-at w old new files) new text next → EndsWell old new next
+    listed-well text next is (inl h) =
+        step-leads (lists m old.rig.loads new.rig) (EndsWell old new) (λ refusal stops. rig-excused old new refusal stops.0) next h.1
+    listed-well text next is (inr (l, list, inl h)) = subst (λ (n : Next). EndsWell old new n) (sym h.1) tt
+    listed-well text next is (inr (l, list, inr (more, eq, inl h))) =
+        step-leads (x.lays l.list) (EndsWell old new) ((is (text_of l.list) more eq).room l list refl) next h.1
+    listed-well text next is (inr (l, list, inr (more, eq, inr (i, gives, at)))) =
+        let f = is (text_of l.list) more eq in
+        let no_fault = subst (λ (k : ℕ). (says_at k f.file).fault ≡ None) (sym (on l.list i gives).inputs) f.no_fault in
+        image-well (rows-of i) (rows-begin l i) old new f.file f.is_told no_fault more next tt at
 
-  pub ends-short : ((h : HasMade c) → (refusal : Refusal) → ((c.work h.what).lays h.made.list).stops refusal → (status_of refusal ≡ 3) ⊎ IsExcused refusal c.old c.new) → ((h : HasLaid c) → P (listed-text h.has) → ⊥) → (text : List ℕ) (next : Next) → Fronts P text → Stage c right text next → EndsShort c.old c.new next
-  ends-short refuses_so never text next fronts (early refusal empty is why made) = rw is (inr (why (files text (fronts text [] (sym (append-nil text))))))
-  ends-short refuses_so never text next fronts (listing h empty is made) = rw is tt
-  ends-short refuses_so never text next fronts (unlaid h refusal alone is short made) = rw is (refuses_so h refusal short)
-  ends-short refuses_so never text next fronts (laid h more is at) = absurd (never h (fronts (listed-text h.has) more is))
+    -- ---- there is no room
 
--- ---- memory is taken before the line `outputs`
+    listed-short : (text : List ℕ) (next : Next) → Fronts (λ front. Lacks front m x) text
+        → machine_listed x m old.rig.loads (begin-at w old new files) new text next → EndsShort old new next
+    listed-short text next is (inl h) =
+        step-leads (lists m old.rig.loads new.rig) (EndsShort old new) (λ refusal stops. inr (rig-excused old new refusal stops.0)) next h.1
+    listed-short text next is (inr (l, list, inl h)) = subst (λ (n : Next). EndsShort old new n) (sym h.1) tt
+    listed-short text next is (inr (l, list, inr (more, eq, inl h))) =
+        step-leads (x.lays l.list) (EndsShort old new) ((is (text_of l.list) more eq).short l.list) next h.1
+    listed-short text next is (inr (l, list, inr (more, eq, inr (i, gives, at)))) =
+        absurd ((is (text_of l.list) more eq).never l list refl i gives)
 
-module _ {T : Type 0} (c : RunCase T) (right : Type 0) (named : AreNamed) (machine : HasMachine (machine-told c)) where
-  -- behind the list alone nothing has begun
-  not-begun : (h : HasMade c) (text more : List ℕ) → HasOutputs (reads_machine (machine-told c)).gives text → text ≡ text_of h.made.list ++ more → more ≡ [] → ⊥
-  not-begun h text more begun is empty =
-      let alone = subst (λ (m : List ℕ). text ≡ text_of h.made.list ++ m) empty is ∙ append-nil (text_of h.made.list) in
-      let other = one-machine (machine-told c) machine.file machine.shape begun.list.shape machine.is_told machine.is begun.shape in
-      never-alone machine.shape (told-of named machine.file machine.shape machine.is) begun.list h.made.list (sym other) begun.right (h.list.shape ∙ sym (the-shape c machine h)) h.list.kept begun.more text begun.text_is alone
+    -- ---- memory is taken before the line `outputs`
 
-  pub never-lacks : ((h : HasLaid c) → HasFew (vectors-told c) (length h.image.inputs)) → (text : List ℕ) → HasOutputs (reads_machine (machine-told c)).gives text → Stage c right text (refuses refused.Memory) → ⊥
-  never-lacks few text begun (early refusal empty is why made) = never-empty (text_of begun.list) begun.more text begun.text_is empty
-  never-lacks few text begun (listing h empty is made) = never-empty (text_of begun.list) begun.more text begun.text_is empty
-  never-lacks few text begun (unlaid h refusal stands is short made) = not-begun h text [] begun (stands ∙ sym (append-nil (text_of h.made.list))) refl
-  never-lacks few text begun (laid h more is (inl at)) = not-begun h.has text more begun is at.0
-  never-lacks few text begun (laid h more is (inr (u, once, inl at))) = not-begun h.has text more begun is at.0
-  never-lacks few text begun (laid h more is (inr (u, once, inr (v, opened, inl at)))) = not-begun h.has text more begun is at.0
-  never-lacks few text begun (laid h more is (inr (u, once, inr (v, opened, inr (rest, first, at))))) =
-      let f = few h in
-      image-few (rows-of c h) (begin-of c h) c.new f.file f.is_told (λ count lacks. lacks) f.few more rest first (inr (u, once, inr (v, opened, inr (rest, first, at))))
+    module _ (named : AreNamed) (bytes : List ℕ) (right : IsMachine bytes m.counts) (few : HasFew m x) (text : List ℕ)
+        (begun : HasOutputs (reads_machine (old.store.contents w.machine)).gives text) (same : begun.list.shape ≡ m) where
+      -- behind the list alone nothing has begun
+      not-begun : (l : Listed) → IsListed m old.rig.loads new.rig l → (more : List ℕ) → text ≡ text_of l.list ++ more → more ≡ [] → ⊥
+      not-begun l list more is empty =
+          let alone = is ∙ (ap (λ (t : List ℕ). text_of l.list ++ t) empty ∙ append-nil (text_of l.list)) in
+          let told = told-of named bytes m right in
+          never-alone m told begun.list l.list same begun.right list.shape list.kept begun.more text begun.text_is alone
+
+      never-lacks : machine_listed x m old.rig.loads (begin-at w old new files) new text (refuses refused.Memory) → ⊥
+      never-lacks (inl h) = never-empty (text_of begun.list) begun.more text begun.text_is h.0
+      never-lacks (inr (l, list, inl h)) = never-empty (text_of begun.list) begun.more text begun.text_is h.0
+      never-lacks (inr (l, list, inr (more, is, inl h))) = not-begun l list more is h.0
+      never-lacks (inr (l, list, inr (more, is, inr (i, gives, inl h)))) = not-begun l list more is h.0
+      never-lacks (inr (l, list, inr (more, is, inr (i, gives, inr (u, once, inl h))))) = not-begun l list more is h.0
+      never-lacks (inr (l, list, inr (more, is, inr (i, gives, inr (u, once, inr (v, opened, inl h)))))) = not-begun l list more is h.0
+      never-lacks (inr (l, list, inr (more, is, inr (i, gives, inr (u, once, inr (v, opened, inr (rest, first, at))))))) =
+          let is_few = subst (λ (k : ℕ). length (vectors_at k few.file) ≤ most_rows) (sym (on l.list i gives).inputs) few.few in
+          image-few (rows-of i) (rows-begin l i) new few.file few.is_told (λ count lacks. lacks) is_few more rest first
+          (inr (u, once, inr (v, opened, inr (rest, first, at))))
+
+  -- ---- the whole course
+
+  pub run-well : Leads (Fronts (λ front. IsRight w old (Fits front))) (run-course w old new) (EndsWell old new)
+  run-well text next is =
+      run-leads w old new text next (EndsWell old new next) (λ refusal empty eq none why. rw eq (why (Fits []) (is [] text refl)))
+      (λ m files x on c. listed-well m files x on text next (λ front more eq. c.right (Fits front) (is front more eq)))
+
+  pub run-short : Leads (Fronts (λ front. IsRight w old (Lacks front))) (run-course w old new) (EndsShort old new)
+  run-short text next is =
+      run-leads w old new text next (EndsShort old new next) (λ refusal empty eq none why. rw eq (inr (why (Lacks []) (is [] text refl))))
+      (λ m files x on c. listed-short m files x on text next (λ front more eq. c.right (Lacks front) (is front more eq)))
+
+  pub run-few : AreNamed → IsRight w old HasFew → (text : List ℕ) → HasOutputs (reads_machine (old.store.contents w.machine)).gives text
+      → run-course w old new text (refuses refused.Memory) → ⊥
+  run-few named right text begun =
+      let h = right.machine in
+      let one = one-machine (old.store.contents w.machine) h.file h.shape in
+      run-leads w old new text (refuses refused.Memory) ⊥
+      (λ refusal empty eq none why. never-empty (text_of begun.list) begun.more text begun.text_is empty)
+      (λ m files x on c. let same = one m h.is_told h.is c.machine_is in
+      never-lacks m files x on named h.file (subst (λ (s : Shape). IsMachine h.file s.counts) same h.is) (c.right HasFew right) text begun
+      (sym (one begun.list.shape h.is_told h.is begun.shape) ∙ same))

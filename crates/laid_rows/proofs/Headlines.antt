@@ -1,112 +1,179 @@
 -- What such a command has done, from where its course stands.
-use Rattle.std.proofs.Common.{◌≡◌, ◌∙◌, ℕ, List, [], ◌∷◌, ◌++◌, Bool, sym, ap, subst, inl, inr, append_assoc, append-nil, Option, Some, IfSome}
-use Rattle.tm_outside.specs.Told.{Told, IfTold}
+use Rattle.std.proofs.Common.{◌≡◌, ◌∙◌, ℕ, List, [], ◌∷◌, ◌++◌, Bool, refl, sym, ap, subst, inl, inr, append_assoc, Option, Some, IfSome}
+use Rattle.std.specs.Prelude.{Result}
+use Rattle.tm_outside.specs.Counts.{next_count}
+use Rattle.tm_outside.specs.Told.{IfTold}
 use Rattle.tm_outside.specs.Sink.{Wrote}
 use Rattle.hierarchy.specs.declared.Shape.{Shape}
 use Rattle.hierarchy.specs.Faults.{Faults}
 use Rattle.hierarchy.specs.Defects.{Covers}
-use Rattle.defect_db.specs.Lists.{DefectList}
 use Rattle.defect_db.specs.Text.{text_of}
+use Rattle.config_image.specs.Images.{ImageValue}
 use Rattle.crossbar_route.specs.RightImages.{ReadsRows}
 use Rattle.steps.specs.Files.{AreAll}
 use Rattle.steps.specs.Outside.{Outside, around}
-use Rattle.steps.specs.Courses.{Next, ends, refuses, writes}
-use Rattle.steps.specs.Texts.{IsMachineText}
-use Rattle.steps.proofs.Standing.{Adds}
-use Rattle.image_rows.proofs.CourseLemmas.{HasRun, image-ends}
-use Rattle.laid_rows.specs.Laid.{Laid, IsLaidOn}
-use Rattle.laid_rows.specs.Runs.{RunBegin}
-use Rattle.laid_rows.specs.Headline.{IsListOfMachine, BeginsWithList, none, part, whole, IsAskedInOrder, IsWrittenWhole, UsesNothingListed, IsAsRead}
-use Rattle.laid_rows.proofs.Stages.{RunCase, HasMade, HasLaid, rows-of, begin-of, Stage, early, listing, unlaid, laid}
+use Rattle.steps.specs.Courses.{Course, Next, ends, refuses, writes}
+use Rattle.steps.specs.Stops.{IsWritten}
+use Rattle.steps.specs.Texts.{IsMachineText, LoadsOnce, reads_machine}
+use Rattle.steps.specs.declared.refusal.Refusal.{Refusal}
+use Rattle.steps.specs.declared.refusal.Stop.{Stop}
+use Rattle.steps.proofs.Leading.{stopped}
+use Rattle.steps.proofs.Standing.{Adds, Standing, stands-done}
+use Rattle.listing.specs.Lists.{Listed, IsListed, MadeFewLoads, unloaded, few, lists}
+use Rattle.image_rows.specs.Rows.{loads, RowsBegin}
+use Rattle.image_rows.proofs.CourseLemmas.{image-ends}
+use Rattle.laid_rows.specs.Laid.{Laid, rows_work}
+use Rattle.laid_rows.specs.Runs.{image_run, machine_listed}
+use Rattle.laid_rows.specs.Headline.{BeginsWithList, none, part, whole, IsWrittenWhole, UsesNothingListed, IsAsRead}
+use Rattle.laid_rows.proofs.Scripts.{AreLaidOn, Words, AreRead, begin-at, run-course, run-leads}
 
-module _ {T : Type 0} (machine name : List ℕ) (begin : RunBegin) (is_read : T → Type 0) (work : T → Laid) (right : Type 0) (old new : Outside) where
-  abbrev c : RunCase T
-  c = record { machine = machine; name = name; old = around old; new = around new; begin = begin; is_read = is_read; work = work }
+module _ (w : Words) (old new : Outside) where
+  abbrev course : Course
+  course = run-course w (around old) (around new)
 
-  wrote-as : (text other : List ℕ) → text ≡ other → Wrote old.sink.written new.sink.written text → Wrote old.sink.written new.sink.written other
-  wrote-as text other same wrote = subst (λ (s : List ℕ). Wrote old.sink.written new.sink.written s) same wrote
+  abbrev HasWritten : List ℕ → Type 0
+  HasWritten text = Wrote old.sink.written new.sink.written text
 
-  -- ---- whatever the end
+  wrote-as : (text other : List ℕ) → text ≡ other → HasWritten text → HasWritten other
+  wrote-as text other same wrote = subst (λ (s : List ℕ). HasWritten s) same wrote
 
-  list-of : (h : HasMade c) → IsListOfMachine machine name old new h.made
-  list-of h = record { shape = h.shape; machine_is = h.read; attached = h.attached; is_listed = h.list }
+  abbrev Begins : Type 0
+  Begins = BeginsWithList w.machine w.name old new
 
-  -- at the list's text
-  at-list : (h : HasMade c) (more : List ℕ) → Adds (writes (text_of h.made.list)) more → Wrote old.sink.written new.sink.written more → BeginsWithList machine name old new
-  at-list h more (inl (n, is)) wrote = part h.made n (list-of h) (wrote-as more _ is wrote)
-  at-list h more (inr (refusal, n, is)) wrote = none refusal n (wrote-as more _ is wrote)
+  abbrev FewMade : Type 0
+  FewMade = MadeFewLoads w.machine w.name LoadsOnce (around old) (around new)
 
-  -- behind it
-  behind-list : (h : HasMade c) (text rest more : List ℕ) → text ≡ text_of h.made.list ++ rest → Wrote old.sink.written new.sink.written (text ++ more) → BeginsWithList machine name old new
-  behind-list h text rest more is wrote =
-      whole h.made (rest ++ more) (list-of h) (wrote-as (text ++ more) _ (ap (λ (s : List ℕ). s ++ more) is ∙ append_assoc (text_of h.made.list) rest more) wrote)
-
-  pub begins-at : (text more : List ℕ) (next : Next) → Stage c right text next → Adds next more → Wrote old.sink.written new.sink.written (text ++ more) → BeginsWithList machine name old new
-  begins-at text more next (early refusal empty is why made) adds wrote =
+  -- nothing stands there but the line of a refusal
+  refused-begins : (refusal : Refusal) (text more : List ℕ) (next : Next) → text ≡ [] → next ≡ refuses refusal → Adds next more
+      → HasWritten (text ++ more) → Begins
+  refused-begins refusal text more next empty is adds wrote =
       let some : Adds (refuses refusal) more = subst (λ (n : Next). Adds n more) is adds in
       none refusal some.0 (wrote-as (text ++ more) _ (ap (λ (s : List ℕ). s ++ more) empty ∙ some.1) wrote)
-  begins-at text more next (listing h empty is made) adds wrote =
-      at-list h more (subst (λ (n : Next). Adds n more) is adds) (wrote-as (text ++ more) more (ap (λ (s : List ℕ). s ++ more) empty) wrote)
-  begins-at text more next (unlaid h refusal alone is short made) adds wrote =
-      behind-list h text [] more (alone ∙ sym (append-nil (text_of h.made.list))) wrote
-  begins-at text more next (laid h rest is at) adds wrote = behind-list h.has text rest more is wrote
 
-  -- ---- all is done
-
-  -- what was laid was run to its end
-  pub record HasDone (text : List ℕ) : Type 0 where
-    pub laid_is : HasLaid c
+  -- what x was run to its end
+  pub record Ran (m : Shape) (x : Laid) : Type 0 where
+    pub made : Listed
+    pub image : ImageValue
+    pub vectors : List (List Bool)
+    pub rows : List (List Bool)
     pub rest : List ℕ
-    pub text_is : text ≡ text_of laid_is.has.made.list ++ rest
-    pub run : HasRun (rows-of c laid_is) (begin-of c laid_is) (around new) rest
+    pub list : IsListed m old.rig.loads new.rig made
+    pub laid : (x.lays made.list).gives image
+    pub machine_is : IfTold (old.store.contents w.machine) (λ bytes. IsMachineText bytes made.list.shape)
+    pub stands : HasWritten (text_of made.list ++ rest)
+    pub written_whole : IsWrittenWhole w.vectors made.list x.width vectors rows old new
+    pub covers : (f : Faults) → new.rig.machine.faults ≡ Some f → Covers made.list.shape made.list.list f
+    pub uses_nothing_listed : UsesNothingListed made.list image new.rig
+    pub right : (f : Faults) → new.rig.machine.faults ≡ Some f → ReadsRows f image x.rows
+    pub as_read : IsAsRead image vectors rows new.rig
+    pub outputs : (f : Faults) → new.rig.machine.faults ≡ Some f → x.rows vectors rows
+    pub loaded : new.rig.loads ≡ next_count made.loads
 
-  pub has-done : (text : List ℕ) → Stage c right text ends → HasDone text
-  has-done text (early refusal empty is why made) = absurd (cc)
-  has-done text (listing h empty is made) = absurd (cc)
-  has-done text (unlaid h refusal alone is short made) = absurd (cc)
-  has-done text (laid h rest is at) = record { laid_is = h; rest = rest; text_is = is; run = image-ends (rows-of c h) (begin-of c h) (around new) rest at }
+  -- ---- of one that is laid
 
-  module _ (text : List ℕ) (done : HasDone text) (wrote : Wrote old.sink.written new.sink.written text) where
-    abbrev pub list-done : DefectList
-    list-done = done.laid_is.has.made.list
+  module _ (m : Shape) (read : (reads_machine (old.store.contents w.machine)).gives m)
+      (attached : new.rig.machine.attached ≡ Some (record { shape = m; name = w.name })) (files : List (List ℕ)) (x : Laid) where
+    abbrev listed-course : Course
+    listed-course = machine_listed x m old.rig.loads (begin-at w (around old) (around new) files) (around new)
 
-    abbrev pub vectors-done : List (List Bool)
-    vectors-done = done.run.rows.has.vectors
+    few-at : (text : List ℕ) (next : Next) → listed-course text next → FewMade
+    few-at text next (inl h) = few m new.rig.loads read attached (stopped (lists m old.rig.loads new.rig) next h.1).2.1 (inl refl)
+    few-at text next (inr (l, list, inl h)) = few m l.loads read attached list.few (inl h.2.1)
+    few-at text next (inr (l, list, inr (more, is, inl h))) = few m l.loads read attached list.few (inl h.2.1)
+    few-at text next (inr (l, list, inr (more, is, inr (i, gives, inl h)))) =
+        few m l.loads read attached list.few (stopped (loads l.loads new.rig) next h.1).2.1
+    few-at text next (inr (l, list, inr (more, is, inr (i, gives, inr (u, once, at))))) =
+        few m l.loads read attached list.few (inr once)
 
-    abbrev pub rows-done : List (List Bool)
-    rows-done = done.run.rows.has.rows
+    begins-at : (text more : List ℕ) (next : Next) → Adds next more → HasWritten (text ++ more) → listed-course text next → Begins
+    begins-at text more next adds wrote (inl h) =
+        let s = stopped (lists m old.rig.loads new.rig) next h.1 in
+        refused-begins s.0 text more next h.0 s.1 adds wrote
+    begins-at text more next adds wrote (inr (l, list, inl h)) =
+        at-text (subst (λ (n : Next). Adds n more) h.1 adds) (wrote-as (text ++ more) more (ap (λ (s : List ℕ). s ++ more) h.0) wrote)
+      where
+        at-text : Adds (writes (text_of l.list)) more → HasWritten more → Begins
+        at-text (inl (n, is)) all =
+            part l n (record { shape = m; machine_is = read; attached = attached; is_listed = list }) (wrote-as more _ is all)
+        at-text (inr (refusal, n, is)) all = none refusal n (wrote-as more _ is all)
+    begins-at text more next adds wrote (inr (l, list, inr (rest, is, at))) =
+        whole l (rest ++ more) (record { shape = m; machine_is = read; attached = attached; is_listed = list })
+        (wrote-as (text ++ more) _ (ap (λ (s : List ℕ). s ++ more) is ∙ append_assoc (text_of l.list) rest more) wrote)
 
-    pub asked-done : (files : List (List ℕ)) → new.store.asked ≡ old.store.asked ++ machine ∷ files → IsAskedInOrder machine name files done.laid_is.has.shape old new
-    asked-done files asked = record { asked = asked; machine_is = done.laid_is.has.read; attached = done.laid_is.has.attached }
+    -- all was done
+    module _ (on : AreLaidOn x) (text : List ℕ) (wrote : HasWritten text) where
+      ran : (l : Listed) → IsListed m old.rig.loads new.rig l → (rest : List ℕ) → text ≡ text_of l.list ++ rest
+          → (i : ImageValue) → (x.lays l.list).gives i
+          → image_run x (begin-at w (around old) (around new) files) (around new) l i rest ends → Ran m x
+      ran l list rest is i gives at =
+          let work = rows_work x i (old.store.contents w.vectors) new.store.current new.rig in
+          let from : RowsBegin = record { image = i; vectors = w.vectors; files = files; begun = old.store; before = l.loads } in
+          let run = image-ends work from (around new) rest at in
+          let has = run.rows.has in
+          let o = on l.list i gives in
+          let covers : (f : Faults) → new.rig.machine.faults ≡ Some f → Covers l.list.shape l.list.list f = λ f told.
+          subst (λ (s : Shape). Covers s l.list.list f) (sym list.shape) (list.right.covers f told) in
+          record {
+            made = l;
+            image = i;
+            vectors = has.vectors;
+            rows = has.rows;
+            rest = rest;
+            list = list;
+            laid = gives;
+            machine_is = subst (λ (s : Shape). (reads_machine (old.store.contents w.machine)).gives s) (sym list.shape) read;
+            stands = wrote-as text _ is wrote;
+            written_whole = record {
+              is_list = list.kept;
+              are_all = subst (λ (k : ℕ). AreAll k (old.store.contents w.vectors) has.vectors) o.inputs run.all;
+              count = has.are.read.count;
+              written = wrote-as text _ (is ∙ ap (λ (s : List ℕ). text_of l.list ++ s) run.text_is) wrote;
+            };
+            covers = covers;
+            uses_nothing_listed = record { is_image = o.image; shape = o.shape; config = run.rows.session.config; free = o.free };
+            right = λ f told. o.right f (covers f told);
+            as_read = record { drives = run.rows.session.drives; rows_are = run.rows.session.rows_are };
+            outputs = λ f told. subst (λ (t : Option Faults). IfSome t (λ _. x.rows has.vectors has.rows)) told has.are.right;
+            loaded = run.loaded;
+          }
 
-    -- what stands behind the list
-    pub list-stands : Wrote old.sink.written new.sink.written (text_of list-done ++ done.rest)
-    list-stands = wrote-as text _ done.text_is wrote
+      ran-at : listed-course text ends → Ran m x
+      ran-at (inl h) = absurd h.1
+      ran-at (inr (l, list, inl h)) = let line = h.1 in absurd (cc)
+      ran-at (inr (l, list, inr (rest, is, inl h))) = absurd h.1
+      ran-at (inr (l, list, inr (rest, is, inr (i, gives, at)))) = ran l list rest is i gives at
 
-    pub machine-done : IfTold (old.store.contents machine) (λ bytes. IsMachineText bytes list-done.shape)
-    machine-done = subst (λ (s : Shape). IfTold (old.store.contents machine) (λ bytes. IsMachineText bytes s)) (sym done.laid_is.has.list.shape) done.laid_is.has.read
+  -- ---- of the whole course
 
-    pub read-done : IsAsRead done.laid_is.image vectors-done rows-done new.rig
-    read-done = record { drives = done.run.rows.session.drives; rows_are = done.run.rows.session.rows_are }
+  -- few loads were made, and what stands written begins with a list: at the end of the program
+  pub few-loads : Standing course old.sink new.sink → FewMade
+  few-loads s =
+      run-leads w (around old) (around new) s.text s.next FewMade (λ refusal empty is none_made why. unloaded none_made)
+      (λ m files x on c. few-at m c.machine_is c.attached files x s.text s.next) s.at
 
-    pub outputs-done : (f : Faults) → new.rig.machine.faults ≡ Some f → (work done.laid_is.has.what).rows vectors-done rows-done
-    outputs-done f told =
-        subst (λ (o : Option Faults). IfSome o (λ _. (work done.laid_is.has.what).rows vectors-done rows-done)) told done.run.rows.has.are.right
+  pub begins : Standing course old.sink new.sink → Begins
+  begins s =
+      run-leads w (around old) (around new) s.text s.next Begins
+      (λ refusal empty is none_made why. refused-begins refusal s.text s.more s.next empty is s.adds s.wrote)
+      (λ m files x on c. begins-at m c.machine_is c.attached files x s.text s.more s.next s.adds s.wrote) s.at
 
-    -- by what an image is that was laid
-    module _ (on : IsLaidOn (work done.laid_is.has.what) list-done done.laid_is.image) where
-      pub written-done : begin.begun.contents ≡ old.store.contents → IsWrittenWhole begin.vectors list-done (work done.laid_is.has.what).width vectors-done rows-done old new
-      written-done same = record {
-        is_list = done.laid_is.has.list.kept;
-        are_all = subst (λ (contents : List ℕ → Told). AreAll (work done.laid_is.has.what).width (contents begin.vectors) vectors-done) same
-            (subst (λ (w : ℕ). AreAll w (begin.begun.contents begin.vectors) vectors-done) on.inputs done.run.all);
-        count = done.run.rows.has.are.read.count;
-        written = wrote-as text _ (done.text_is ∙ ap (λ (s : List ℕ). text_of list-done ++ s) done.run.text_is) wrote;
-      }
+  -- or of a body
+  pub begins-done : {U : Type 0} (result : Result U Stop) → IsWritten course result old.sink new.sink → Begins
+  begins-done result is = begins (stands-done course old.sink new.sink result is)
 
-      pub unlisted-done : UsesNothingListed list-done done.laid_is.image new.rig
-      unlisted-done = record { is_image = on.image; shape = on.shape; config = done.run.rows.session.config; free = on.free }
+  -- it has come to its end: the machine of the text is attached, and what the designs say was laid on it and run
+  pub record HasDone : Type 0 where
+    pub shape : Shape
+    pub machine_is : (reads_machine (old.store.contents w.machine)).gives shape
+    pub attached : new.rig.machine.attached ≡ Some (record { shape = shape; name = w.name })
+    pub ran : AreRead old.store.contents w.script (w.machine ∷ []) (λ files x. Ran shape x)
 
-      pub right-done : (f : Faults) → new.rig.machine.faults ≡ Some f → ReadsRows f done.laid_is.image (work done.laid_is.has.what).rows
-      right-done f told =
-          on.right f (subst (λ (s : Shape). Covers s list-done.list f) (sym done.laid_is.has.list.shape) (done.laid_is.has.list.right.covers f told))
+  pub has-done : (text : List ℕ) → HasWritten text → course text ends → HasDone
+  has-done text wrote =
+      run-leads w (around old) (around new) text ends HasDone (λ refusal empty is none_made why. absurd (cc))
+      (λ m files x on c at. record {
+        shape = m;
+        machine_is = c.machine_is;
+        attached = c.attached;
+        ran = c.whole (λ files x. Ran m x) (ran-at m c.machine_is c.attached files x on text wrote at);
+      })

@@ -1,5 +1,6 @@
 -- What is cited above.
-pub mod Stages
+pub mod Bodies
+pub mod Scripts
 pub mod Ends
 pub mod Headlines
 -- For the proofs of this crate alone.

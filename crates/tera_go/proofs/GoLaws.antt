@@ -1,5 +1,5 @@
--- What the command `go` comes to.
-use Rattle.std.proofs.Common.{◌⊎◌, ◌∙◌, ◌≡◌, ℕ, List, length, None, refl, sym, subst, inl, inr, ◌≤◌}
+-- What the command `go` does with its words, and what it comes to.
+use Rattle.std.proofs.Common.{◌⊎◌, ◌∙◌, ◌≡◌, ℕ, List, sym, subst, inl, inr}
 use Rattle.hierarchy.specs.declared.Shape.{Shape}
 use Rattle.hierarchy.specs.Faults.{Faults}
 use Rattle.hierarchy.specs.Defects.{Defects}
@@ -13,24 +13,19 @@ use Rattle.table_map.specs.Plain.{plain_network}
 use Rattle.place.specs.declared.short.Short.{Short}
 use Rattle.place.specs.Plans.{IsShortInOrder}
 use Rattle.sound_room.specs.Enough.{HasStandingRoom}
-use Rattle.steps.specs.Files.{says_at, vectors_at}
 use Rattle.steps.specs.Faults.{ShortPlace}
 use Rattle.steps.specs.Outside.{Around}
-use Rattle.steps.specs.Courses.{refuses}
-use Rattle.steps.specs.Jobs.{IsLawful, IsExcused}
+use Rattle.steps.specs.Jobs.{IsLawful}
 use Rattle.steps.specs.declared.design_file.DesignFile.TheVariants.{Design}
-use Rattle.steps.specs.declared.refusal.Refusal.{Refusal}
-use Rattle.steps.specs.declared.refusal.Refusal.TheVariants as refused
-use Rattle.steps.proofs.ShapeLemmas.{one-design}
+use Rattle.listing.specs.Lists.{Listed, IsListed}
 use Rattle.listing.proofs.Texts.{AreNamed}
-use Rattle.lay.specs.Laying.{IsNoRoom, HasRoom, LacksRoom, NotLaid}
+use Rattle.lay.specs.Laying.{IsNoRoom, HasRoom}
 use Rattle.lay.proofs.Rooms.{AreDecided, never-refused, never-lacks, lay-excused, lay-short}
-use Rattle.image_rows.specs.Rows.{most_rows}
+use Rattle.laid_rows.specs.Laid.{Laid}
 use Rattle.laid_rows.specs.Runs.{IfList}
-use Rattle.laid_rows.proofs.Stages.{RunCase, HasMade, HasLaid}
-use Rattle.laid_rows.proofs.Ends as ends
-use Rattle.tera_go.specs.Go.{go_job, GoFiles, AreGoTexts, HasPartsFor, GoRight, GoShort, GoFew}
-use Rattle.tera_go.proofs.GoCases.{files-of, case-of, machine-file, stage-of}
+use Rattle.laid_rows.proofs.Scripts.{Words, reads, runs, IsRight}
+use Rattle.laid_rows.proofs.Ends.{Fits, Lacks, HasFew, run-well, run-short, run-few}
+use Rattle.tera_go.specs.Go.{go_files, go_job, design_laid, GoFiles, AreGoTexts, HasPartsFor, GoRight, GoShort, GoFew}
 
 -- sound parts and a want of room on a fair list exclude each other
 abbrev pub AreSure : Type 0
@@ -39,80 +34,75 @@ AreSure = (m : Shape) (d : Defects) (f : Faults) (n : Network) (s : Short) → I
 abbrev pub AreNetworks : Type 0
 AreNetworks = (d : Draft) → IsChecked d → IsNetwork (plain_network d)
 
-module _ (decided : AreDecided) (sure : AreSure) (networks : AreNetworks) (machine name design vectors : List ℕ) (old new : Around) where
-  abbrev c : RunCase Draft
-  c = case-of machine name design vectors old new
-
-  abbrev t : GoFiles
-  t = files-of machine name design vectors old new
-
-  -- there is one machine and one design of right texts: what is so of them is so of those that were read
-  as-read : (P : Shape → Draft → Type 0) (texts : AreGoTexts t) (h : HasMade c) → P texts.shape texts.draft → P h.shape h.what
-  as-read P texts h is =
-      subst (λ (s : Shape). P s h.what) (ends.the-shape c (machine-file machine name design vectors old new texts) h)
-      (subst (λ (x : Draft). P texts.shape x) (one-design Design t.design texts.design_file texts.draft h.what texts.design_told texts.design h.drawn) is)
-
-  -- and so of the image's width
-  as-wide : (P : ℕ → Type 0) (texts : AreGoTexts t) (h : HasLaid c) → P (length texts.draft.inputs) → P (length h.image.inputs)
-  as-wide P texts h is = subst P (sym h.gives.0.inputs) (as-read (λ s x. P (length x.inputs)) texts h.has is)
-
-  -- ---- there is room
-
-  -- by the standing parts of the machine
-  parts-fit : (h : HasMade c) (place : ShortPlace) → IsChecked h.what → HasPartsFor new.rig.machine.faults h.shape h.what → IsNoRoom h.made.list h.what place → ⊥
-  parts-fit h place checked parts short =
-      let n = parts.network in
-      let d = h.made.list in
-      let network : IsNetwork n = subst (λ (x : Network). IsNetwork x) (sym parts.plain) (networks h.what checked) in
-      let on = subst (λ (x : Network). IsShortInOrder d.shape d.list x place.short) (short.plain ∙ sym parts.plain) short.short in
-      sure h.shape d.list parts.faults n place.short network (h.list.right.tight parts.faults parts.faults_told) parts.standing (subst (λ (s : Shape). IsShortInOrder s d.list n place.short) h.list.shape on)
-
-  abbrev RoomOf : HasMade c → Shape → Draft → Type 0
-  RoomOf h s x = IfList s (text_of h.made.list) (λ d. HasRoom d x) ⊎ HasPartsFor new.rig.machine.faults s x
-
-  has-room : (h : HasMade c) → IsChecked h.what → RoomOf h h.shape h.what → (place : ShortPlace) → IsNoRoom h.made.list h.what place → ⊥
-  has-room h checked (inl room) place short = never-refused decided h.made.list h.what (room h.made.list h.list.shape h.list.kept refl) place short
-  has-room h checked (inr parts) place short = parts-fit h place checked parts short
-
-  right-room : (h : HasMade c) → GoRight t new.rig.machine.faults (text_of h.made.list) → (refusal : Refusal) → NotLaid h.made.list h.what refusal → IsExcused refusal old new
-  right-room h right refusal stops =
-      let room = as-read (RoomOf h) right.texts h right.room in
-      lay-excused h.made.list h.what old new (has-room h (as-read (λ s x. IsChecked x) right.texts h right.texts.design.checked) room) refusal stops
-
-  right-vectors : AreGoTexts t → (h : HasLaid c) → ends.HasNoFault t.vectors (length h.image.inputs)
-  right-vectors texts h = record {
-    file = texts.vectors_file;
-    is_told = texts.vectors_told;
-    no_fault = as-wide (λ w. (says_at w texts.vectors_file).fault ≡ None) texts h texts.no_fault;
+module _ (machine name design vectors : List ℕ) where
+  abbrev pub words : Words
+  words = record {
+    machine = machine;
+    name = name;
+    vectors = vectors;
+    script = reads Design design (λ draft. runs (design_laid draft) (λ d i is.
+        record { image = is.0.image; shape = is.0.shape; inputs = is.0.inputs; free = is.0.free; right = is.0.right }));
   }
 
-  -- ---- there is no room
+  module _ (old new : Around) where
+    abbrev files : GoFiles
+    files = go_files old machine design vectors
 
-  never-short : (h : HasLaid c) → GoShort t (text_of h.has.made.list) → ⊥
-  never-short h short =
-      let d = h.has.made.list in
-      let lacks = as-read (λ s x. IfList s (text_of d) (λ e. LacksRoom e x)) short.texts h.has short.room in
-      never-lacks decided d h.has.what h.gives.1 (lacks d h.has.list.shape h.has.list.kept refl)
+    -- the files are right, and this is so of what they say
+    right-files : (t : AreGoTexts files) (P : Shape → Laid → Type 0) → P t.shape (design_laid t.draft) → IsRight words old P
+    right-files t P is = record {
+      machine = record { shape = t.shape; file = t.machine_file; is_told = t.machine_told; is = t.machine; within = t.machine_within };
+      designs =
+          (record { draft = t.draft; file = t.design_file; is_told = t.design_told; is = t.design; within = t.design_within }, is);
+    }
 
-  few-vectors : GoFew t → (h : HasLaid c) → ends.HasFew t.vectors (length h.image.inputs)
-  few-vectors few h = record {
-    file = few.texts.vectors_file;
-    is_told = few.texts.vectors_told;
-    few = as-wide (λ w. length (vectors_at w few.texts.vectors_file) ≤ most_rows) few.texts h few.few;
+    few-vectors : GoFew files → IsRight words old (HasFew words old new)
+    few-vectors r =
+        let t = r.texts in
+        right-files t (HasFew words old new) (record { file = t.vectors_file; is_told = t.vectors_told; few = r.few })
+
+    module _ (decided : AreDecided) where
+      lacks-room : (front : List ℕ) → GoShort files front → IsRight words old (Lacks words old new front)
+      lacks-room front r =
+          let draft = r.texts.draft in
+          right-files r.texts (Lacks words old new front) (record {
+            short = λ d refusal stops. lay-short d draft old new refusal stops;
+            never = λ l list same i laid. never-lacks decided l.list draft laid.1 (r.room l.list list.shape list.kept same);
+          })
+
+      module _ (sure : AreSure) (networks : AreNetworks) where
+        -- room on the list that stands there, or standing parts of the machine
+        has-room : (front : List ℕ) (m : Shape) (draft : Draft) → IsChecked draft
+            → IfList m front (λ d. HasRoom d draft) ⊎ HasPartsFor new.rig.machine.faults m draft
+            → (l : Listed) → IsListed m old.rig.loads new.rig l → front ≡ text_of l.list
+            → (place : ShortPlace) → IsNoRoom l.list draft place → ⊥
+        has-room front m draft checked (inl room) l list same place none =
+            never-refused decided l.list draft (room l.list list.shape list.kept same) place none
+        has-room front m draft checked (inr parts) l list same place none =
+            let n = parts.network in
+            let d = l.list in
+            let network : IsNetwork n = subst (λ (x : Network). IsNetwork x) (sym parts.plain) (networks draft checked) in
+            let short = subst (λ (x : Network). IsShortInOrder d.shape d.list x place.short) (none.plain ∙ sym parts.plain) none.short in
+            sure m d.list parts.faults n place.short network (list.right.tight parts.faults parts.faults_told) parts.standing
+            (subst (λ (s : Shape). IsShortInOrder s d.list n place.short) list.shape short)
+
+        fits : (front : List ℕ) → GoRight files new.rig.machine.faults front → IsRight words old (Fits words old new front)
+        fits front r =
+            let t = r.texts in
+            right-files t (Fits words old new front) (record {
+              file = t.vectors_file;
+              is_told = t.vectors_told;
+              no_fault = t.no_fault;
+              room = λ l list same refusal stops.
+                  let room = has-room front t.shape t.draft t.design.checked r.room l list same in
+                  lay-excused l.list t.draft old new room refusal stops;
+            })
+
+  pub go-lawful : AreDecided → AreSure → AreNetworks → AreNamed → IsLawful (go_job machine name design vectors)
+  go-lawful decided sure networks named = record {
+    right = λ old new text next is.
+        run-well words old new text next (λ front more eq. fits old new decided sure networks front (is front more eq));
+    short = λ old new text next is.
+        run-short words old new text next (λ front more eq. lacks-room old new decided front (is front more eq));
+    few = λ old new few text begun. run-few words old new named (few-vectors old new few) text begun;
   }
-
-pub go-lawful : AreDecided → AreSure → AreNetworks → AreNamed → (machine name design vectors : List ℕ) → IsLawful (go_job machine name design vectors)
-go-lawful decided sure networks named machine name design vectors = record {
-  right = λ old new text next fronts at.
-      ends.ends-well (case-of machine name design vectors old new) (AreGoTexts (files-of machine name design vectors old new)) (GoRight (files-of machine name design vectors old new) new.rig.machine.faults) (λ front right. right.texts)
-      (right-room decided sure networks machine name design vectors old new) (right-vectors decided sure networks machine name design vectors old new) text next fronts
-      (stage-of machine name design vectors old new text next at);
-  short = λ old new text next fronts at.
-      ends.ends-short (case-of machine name design vectors old new) (AreGoTexts (files-of machine name design vectors old new)) (GoShort (files-of machine name design vectors old new)) (λ front short. short.texts)
-      (λ h refusal stops. lay-short h.made.list h.what old new refusal stops) (never-short decided sure networks machine name design vectors old new) text next fronts
-      (stage-of machine name design vectors old new text next at);
-  few = λ old new few text begun at.
-      ends.never-lacks (case-of machine name design vectors old new) (AreGoTexts (files-of machine name design vectors old new)) named
-      (machine-file machine name design vectors old new few.texts) (few-vectors decided sure networks machine name design vectors old new few) text begun
-      (stage-of machine name design vectors old new text (refuses refused.Memory) at);
-}

@@ -1,6 +1,4 @@
 -- What is cited above.
 pub mod Headlines
 -- For the proofs of this crate alone.
-mod Following
-mod GoCases
 mod GoLaws

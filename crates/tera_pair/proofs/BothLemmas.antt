@@ -1,5 +1,5 @@
 -- Where two designs are laid, and where they aren't.
-use Rattle.std.proofs.Common.{◌≡◌, ◌⊎◌, ◌∙◌, ◌+◌, ℕ, [], map, length, ap, subst, refl, inl, inr, length-append}
+use Rattle.std.proofs.Common.{◌≡◌, ◌⊎◌, ◌+◌, ℕ, [], map, length, subst, refl, inl, inr, length-append}
 use Rattle.std.specs.Prelude.{Result, Ok, Err, IfOk, IfErr}
 use Rattle.std.specs.List.{All}
 use Rattle.hierarchy.specs.Defects.{Covers}
@@ -7,7 +7,7 @@ use Rattle.hierarchy.specs.Faults.{Faults}
 use Rattle.defect_db.specs.Lists.{DefectList}
 use Rattle.netlist.specs.declared.draft.Draft.{Draft}
 use Rattle.table_map.specs.declared.network.Network.{Network}
-use Rattle.table_map.specs.Plain.{IsPlainNetwork, plain_network}
+use Rattle.table_map.specs.Plain.{IsPlainNetwork}
 use Rattle.table_map.specs.Rows.{HasRowsOf}
 use Rattle.config_image.specs.Images.{ImageValue, IsImage, image_row}
 use Rattle.config_image.specs.Parts.{IsFreeImage}
@@ -40,27 +40,23 @@ module _ (d : DefectList) (first second : Draft) (n o : Network) (first_is : IsP
   joint-stops stop stops = absurd stops
 
   pub place-stops : (stop : Stop) → PlanStops d (joint_network n o) stop → StepStops (lays_both d first second) stop
-  place-stops stop stops =
-      joint-stops stop (subst (λ (x : Network). PlanStops d (joint_network x (plain_network second)) stop) first_is
-      (subst (λ (x : Network). PlanStops d (joint_network n x) stop) second_is stops))
+  place-stops stop stops = joint-stops stop (rw (first_is, second_is) at stops)
 
   -- an image of both networks is one of both designs
   module _ (first_rows : HasRowsOf n first) (second_rows : HasRowsOf o second) (whole one other : ImageValue) (tenants : AreTenants whole one other) (first_pins : HasPinsOf n one) (second_pins : HasPinsOf o other) where
     inputs-are : length whole.inputs ≡ n.inputs + o.inputs
-    inputs-are =
-        ap length tenants.inputs ∙ (length-append one.inputs other.inputs ∙ (ap (λ (k : ℕ). k + length other.inputs) first_pins.inputs ∙ ap (λ (k : ℕ). n.inputs + k) second_pins.inputs))
+    inputs-are = rw (tenants.inputs, length-append one.inputs other.inputs, first_pins.inputs, second_pins.inputs) refl
 
     outputs-are : length whole.outputs ≡ length n.outputs + length o.outputs
-    outputs-are =
-        ap length tenants.outputs ∙ (length-append one.outputs other.outputs ∙ (ap (λ (k : ℕ). k + length other.outputs) first_pins.outputs ∙ ap (λ (k : ℕ). length n.outputs + k) second_pins.outputs))
+    outputs-are = rw (tenants.outputs, length-append one.outputs other.outputs, first_pins.outputs, second_pins.outputs) refl
 
     pub both-image : IsImage whole → whole.config.shape ≡ d.shape → IsFreeImage d.list whole → ((f : Faults) → Covers d.shape d.list f → StandApart f whole one other) → ((netlist : Draft) (f : Faults) → HasRowsOf n netlist → Covers d.shape d.list f → IsRightImage f one netlist) → ((netlist : Draft) (f : Faults) → HasRowsOf o netlist → Covers d.shape d.list f → IsRightImage f other netlist) → ((f : Faults) → Covers d.shape d.list f → ReadsRows f whole (joint.AreBothRows n o)) → HaveRoom d.shape d.list n o → (lays_both d first second).gives whole
     both-image image shape free apart first_right second_right rows room = (
       record {
         image = image;
         shape = shape;
-        inputs = inputs-are ∙ (ap (λ (k : ℕ). k + o.inputs) (plain-inputs first n first_is) ∙ ap (λ (k : ℕ). length first.inputs + k) (plain-inputs second o second_is));
-        outputs = outputs-are ∙ (ap (λ (k : ℕ). k + length o.outputs) (plain-outputs first n first_is) ∙ ap (λ (k : ℕ). length first.outputs + k) (plain-outputs second o second_is));
+        inputs = rw (inputs-are, plain-inputs first n first_is, plain-inputs second o second_is) refl;
+        outputs = rw (outputs-are, plain-outputs first n first_is, plain-outputs second o second_is) refl;
         free = free;
         right = λ f covers vectors reads widths run.
             both-rows n o first second first_rows second_rows (plain-inputs first n first_is) vectors (map (image_row whole) reads)
@@ -72,7 +68,7 @@ module _ (d : DefectList) (first second : Draft) (n o : Network) (first_is : IsP
         first_right = λ f covers. first_right first f first_rows covers;
         second_right = λ f covers. second_right second f second_rows covers;
       },
-      subst (λ (x : Network). HaveRoom d.shape d.list x (plain_network second)) first_is (subst (λ (x : Network). HaveRoom d.shape d.list n x) second_is room),
+      rw (first_is, second_is) at room,
     )
 
 -- ---- the step

@@ -3,6 +3,4 @@ pub mod Headlines
 -- For the proofs of this crate alone.
 mod RowsOfBoth
 mod BothLemmas
-mod Following
-mod PairCases
 mod PairLaws

@@ -1,82 +1,74 @@
--- What the command `pair` comes to.
-use Rattle.std.proofs.Common.{◌≡◌, ℕ, ◌+◌, ◌≤◌, List, length, None, refl, sym, subst}
+-- What the command `pair` does with its words, and what it comes to.
+use Rattle.std.proofs.Common.{ℕ, List}
 use Rattle.hierarchy.specs.declared.Shape.{Shape}
-use Rattle.defect_db.specs.Text.{text_of}
-use Rattle.netlist.specs.declared.draft.Draft.{Draft}
-use Rattle.steps.specs.Files.{says_at, vectors_at}
 use Rattle.steps.specs.Outside.{Around}
-use Rattle.steps.specs.Courses.{refuses}
-use Rattle.steps.specs.Jobs.{IsLawful, IsExcused}
+use Rattle.steps.specs.Jobs.{IsLawful}
 use Rattle.steps.specs.declared.design_file.DesignFile.TheVariants.{First, Second}
-use Rattle.steps.specs.declared.refusal.Refusal.{Refusal}
-use Rattle.steps.specs.declared.refusal.Refusal.TheVariants as refused
-use Rattle.steps.proofs.ShapeLemmas.{one-design}
 use Rattle.listing.proofs.Texts.{AreNamed}
 use Rattle.lay.proofs.Rooms.{AreDecided}
-use Rattle.image_rows.specs.Rows.{most_rows}
-use Rattle.laid_rows.specs.Runs.{IfList}
-use Rattle.laid_rows.proofs.Stages.{RunCase, HasMade, HasLaid}
-use Rattle.laid_rows.proofs.Ends as ends
-use Rattle.tera_pair.specs.Both.{BothHaveRoom, BothLackRoom, NotBothLaid}
-use Rattle.tera_pair.specs.Pair.{pair_job, PairFiles, ArePairTexts, PairRight, PairShort, PairFew}
+use Rattle.laid_rows.specs.Laid.{Laid}
+use Rattle.laid_rows.proofs.Scripts.{Words, reads, runs, IsRight}
+use Rattle.laid_rows.proofs.Ends.{Fits, Lacks, HasFew, run-well, run-short, run-few}
+use Rattle.tera_pair.specs.Both.{both_laid}
+use Rattle.tera_pair.specs.Pair.{pair_files, pair_job, PairFiles, ArePairTexts, PairRight, PairShort, PairFew}
 use Rattle.tera_pair.proofs.BothLemmas.{never-both-lack, both-excused, both-short}
-use Rattle.tera_pair.proofs.PairCases.{Drafts, files-of, case-of, machine-file, stage-of}
 
-module _ (decided : AreDecided) (machine name first second vectors : List ℕ) (old new : Around) where
-  abbrev c : RunCase Drafts
-  c = case-of machine name first second vectors old new
-
-  abbrev t : PairFiles
-  t = files-of machine name first second vectors old new
-
-  -- there is one machine and there are two designs of right texts: what is so of them is so of those that were read
-  as-read : (P : Shape → Draft → Draft → Type 0) (texts : ArePairTexts t) (h : HasMade c) → P texts.shape texts.first_draft texts.second_draft → P h.shape h.what.one h.what.other
-  as-read P texts h is =
-      subst (λ (s : Shape). P s h.what.one h.what.other) (ends.the-shape c (machine-file machine name first second vectors old new texts) h)
-      (subst (λ (x : Draft). P texts.shape x h.what.other) (one-design First t.first texts.first_file texts.first_draft h.what.one texts.first_told texts.first h.drawn.0)
-      (subst (λ (x : Draft). P texts.shape texts.first_draft x) (one-design Second t.second texts.second_file texts.second_draft h.what.other texts.second_told texts.second h.drawn.1) is))
-
-  -- and so of the image's width
-  as-wide : (P : ℕ → Type 0) (texts : ArePairTexts t) (h : HasLaid c) → P (length texts.first_draft.inputs + length texts.second_draft.inputs) → P (length h.image.inputs)
-  as-wide P texts h is = subst P (sym h.gives.0.inputs) (as-read (λ s x y. P (length x.inputs + length y.inputs)) texts h.has is)
-
-  right-room : (h : HasMade c) → PairRight t (text_of h.made.list) → (refusal : Refusal) → NotBothLaid h.made.list h.what.one h.what.other refusal → IsExcused refusal old new
-  right-room h right refusal stops =
-      let room = as-read (λ s x y. IfList s (text_of h.made.list) (λ d. BothHaveRoom d x y)) right.texts h right.room in
-      both-excused h.made.list h.what.one h.what.other old new decided (room h.made.list h.list.shape h.list.kept refl) refusal stops
-
-  right-vectors : ArePairTexts t → (h : HasLaid c) → ends.HasNoFault t.vectors (length h.image.inputs)
-  right-vectors texts h = record {
-    file = texts.vectors_file;
-    is_told = texts.vectors_told;
-    no_fault = as-wide (λ w. (says_at w texts.vectors_file).fault ≡ None) texts h texts.no_fault;
+module _ (machine name first second vectors : List ℕ) where
+  abbrev pub words : Words
+  words = record {
+    machine = machine;
+    name = name;
+    vectors = vectors;
+    script = reads First first (λ one. reads Second second (λ other. runs (both_laid one other) (λ d i is.
+        record { image = is.0.image; shape = is.0.shape; inputs = is.0.inputs; free = is.0.free; right = is.0.right })));
   }
 
-  never-short : (h : HasLaid c) → PairShort t (text_of h.has.made.list) → ⊥
-  never-short h short =
-      let d = h.has.made.list in
-      let lacks = as-read (λ s x y. IfList s (text_of d) (λ e. BothLackRoom e x y)) short.texts h.has short.room in
-      never-both-lack d h.has.what.one h.has.what.other decided h.gives.1 (lacks d h.has.list.shape h.has.list.kept refl)
+  module _ (old new : Around) where
+    abbrev files : PairFiles
+    files = pair_files old machine first second vectors
 
-  few-vectors : PairFew t → (h : HasLaid c) → ends.HasFew t.vectors (length h.image.inputs)
-  few-vectors few h = record {
-    file = few.texts.vectors_file;
-    is_told = few.texts.vectors_told;
-    few = as-wide (λ w. length (vectors_at w few.texts.vectors_file) ≤ most_rows) few.texts h few.few;
+    -- the files are right, and this is so of what they say
+    right-files : (t : ArePairTexts files) (P : Shape → Laid → Type 0) → P t.shape (both_laid t.first_draft t.second_draft)
+        → IsRight words old P
+    right-files t P is = record {
+      machine = record { shape = t.shape; file = t.machine_file; is_told = t.machine_told; is = t.machine; within = t.machine_within };
+      designs = (
+        record { draft = t.first_draft; file = t.first_file; is_told = t.first_told; is = t.first; within = t.first_within },
+        (record { draft = t.second_draft; file = t.second_file; is_told = t.second_told; is = t.second; within = t.second_within }, is),
+      );
+    }
+
+    few-vectors : PairFew files → IsRight words old (HasFew words old new)
+    few-vectors r =
+        let t = r.texts in
+        right-files t (HasFew words old new) (record { file = t.vectors_file; is_told = t.vectors_told; few = r.few })
+
+    module _ (decided : AreDecided) (front : List ℕ) where
+      fits : PairRight files front → IsRight words old (Fits words old new front)
+      fits r =
+          let t = r.texts in
+          right-files t (Fits words old new front) (record {
+            file = t.vectors_file;
+            is_told = t.vectors_told;
+            no_fault = t.no_fault;
+            room = λ l list same refusal stops.
+                let room = r.room l.list list.shape list.kept same in
+                both-excused l.list t.first_draft t.second_draft old new decided room refusal stops;
+          })
+
+      lacks-room : PairShort files front → IsRight words old (Lacks words old new front)
+      lacks-room r =
+          let one = r.texts.first_draft in
+          let other = r.texts.second_draft in
+          right-files r.texts (Lacks words old new front) (record {
+            short = λ d refusal stops. both-short d one other old new refusal stops;
+            never = λ l list same i laid. never-both-lack l.list one other decided laid.1 (r.room l.list list.shape list.kept same);
+          })
+
+  pub pair-lawful : AreDecided → AreNamed → IsLawful (pair_job machine name first second vectors)
+  pair-lawful decided named = record {
+    right = λ old new text next is. run-well words old new text next (λ front more eq. fits old new decided front (is front more eq));
+    short = λ old new text next is.
+        run-short words old new text next (λ front more eq. lacks-room old new decided front (is front more eq));
+    few = λ old new few text begun. run-few words old new named (few-vectors old new few) text begun;
   }
-
-pub pair-lawful : AreDecided → AreNamed → (machine name first second vectors : List ℕ) → IsLawful (pair_job machine name first second vectors)
-pair-lawful decided named machine name first second vectors = record {
-  right = λ old new text next fronts at.
-      ends.ends-well (case-of machine name first second vectors old new) (ArePairTexts (files-of machine name first second vectors old new)) (PairRight (files-of machine name first second vectors old new)) (λ front right. right.texts)
-      (right-room decided machine name first second vectors old new) (right-vectors decided machine name first second vectors old new) text next fronts
-      (stage-of machine name first second vectors old new text next at);
-  short = λ old new text next fronts at.
-      ends.ends-short (case-of machine name first second vectors old new) (ArePairTexts (files-of machine name first second vectors old new)) (PairShort (files-of machine name first second vectors old new)) (λ front short. short.texts)
-      (λ h refusal stops. both-short h.made.list h.what.one h.what.other old new refusal stops) (never-short decided machine name first second vectors old new) text next fronts
-      (stage-of machine name first second vectors old new text next at);
-  few = λ old new few text begun at.
-      ends.never-lacks (case-of machine name first second vectors old new) (ArePairTexts (files-of machine name first second vectors old new)) named
-      (machine-file machine name first second vectors old new few.texts) (few-vectors decided machine name first second vectors old new few) text begun
-      (stage-of machine name first second vectors old new text (refuses refused.Memory) at);
-}
