@@ -20,6 +20,10 @@ pub mod OpenedLaws
 pub mod Making
 pub mod Keeping
 pub mod Well
+pub mod AttachedReads
+pub mod RigFails
+pub mod QuietJobs
+pub mod Exits
 -- For the proofs of this crate alone.
 mod TextLemmas
 mod AttachLemmas

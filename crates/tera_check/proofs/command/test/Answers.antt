@@ -1,13 +1,16 @@
 use Rattle.std.proofs.Common.{refl}
-use Rattle.tera_check.proofs.Judging.{test-took, test-stopped}
+use Rattle.steps.proofs.Making.{rig-took}
+use Rattle.steps.proofs.RigFails.{rig-fails}
 use Rattle.tera_check.proofs.command.test.Goals as goal
 
 pub returns-in-Ok-clause-took : goal.returns-in-Ok-clause-took
 returns-in-Ok-clause-took g c =
     let e = c.in-Ok.ensures in
-    λ store sink. test-took c.args.image.now _ _ store sink e.machine e.later e.loads c.in-Ok.sound e.sound e.whole
+    λ store sink. rig-took _ _ _ store sink e.machine e.later c.in-Ok.sound
+    (record { sound = rw e.machine e.sound; whole = rw e.machine e.whole; few = e.loads })
 
 pub returns-in-Err-clause-took : goal.returns-in-Err-clause-took
 returns-in-Err-clause-took g c =
     let e = c.in-Err.ensures in
-    λ store sink. rw c.from.ensures (test-stopped c.args.image.now _ _ store sink e.machine e.later e.loads c.in-Err.fail (λ is. e.cause (rw is refl)))
+    λ store sink. rw c.from.ensures (rig-fails _ _ _ store sink e.machine e.later c.in-Err.fail
+    (λ is. e.cause (rw is refl)) (λ _ fails. (fails, e.loads)))
