@@ -13,7 +13,6 @@ use Rattle.place.specs.Plans.{nets_in}
 use Rattle.crossbar_route.specs.RightImages.{IsRightImage}
 use Rattle.rig.specs.Rig.{cycles_of, readings_of}
 use Rattle.loader.proofs.Driving.{told-run}
-use Rattle.bench_gen.specs.Work as work
 use Rattle.bench_laws.specs.Design.{bench_draft}
 use Rattle.steps.specs.Outside.{Outside, around}
 use Rattle.steps.specs.Courses.{ends}
