@@ -1,4 +1,5 @@
 -- What is cited above.
 pub mod ListedLemmas
 pub mod Following
+pub mod Made
 pub mod Texts

@@ -1,8 +1,8 @@
 -- What a `bench` that is done has done, from its course.
-use Rattle.std.proofs.Common.{◌≡◌, ◌∙◌, ℕ, ◌-◌, ◌<◌, Bool, List, ◌++◌, length, Some, sym, ap, subst, inl, inr, append-nil, arith}
+use Rattle.std.proofs.Common.{◌≡◌, ◌∙◌, ℕ, ◌-◌, Bool, List, ◌++◌, length, Some, sym, ap, subst, inl, inr, append-nil}
 use Rattle.std.specs.Prelude.{Result, Ok, Err, OnOk}
-use Rattle.std.specs.List.{All}
-use Rattle.std.proofs.lemmas.List.FromFn.{get_or-map-range_with_len, length-map-range_with_len}
+use Rattle.std.specs.List.{All, range_with_len}
+use Rattle.std.proofs.lemmas.List.Elements.{All-map}
 use Rattle.tm_outside.specs.Sink.{Wrote}
 use Rattle.hierarchy.specs.declared.Shape.{Shape}
 use Rattle.hierarchy.specs.Faults.{Faults}
@@ -10,29 +10,23 @@ use Rattle.hierarchy.specs.Defects.{Covers}
 use Rattle.netlist.specs.declared.draft.Draft.{Draft}
 use Rattle.table_map.specs.Plain.{plain_network}
 use Rattle.place.specs.Plans.{nets_in}
-use Rattle.config_image.specs.Images.{ImageValue}
 use Rattle.crossbar_route.specs.RightImages.{IsRightImage}
 use Rattle.rig.specs.Rig.{cycles_of, readings_of}
 use Rattle.loader.proofs.Driving.{told-run}
-use Rattle.bench_gen.specs.Work as work
 use Rattle.bench_laws.specs.Design.{bench_draft}
 use Rattle.steps.specs.Outside.{Outside, around}
 use Rattle.steps.specs.Courses.{ends}
 use Rattle.steps.specs.Stops.{IsWritten}
 use Rattle.steps.specs.declared.refusal.Stop.{Stop}
-use Rattle.listing.specs.Lists.{Listed, IsListed}
-use Rattle.lay.specs.Laying.{IsImageFor}
 use Rattle.tera_bench.specs.Summary.{summary_text}
-use Rattle.tera_bench.specs.Bench.{bench_course, bench_summary, bench_vector, bench_vectors}
+use Rattle.tera_bench.specs.Bench.{bench_rows, bench_course, bench_summary, bench_vector, bench_vectors}
 use Rattle.tera_bench.specs.Headline.{IsBenched}
 use Rattle.tera_bench.proofs.BenchLaws.{IsOnly}
 
 -- each vector has one bit
 vectors-wide : (n width : ℕ) → width ≡ 1 → All (λ (v : List Bool). length v ≡ width) (bench_vectors n)
-vectors-wide n width one k d less =
-    let within : k < 64 = omega (arith, less, length-map-range_with_len (bench_vector n) 0 64) in
-    let at = get_or-map-range_with_len (bench_vector n) 0 64 k k d within (omega arith) in
-    ap (λ (v : List Bool). length v) at ∙ sym one
+vectors-wide n width one =
+    All-map (λ (v : List Bool). length v ≡ width) (bench_vector n) (range_with_len 0 bench_rows) (λ k d less. sym one)
 
 module _ (tables : length (plain_network bench_draft).tables ≡ 17) (nets : nets_in (plain_network bench_draft) ≡ 18) (n : ℕ) where
   -- the numbers of the design's plain network
@@ -42,10 +36,6 @@ module _ (tables : length (plain_network bench_draft).tables ≡ 17) (nets : net
       ∙ (ap (λ t. summary_text n t (nets_in (plain_network bench_draft)) ones loads) tables ∙ ap (λ k. summary_text n 17 k ones loads) nets)
 
   module _ (only : IsOnly) (old new : Outside) where
-    -- the image is right under the machine's faults, which the list covers
-    is-right : (m : Shape) (draft : Draft) (l : Listed) (i : ImageValue) → IsListed m old.rig.loads new.rig l → IsImageFor l.list draft i → (f : Faults) → new.rig.machine.faults ≡ Some f → IsRightImage f i draft
-    is-right m draft l i listed laid f told = laid.right f (subst (λ (s : Shape). Covers s l.list.list f) (sym listed.shape) (listed.right.covers f told))
-
     pub benched : (text : List ℕ) → Wrote old.sink.written new.sink.written text → bench_course n (around old) (around new) text ends → IsBenched n old new
     benched text wrote (inl h) = absurd h.1
     benched text wrote (inr (m, counts, inl h)) = absurd h.1
@@ -58,6 +48,8 @@ module _ (tables : length (plain_network bench_draft).tables ≡ 17) (nets : net
         let the = only draft design in
         let one : length i.inputs ≡ 1 = laid.0.inputs ∙ ap (λ (x : Draft). length x.inputs) the in
         let line = is ∙ (ap (λ t. bench_summary n draft ones (new.rig.loads - old.rig.loads) ++ t) h.0 ∙ (append-nil _ ∙ summary-is draft ones (new.rig.loads - old.rig.loads) the)) in
+        let right : (f : Faults) → new.rig.machine.faults ≡ Some f → IsRightImage f i draft = λ f told.
+        laid.0.right f (subst (λ (s : Shape). Covers s l.list.list f) (sym listed.shape) (listed.right.covers f told)) in
         record {
           shape = m;
           counts = counts;
@@ -77,8 +69,8 @@ module _ (tables : length (plain_network bench_draft).tables ≡ 17) (nets : net
           ones = ones;
           ones_are = run.ones_are;
           written = subst (λ t. Wrote old.sink.written new.sink.written t) line wrote;
-          right = is-right m draft l i listed laid.0;
-          rows = λ f told. is-right m draft l i listed laid.0 f told (bench_vectors n) (readings_of (cycles_of new.rig)) (vectors-wide n (length i.inputs) one)
+          right = right;
+          rows = λ f told. right f told (bench_vectors n) (readings_of (cycles_of new.rig)) (vectors-wide n (length i.inputs) one)
               (told-run new.rig i (bench_vectors n) run.config run.drives run.told f told);
         }
 

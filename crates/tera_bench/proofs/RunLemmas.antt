@@ -1,5 +1,5 @@
 -- How the rows of generated work go on, and how they end.
-use Rattle.std.proofs.Common.{◌≡◌, ℕ, ◌+◌, ◌*◌, ◌<◌, ◌≤◌, Bool, List, [], ◌∷◌, ◌++◌, length, Some, option_map, arith, refl, sym, ap, ◌∙◌, inl, inr, length-append}
+use Rattle.std.proofs.Common.{◌≡◌, ℕ, ◌+◌, ◌*◌, ◌<◌, ◌≤◌, Bool, List, [], ◌∷◌, ◌++◌, length, Some, option_map, arith, sym, ap, ◌∙◌, inl, inr, length-append}
 use Rattle.std.specs.Prelude.{Ok, Err}
 use Rattle.std.proofs.lemmas.List.Sums.{sum_by-append}
 use Rattle.std.proofs.lemmas.List.FromFn.{map-range_with_len_more}
@@ -8,12 +8,12 @@ use Rattle.tm_outside.specs.Store.{StoreState}
 use Rattle.tm_outside.specs.Sink.{SinkState}
 use Rattle.hierarchy.specs.Shape.{pins_of}
 use Rattle.config_set.specs.Configuration.{Configuration}
-use Rattle.rig.specs.Rig.{RigState, Begins, LoadFails, CycleFails, width_of}
+use Rattle.rig.specs.Rig.{RigState, LoadFails, CycleFails, width_of}
 use Rattle.rig.specs.declared.rig.RigFail.{RigFail}
 use Rattle.rig.specs.declared.rig.RigFail.TheVariants.{Failed, Memory}
 use Rattle.config_image.specs.Images.{ImageValue}
 use Rattle.loader.specs.Pins.{Rows, pins_in}
-use Rattle.loader.proofs.Driving.{HasDriven, driven-start, driven-more}
+use Rattle.loader.proofs.Driving.{HasDriven, driven-more}
 use Rattle.steps.specs.Outside.{outside}
 use Rattle.steps.specs.Stops.{stop_of_rig}
 use Rattle.steps.specs.Took.{Took}
@@ -31,18 +31,6 @@ pub record IsRunning (n : ℕ) (i : ImageValue) (rig0 rig : RigState) (k ones : 
   pub later : rig0.failures ≤ rig.failures
   pub loads : rig.loads ≡ next_count rig0.loads
 
-pub running-start : (n : ℕ) (i : ImageValue) (rig0 rig : RigState) → Begins i.config bench_rows rig → rig.machine ≡ rig0.machine → rig0.failures ≤ rig.failures → rig.loads ≡ next_count rig0.loads → IsRunning n i rig0 rig 0 0
-running-start n i rig0 rig begins machine later loads = record {
-  rows = [];
-  driven = driven-start bench_rows i rig begins;
-  count = refl;
-  ones_are = refl;
-  few = omega arith;
-  machine = machine;
-  later = later;
-  loads = loads;
-}
-
 module _ (n : ℕ) (i : ImageValue) (r : Rows) (rig0 rig : RigState) (k ones : ℕ) (same : r ≡ pins_in i) (so_far : IsRunning n i rig0 rig k ones) where
   -- as wide as the session
   pub running-width : width_of rig ≡ Some r.pins
@@ -52,14 +40,11 @@ module _ (n : ℕ) (i : ImageValue) (r : Rows) (rig0 rig : RigState) (k ones : �
   pub running-more : (rig' : RigState) (more : ℕ) → RunsOnes r (bench_vector n k) rig rig' more → rig'.machine ≡ rig.machine → rig.failures ≤ rig'.failures → rig'.loads ≡ rig.loads → IsRunning n i rig0 rig' (k + 1) (ones + more)
   running-more rig' more one machine later loads =
       let driven = driven-more bench_rows i (first_vectors n k) so_far.rows (bench_vector n k) one.row rig rig' so_far.driven (rw same at one.read) in
-      let sum : ones_of (so_far.rows ++ one.row ∷ []) ≡ ones_of so_far.rows + ones_of (one.row ∷ []) = sum_by-append ones_in so_far.rows (one.row ∷ []) in
-      let last : ones_of (one.row ∷ []) ≡ ones_in one.row = omega arith in
-      let size : length (so_far.rows ++ one.row ∷ []) ≡ length so_far.rows + 1 = rw (length-append so_far.rows) refl in
       record {
         rows = so_far.rows ++ one.row ∷ [];
         driven = rw (map-range_with_len_more (bench_vector n) 0 k k (omega arith)) driven;
-        count = omega (arith, size, so_far.count);
-        ones_are = omega (arith, so_far.ones_are, one.ones_are, sum, last);
+        count = omega (arith, so_far.count, length-append so_far.rows (one.row ∷ []));
+        ones_are = omega (arith, so_far.ones_are, one.ones_are, sum_by-append ones_in so_far.rows (one.row ∷ []));
         few = omega (arith, so_far.few, one.few);
         machine = machine ∙ so_far.machine;
         later = omega (arith, so_far.later, later);

@@ -1,5 +1,5 @@
 -- What words ask for, done to the end of the program.
-use Rattle.std.proofs.Common.{◌≡◌, ◌∙◌, ◌⊎◌, ℕ, ◌≤◌, IsTrue, Bool, true, false, refl, sym, inl, inr, arith}
+use Rattle.std.proofs.Common.{◌≡◌, ◌∙◌, ◌⊎◌, ℕ, ◌≤◌, IsTrue, refl, sym, inl, inr, arith}
 use Rattle.std.specs.Prelude.{Result, Ok, Err}
 use Rattle.tm_outside.specs.Counts.{Rose}
 use Rattle.tm_outside.specs.Sink.{SinkState}
@@ -14,7 +14,7 @@ use Rattle.steps.specs.declared.refusal.Stop.{Stop}
 use Rattle.steps.specs.declared.refusal.Stop.TheVariants.{Refused, Sink}
 use Rattle.steps.proofs.EndLemmas.{ended}
 use Rattle.steps.proofs.JobLemmas.{wrong-lawful, does-wrong, does-asked, ends-done, ends-stopped, end-wrong}
-use Rattle.tera_top.specs.Words.{Asked, no_job, a_job, HasNoJob, job_of, asked_if, DoesAsked}
+use Rattle.tera_top.specs.Words.{Asked, no_job, a_job, HasNoJob, job_of, DoesAsked}
 
 -- wrong words are refused at once
 pub does-none : (o : Outside) → DoesAsked {T = Unit {0}} no_job (Err (Refused Words)) o o
@@ -23,13 +23,6 @@ does-none o = record { lawful = wrong-lawful; does = does-wrong (Unit {0}) (Err 
 -- a job is done as a command does it
 pub does-job : {T : Type 0} (job : Job) (result : Result T Stop) (old new : Outside) → IsLawful job → Does ⊥ job result old new → DoesAsked (a_job job) result old new
 does-job job result old new lawful does = record { lawful = lawful; does = does }
-
--- the line of the table that the words begin with, or one further down
-pub this-line : {T : Type 0} (b : Bool) (this that : Asked) (result : Result T Stop) (old new : Outside) → b ≡ true → DoesAsked this result old new → DoesAsked (asked_if b this that) result old new
-this-line b this that result old new is done = rw is done
-
-pub further : {T : Type 0} (b : Bool) (this that : Asked) (result : Result T Stop) (old new : Outside) → b ≡ false → DoesAsked that result old new → DoesAsked (asked_if b this that) result old new
-further b this that result old new is done = rw is done
 
 -- ---- the end of the program
 

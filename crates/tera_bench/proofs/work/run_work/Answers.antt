@@ -1,13 +1,26 @@
-use Rattle.std.proofs.Common.{◌∙◌, ap, length, arith}
+use Rattle.std.proofs.Common.{◌∙◌, [], refl, ap, length, arith}
 use Rattle.std.proofs.lemmas.Result.{err_from_is_err_and}
 use Rattle.loader.specs.Pins.{Rows}
-use Rattle.tera_bench.proofs.RunLemmas.{running-start, running-more, running-width, run-done, load-stopped, row-stopped}
+use Rattle.loader.proofs.Driving.{driven-start}
+use Rattle.tera_bench.specs.Bench.{bench_rows}
+use Rattle.tera_bench.proofs.RunLemmas.{running-more, running-width, run-done, load-stopped, row-stopped}
 use Rattle.tera_bench.proofs.work.run_work.Goals as goal
 
 pub rows-init : goal.rows-init
 rows-init g c =
-    let e = c.in_ok-run.ensures in
-    (running-start c.args.n c.args.image.now _ _ e.begins e.machine e.later e.counted, e.run)
+    let e = c.in_ok-run.ensures in (
+      record {
+        rows = [];
+        driven = driven-start bench_rows c.args.image.now _ e.begins;
+        count = refl;
+        ones_are = refl;
+        few = omega arith;
+        machine = e.machine;
+        later = e.later;
+        loads = e.counted;
+      },
+      e.run,
+    )
 
 pub next_ones-requires : goal.next_ones-requires
 next_ones-requires g c =

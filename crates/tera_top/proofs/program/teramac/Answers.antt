@@ -1,63 +1,62 @@
-use Rattle.std.proofs.Common.{map, string_bytes}
-use Rattle.tera_top.proofs.DoneLemmas.{go-listed, go-loads, go-gone, go-room, eval-evaled, compile-compiled, run-ran, diagnose-diagnosed, diagnose-loads, bench-benched, check-checked, repair-repaired, pair-listed, pair-loads, pair-paired, pair-room}
+use Rattle.std.proofs.Common.{map, string_bytes, refl, sym, ap, arith}
+use Rattle.std.specs.Fmt.{decimal}
+use Rattle.steps.specs.Outside.{outside, around}
+use Rattle.tera_eval.proofs.Headlines.{evaled}
+use Rattle.tera_compile.proofs.Headlines.{compiled}
+use Rattle.tera_run.proofs.Headlines.{ran}
+use Rattle.tera_diagnose.proofs.Headlines.{diagnosed, few-loads as diagnosed-loads}
+use Rattle.tera_go.proofs.Headlines.{gone, begins as gone-begins, few-loads as gone-loads}
+use Rattle.tera_bench.specs.Bench.{bench_job}
+use Rattle.tera_bench.proofs.Headlines.{benched}
+use Rattle.tera_check.proofs.Headlines.{checked}
+use Rattle.tera_repair.proofs.Headlines.{repaired}
+use Rattle.tera_pair.proofs.Headlines.{paired, begins as paired-begins, few-loads as paired-loads}
+use Rattle.tera_top.specs.Words.{of_number}
+use Rattle.tera_top.proofs.WordLemmas.{some_number}
+use Rattle.tera_top.proofs.DoneLemmas.{whatever, done-as, wrong-begins, wrong-loads}
 use Rattle.tera_top.proofs.program.teramac.Goals as goal
 
-pub returns-clause-listed : goal.returns-clause-listed
-returns-clause-listed g c = go-listed (map string_bytes c.args.words.now) _ _ c.end.result c.end.ensures
-
-pub returns-clause-go_loads : goal.returns-clause-go_loads
-returns-clause-go_loads g c = go-loads (map string_bytes c.args.words.now) _ _ c.end.result c.end.ensures
-
-pub returns-clause-gone : goal.returns-clause-gone
-returns-clause-gone g c = λ machine name design vectors is zero.
-    go-gone (map string_bytes c.args.words.now) _ _ c.end.result c.end.ensures zero machine name design vectors is
-
-pub returns-clause-room : goal.returns-clause-room
-returns-clause-room g c = λ machine name design vectors is zero.
-    go-room (map string_bytes c.args.words.now) _ _ c.end.result c.end.ensures zero machine name design vectors is
-
-pub returns-clause-evaled : goal.returns-clause-evaled
-returns-clause-evaled g c = λ design vectors is zero.
-    eval-evaled (map string_bytes c.args.words.now) _ _ c.end.result c.end.ensures zero design vectors is
-
-pub returns-clause-compiled : goal.returns-clause-compiled
-returns-clause-compiled g c = λ machine defects design is zero.
-    compile-compiled (map string_bytes c.args.words.now) _ _ c.end.result c.end.ensures zero machine defects design is
-
-pub returns-clause-ran : goal.returns-clause-ran
-returns-clause-ran g c = λ machine name image vectors is zero.
-    run-ran (map string_bytes c.args.words.now) _ _ c.end.result c.end.ensures zero machine name image vectors is
-
-pub returns-clause-diagnosed : goal.returns-clause-diagnosed
-returns-clause-diagnosed g c = λ machine name is zero.
-    diagnose-diagnosed (map string_bytes c.args.words.now) _ _ c.end.result c.end.ensures zero machine name is
-
-pub returns-clause-diagnose_loads : goal.returns-clause-diagnose_loads
-returns-clause-diagnose_loads g c = diagnose-loads (map string_bytes c.args.words.now) _ _ c.end.result c.end.ensures
-
-pub returns-clause-benched : goal.returns-clause-benched
-returns-clause-benched g c = λ n less is zero.
+pub returns : goal.returns
+returns g c =
+    let box0 = c.args.rig.now in
+    let rig0 = (goal.Rig-dyn g (box0.vtable, box0.value)).rig_state box0.value in
+    let box = c.end.new.rig in
+    let rig = (goal.Rig-dyn g (box.vtable, box.value)).rig_state box.value in
+    let old = outside (g.S.Store.store_state c.args.store.now) rig0 (g.K.Sink.sink_state c.args.sink.now) in
+    let new = outside (g.S.Store.store_state c.end.new.store) rig (g.K.Sink.sink_state c.end.new.sink) in
+    let words = map string_bytes c.args.words.now in
+    let e = c.end.ensures in
     let laws = c.generated_faults_leave_room.ensures in
-    bench-benched (map string_bytes c.args.words.now) _ _ c.end.result c.end.ensures zero laws.tables laws.nets c.the_bench_design_is_a_design.ensures.only n less is
-
-pub returns-clause-checked : goal.returns-clause-checked
-returns-clause-checked g c = λ machine name image is zero.
-    check-checked (map string_bytes c.args.words.now) _ _ c.end.result c.end.ensures zero machine name image is
-
-pub returns-clause-repaired : goal.returns-clause-repaired
-returns-clause-repaired g c = λ machine defects image is zero.
-    repair-repaired (map string_bytes c.args.words.now) _ _ c.end.result c.end.ensures zero machine defects image is
-
-pub returns-clause-pair_listed : goal.returns-clause-pair_listed
-returns-clause-pair_listed g c = pair-listed (map string_bytes c.args.words.now) _ _ c.end.result c.end.ensures
-
-pub returns-clause-pair_loads : goal.returns-clause-pair_loads
-returns-clause-pair_loads g c = pair-loads (map string_bytes c.args.words.now) _ _ c.end.result c.end.ensures
-
-pub returns-clause-paired : goal.returns-clause-paired
-returns-clause-paired g c = λ machine name first second vectors is zero.
-    pair-paired (map string_bytes c.args.words.now) _ _ c.end.result c.end.ensures zero machine name first second vectors is
-
-pub returns-clause-pair_room : goal.returns-clause-pair_room
-returns-clause-pair_room g c = λ machine name first second vectors is zero.
-    pair-room (map string_bytes c.args.words.now) _ _ c.end.result c.end.ensures zero machine name first second vectors is
+    let only = c.the_bench_design_is_a_design.ensures.only in
+    record {
+      ends = e;
+      listed = λ machine name design vectors is.
+          whatever words old new e is refl (wrong-begins machine name old new) (gone-begins machine name design vectors old new);
+      gone = λ machine name design vectors is zero.
+          (done-as words old new e is refl zero (gone machine name design vectors old new)).0;
+      room = λ machine name design vectors is zero.
+          (done-as words old new e is refl zero (gone machine name design vectors old new)).1;
+      go_loads = λ machine name design vectors is.
+          whatever words old new e is refl (wrong-loads machine name _ old new) (gone-loads machine name design vectors old new);
+      evaled = λ design vectors is zero. done-as words old new e is refl zero (evaled design vectors old new);
+      compiled = λ machine defects design is zero. done-as words old new e is refl zero (compiled machine defects design old new);
+      ran = λ machine name image vectors is zero. done-as words old new e is refl zero (ran machine name image vectors old new);
+      diagnosed = λ machine name is zero. done-as words old new e is refl zero (diagnosed machine name old new);
+      diagnose_loads = λ machine name is.
+          whatever words old new e is refl (wrong-loads machine name _ old new)
+          (λ s. diagnosed-loads machine name (around old) (around new) s.text s.next s.at);
+      benched = λ n less is zero.
+          let number = some_number (decimal n) n refl (omega (arith, less)) in
+          done-as words old new e is (ap (of_number bench_job) (sym number)) zero
+          (λ text _. benched laws.tables laws.nets n only old new text);
+      checked = λ machine name image is zero. done-as words old new e is refl zero (checked machine name image old new);
+      repaired = λ machine defects image is zero. done-as words old new e is refl zero (repaired machine defects image old new);
+      pair_listed = λ machine name first second vectors is.
+          whatever words old new e is refl (wrong-begins machine name old new) (paired-begins machine name first second vectors old new);
+      paired = λ machine name first second vectors is zero.
+          (done-as words old new e is refl zero (paired machine name first second vectors old new)).0;
+      pair_room = λ machine name first second vectors is zero.
+          (done-as words old new e is refl zero (paired machine name first second vectors old new)).1;
+      pair_loads = λ machine name first second vectors is.
+          whatever words old new e is refl (wrong-loads machine name _ old new) (paired-loads machine name first second vectors old new);
+    }
