@@ -2,3 +2,6 @@
 pub mod Headlines
 -- For the proofs of this crate alone.
 mod CompileLaws
+mod Sure
+mod Values
+mod ListFiles

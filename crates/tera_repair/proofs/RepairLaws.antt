@@ -11,7 +11,7 @@ use Rattle.steps.specs.Courses.{Next, refuses}
 use Rattle.steps.specs.Jobs.{IsLawful, EndsWell, EndsShort}
 use Rattle.steps.specs.declared.refusal.Refusal.{Refusal}
 use Rattle.steps.specs.declared.refusal.Refusal.TheVariants as refused
-use Rattle.steps.proofs.Sure.{IsLed, Excuses, led-after, led-sure, led-line, machine-sure, list-sure, image-sure}
+use Rattle.tera_repair.proofs.Sure.{IsLed, Excuses, led-after, led-sure, led-line, machine-sure, list-sure, image-sure}
 use Rattle.tera_repair.specs.Repairing.{HasTooMany, NotRepaired, IsRepairOf}
 use Rattle.tera_repair.specs.Repair.{repair_course, image_written, repair_files, repair_job, AreRightFiles}
 

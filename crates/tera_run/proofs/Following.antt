@@ -21,6 +21,12 @@ use Rattle.tera_run.specs.Run.{run_job}
 pub attached-shape : (rig : RigState) (m : Shape) (name : List ℕ) (i : ImageValue) → rig.machine.attached ≡ Some (record { shape = m; name = name }) → i.config.shape ≡ m → shape_of rig ≡ Some i.config.shape
 attached-shape rig m name i is shape = ap (option_map (λ (a : Asked). a.shape)) is ∙ ap Some (sym shape)
 
+-- the rows of an image are followed, of a file of vectors that is told so, where so many loads were made before
+abbrev Runs : (machine image vectors : List ℕ) → StoreState → ImageValue → Result (Unit {0}) Stop → (mid new : Outside) → Told → ℕ → Type 0
+Runs machine image vectors begun i result mid new told before =
+    Follows ⊥ (vectors ∷ []) (new.rig.machine ≡ mid.rig.machine) (image_course (image_rows i told new.store.current new.rig)
+    (record { image = i; vectors = vectors; files = image ∷ machine ∷ []; begun = begun; before = before }) (around new)) result mid new
+
 module _ {machine name image vectors : List ℕ} {s0 s1 : StoreState} {r0 r1 : RigState} {a : SinkState} {m : Shape}
     (read : Took (machine ∷ []) (reads_machine (s0.contents machine)) (Ok m) (outside s0 r0 a) (outside s1 r0 a))
     (may : MayAsk (named name m) r0.machine.asked r1.machine.asked) (loads : r1.loads ≡ r0.loads)
@@ -37,19 +43,15 @@ module _ {machine name image vectors : List ℕ} {s0 s1 : StoreState} {r0 r1 : R
       (λ at. (at, loads)) refl)
 
   -- the image was read, and its rows are followed from where the store and the rig stand
-  module _ {s2 : StoreState} {i : ImageValue} {result : Result (Unit {0}) Stop} {new : Outside}
-      (took : Took (image ∷ []) (reads_image (s1.contents image) m) (Ok i) (outside s1 r1 a) (outside s2 r1 a)) where
-    abbrev runs : Told → ℕ → Type 0
-    runs told before =
-        Follows ⊥ (vectors ∷ []) (new.rig.machine ≡ r1.machine) (image_course (image_rows i told new.store.current new.rig)
-        (record { image = i; vectors = vectors; files = image ∷ machine ∷ []; begun = s0; before = before }) (around new))
-        result (outside s2 r1 a) new
-
-    pub rows-follow : (StandsIn (image ∷ machine ∷ []) s0 s2 → runs (s2.contents vectors) r1.loads) →
-        Does ⊥ (run_job machine name image vectors) result (outside s0 r0 a) new
-    rows-follow rest =
-        let both = more-read (λ told. reads_image told m) image (machine ∷ []) s0 i _ _ first-read took in
-        let is = subst (λ (contents : List ℕ → Told). runs (contents vectors) r1.loads) both.contents (rest both.place) in
-        attached-gives machine name _ _ (image ∷ vectors ∷ []) s0 s1 r0 r1 a m read may _ _ attached
-        (read-gives (λ told. reads_image told m) image (machine ∷ []) s0 _ _ (vectors ∷ []) _ _ _ _ _ _ _ first-read took
-        (subst (λ n. runs (s0.contents vectors) n) loads is) refl)
+  pub rows-follow : {s2 : StoreState} {i : ImageValue} {result : Result (Unit {0}) Stop} {new : Outside} →
+      Took (image ∷ []) (reads_image (s1.contents image) m) (Ok i) (outside s1 r1 a) (outside s2 r1 a) →
+      (StandsIn (image ∷ machine ∷ []) s0 s2 →
+      Runs machine image vectors s0 i result (outside s2 r1 a) new (s2.contents vectors) r1.loads) →
+      Does ⊥ (run_job machine name image vectors) result (outside s0 r0 a) new
+  rows-follow {s2} {i} {result} {new} took rest =
+      let runs = Runs machine image vectors s0 i result (outside s2 r1 a) new in
+      let both = more-read (λ told. reads_image told m) image (machine ∷ []) s0 i _ _ first-read took in
+      let told = subst (λ (contents : List ℕ → Told). runs (contents vectors) r1.loads) both.contents (rest both.place) in
+      let is = subst (λ n. runs (s0.contents vectors) n) loads told in
+      attached-gives machine name _ _ (image ∷ vectors ∷ []) s0 s1 r0 r1 a m read may _ _ attached
+      (read-gives (λ told. reads_image told m) image (machine ∷ []) s0 _ _ (vectors ∷ []) _ _ _ _ _ _ _ first-read took is is.machines)

@@ -1,7 +1,7 @@
 use Rattle.std.proofs.Common.{◌∙◌, sym}
 use Rattle.std.proofs.lemmas.Result.{err_from_is_err_and}
 use Rattle.steps.specs.Texts.{reads_image}
-use Rattle.steps.proofs.ListFiles.{no-machine, no-list, no-third, all-read}
+use Rattle.tera_repair.proofs.ListFiles.{no-machine, no-list, no-third, all-read}
 use Rattle.steps.proofs.Making.{nothing}
 use Rattle.tera_repair.specs.Repair.{image_taken}
 use Rattle.tera_repair.proofs.RepairLaws.{repair-lawful}
@@ -28,21 +28,21 @@ repair_and_write-requires g c =
 pub returns-in_err-shape-clause-does : goal.returns-in_err-shape-clause-does
 returns-in_err-shape-clause-does g c =
     let p = err_from_is_err_and c.from_residual.result c.from_residual.ensures.1 in
-    λ rig. rw (p.1, p.2) (no-machine reads_image image_taken (c.in_err-shape.ensures.took rig _))
+    λ rig. rw (p.1, p.2) (no-machine reads_image image_taken _ _ _ (c.in_err-shape.ensures.took rig _))
 
 pub returns-in_err-list-clause-does : goal.returns-in_err-list-clause-does
 returns-in_err-list-clause-does g c =
     let p = err_from_is_err_and c.from_residual-in_err-list.result c.from_residual-in_err-list.ensures.1 in
-    λ rig. rw (p.1, p.2) (no-list reads_image image_taken (c.in_ok-shape.ensures.took rig _) (c.in_err-list.ensures.took rig _))
+    λ rig. rw (p.1, p.2) (no-list reads_image image_taken _ _ _ (c.in_ok-shape.ensures.took rig _) (c.in_err-list.ensures.took rig _))
 
 pub returns-in_err-image-clause-does : goal.returns-in_err-image-clause-does
 returns-in_err-image-clause-does g c =
     let p = err_from_is_err_and c.from_residual-in_err-image.result c.from_residual-in_err-image.ensures.1 in
     λ rig.
-    rw (p.1, p.2) (no-third reads_image image_taken (c.in_ok-shape.ensures.took rig _) (c.in_ok-list.ensures.took rig _)
+    rw (p.1, p.2) (no-third reads_image image_taken _ _ _ (c.in_ok-shape.ensures.took rig _) (c.in_ok-list.ensures.took rig _)
     (c.in_err-image.ensures.took rig _))
 
 pub returns-clause-does : goal.returns-clause-does
 returns-clause-does g c = λ rig.
-    all-read reads_image image_taken (c.in_ok-shape.ensures.took rig _) (c.in_ok-list.ensures.took rig _)
+    all-read reads_image image_taken _ _ _ (c.in_ok-shape.ensures.took rig _) (c.in_ok-list.ensures.took rig _)
     (c.in_ok-image.ensures.took rig _) (c.repair_and_write.ensures _ _ _ rig)
