@@ -20,6 +20,9 @@ pub mod OpenedLaws
 pub mod Making
 pub mod Keeping
 pub mod Well
+pub mod Sure
+pub mod Values
+pub mod ListFiles
 -- For the proofs of this crate alone.
 mod TextLemmas
 mod AttachLemmas

@@ -4,7 +4,7 @@ use Rattle.steps.specs.Outside.{Around}
 use Rattle.steps.specs.Courses.{Next}
 use Rattle.steps.specs.Jobs.{IsLawful, EndsWell, EndsShort}
 use Rattle.steps.specs.declared.design_file.DesignFile.TheVariants.{Design}
-use Rattle.tera_compile.proofs.Sure.{IsLed, Excuses, led-after, led-sure, led-line, machine-sure, list-sure, design-sure}
+use Rattle.steps.proofs.Sure.{IsLed, Excuses, led-after, led-sure, led-line, machine-sure, list-sure, design-sure}
 use Rattle.lay.proofs.Rooms.{AreDecided, never-lacks, never-refused, lay-excused, lay-short}
 use Rattle.tera_compile.specs.Compile.{compile_course, design_laid, compile_files, compile_job}
 use Rattle.tera_compile.specs.Compile.{CompileFiles, AreRightFiles, CompileRight, CompileShort}

@@ -2,6 +2,3 @@
 pub mod Headlines
 -- For the proofs of this crate alone.
 mod CompileLaws
-mod Sure
-mod Values
-mod ListFiles

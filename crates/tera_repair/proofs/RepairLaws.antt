@@ -1,5 +1,5 @@
 -- What the command `repair` comes to.
-use Rattle.std.proofs.Common.{◌≡◌, ℕ, List, [], ◌∷◌, refl, inl, inr, arith}
+use Rattle.std.proofs.Common.{ℕ, List, [], ◌∷◌, refl, inl, inr, arith}
 use Rattle.hierarchy.specs.Defects.{Defects}
 use Rattle.config_image.specs.Images.{ImageValue}
 use Rattle.place.specs.declared.short.Short.{Short}
@@ -11,7 +11,7 @@ use Rattle.steps.specs.Courses.{Next, refuses}
 use Rattle.steps.specs.Jobs.{IsLawful, EndsWell, EndsShort}
 use Rattle.steps.specs.declared.refusal.Refusal.{Refusal}
 use Rattle.steps.specs.declared.refusal.Refusal.TheVariants as refused
-use Rattle.tera_repair.proofs.Sure.{IsLed, Excuses, led-after, led-sure, led-line, machine-sure, list-sure, image-sure}
+use Rattle.steps.proofs.Sure.{IsLed, Excuses, led-after, led-sure, led-line, machine-sure, list-sure, image-sure}
 use Rattle.tera_repair.specs.Repairing.{HasTooMany, NotRepaired, IsRepairOf}
 use Rattle.tera_repair.specs.Repair.{repair_course, image_written, repair_files, repair_job, AreRightFiles}
 
@@ -53,13 +53,13 @@ repair-lawful decided machine defects image = record {
       let right = is [] text refl in
       let room = right.room in
       let led = repair-led machine defects image old new (EndsWell old new) right.files (λ refusal h. h)
-          (λ place lacks. absurd (decided _ _ _ _ place.short room.seats_are room.nets_are room.room lacks)) (λ j _. led-line tt tt) in
+      (λ place lacks. absurd (decided _ _ _ _ place.short room.seats_are room.nets_are room.room lacks)) (λ j _. led-line tt tt) in
       led.leads text next;
   short = λ old new text next is.
       let short = is [] text refl in
       let lacks = short.lacks in
       let led = repair-led machine defects image old new (EndsShort old new) short.files (λ refusal h. inr h) (λ place _. inl refl)
-          (λ j is. absurd (decided _ _ _ _ lacks.short is.repair.seats_are is.repair.nets_are is.repair.room lacks.is_short)) in
+      (λ j is. absurd (decided _ _ _ _ lacks.short is.repair.seats_are is.repair.nets_are is.repair.room lacks.is_short)) in
       led.leads text next;
   few = λ old new few text begun at. begun;
 }

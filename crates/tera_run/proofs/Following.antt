@@ -13,7 +13,7 @@ use Rattle.steps.specs.Took.{Took, Follows}
 use Rattle.steps.specs.Texts.{reads_machine, reads_image, attaches, MayAsk}
 use Rattle.steps.specs.declared.refusal.Stop.{Stop}
 use Rattle.steps.proofs.Machines.{named, attached-gives}
-use Rattle.steps.proofs.Reading.{HasRead, none-read, more-read, read-stops, read-gives}
+use Rattle.steps.proofs.Reading.{none-read, more-read, read-stops, read-gives}
 use Rattle.image_rows.specs.Rows.{image_rows, image_course}
 use Rattle.tera_run.specs.Run.{run_job}
 
@@ -31,15 +31,13 @@ module _ {machine name image vectors : List ℕ} {s0 s1 : StoreState} {r0 r1 : R
     (read : Took (machine ∷ []) (reads_machine (s0.contents machine)) (Ok m) (outside s0 r0 a) (outside s1 r0 a))
     (may : MayAsk (named name m) r0.machine.asked r1.machine.asked) (loads : r1.loads ≡ r0.loads)
     (attached : Took [] (attaches (named name m) r0 r1) (Ok tt) (outside s1 r0 a) (outside s1 r1 a)) where
-  first-read : HasRead (machine ∷ []) s0 s1
-  first-read = more-read reads_machine machine [] s0 m _ _ (none-read s0) read
-
   pub no-image : {U : Type 0} {s2 : StoreState} {stop : Stop} →
       Took (image ∷ []) (reads_image (s1.contents image) m) (Err stop) (outside s1 r1 a) (outside s2 r1 a) →
       Does {T = U} ⊥ (run_job machine name image vectors) (Err stop) (outside s0 r0 a) (outside s2 r1 a)
   no-image took =
+      let one = more-read reads_machine machine [] s0 m _ _ (none-read s0) read in
       attached-gives machine name _ _ (image ∷ vectors ∷ []) s0 s1 r0 r1 a m read may _ _ attached
-      (read-stops (λ told. reads_image told m) image (machine ∷ []) s0 _ _ (vectors ∷ []) _ _ _ _ _ refl first-read took
+      (read-stops (λ told. reads_image told m) image (machine ∷ []) s0 _ _ (vectors ∷ []) _ _ _ _ _ refl one took
       (λ at. (at, loads)) refl)
 
   -- the image was read, and its rows are followed from where the store and the rig stand
@@ -49,9 +47,10 @@ module _ {machine name image vectors : List ℕ} {s0 s1 : StoreState} {r0 r1 : R
       Runs machine image vectors s0 i result (outside s2 r1 a) new (s2.contents vectors) r1.loads) →
       Does ⊥ (run_job machine name image vectors) result (outside s0 r0 a) new
   rows-follow {s2} {i} {result} {new} took rest =
+      let one = more-read reads_machine machine [] s0 m _ _ (none-read s0) read in
       let runs = Runs machine image vectors s0 i result (outside s2 r1 a) new in
-      let both = more-read (λ told. reads_image told m) image (machine ∷ []) s0 i _ _ first-read took in
+      let both = more-read (λ told. reads_image told m) image (machine ∷ []) s0 i _ _ one took in
       let told = subst (λ (contents : List ℕ → Told). runs (contents vectors) r1.loads) both.contents (rest both.place) in
       let is = subst (λ n. runs (s0.contents vectors) n) loads told in
       attached-gives machine name _ _ (image ∷ vectors ∷ []) s0 s1 r0 r1 a m read may _ _ attached
-      (read-gives (λ told. reads_image told m) image (machine ∷ []) s0 _ _ (vectors ∷ []) _ _ _ _ _ _ _ first-read took is is.machines)
+      (read-gives (λ told. reads_image told m) image (machine ∷ []) s0 _ _ (vectors ∷ []) _ _ _ _ _ _ _ one took is is.machines)

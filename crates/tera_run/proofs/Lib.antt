@@ -3,6 +3,3 @@ pub mod Headlines
 -- For the proofs of this crate alone.
 mod Following
 mod RunLaws
-mod Sure
-mod Values
-mod ListFiles

@@ -9,7 +9,7 @@ use Rattle.steps.specs.Jobs.{IsLawful, EndsWell}
 use Rattle.steps.specs.declared.refusal.Refusal.TheVariants.{Memory}
 use Rattle.steps.proofs.Excused.{attach-excused}
 use Rattle.steps.proofs.ShapeLemmas.{one-machine, one-image}
-use Rattle.tera_run.proofs.Sure.{IsLed, Excuses, led-after, led-sure, machine-sure, image-sure}
+use Rattle.steps.proofs.Sure.{IsLed, Excuses, led-after, led-sure, machine-sure, image-sure}
 use Rattle.image_rows.specs.Rows.{most_rows, RowsBegin, image_rows}
 use Rattle.image_rows.proofs.CourseLemmas.{image-well, image-few}
 use Rattle.tera_run.specs.Run.{run_course, run_files, run_job, RunFiles, RunRight, RunFew}

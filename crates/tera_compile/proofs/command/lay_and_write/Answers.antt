@@ -1,6 +1,6 @@
 use Rattle.std.proofs.lemmas.Result.{err_from_is_err_and}
 use Rattle.steps.proofs.Reading.{line-last}
-use Rattle.tera_compile.proofs.Values.{value-stops, value-lacks, value-gives}
+use Rattle.steps.proofs.Values.{value-stops, value-lacks, value-gives}
 use Rattle.tera_compile.proofs.command.lay_and_write.Goals as goal
 
 pub returns-in_err-image : goal.returns-in_err-image

@@ -1,7 +1,7 @@
-use Rattle.std.proofs.Common.{◌∙◌, sym}
+use Rattle.std.proofs.Common.{◌∙◌, [], ◌∷◌, sym}
 use Rattle.std.proofs.lemmas.Result.{err_from_is_err_and}
 use Rattle.steps.specs.Texts.{reads_image}
-use Rattle.tera_repair.proofs.ListFiles.{no-machine, no-list, no-third, all-read}
+use Rattle.steps.proofs.ListFiles.{no-machine, no-list, no-third, all-read}
 use Rattle.steps.proofs.Making.{nothing}
 use Rattle.tera_repair.specs.Repair.{image_taken}
 use Rattle.tera_repair.proofs.RepairLaws.{repair-lawful}
@@ -43,6 +43,8 @@ returns-in_err-image-clause-does g c =
     (c.in_err-image.ensures.took rig _))
 
 pub returns-clause-does : goal.returns-clause-does
-returns-clause-does g c = λ rig.
+returns-clause-does g c =
+    let files = c.args.image.now ∷ c.args.defects.now ∷ c.args.machine.now ∷ [] in
+    λ rig.
     all-read reads_image image_taken _ _ _ (c.in_ok-shape.ensures.took rig _) (c.in_ok-list.ensures.took rig _)
-    (c.in_ok-image.ensures.took rig _) (c.repair_and_write.ensures _ _ _ rig)
+    (c.in_ok-image.ensures.took rig _) (c.repair_and_write.ensures files (g.S.Store.store_state c.args.store.now) _ rig)

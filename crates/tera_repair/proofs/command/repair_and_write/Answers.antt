@@ -1,7 +1,7 @@
 use Rattle.std.proofs.lemmas.Result.{err_from_is_err_and}
 use Rattle.steps.proofs.Making.{nothing}
 use Rattle.steps.proofs.Reading.{line-last}
-use Rattle.tera_repair.proofs.Values.{value-stops, value-lacks, value-gives}
+use Rattle.steps.proofs.Values.{value-stops, value-lacks, value-gives}
 use Rattle.tera_repair.proofs.command.repair_and_write.Goals as goal
 
 pub returns-in_err-take_few : goal.returns-in_err-take_few
