@@ -24,6 +24,9 @@ pub mod AttachedReads
 pub mod RigFails
 pub mod QuietJobs
 pub mod Exits
+pub mod Sure
+pub mod Values
+pub mod ListFiles
 -- For the proofs of this crate alone.
 mod TextLemmas
 mod AttachLemmas

@@ -1,9 +1,5 @@
 -- What is cited above.
-pub mod RepairLaws
 pub mod Headlines
 -- For the proofs of this crate alone.
+mod RepairLaws
 mod Counting
-mod Rights
-mod Rooms
-mod Following
-mod Reading

@@ -1,49 +1,56 @@
--- How the steps of `run` follow one another.
-use Rattle.std.proofs.Common.{◌≡◌, ℕ, List, [], ◌∷◌, Some, option_map, sym, ap, subst, ◌∙◌}
+-- How the steps of `run` follow one another, once the machine is attached.
+use Rattle.std.proofs.Common.{◌≡◌, ℕ, List, [], ◌∷◌, Some, option_map, refl, sym, ap, subst, ◌∙◌}
 use Rattle.std.specs.Prelude.{Result, Ok, Err}
 use Rattle.tm_outside.specs.Told.{Told}
+use Rattle.tm_outside.specs.Store.{StoreState}
+use Rattle.tm_outside.specs.Sink.{SinkState}
 use Rattle.hierarchy.specs.declared.Shape.{Shape}
 use Rattle.rig.specs.Rig.{RigState, Asked, shape_of}
 use Rattle.config_image.specs.Images.{ImageValue}
-use Rattle.steps.specs.Outside.{Outside, Around}
+use Rattle.steps.specs.Outside.{Outside, StandsIn, outside, around}
+use Rattle.steps.specs.Jobs.{Does}
 use Rattle.steps.specs.Took.{Took, Follows}
-use Rattle.steps.specs.Texts.{reads_machine, reads_image, MayAsk, AsksMachine}
+use Rattle.steps.specs.Texts.{reads_machine, reads_image, attaches, MayAsk}
 use Rattle.steps.specs.declared.refusal.Stop.{Stop}
-use Rattle.steps.proofs.Taking.{step-stops, step-gives, read-gives, asks-machine}
+use Rattle.steps.proofs.Machines.{named, attached-gives}
+use Rattle.steps.proofs.Reading.{none-read, more-read, read-stops, read-gives}
 use Rattle.image_rows.specs.Rows.{image_rows, image_course}
-use Rattle.tera_run.specs.Run.{run_course, machine_attached, image_read, image_run, IsUnloadedIn}
+use Rattle.tera_run.specs.Run.{run_job}
 
 -- the machine that is attached has the image's shape
 pub attached-shape : (rig : RigState) (m : Shape) (name : List ℕ) (i : ImageValue) → rig.machine.attached ≡ Some (record { shape = m; name = name }) → i.config.shape ≡ m → shape_of rig ≡ Some i.config.shape
 attached-shape rig m name i is shape = ap (option_map (λ (a : Asked). a.shape)) is ∙ ap Some (sym shape)
 
-module _ (machine name image vectors : List ℕ) (begun ended : Around) where
-  abbrev told : Shape → Type 0
-  told = (reads_machine (begun.store.contents machine)).gives
+-- the rows of an image are followed, of a file of vectors that is told so, where so many loads were made before
+abbrev Runs : (machine image vectors : List ℕ) → StoreState → ImageValue → Result (Unit {0}) Stop → (mid new : Outside) → Told → ℕ → Type 0
+Runs machine image vectors begun i result mid new told before =
+    Follows ⊥ (vectors ∷ []) (new.rig.machine ≡ mid.rig.machine) (image_course (image_rows i told new.store.current new.rig)
+    (record { image = i; vectors = vectors; files = image ∷ machine ∷ []; begun = begun; before = before }) (around new)) result mid new
 
-  abbrev pub asked_for : Shape → Asked
-  asked_for m = record { shape = m; name = name }
+module _ {machine name image vectors : List ℕ} {s0 s1 : StoreState} {r0 r1 : RigState} {a : SinkState} {m : Shape}
+    (read : Took (machine ∷ []) (reads_machine (s0.contents machine)) (Ok m) (outside s0 r0 a) (outside s1 r0 a))
+    (may : MayAsk (named name m) r0.machine.asked r1.machine.asked) (loads : r1.loads ≡ r0.loads)
+    (attached : Took [] (attaches (named name m) r0 r1) (Ok tt) (outside s1 r0 a) (outside s1 r1 a)) where
+  pub no-image : {U : Type 0} {s2 : StoreState} {stop : Stop} →
+      Took (image ∷ []) (reads_image (s1.contents image) m) (Err stop) (outside s1 r1 a) (outside s2 r1 a) →
+      Does {T = U} ⊥ (run_job machine name image vectors) (Err stop) (outside s0 r0 a) (outside s2 r1 a)
+  no-image took =
+      let one = more-read reads_machine machine [] s0 m _ _ (none-read s0) read in
+      attached-gives machine name _ _ (image ∷ vectors ∷ []) s0 s1 r0 r1 a m read may _ _ attached
+      (read-stops (λ told. reads_image told m) image (machine ∷ []) s0 _ _ (vectors ∷ []) _ _ _ _ _ refl one took
+      (λ at. (at, loads)) refl)
 
-  -- the machine was read
-  pub read-then : {U : Type 0} (m : Shape) (result : Result U Stop) (old mid new : Outside) → Took (machine ∷ []) (reads_machine (begun.store.contents machine)) (Ok m) old mid → mid.rig ≡ old.rig → Follows ⊥ (image ∷ vectors ∷ []) (MayAsk (asked_for m) mid.rig.machine.asked new.rig.machine.asked) (machine_attached machine name image vectors begun ended m) result mid new → Follows ⊥ (machine ∷ image ∷ vectors ∷ []) (AsksMachine told name old.rig.machine.asked new.rig.machine.asked) (run_course machine name image vectors begun ended) result old new
-  read-then m result old mid new took same rest_is =
-      let asks = rw same at (asks-machine told name m mid.rig.machine.asked new.rig.machine.asked took.gives rest_is.machines) in
-      step-gives (reads_machine (begun.store.contents machine)) (IsUnloadedIn (machine ∷ []) begun ended) (machine_attached machine name image vectors begun ended) (reads_machine (begun.store.contents machine)) (machine ∷ []) (image ∷ vectors ∷ []) _ _ m m result old mid new took took.gives rest_is asks
-
-  -- the image isn't read, or it was
-  module _ (m : Shape) (told_image : Told) (same : told_image ≡ begun.store.contents image) (old mid : Outside) where
-    pub image-stops : {U : Type 0} (asks : Type 0) (stop : Stop) (result : Result U Stop) → result ≡ Err stop → Took {T = ImageValue} (image ∷ []) (reads_image told_image m) (Err stop) old mid → IsUnloadedIn (image ∷ machine ∷ []) begun ended → asks → Follows ⊥ (image ∷ vectors ∷ []) asks (image_read machine image vectors begun ended m) result old mid
-    image-stops asks stop result is took at asked =
-        let took_image = subst (λ t. Took {T = ImageValue} (image ∷ []) (reads_image t m) (Err stop) old mid) same took in
-        step-stops (reads_image (begun.store.contents image) m) (IsUnloadedIn (image ∷ machine ∷ []) begun ended) (image_run machine image vectors begun ended) (reads_image (begun.store.contents image) m) (image ∷ []) (vectors ∷ []) asks stop result old mid is took_image took_image.stops at asked
-
-    pub image-then : {U : Type 0} (asks : Type 0) (i : ImageValue) (result : Result U Stop) (new : Outside) → Took (image ∷ []) (reads_image told_image m) (Ok i) old mid → Follows ⊥ (vectors ∷ []) asks (image_run machine image vectors begun ended i) result mid new → Follows ⊥ (image ∷ vectors ∷ []) asks (image_read machine image vectors begun ended m) result old new
-    image-then asks i result new took rest_is =
-        let took_image = subst (λ t. Took (image ∷ []) (reads_image t m) (Ok i) old mid) same took in
-        read-gives (reads_image (begun.store.contents image) m) (IsUnloadedIn (image ∷ machine ∷ []) begun ended) (image_run machine image vectors begun ended) image (vectors ∷ []) asks i result old mid new took_image rest_is
-
-  -- the rows that were followed are those of this image, wherever the store and the rig stood before the load
-  pub run-then : {U : Type 0} (asks : Type 0) (i : ImageValue) (told_vectors : Told) (before : ℕ) (result : Result U Stop) (mid new : Outside) → told_vectors ≡ begun.store.contents vectors → before ≡ begun.rig.loads → Follows ⊥ (vectors ∷ []) asks (image_course (image_rows i told_vectors ended.store.current ended.rig) (record { image = i; vectors = vectors; files = image ∷ machine ∷ []; begun = begun.store; before = before }) ended) result mid new → Follows ⊥ (vectors ∷ []) asks (image_run machine image vectors begun ended i) result mid new
-  run-then asks i told_vectors before result mid new file loads rest_is =
-      let of_file : Follows ⊥ (vectors ∷ []) asks (image_course (image_rows i (begun.store.contents vectors) ended.store.current ended.rig) (record { image = i; vectors = vectors; files = image ∷ machine ∷ []; begun = begun.store; before = before }) ended) result mid new = rw file at rest_is in
-      rw loads at of_file
+  -- the image was read, and its rows are followed from where the store and the rig stand
+  pub rows-follow : {s2 : StoreState} {i : ImageValue} {result : Result (Unit {0}) Stop} {new : Outside} →
+      Took (image ∷ []) (reads_image (s1.contents image) m) (Ok i) (outside s1 r1 a) (outside s2 r1 a) →
+      (StandsIn (image ∷ machine ∷ []) s0 s2 →
+      Runs machine image vectors s0 i result (outside s2 r1 a) new (s2.contents vectors) r1.loads) →
+      Does ⊥ (run_job machine name image vectors) result (outside s0 r0 a) new
+  rows-follow {s2} {i} {result} {new} took rest =
+      let one = more-read reads_machine machine [] s0 m _ _ (none-read s0) read in
+      let runs = Runs machine image vectors s0 i result (outside s2 r1 a) new in
+      let both = more-read (λ told. reads_image told m) image (machine ∷ []) s0 i _ _ one took in
+      let told = subst (λ (contents : List ℕ → Told). runs (contents vectors) r1.loads) both.contents (rest both.place) in
+      let is = subst (λ n. runs (s0.contents vectors) n) loads told in
+      attached-gives machine name _ _ (image ∷ vectors ∷ []) s0 s1 r0 r1 a m read may _ _ attached
+      (read-gives (λ told. reads_image told m) image (machine ∷ []) s0 _ _ (vectors ∷ []) _ _ _ _ _ _ _ one took is is.machines)

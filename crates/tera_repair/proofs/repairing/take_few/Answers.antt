@@ -1,17 +1,16 @@
-use Rattle.std.proofs.Common.{◌∙◌, ap, arith}
-use Rattle.config_set.specs.Configuration.{Configuration, is_closed}
-use Rattle.config_set.specs.Kept.{once_if}
-use Rattle.tera_repair.proofs.Counting.{many-closed, few-closed}
+use Rattle.std.proofs.Common.{refl, arith}
+use Rattle.steps.proofs.Taking.{took-stop, took-value}
+use Rattle.tera_repair.specs.Repairing.{takes_few}
+use Rattle.tera_repair.proofs.Counting.{counted}
 use Rattle.tera_repair.proofs.repairing.take_few.Goals as goal
 
 pub returns-then-count-gt-MOST_CLOSED : goal.returns-then-count-gt-MOST_CLOSED
-returns-then-count-gt-MOST_CLOSED c = record {
-  took = λ o. many-closed c.args.image.now c.closed-count.result.now
-      (λ x. c.closed-count.ensures x ∙ ap (λ (g : Configuration). once_if (is_closed g x)) c.config.ensures.config) o (omega (arith, c.if-count-gt-MOST_CLOSED.true));
-}
+returns-then-count-gt-MOST_CLOSED c =
+    let same = counted c.closed-count.result.now c.config.ensures.config c.closed-count.ensures in
+    let step = takes_few c.args.image.now in
+    record { took = λ o. took-stop step _ o (refl, refl, rw same (omega (arith, c.if-count-gt-MOST_CLOSED.true))) tt }
 
 pub returns : goal.returns
-returns c = record {
-  took = λ o. few-closed c.args.image.now c.closed-count.result.now
-      (λ x. c.closed-count.ensures x ∙ ap (λ (g : Configuration). once_if (is_closed g x)) c.config.ensures.config) o (omega (arith, c.if-count-gt-MOST_CLOSED.false));
-}
+returns c =
+    let same = counted c.closed-count.result.now c.config.ensures.config c.closed-count.ensures in
+    record { took = λ o. took-value (takes_few c.args.image.now) tt o (rw same (omega (arith, c.if-count-gt-MOST_CLOSED.false))) }
