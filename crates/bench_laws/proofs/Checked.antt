@@ -4,13 +4,13 @@ use Rattle.std.specs.Prelude.{if◌then◌else◌}
 use Rattle.std.specs.List.{Contains}
 use Rattle.std.proofs.lemmas.Bool.{eqb-true, ltb-true}
 use Rattle.netlist.specs.Covers.{cover_at, IsCoverOver, IsOnCycle}
-use Rattle.netlist.specs.Drafts.{drives_of, reads_of, signal_at, IsDriven, IsWellMade}
+use Rattle.netlist.specs.Drafts.{drive_words, reads_of, signal_at, IsDriven, IsWellMade}
 use Rattle.netlist.specs.Checks.{IsChecked}
 use Rattle.bench_laws.specs.Design.{bench_cover, bench_draft}
 use Rattle.bench_laws.proofs.Below.{each_below}
 
 abbrev driven_at : ℕ → ℕ
-driven_at k = signal_at (drives_of bench_draft) k
+driven_at k = signal_at (drive_words bench_draft) k
 
 abbrev read_at : ℕ → ℕ
 read_at k = signal_at (reads_of bench_draft) k
@@ -19,7 +19,7 @@ read_at k = signal_at (reads_of bench_draft) k
 abbrev place_of : ℕ → ℕ
 place_of s = if s == 2 then 17 else if nat_lt s 2 then s else s - 1
 
-drives : length (drives_of bench_draft) ≡ 18
+drives : length (drive_words bench_draft) ≡ 18
 drives = refl
 
 reads : length (reads_of bench_draft) ≡ 20

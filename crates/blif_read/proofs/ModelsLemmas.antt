@@ -8,13 +8,13 @@ use Rattle.netlist.specs.declared.fault.DesignKind.{DesignKind}
 use Rattle.netlist.specs.declared.fault.DesignKind.TheVariants as kind
 use Rattle.blif_read.specs.declared.head.Head.{Head}
 use Rattle.blif_read.specs.declared.head.Head.TheVariants as head
-use Rattle.blif_read.specs.Parts.{word}
+use Rattle.blif_read.specs.Parts.{nth_word}
 use Rattle.flatten.specs.declared.model.Piece.TheVariants.{Names}
 use Rattle.blif_read.specs.Seen.{Seen}
 use Rattle.blif_read.specs.Faults.{fault_of, head_fault, placed_fault}
 use Rattle.blif_read.specs.Steps.{State, after_head}
 use Rattle.blif_read.specs.Runs.{TextState, start, text_start, last_model, text_after_head, text_after, model_from, above_of}
-use Rattle.blif_read.specs.Grammar.{statements_of, kind_of, names_of, inputs_of, outputs_of, parts_of, spelled, ModelText, Parted, onto, parted, models_of, lines_in, name_of, spelled_model, is_some_model, last_lines, above_by}
+use Rattle.blif_read.specs.Grammar.{statements_of, kind_of, names_of, inputs_of, outputs_of, parts_of, spelled, ModelText, Parted, onto, parted, models_of, model_lines, name_of, spelled_model, is_some_model, last_lines, above_by}
 use Rattle.blif_read.proofs.GrammarLemmas.{parts_by_last}
 use Rattle.blif_read.proofs.StateLemmas.{IsState, seen_is, step, step_new}
 
@@ -105,7 +105,7 @@ module _ (m : ModelText) where
   last_name-at (t ∷ []) = refl
   last_name-at (t ∷ u ∷ front) = last_name-at (u ∷ front)
 
-  last_lines-at : (front : List ModelText) → last_lines (front ++ m ∷ []) ≡ lines_in m
+  last_lines-at : (front : List ModelText) → last_lines (front ++ m ∷ []) ≡ model_lines m
   last_lines-at [] = refl
   last_lines-at (t ∷ []) = refl
   last_lines-at (t ∷ u ∷ front) = last_lines-at (u ∷ front)
@@ -174,7 +174,7 @@ models_are ms t is =
         let begun : t.this.seen.begun ≡ true = is.begun ∙ ap is_some_model e ∙ some_model-at m front in
         let done : t.done ≡ map spelled_model front = is.done ∙ ap (map spelled_model) (ap but_last_model e ∙ but_last_model-at m front) in
         let name : t.name ≡ name_of m = is.name ∙ ap last_name e ∙ last_name-at m front in
-        let lines : last_lines ms ≡ lines_in m = ap last_lines e ∙ last_lines-at m front in
+        let lines : last_lines ms ≡ model_lines m = ap last_lines e ∙ last_lines-at m front in
         let one : model_from t.name t.this ≡ spelled_model m = model_is t.name (name_of m) (last_lines ms) t.this name is.this ∙ ap (spelled (name_of m)) lines in
         rw (begun, e) ((λ i. done i ++ one i ∷ []) ∙ sym (map_push spelled_model front m))
 
@@ -184,7 +184,7 @@ model_step ms t l is k =
     let m : ModelText = record { first = l; rest = [] } in
     record {
       done = models_are ms t is ∙ ap (map spelled_model) (sym (but_last_model-at m ms));
-      models = (λ i. is.models i ++ word 1 l.words ∷ []) ∙ sym (map_push name_of ms m);
+      models = (λ i. is.models i ++ nth_word 1 l.words ∷ []) ∙ sym (map_push name_of ms m);
       begun = sym (some_model-at m ms);
       name = sym (last_name-at m ms);
       this = rw (last_lines-at m ms) (step_new [] start l head.Model start_is k tt refl);
@@ -218,7 +218,7 @@ other_step ms t l h is k p =
           let front = f.0 in
           let m = f.1 in
           let n : ModelText = record { first = m.first; rest = m.rest ++ l ∷ [] } in
-          let lines : last_lines ms ≡ lines_in m = ap last_lines f.2 ∙ last_lines-at m front in
+          let lines : last_lines ms ≡ model_lines m = ap last_lines f.2 ∙ last_lines-at m front in
           let added : add_line ms l ≡ front ++ n ∷ [] = ap (λ x. add_line x l) f.2 ∙ add_line-at m front l in
           rw added (record {
             done = is.done ∙ ap (map spelled_model) (ap but_last_model f.2 ∙ but_last_model-at m front ∙ sym (but_last_model-at n front));

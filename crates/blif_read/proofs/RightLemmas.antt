@@ -16,9 +16,9 @@ use Rattle.blif_read.specs.declared.head.Head.TheVariants as head
 use Rattle.blif_read.specs.Heads.{head_of}
 use Rattle.blif_read.specs.Names.{names_after, is_long, limit_at}
 use Rattle.blif_read.specs.Seen.{Seen, Above}
-use Rattle.blif_read.specs.Parts.{word, is_pair, actual_of, row_words, is_right_row, is_off, is_init, has_type, has_init, init_word, control_of}
+use Rattle.blif_read.specs.Parts.{nth_word, is_pair, actual_of, row_words, is_right_row, is_off, is_init, has_type, has_init, init_word, control_of}
 use Rattle.blif_read.specs.Faults.{row_fault, same_bool, names_fault, is_other, latch_parts_fault, latch_fault, pairs_fault, subckt_fault, line_fault, model_fault, head_fault, fault_of, first_fault}
-use Rattle.blif_read.specs.Right.{AreSignals, IsRow, IsNames, IsSame, IsLatch, IsSubckt, IsModel, IsRight, IsRightLine}
+use Rattle.blif_read.specs.Right.{AreSignals, IsRow, IsNames, IsSame, IsLatch, IsSubckt, IsModel, AreRightWords, IsRightLine}
 use Rattle.blif_read.specs.Grammar.{above_by, models_of, AreRight}
 use Rattle.blif_read.proofs.StateLemmas.{same_bool-is}
 
@@ -131,13 +131,13 @@ no_other (Some c) (Some d) h = is_not (bytes_eq c d) ((bytes_eq-Decides c d).1 h
 
 module _ (seen : Seen) (words : List (List ℕ)) where
   abbrev ends : List (List ℕ)
-  ends = word 1 words ∷ word 2 words ∷ []
+  ends = nth_word 1 words ∷ nth_word 2 words ∷ []
 
   abbrev on_init : Option DesignKind
   on_init = cond (has_init words && not (is_init (init_word words))) (Some kind.LatchInit) None
 
   abbrev on_type : Option DesignKind
-  on_type = cond (has_type words && not (bytes_eq (word 3 words) (codes "re"))) (Some kind.LatchType) on_init
+  on_type = cond (has_type words && not (bytes_eq (nth_word 3 words) (codes "re"))) (Some kind.LatchType) on_init
 
   abbrev behind : Option DesignKind
   behind = cond (is_other (control_of words) seen.control) (Some kind.Control) (limit_at seen.names ends)
@@ -148,13 +148,13 @@ module _ (seen : Seen) (words : List (List ℕ)) where
       let a = no_first (latch_parts_fault words) behind h in
       let p = none_if (nat_lt (length words) 3 || nat_lt 6 (length words)) kind.Word on_type a.0 in
       let size = or_parts (nat_lt (length words) 3) (nat_lt 6 (length words)) p.0 in
-      let q = none_if (has_type words && not (bytes_eq (word 3 words) (codes "re"))) kind.LatchType on_init p.1 in
+      let q = none_if (has_type words && not (bytes_eq (nth_word 3 words) (codes "re"))) kind.LatchType on_init p.1 in
       let r = none_if (has_init words && not (is_init (init_word words))) kind.LatchInit None q.1 in
       let b = none_if (is_other (control_of words) seen.control) kind.Control (limit_at seen.names ends) a.1 in
       record {
         least = ltb-false (length words) 3 size.0;
         most = ltb-false 6 (length words) size.1;
-        edge = λ t. (bytes_eq-Decides (word 3 words) (codes "re")).0 (not-false (bytes_eq (word 3 words) (codes "re")) (not_both (has_type words) (not (bytes_eq (word 3 words) (codes "re"))) q.0 t));
+        edge = λ t. (bytes_eq-Decides (nth_word 3 words) (codes "re")).0 (not-false (bytes_eq (nth_word 3 words) (codes "re")) (not_both (has_type words) (not (bytes_eq (nth_word 3 words) (codes "re"))) q.0 t));
         init = λ t. not-false (is_init (init_word words)) (not_both (has_init words) (not (is_init (init_word words))) r.0 t);
         control = same_control (control_of words) seen.control b.0;
         signals = signals_right seen.names ends b.1;
@@ -164,7 +164,7 @@ module _ (seen : Seen) (words : List (List ℕ)) where
   unfolding latch_parts_fault
   parts_free h =
       if_none (nat_lt (length words) 3 || nat_lt 6 (length words)) kind.Word on_type (neither_is (nat_lt (length words) 3) (nat_lt 6 (length words)) (le-ltb (length words) 3 h.least) (le-ltb 6 (length words) h.most))
-      (if_none (has_type words && not (bytes_eq (word 3 words) (codes "re"))) kind.LatchType on_init (both_not (has_type words) (not (bytes_eq (word 3 words) (codes "re"))) (λ t. is_not (bytes_eq (word 3 words) (codes "re")) ((bytes_eq-Decides (word 3 words) (codes "re")).1 (h.edge t))))
+      (if_none (has_type words && not (bytes_eq (nth_word 3 words) (codes "re"))) kind.LatchType on_init (both_not (has_type words) (not (bytes_eq (nth_word 3 words) (codes "re"))) (λ t. is_not (bytes_eq (nth_word 3 words) (codes "re")) ((bytes_eq-Decides (nth_word 3 words) (codes "re")).1 (h.edge t))))
       (if_none (has_init words && not (is_init (init_word words))) kind.LatchInit None (both_not (has_init words) (not (is_init (init_word words))) (λ t. is_not (is_init (init_word words)) (h.init t))) refl))
 
   latch_free : IsLatch seen words → latch_fault seen.control seen.names words ≡ None
@@ -253,29 +253,29 @@ none_same w (v ∷ names) h = neither_is (bytes_eq w v) (list_any (bytes_eq w) n
 
 module _ (above : Above) (words : List (List ℕ)) where
   abbrev later : Option DesignKind
-  later = cond (list_any (bytes_eq (word 1 words)) above.models) (Some kind.SameModel) None
+  later = cond (list_any (bytes_eq (nth_word 1 words)) above.models) (Some kind.SameModel) None
 
   model_right : model_fault above words ≡ None → IsModel above words
   model_right h =
       let p = none_if (nat_lt 2 (length words) || (above.this.begun && nat_lt (length words) 2)) kind.Word later h in
       let size = or_parts (nat_lt 2 (length words)) (above.this.begun && nat_lt (length words) 2) p.0 in
-      let q = none_if (list_any (bytes_eq (word 1 words)) above.models) kind.SameModel None p.1 in
+      let q = none_if (list_any (bytes_eq (nth_word 1 words)) above.models) kind.SameModel None p.1 in
       record {
         most = ltb-false 2 (length words) size.0;
         named = λ begun. ltb-false (length words) 2 (not_both above.this.begun (nat_lt (length words) 2) size.1 begun);
-        differs = all_other (word 1 words) above.models q.0;
+        differs = all_other (nth_word 1 words) above.models q.0;
       }
 
   model_free : IsModel above words → model_fault above words ≡ None
   model_free h =
       if_none (nat_lt 2 (length words) || (above.this.begun && nat_lt (length words) 2)) kind.Word later
       (neither_is (nat_lt 2 (length words)) (above.this.begun && nat_lt (length words) 2) (le-ltb 2 (length words) h.most) (both_not above.this.begun (nat_lt (length words) 2) (λ begun. le-ltb (length words) 2 (h.named begun))))
-      (if_none (list_any (bytes_eq (word 1 words)) above.models) kind.SameModel None (none_same (word 1 words) above.models h.differs) refl)
+      (if_none (list_any (bytes_eq (nth_word 1 words)) above.models) kind.SameModel None (none_same (nth_word 1 words) above.models h.differs) refl)
 
   abbrev fault_on : Head → Option DesignKind
   fault_on h = line_fault above.this h words
 
-  head_right : (h : Head) → head_fault above h words ≡ None → IsRight above h words
+  head_right : (h : Head) → head_fault above h words ≡ None → AreRightWords above h words
   head_right head.Model f = model_right f
   head_right head.Passed f = tt
   head_right head.Inputs f = in_place above.this words (fault_on head.Inputs) (signals_right above.this.names (drop 1 words)) f
@@ -289,7 +289,7 @@ module _ (above : Above) (words : List (List ℕ)) where
   head_right head.LeftOut f = in_place above.this words (fault_on head.LeftOut) (λ no-fault. absurd cc) f
   head_right head.Unknown f = in_place above.this words (fault_on head.Unknown) (λ no-fault. absurd cc) f
 
-  head_free : (h : Head) → IsRight above h words → head_fault above h words ≡ None
+  head_free : (h : Head) → AreRightWords above h words → head_fault above h words ≡ None
   head_free head.Model r = model_free r
   head_free head.Passed r = refl
   head_free head.Inputs r = placed_free above.this words (fault_on head.Inputs) (signals_free above.this.names (drop 1 words)) r
@@ -305,11 +305,11 @@ module _ (above : Above) (words : List (List ℕ)) where
 
 line_right : (above : Above) (l : LogicalLine) → fault_of above l ≡ None → IsRightLine above l
 line_right above l h =
-    let p = none_if (is_bad_line l) kind.Byte (head_fault above (head_of (word 0 l.words)) l.words) h in
-    (p.0, head_right above l.words (head_of (word 0 l.words)) p.1)
+    let p = none_if (is_bad_line l) kind.Byte (head_fault above (head_of (nth_word 0 l.words)) l.words) h in
+    (p.0, head_right above l.words (head_of (nth_word 0 l.words)) p.1)
 
 line_free : (above : Above) (l : LogicalLine) → IsRightLine above l → fault_of above l ≡ None
-line_free above l h = if_none (is_bad_line l) kind.Byte (head_fault above (head_of (word 0 l.words)) l.words) h.0 (head_free above l.words (head_of (word 0 l.words)) h.1)
+line_free above l h = if_none (is_bad_line l) kind.Byte (head_fault above (head_of (nth_word 0 l.words)) l.words) h.0 (head_free above l.words (head_of (nth_word 0 l.words)) h.1)
 
 -- ---- texts
 

@@ -18,7 +18,7 @@ use Rattle.flatten.specs.Lines.{RowsFit, PiecesFit, HaveRightRows}
 use Rattle.blif_read.specs.declared.head.Head.{Head}
 use Rattle.blif_read.specs.declared.head.Head.TheVariants as head
 use Rattle.blif_read.specs.Heads.{head_of}
-use Rattle.blif_read.specs.Parts.{word, lit_of, pattern, row_words, is_right_row}
+use Rattle.blif_read.specs.Parts.{nth_word, lit_of, pattern, row_words, is_right_row}
 use Rattle.blif_read.specs.Faults.{row_fault, placed_fault, fault_of, head_fault}
 use Rattle.blif_read.specs.Steps.{State, after_head, closed_pieces}
 use Rattle.blif_read.specs.Runs.{Gives, TextState, text_start, text_after_head, text_after, above_of, last_model, model_from, run, ended, whole}
@@ -98,7 +98,7 @@ all_fit t is = models_fit-append t.done (last_model t) is.done (by t.this.seen.b
     by false = tt
 
 text_fits_after : (t : TextState) (l : LogicalLine) → TextFits t → fault_of (above_of t) l ≡ None → TextFits (text_after t l)
-text_fits_after t l is none = by (head_of (word 0 l.words)) (not_bad (is_bad_line l) (head_fault (above_of t) (head_of (word 0 l.words)) l.words) none)
+text_fits_after t l is none = by (head_of (nth_word 0 l.words)) (not_bad (is_bad_line l) (head_fault (above_of t) (head_of (nth_word 0 l.words)) l.words) none)
   where
     by : (h : Head) → head_fault (above_of t) h l.words ≡ None → TextFits (text_after_head t h l.number l.words)
     by head.Model p = record { done = all_fit t is; this = record { pieces = tt; current = tt } }

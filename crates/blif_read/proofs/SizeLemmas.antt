@@ -18,7 +18,7 @@ use Rattle.blif_read.specs.declared.head.Head.{Head}
 use Rattle.blif_read.specs.declared.head.Head.TheVariants as head
 use Rattle.blif_read.specs.Heads.{head_of}
 use Rattle.blif_read.specs.Names.{with_name, numbers}
-use Rattle.blif_read.specs.Parts.{word, port_defs}
+use Rattle.blif_read.specs.Parts.{nth_word, port_defs}
 use Rattle.blif_read.specs.Faults.{fault_of}
 use Rattle.blif_read.specs.Steps.{State, after_head}
 use Rattle.blif_read.specs.Runs.{Gives, TextState, text_start, text_after_head, text_after, above_of, last_model, model_from, run, ended, whole}
@@ -163,7 +163,7 @@ last_few t = by t.this.seen.begun
     by false = omega (arith, outputs-append t.done [])
 
 text_few : (t : TextState) (l : LogicalLine) → total (text_after t l) ≤ total t + length l.words
-text_few t l = by (head_of (word 0 l.words))
+text_few t l = by (head_of (nth_word 0 l.words))
   where
     by : (h : Head) → total (text_after_head t h l.number l.words) ≤ total t + length l.words
     by head.Model = omega (arith, last_few t)

@@ -16,7 +16,7 @@ use Rattle.netlist.specs.declared.draft.LatchDef.{LatchDef}
 use Rattle.blif_read.specs.declared.head.Head.{Head}
 use Rattle.blif_read.specs.declared.head.Head.TheVariants as head
 use Rattle.blif_read.specs.Names.{names_after, name_number, with_name}
-use Rattle.blif_read.specs.Parts.{formal_of, actual_of, pairs_of, word, port_defs, new_sum, with_row, pattern, lit_of, is_off, row_words, is_right_row, init_of, control_of}
+use Rattle.blif_read.specs.Parts.{formal_of, actual_of, pairs_of, nth_word, port_defs, new_sum, with_row, pattern, lit_of, is_off, row_words, is_right_row, init_of, control_of}
 use Rattle.flatten.specs.declared.model.Piece.TheVariants.{Names, Latch, Inst}
 use Rattle.netlist.specs.declared.draft.Lit.{Lit}
 use Rattle.blif_read.specs.Seen.{Seen}
@@ -73,12 +73,12 @@ module _ (names more : List (List ℕ)) (l : LogicalLine) where
   latch_from ns = record { from = slice_index ns 0; out = slice_index ns 1; init = init_of l.words; line = l.number }
 
   inst_from : List ℕ → Piece
-  inst_from ns = Inst (word 1 l.words) (pairs_of (map formal_of (drop 2 l.words)) ns) l.number
+  inst_from ns = Inst (nth_word 1 l.words) (pairs_of (map formal_of (drop 2 l.words)) ns) l.number
 
   pub parts_are : (h : Head) → new_parts names l h ≡ closed_on (all h) h (record { head = l; rows = [] })
   unfolding latch_from inst_from
-  parts_are head.Latch = ap (λ ns. Latch (latch_from ns) (control_of l.words) ∷ []) (numbers_are (word 1 l.words ∷ word 2 l.words ∷ []) names more)
-  parts_are head.Subckt = ap (λ ns. inst_from ns ∷ []) (numbers_are (map actual_of (drop 2 l.words)) names more) ∙ ap (λ ps. Inst (word 1 l.words) ps l.number ∷ []) (pairs_are (all head.Subckt) (drop 2 l.words))
+  parts_are head.Latch = ap (λ ns. Latch (latch_from ns) (control_of l.words) ∷ []) (numbers_are (nth_word 1 l.words ∷ nth_word 2 l.words ∷ []) names more)
+  parts_are head.Subckt = ap (λ ns. inst_from ns ∷ []) (numbers_are (map actual_of (drop 2 l.words)) names more) ∙ ap (λ ps. Inst (nth_word 1 l.words) ps l.number ∷ []) (pairs_are (all head.Subckt) (drop 2 l.words))
   parts_are head.Names = refl
   parts_are _ = refl
 

@@ -13,7 +13,7 @@ use Rattle.blif_read.specs.declared.head.Head.TheVariants as head
 use Rattle.blif_read.specs.Heads.{head_of}
 use Rattle.blif_read.specs.Names.{limit_at}
 use Rattle.blif_read.specs.Seen.{Seen, Above}
-use Rattle.blif_read.specs.Parts.{word, is_pair, actual_of, row_words, is_right_row, is_off, is_init, has_type, has_init, init_word}
+use Rattle.blif_read.specs.Parts.{nth_word, is_pair, actual_of, row_words, is_right_row, is_off, is_init, has_type, has_init, init_word}
 use Rattle.blif_read.specs.Parts.{control_of}
 use Rattle.blif_read.specs.Grammar.{above_by, models_of, is_some_model, spelled_model}
 use Rattle.flatten.specs.declared.model.Model.{Model}
@@ -53,14 +53,14 @@ is_other (Some c) (Some d) = not (bytes_eq c d)
 unfoldable pub latch_parts_fault : List (List ℕ) → Option DesignKind
 latch_parts_fault words =
     if nat_lt (length words) 3 || nat_lt 6 (length words) then Some kind.Word
-    else if has_type words && not (bytes_eq (word 3 words) (codes "re")) then Some kind.LatchType
+    else if has_type words && not (bytes_eq (nth_word 3 words) (codes "re")) then Some kind.LatchType
     else if has_init words && not (is_init (init_word words)) then Some kind.LatchInit
     else None
 
 abbrev pub latch_fault : Option (List ℕ) → List (List ℕ) → List (List ℕ) → Option DesignKind
 latch_fault control names words =
     option_or (latch_parts_fault words) (if is_other (control_of words) control then Some kind.Control else limit_at names
-    (word 1 words ∷ word 2 words ∷ []))
+    (nth_word 1 words ∷ nth_word 2 words ∷ []))
 
 -- behind the model's name each word is a formal, `=` and an actual
 abbrev pub pairs_fault : List (List ℕ) → Option DesignKind
@@ -100,7 +100,7 @@ placed_fault seen h words =
 abbrev pub model_fault : Above → List (List ℕ) → Option DesignKind
 model_fault above words =
     if nat_lt 2 (length words) || (above.this.begun && nat_lt (length words) 2) then Some kind.Word
-    else if list_any (bytes_eq (word 1 words)) above.models then Some kind.SameModel
+    else if list_any (bytes_eq (nth_word 1 words)) above.models then Some kind.SameModel
     else None
 
 -- a `.model` line may stand after `.end`
@@ -110,7 +110,7 @@ head_fault above h words = placed_fault above.this h words
 
 -- the fault of a line that comes first in their order
 abbrev pub fault_of : Above → LogicalLine → Option DesignKind
-fault_of above l = if is_bad_line l then Some kind.Byte else head_fault above (head_of (word 0 l.words)) l.words
+fault_of above l = if is_bad_line l then Some kind.Byte else head_fault above (head_of (nth_word 0 l.words)) l.words
 
 -- a kind of line that ends the rows above it
 abbrev pub IsNew : Head → Type 0

@@ -14,7 +14,7 @@ use Rattle.blif_read.specs.declared.head.Head.{Head}
 use Rattle.blif_read.specs.declared.head.Head.TheVariants as head
 use Rattle.blif_read.specs.Heads.{head_of}
 use Rattle.blif_read.specs.Names.{names_after, name_number}
-use Rattle.blif_read.specs.Parts.{formal_of, actual_of, word, lit_of, pattern, is_off, init_of, control_of}
+use Rattle.blif_read.specs.Parts.{formal_of, actual_of, nth_word, lit_of, pattern, is_off, init_of, control_of}
 use Rattle.flatten.specs.declared.model.Piece.TheVariants.{Names, Latch, Inst}
 use Rattle.blif_read.specs.Seen.{Seen, Above}
 use Rattle.blif_read.specs.Right.{IsRightLine}
@@ -32,7 +32,7 @@ pub record Grouped : Type 0 where
   pub statements : List Statement
 
 abbrev pub kind_of : LogicalLine → Head
-kind_of l = head_of (word 0 l.words)
+kind_of l = head_of (nth_word 0 l.words)
 
 abbrev pub grouped_behind : LogicalLine → Head → Grouped → Grouped
 grouped_behind l head.Passed g = g
@@ -53,7 +53,7 @@ abbrev pub signals : Head → List (List ℕ) → List (List ℕ)
 signals head.Inputs words = drop 1 words
 signals head.Outputs words = drop 1 words
 signals head.Names words = drop 1 words
-signals head.Latch words = word 1 words ∷ word 2 words ∷ []
+signals head.Latch words = nth_word 1 words ∷ nth_word 2 words ∷ []
 signals head.Subckt words = map actual_of (drop 2 words)
 signals _ words = []
 
@@ -101,7 +101,7 @@ cover_of names _ s = None
 
 abbrev pub latch_of : List (List ℕ) → LogicalLine → LatchDef
 latch_of names l =
-    record { from = name_number names (word 1 l.words); out = name_number names (word 2 l.words); init = init_of l.words; line = l.number }
+    record { from = name_number names (nth_word 1 l.words); out = name_number names (nth_word 2 l.words); init = init_of l.words; line = l.number }
 
 abbrev pub pair_from : List (List ℕ) → List ℕ → PairDef
 pair_from names w = record { formal = formal_of w; actual = name_number names (actual_of w) }
@@ -109,7 +109,7 @@ pair_from names w = record { formal = formal_of w; actual = name_number names (a
 -- a cover, a latch with its control, or the use of a model
 abbrev pub part_on : List (List ℕ) → Head → Statement → Option Piece
 part_on names head.Latch s = Some (Latch (latch_of names s.head) (control_of s.head.words))
-part_on names head.Subckt s = Some (Inst (word 1 s.head.words) (map (pair_from names) (drop 2 s.head.words)) s.head.number)
+part_on names head.Subckt s = Some (Inst (nth_word 1 s.head.words) (map (pair_from names) (drop 2 s.head.words)) s.head.number)
 part_on names h s = option_map Names (cover_of names h s)
 
 -- ---- the whole text
@@ -203,15 +203,15 @@ parted (l ∷ lines) = onto l (kind_of l) (parted lines)
 abbrev pub models_of : List LogicalLine → List ModelText
 models_of lines = (parted lines).models
 
-abbrev pub lines_in : ModelText → List LogicalLine
-lines_in m = m.first ∷ m.rest
+abbrev pub model_lines : ModelText → List LogicalLine
+model_lines m = m.first ∷ m.rest
 
 abbrev pub name_of : ModelText → List ℕ
-name_of m = word 1 m.first.words
+name_of m = nth_word 1 m.first.words
 
 -- a model says what its lines spell
 abbrev pub spelled_model : ModelText → Model
-spelled_model m = spelled (name_of m) (lines_in m)
+spelled_model m = spelled (name_of m) (model_lines m)
 
 abbrev pub is_some_model : List ModelText → Bool
 is_some_model [] = false
@@ -220,7 +220,7 @@ is_some_model (m ∷ models) = true
 -- the lines of the last model
 abbrev pub last_lines : List ModelText → List LogicalLine
 last_lines [] = []
-last_lines (m ∷ []) = lines_in m
+last_lines (m ∷ []) = model_lines m
 last_lines (m ∷ n ∷ models) = last_lines (n ∷ models)
 
 -- what the models above a line say of it

@@ -11,8 +11,8 @@ use Rattle.flatten.specs.declared.model.PairDef.{PairDef}
 use Rattle.blif_read.specs.Names.{numbers}
 
 -- word k of a line
-abbrev pub word : ℕ → List (List ℕ) → List ℕ
-word k words = slice_index_or words k []
+abbrev pub nth_word : ℕ → List (List ℕ) → List ℕ
+nth_word k words = slice_index_or words k []
 
 -- ---- rows
 
@@ -32,10 +32,10 @@ abbrev pub row_words : ℕ → ℕ
 row_words n = if n == 0 then 1 else 2
 
 abbrev pub pattern : ℕ → List (List ℕ) → List ℕ
-pattern n words = if n == 0 then [] else word 0 words
+pattern n words = if n == 0 then [] else nth_word 0 words
 
 abbrev pub output : ℕ → List (List ℕ) → List ℕ
-output n words = if n == 0 then word 0 words else word 1 words
+output n words = if n == 0 then nth_word 0 words else nth_word 1 words
 
 abbrev pub is_off : ℕ → List (List ℕ) → Bool
 is_off n words = slice_index (output n words) 0 == 48
@@ -57,14 +57,14 @@ abbrev pub has_init : List (List ℕ) → Bool
 has_init words = (length words == 4) || (length words == 6)
 
 abbrev pub init_word : List (List ℕ) → List ℕ
-init_word words = word (length words - 1) words
+init_word words = nth_word (length words - 1) words
 
 abbrev pub init_of : List (List ℕ) → Bool
 init_of words = has_init words && (slice_index (init_word words) 0 == 49)
 
 -- the control, if it is a name
 abbrev pub control_of : List (List ℕ) → Option (List ℕ)
-control_of words = if has_type words && not (bytes_eq (word 4 words) (codes "NIL")) then Some (word 4 words) else None
+control_of words = if has_type words && not (bytes_eq (nth_word 4 words) (codes "NIL")) then Some (nth_word 4 words) else None
 
 -- ---- the use of a model
 

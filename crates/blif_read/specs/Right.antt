@@ -8,7 +8,7 @@ use Rattle.blif_read.specs.declared.head.Head.TheVariants as head
 use Rattle.blif_read.specs.Heads.{head_of}
 use Rattle.blif_read.specs.Names.{names_after}
 use Rattle.blif_read.specs.Seen.{Seen, Above}
-use Rattle.blif_read.specs.Parts.{word, is_pair, actual_of, row_words, is_right_row, is_off, is_init, has_type, has_init, init_word}
+use Rattle.blif_read.specs.Parts.{nth_word, is_pair, actual_of, row_words, is_right_row, is_off, is_init, has_type, has_init, init_word}
 use Rattle.blif_read.specs.Parts.{control_of}
 
 -- words that are signals: none is too long, and with those above there are not too many
@@ -39,10 +39,10 @@ IsSame (Some c) (Some d) = c ≡ d
 pub record IsLatch (seen : Seen) (words : List (List ℕ)) : Type 0 where
   pub least : 3 ≤ length words
   pub most : length words ≤ 6
-  pub edge : has_type words ≡ true → word 3 words ≡ codes "re"
+  pub edge : has_type words ≡ true → nth_word 3 words ≡ codes "re"
   pub init : has_init words ≡ true → is_init (init_word words) ≡ true
   pub control : IsSame (control_of words) seen.control
-  pub signals : AreSignals seen.names (word 1 words ∷ word 2 words ∷ [])
+  pub signals : AreSignals seen.names (nth_word 1 words ∷ nth_word 2 words ∷ [])
 
 -- the name of a model, and formals with their actuals
 pub record IsSubckt (names words : List (List ℕ)) : Type 0 where
@@ -54,7 +54,7 @@ pub record IsSubckt (names words : List (List ℕ)) : Type 0 where
 pub record IsModel (above : Above) (words : List (List ℕ)) : Type 0 where
   pub most : length words ≤ 2
   pub named : above.this.begun ≡ true → 2 ≤ length words
-  pub differs : All (λ name. name ≡ word 1 words → ⊥) above.models
+  pub differs : All (λ name. name ≡ nth_word 1 words → ⊥) above.models
 
 -- what each kind of line says in a model; a row stands below a cover
 abbrev pub Says : Seen → Head → List (List ℕ) → Type 0
@@ -69,10 +69,10 @@ Says seen head.End words = length words ≡ 1
 Says seen _ words = ⊥
 
 -- a line stands in a model that goes on, but for one that begins a model, and those that are passed over
-abbrev pub IsRight : Above → Head → List (List ℕ) → Type 0
-IsRight above head.Model words = IsModel above words
-IsRight above head.Passed words = Unit {0}
-IsRight above h words = (above.this.begun ≡ true) × (above.this.ended ≡ false) × Says above.this h words
+abbrev pub AreRightWords : Above → Head → List (List ℕ) → Type 0
+AreRightWords above head.Model words = IsModel above words
+AreRightWords above head.Passed words = Unit {0}
+AreRightWords above h words = (above.this.begun ≡ true) × (above.this.ended ≡ false) × Says above.this h words
 
 abbrev pub IsRightLine : Above → LogicalLine → Type 0
-IsRightLine above l = (is_bad_line l ≡ false) × IsRight above (head_of (word 0 l.words)) l.words
+IsRightLine above l = (is_bad_line l ≡ false) × AreRightWords above (head_of (nth_word 0 l.words)) l.words

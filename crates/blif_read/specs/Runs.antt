@@ -9,7 +9,7 @@ use Rattle.flatten.specs.declared.model.Model.{Model}
 use Rattle.blif_read.specs.declared.head.Head.{Head}
 use Rattle.blif_read.specs.declared.head.Head.TheVariants as head
 use Rattle.blif_read.specs.Heads.{head_of}
-use Rattle.blif_read.specs.Parts.{word}
+use Rattle.blif_read.specs.Parts.{nth_word}
 use Rattle.blif_read.specs.Seen.{Above}
 use Rattle.blif_read.specs.Faults.{fault_of}
 use Rattle.blif_read.specs.Steps.{State, after_head, closed_pieces}
@@ -60,14 +60,14 @@ abbrev pub text_after_head : TextState → Head → ℕ → List (List ℕ) → 
 text_after_head t head.Model line words =
     record {
       done = t.done ++ last_model t;
-      models = t.models ++ word 1 words ∷ [];
-      name = word 1 words;
+      models = t.models ++ nth_word 1 words ∷ [];
+      name = nth_word 1 words;
       this = after_head start head.Model line words;
     }
 text_after_head t h line words = record t { this = after_head t.this h line words }
 
 abbrev pub text_after : TextState → LogicalLine → TextState
-text_after t l = text_after_head t (head_of (word 0 l.words)) l.number l.words
+text_after t l = text_after_head t (head_of (nth_word 0 l.words)) l.number l.words
 
 -- the state after the lines, or the first fault and its line
 unfoldable pub run : TextState → List LogicalLine → Result TextState (ℕ × DesignKind)

@@ -12,7 +12,7 @@ use Rattle.netlist.specs.declared.draft.LatchDef.{LatchDef}
 use Rattle.blif_read.specs.Heads.{head_of}
 use Rattle.blif_read.specs.Names.{names_after, numbers}
 use Rattle.blif_read.specs.Refusals.{IsRefusedAs}
-use Rattle.blif_read.specs.Parts.{word, formal_of, actual_of, pairs_of, port_defs, new_sum, with_row, control_of, init_of}
+use Rattle.blif_read.specs.Parts.{nth_word, formal_of, actual_of, pairs_of, port_defs, new_sum, with_row, control_of, init_of}
 use Rattle.flatten.specs.declared.model.Piece.TheVariants.{Names, Latch, Inst}
 use Rattle.blif_read.specs.Seen.{Seen}
 
@@ -31,13 +31,13 @@ Steps (Err e) fault P = IsRefusedAs fault e
 -- a latch: its init is 0, 2 or 3 for a start at 0
 abbrev pub new_latch : List (List ℕ) → List (List ℕ) → ℕ → LatchDef
 new_latch names words line =
-    let ns = numbers names (word 1 words ∷ word 2 words ∷ []) in
+    let ns = numbers names (nth_word 1 words ∷ nth_word 2 words ∷ []) in
     record { from = slice_index ns 0; out = slice_index ns 1; init = init_of words; line = line }
 
 -- the use of a model
 abbrev pub new_inst : List (List ℕ) → List (List ℕ) → ℕ → Piece
 new_inst names words line =
-    Inst (word 1 words) (pairs_of (map formal_of (drop 2 words)) (numbers names (map actual_of (drop 2 words)))) line
+    Inst (nth_word 1 words) (pairs_of (map formal_of (drop 2 words)) (numbers names (map actual_of (drop 2 words)))) line
 
 -- the cover whose rows went on has all of them
 abbrev pub closed_pieces : State → List Piece
@@ -74,7 +74,7 @@ after_head s head.Latch line words =
       seen = record s.seen {
         begun = true;
         current = None;
-        names = names_after s.seen.names (word 1 words ∷ word 2 words ∷ []);
+        names = names_after s.seen.names (nth_word 1 words ∷ nth_word 2 words ∷ []);
         control = option_or s.seen.control (control_of words);
       };
       pieces = closed_pieces s ++ Latch (new_latch s.seen.names words line) (control_of words) ∷ [];
@@ -94,4 +94,4 @@ after_head s head.Unknown line words = s
 after_head s head.Row line words = record s { seen = record s.seen { current = option_map (λ c. with_row c words) s.seen.current } }
 
 abbrev pub after : State → LogicalLine → State
-after s l = after_head s (head_of (word 0 l.words)) l.number l.words
+after s l = after_head s (head_of (nth_word 0 l.words)) l.number l.words

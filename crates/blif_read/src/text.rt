@@ -5,7 +5,7 @@ ghost use Rattle.tm_text.specs.Lines.{is_bad_line};
 ghost use Rattle.blif_read.specs.Faults.{fault_of, model_fault};
 ghost use Rattle.blif_read.specs.Steps.{Steps};
 ghost use Rattle.blif_read.specs.States.{state_of};
-ghost use Rattle.blif_read.specs.Parts.{word};
+ghost use Rattle.blif_read.specs.Parts.{nth_word};
 ghost use Rattle.blif_read.specs.Runs.{start, model_from, above_of, text_after, text_after_head};
 ghost use Rattle.blif_read.specs.Texts.{text_of};
 
@@ -89,7 +89,7 @@ pub fn keep(
 
 /// The name on a `.model` line, or nothing.
 fn model_name<'a>(words: &[&'a [u8]]) -> &'a [u8]
-    ensures { result.now ≡ word 1 (map (λ w. w.now) words.now) }
+    ensures { result.now ≡ nth_word 1 (map (λ w. w.now) words.now) }
 {
     if words.len() < 2 { b"" } else { words[1] }
 }

@@ -17,7 +17,7 @@ use Rattle.defect_db.specs.declared.entry.Entry.TheVariants.{Wire, Cross, Table}
 use Rattle.defect_db.specs.Lists.{DefectList, IsDefectList, IsWithWire, no_defects, those, touches_cross, touches_table, with_cross, with_table, has_free_ends, has_free_pins}
 use Rattle.hierarchy.specs.Defects.{IsFreeCross, IsFreeTable}
 use Rattle.defect_db.proofs.Telling.{cross_tells, table_tells}
-use Rattle.defect_db.specs.Text.{IsEntryOf, IsFreeEntry, kind_of, number_of, is_before, as_wire, as_cross, as_table, entries_of}
+use Rattle.defect_db.specs.Text.{IsEntryOf, IsFreeEntry, kind_of, entry_number, is_before, as_wire, as_cross, as_table, entries_of}
 use Rattle.defect_db.specs.Steps.{is_listed, is_same, is_behind, IsLast, IsBeyond, IsAdded}
 
 -- ---- numbers that pass a test
@@ -143,13 +143,13 @@ before_from ka na kb nb (inr h) = (λ i. nat_lt ka kb || (eq-eqb ka kb h.0 i && 
     or_true false = refl
 
 abbrev pub Precedes : Entry → Entry → Type 0
-Precedes a b = (kind_of a < kind_of b) ⊎ ((kind_of a ≡ kind_of b) × (number_of a < number_of b))
+Precedes a b = (kind_of a < kind_of b) ⊎ ((kind_of a ≡ kind_of b) × (entry_number a < entry_number b))
 
 pub precedes : (a b : Entry) → is_before a b ≡ true → Precedes a b
-precedes a b e = before_parts (kind_of a) (number_of a) (kind_of b) (number_of b) e
+precedes a b e = before_parts (kind_of a) (entry_number a) (kind_of b) (entry_number b) e
 
 pub is_before_of : (a b : Entry) → Precedes a b → is_before a b ≡ true
-is_before_of a b h = before_from (kind_of a) (number_of a) (kind_of b) (number_of b) h
+is_before_of a b h = before_from (kind_of a) (entry_number a) (kind_of b) (entry_number b) h
 
 pub in_turn : (a b c : Entry) → Precedes a b → Precedes b c → Precedes a c
 in_turn a b c (inl p) (inl q) = inl (omega (arith, p, q))
@@ -157,7 +157,7 @@ in_turn a b c (inl p) (inr q) = inl (let g = q.0 in omega (arith, p, g))
 in_turn a b c (inr p) (inl q) = inl (let g = p.0 in omega (arith, g, q))
 in_turn a b c (inr p) (inr q) = inr (let g = p.0 in let h = q.0 in omega (arith, g, h), let g = p.1 in let h = q.1 in omega (arith, g, h))
 
-pub same_entry : (a b : Entry) → kind_of a ≡ kind_of b → number_of a ≡ number_of b → a ≡ b
+pub same_entry : (a b : Entry) → kind_of a ≡ kind_of b → entry_number a ≡ entry_number b → a ≡ b
 same_entry (Wire w) (Wire u) k n = λ i. Wire (record { 0 = n i })
 same_entry (Cross w) (Cross u) k n = λ i. Cross (record { 0 = n i })
 same_entry (Table w) (Table u) k n = λ i. Table (record { 0 = n i })
@@ -170,12 +170,12 @@ same_entry (Table w) (Cross u) k n = absurd (let no : ⊥ = omega (arith, k) in 
 
 -- one that isn't before another is the other, or behind it
 pub not_before : (a b : Entry) → is_before a b ≡ false → (a ≡ b) ⊎ Precedes b a
-not_before a b e = by_kinds (ℕ_discrete (kind_of a) (kind_of b)) (ℕ_discrete (number_of a) (number_of b))
+not_before a b e = by_kinds (ℕ_discrete (kind_of a) (kind_of b)) (ℕ_discrete (entry_number a) (entry_number b))
   where
     none : Precedes a b → ⊥
     none h = let g : true ≡ false = sym (is_before_of a b h) ∙ e in cc
 
-    by_number : (kind_of a ≡ kind_of b) → (number_of a ≢ number_of b) → Dec (number_of b < number_of a) → Precedes b a
+    by_number : (kind_of a ≡ kind_of b) → (entry_number a ≢ entry_number b) → Dec (entry_number b < entry_number a) → Precedes b a
     by_number k ne (yes lt) = inr (sym k, lt)
     by_number k ne (no ge) = absurd (none (inr (k, omega (arith, ge, ne))))
 
@@ -183,9 +183,9 @@ not_before a b e = by_kinds (ℕ_discrete (kind_of a) (kind_of b)) (ℕ_discrete
     by_kind ne (yes lt) = inl lt
     by_kind ne (no ge) = absurd (none (inl (omega (arith, ge, ne))))
 
-    by_kinds : Dec (kind_of a ≡ kind_of b) → Dec (number_of a ≡ number_of b) → (a ≡ b) ⊎ Precedes b a
+    by_kinds : Dec (kind_of a ≡ kind_of b) → Dec (entry_number a ≡ entry_number b) → (a ≡ b) ⊎ Precedes b a
     by_kinds (yes k) (yes n) = inl (same_entry a b k n)
-    by_kinds (yes k) (no ne) = inr (by_number k ne (dec_lt (number_of b) (number_of a)))
+    by_kinds (yes k) (no ne) = inr (by_number k ne (dec_lt (entry_number b) (entry_number a)))
     by_kinds (no ne) d = inr (by_kind ne (dec_lt (kind_of b) (kind_of a)))
 
 ascends_those : (mk : ℕ → Entry) → ((k j : ℕ) → k < j → is_before (mk k) (mk j) ≡ true) → (f : ℕ → Bool) (n : ℕ) → Ascends (map mk (those f n))

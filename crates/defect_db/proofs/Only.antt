@@ -16,7 +16,7 @@ use Rattle.defect_db.specs.declared.kind.DefectsKind.{DefectsKind}
 use Rattle.defect_db.specs.declared.kind.DefectsFault.{DefectsFault}
 use Rattle.defect_db.specs.declared.kind.DefectsFault.TheVariants.{At, Memory}
 use Rattle.defect_db.specs.Lists.{DefectList, IsDefectList}
-use Rattle.defect_db.specs.Text.{IsEntryOf, IsFreeEntry, words_of, is_before, entries_of, counts_of, first_row, shape_row, end_row, rows_of, text_of}
+use Rattle.defect_db.specs.Text.{IsEntryOf, IsFreeEntry, entry_words, is_before, entries_of, counts_of, first_row, shape_row, end_row, rows_of, text_of}
 use Rattle.defect_db.specs.Faults.{IsEntryForm, AreCounts, IsBeforeLast, IsLineFault, AreAbove, IsFaultBehind, IsFirstFault, IsText, GivesOrLacks}
 use Rattle.defect_db.specs.Faults.IsForm.{first_form, shape_form, entry_form, end_form}
 use Rattle.defect_db.specs.Faults.IsEntryForm.{wire_form, cross_form, table_form}
@@ -42,20 +42,20 @@ abbrev head_byte : List (List ℕ) → ℕ
 head_byte row = get_or (get_or row 0 []) 0 0
 
 module _ (m : Shape) (k : IsTold m) where
-  pub entry_has_form : (e : Entry) → IsEntryOf m e → IsEntryForm (words_of m e)
+  pub entry_has_form : (e : Entry) → IsEntryOf m e → IsEntryForm (entry_words m e)
   entry_has_form (Wire w) is = wire_form (wire_is_word m w.0 is)
   entry_has_form (Cross x) is = cross_form (wire_is_word m (ends_of m x.0).0 (tap_within m k.numbered x.0 is)) (wire_is_word m (ends_of m x.0).1 (line_within m k.numbered x.0 is))
   entry_has_form (Table t) is = table_form (table_is_word m t.0 is)
 
-  entry_clean : (e : Entry) → IsEntryOf m e → IsCleanRow (words_of m e)
-  entry_clean e is = clean_form 2 (words_of m e) (entry_form (omega arith) (entry_has_form e is))
+  entry_clean : (e : Entry) → IsEntryOf m e → IsCleanRow (entry_words m e)
+  entry_clean e is = clean_form 2 (entry_words m e) (entry_form (omega arith) (entry_has_form e is))
 
-  no_end : (e : Entry) → words_of m e ≢ end_row
+  no_end : (e : Entry) → entry_words m e ≢ end_row
   no_end (Wire w) e = let h = ap head_byte e in let no : ⊥ = omega (arith, h) in no
   no_end (Cross x) e = let h = ap head_byte e in let no : ⊥ = omega (arith, h) in no
   no_end (Table t) e = let h = ap head_byte e in let no : ⊥ = omega (arith, h) in no
 
-  one_entry : (a b : Entry) → IsEntryOf m a → IsEntryOf m b → words_of m a ≡ words_of m b → a ≡ b
+  one_entry : (a b : Entry) → IsEntryOf m a → IsEntryOf m b → entry_words m a ≡ entry_words m b → a ≡ b
   one_entry (Wire w) (Wire u) p q e = let n = k.names.one_wire w.0 u.0 p q (ap (λ ws. get_or ws 1 []) e) in λ i. Wire (record { 0 = n i })
   one_entry (Cross x) (Cross y) p q e =
       let t = k.names.one_wire (ends_of m x.0).0 (ends_of m y.0).0 (tap_within m k.numbered x.0 p) (tap_within m k.numbered y.0 q) (ap (λ ws. get_or ws 1 []) e) in
@@ -70,7 +70,7 @@ module _ (m : Shape) (k : IsTold m) where
   one_entry (Table w) (Wire y) p q e = absurd (let h = ap head_byte e in let no : ⊥ = omega (arith, h) in no)
   one_entry (Table w) (Cross y) p q e = absurd (let h = ap head_byte e in let no : ⊥ = omega (arith, h) in no)
 
-  clean_entries : (es : List Entry) → AllByRecursion (IsEntryOf m) es → AreCleanRows (map (words_of m) es)
+  clean_entries : (es : List Entry) → AllByRecursion (IsEntryOf m) es → AreCleanRows (map (entry_words m) es)
   clean_entries [] h = tt
   clean_entries (e ∷ es) h = (entry_clean e h.0, clean_entries es h.1)
 
@@ -85,7 +85,7 @@ module _ (m : Shape) (k : IsTold m) where
 
   -- the lines of a list's text
   abbrev rows_at : List Entry → List (List (List ℕ))
-  rows_at es = first_row ∷ shape_row (counts_of m.counts) ∷ map (words_of m) es
+  rows_at es = first_row ∷ shape_row (counts_of m.counts) ∷ map (entry_words m) es
 
   clean_rows : (es : List Entry) → AllByRecursion (IsEntryOf m) es → AreCleanRows (rows_at es)
   clean_rows es h = (first_clean, (shape_clean, clean_entries es h))
@@ -94,7 +94,7 @@ module _ (m : Shape) (k : IsTold m) where
   clean_whole es h = clean_append (rows_at es) (end_row ∷ []) (clean_rows es h) (end_clean, tt)
 
   -- the entries of a text, of which some stand above
-  entries_split : (es ds : List Entry) (c : List (List (List ℕ))) → AllByRecursion (IsEntryOf m) es → AllByRecursion (IsEntryOf m) ds → map (words_of m) es ++ end_row ∷ [] ≡ map (words_of m) ds ++ c → (fs : List Entry) × (es ≡ ds ++ fs) × (c ≡ map (words_of m) fs ++ end_row ∷ [])
+  entries_split : (es ds : List Entry) (c : List (List (List ℕ))) → AllByRecursion (IsEntryOf m) es → AllByRecursion (IsEntryOf m) ds → map (entry_words m) es ++ end_row ∷ [] ≡ map (entry_words m) ds ++ c → (fs : List Entry) × (es ≡ ds ++ fs) × (c ≡ map (entry_words m) fs ++ end_row ∷ [])
   entries_split es [] c p q e = (es, refl, sym e)
   entries_split [] (x ∷ ds) c p q e = absurd (no_end x (sym (ap (λ rs. get_or rs 0 []) e)))
   entries_split (y ∷ es) (x ∷ ds) c p q e =
@@ -103,14 +103,14 @@ module _ (m : Shape) (k : IsTold m) where
       (more.0, (λ i. same i ∷ more.1 i), more.2)
 
   -- no line behind the last
-  none_behind : (es ds : List Entry) (c : List (List ℕ)) (cs : List (List (List ℕ))) → AllByRecursion (IsEntryOf m) es → AllByRecursion (IsEntryOf m) ds → map (words_of m) es ++ end_row ∷ [] ≡ map (words_of m) ds ++ (end_row ∷ c ∷ cs) → ⊥
+  none_behind : (es ds : List Entry) (c : List (List ℕ)) (cs : List (List (List ℕ))) → AllByRecursion (IsEntryOf m) es → AllByRecursion (IsEntryOf m) ds → map (entry_words m) es ++ end_row ∷ [] ≡ map (entry_words m) ds ++ (end_row ∷ c ∷ cs) → ⊥
   none_behind es ds c cs p q e = by_rest (entries_split es ds (end_row ∷ c ∷ cs) p q e)
     where
-      by_list : (fs : List Entry) → end_row ∷ c ∷ cs ≡ map (words_of m) fs ++ end_row ∷ [] → ⊥
+      by_list : (fs : List Entry) → end_row ∷ c ∷ cs ≡ map (entry_words m) fs ++ end_row ∷ [] → ⊥
       by_list [] g = let h = ap length g in let no : ⊥ = omega (arith, h) in no
       by_list (f ∷ fs) g = no_end f (sym (ap (λ rs. get_or rs 0 []) g))
 
-      by_rest : (fs : List Entry) × (es ≡ ds ++ fs) × (end_row ∷ c ∷ cs ≡ map (words_of m) fs ++ end_row ∷ []) → ⊥
+      by_rest : (fs : List Entry) × (es ≡ ds ++ fs) × (end_row ∷ c ∷ cs ≡ map (entry_words m) fs ++ end_row ∷ []) → ⊥
       by_rest r = by_list r.0 r.2
 
 -- ---- a list and its entries
@@ -119,7 +119,7 @@ pub all_entries : (m : Shape) (d : DefectList) → d.shape ≡ m → AllByRecurs
 all_entries m d same = all_in (IsEntryOf m) (entries_of d) (λ a h. subst (λ n. IsEntryOf n a) same (in_listed d a h).1)
 
 rows_same : (m : Shape) (k : IsTold m) (d : DefectList) → d.shape ≡ m → rows_of d ≡ rows_at m k (entries_of d)
-rows_same m k d same = (λ i. first_row ∷ shape_row (counts_of (same i).counts) ∷ map (words_of (same i)) (entries_of d))
+rows_same m k d same = (λ i. first_row ∷ shape_row (counts_of (same i).counts) ∷ map (entry_words (same i)) (entries_of d))
 
 text_rows : (m : Shape) (k : IsTold m) (d : DefectList) → d.shape ≡ m → text_of d ≡ written (rows_at m k (entries_of d) ++ end_row ∷ [])
 unfolding text_of
@@ -237,18 +237,18 @@ module _ (m : Shape) (k : IsTold m) (e : DefectList) (is : e.shape ≡ m) (right
   shape_right d same rest left _ f (again a more two of_m g h free) = let no : ⊥ = omega (arith, two) in no
 
   -- the entry of a line is the one that stands there
-  at_shape : (d : DefectList) → d.shape ≡ m → (b : Entry) (more left : List ℕ) → IsEntryOf d.shape b → left ≡ written_line (words_of d.shape b) ++ more → IsEntryOf m b × (left ≡ written_line (words_of m b) ++ more)
-  at_shape d same b more left of_b g = (subst (λ n. IsEntryOf n b) same of_b, g ∙ ap (λ n. written_line (words_of n b) ++ more) same)
+  at_shape : (d : DefectList) → d.shape ≡ m → (b : Entry) (more left : List ℕ) → IsEntryOf d.shape b → left ≡ written_line (entry_words d.shape b) ++ more → IsEntryOf m b × (left ≡ written_line (entry_words m b) ++ more)
+  at_shape d same b more left of_b g = (subst (λ n. IsEntryOf n b) same of_b, g ∙ ap (λ n. written_line (entry_words n b) ++ more) same)
 
-  this : (d : DefectList) → d.shape ≡ m → (rest left : List ℕ) (a : Entry) → IsEntryOf m a → (b : Entry) (more : List ℕ) → IsEntryOf d.shape b → left ≡ written_line (words_of d.shape b) ++ more → left ≡ written_line (words_of m a) ++ rest → b ≡ a
+  this : (d : DefectList) → d.shape ≡ m → (rest left : List ℕ) (a : Entry) → IsEntryOf m a → (b : Entry) (more : List ℕ) → IsEntryOf d.shape b → left ≡ written_line (entry_words d.shape b) ++ more → left ≡ written_line (entry_words m a) ++ rest → b ≡ a
   this d same rest left a of_a b more of_b g f =
       let h = at_shape d same b more left of_b g in
-      one_entry m k b a h.0 of_a (first_rows (words_of m b) (words_of m a) more rest (entry_clean m k b h.0) (entry_clean m k a of_a) (sym h.1 ∙ f)).0
+      one_entry m k b a h.0 of_a (first_rows (entry_words m b) (entry_words m a) more rest (entry_clean m k b h.0) (entry_clean m k a of_a) (sym h.1 ∙ f)).0
 
-  ended : (d : DefectList) → d.shape ≡ m → (rest left : List ℕ) (b : Entry) (more : List ℕ) → IsEntryOf d.shape b → left ≡ written_line (words_of d.shape b) ++ more → left ≡ written_line end_row ++ rest → ⊥
+  ended : (d : DefectList) → d.shape ≡ m → (rest left : List ℕ) (b : Entry) (more : List ℕ) → IsEntryOf d.shape b → left ≡ written_line (entry_words d.shape b) ++ more → left ≡ written_line end_row ++ rest → ⊥
   ended d same rest left b more of_b g f =
       let h = at_shape d same b more left of_b g in
-      no_end m k b (first_rows (words_of m b) end_row more rest (entry_clean m k b h.0) (end_clean m k) (sym h.1 ∙ f)).0
+      no_end m k b (first_rows (entry_words m b) end_row more rest (entry_clean m k b h.0) (end_clean m k) (sym h.1 ∙ f)).0
 
   -- the line behind the last entry
   end_right : (d : DefectList) → d.shape ≡ m → (above : ℕ) (rest left : List ℕ) (kind : DefectsKind) → 2 ≤ above → left ≡ written_line end_row ++ rest → IsLineFault d above left kind → ⊥
@@ -264,11 +264,11 @@ module _ (m : Shape) (k : IsTold m) (e : DefectList) (is : e.shape ≡ m) (right
   end_right d same above rest left _ two f (again a more t of_m g h free) = ended d same rest left a more of_m g f
 
   -- the next entry
-  next_right : (d : DefectList) → d.shape ≡ m → IsDefectList d → (a : Entry) (fs : List Entry) → IsEntryOf m a → entries_of e ≡ entries_of d ++ a ∷ fs → (above : ℕ) (rest left : List ℕ) (kind : DefectsKind) → 2 ≤ above → left ≡ written_line (words_of m a) ++ rest → IsLineFault d above left kind → ⊥
-  next_right d same p a fs of_a parts above rest left _ two f (formless none) = none (words_of m a) rest (entry_form two (entry_has_form m k a of_a)) f
+  next_right : (d : DefectList) → d.shape ≡ m → IsDefectList d → (a : Entry) (fs : List Entry) → IsEntryOf m a → entries_of e ≡ entries_of d ++ a ∷ fs → (above : ℕ) (rest left : List ℕ) (kind : DefectsKind) → 2 ≤ above → left ≡ written_line (entry_words m a) ++ rest → IsLineFault d above left kind → ⊥
+  next_right d same p a fs of_a parts above rest left _ two f (formless none) = none (entry_words m a) rest (entry_form two (entry_has_form m k a of_a)) f
   next_right d same p a fs of_a parts above rest left _ two f (other_machine ns more one are g ne) = let no : ⊥ = omega (arith, one, two) in no
   next_right d same p a fs of_a parts above rest left _ two f (nameless row more t form g none) =
-      none a (subst (λ n. IsEntryOf n a) (sym same) of_a) (ap (λ n. words_of n a) same ∙ sym (first_rows row (words_of m a) more rest (clean_form 2 row (entry_form (omega arith) form)) (entry_clean m k a of_a) (sym g ∙ f)).0)
+      none a (subst (λ n. IsEntryOf n a) (sym same) of_a) (ap (λ n. entry_words n a) same ∙ sym (first_rows row (entry_words m a) more rest (clean_form 2 row (entry_form (omega arith) form)) (entry_clean m k a of_a) (sym g ∙ f)).0)
   next_right d same p a fs of_a parts above rest left _ two f (earlier b more t of_b g h) = next_behind d e p right (same ∙ sym is) a fs parts (subst (λ z. IsBeforeLast z d) (this d same rest left a of_a b more of_b g f) h)
   next_right d same p a fs of_a parts above rest left _ two f (again b more t of_b g h free) = free (subst (IsFreeEntry d) (sym (this d same rest left a of_a b more of_b g f)) (next_free d e p right (same ∙ sym is) a fs parts))
 
@@ -279,18 +279,18 @@ module _ (m : Shape) (k : IsTold m) (e : DefectList) (is : e.shape ≡ m) (right
   listed_right : (d : DefectList) → d.shape ≡ m → IsDefectList d → (left : List ℕ) (kind : DefectsKind) → (c : List (List (List ℕ))) → rows_at m k (entries_of e) ++ end_row ∷ [] ≡ rows_of d ++ c → left ≡ written c → IsLineFault d (length (rows_of d)) left kind → ⊥
   listed_right d same p left kind c rows is_left fault = by_rest (entries_split m k (entries_of e) (entries_of d) c all (all_entries m d same) (ap (drop 2) (rows ∙ ap (λ rs. rs ++ c) (rows_same m k d same))))
     where
-      by_list : (fs : List Entry) → entries_of e ≡ entries_of d ++ fs → c ≡ map (words_of m) fs ++ end_row ∷ [] → ⊥
+      by_list : (fs : List Entry) → entries_of e ≡ entries_of d ++ fs → c ≡ map (entry_words m) fs ++ end_row ∷ [] → ⊥
       by_list [] parts g = end_right d same (length (rows_of d)) [] left kind (omega arith) (is_left ∙ ap written g) fault
-      by_list (a ∷ fs) parts g = next_right d same p a fs (subst (λ n. IsEntryOf n a) is (in_listed e a (subst (In a) (sym parts) (in_append a (entries_of d) (a ∷ fs) (inr (inl refl))))).1) parts (length (rows_of d)) (written (map (words_of m) fs ++ end_row ∷ [])) left kind (omega arith) (is_left ∙ ap written g) fault
+      by_list (a ∷ fs) parts g = next_right d same p a fs (subst (λ n. IsEntryOf n a) is (in_listed e a (subst (In a) (sym parts) (in_append a (entries_of d) (a ∷ fs) (inr (inl refl))))).1) parts (length (rows_of d)) (written (map (entry_words m) fs ++ end_row ∷ [])) left kind (omega arith) (is_left ∙ ap written g) fault
 
-      by_rest : (fs : List Entry) × (entries_of e ≡ entries_of d ++ fs) × (c ≡ map (words_of m) fs ++ end_row ∷ []) → ⊥
+      by_rest : (fs : List Entry) × (entries_of e ≡ entries_of d ++ fs) × (c ≡ map (entry_words m) fs ++ end_row ∷ []) → ⊥
       by_rest r = by_list r.0 r.1 r.2
 
   nothing_right : (left : List ℕ) (kind : DefectsKind) (d : DefectList) (c : List (List (List ℕ))) → rows_at m k (entries_of e) ++ end_row ∷ [] ≡ c → left ≡ written c → IsLineFault d 0 left kind → ⊥
   nothing_right left kind d c rows is_left fault = first_right d (written (drop 1 (rows_at m k (entries_of e) ++ end_row ∷ []))) left kind (is_left ∙ ap written (sym rows)) fault
 
   begun_right : (left : List ℕ) (kind : DefectsKind) (d : DefectList) → d.shape ≡ m → (c : List (List (List ℕ))) → rows_at m k (entries_of e) ++ end_row ∷ [] ≡ first_row ∷ c → left ≡ written c → IsLineFault d 1 left kind → ⊥
-  begun_right left kind d same c rows is_left fault = shape_right d same (written (map (words_of m) (entries_of e) ++ end_row ∷ [])) left kind (is_left ∙ ap written (sym (ap (drop 1) rows))) fault
+  begun_right left kind d same c rows is_left fault = shape_right d same (written (map (entry_words m) (entries_of e) ++ end_row ∷ [])) left kind (is_left ∙ ap written (sym (ap (drop 1) rows))) fault
 
   clean_above : (d : DefectList) (above : List (List (List ℕ))) → AreAbove m d above → AreCleanRows above
   clean_above _ _ nothing = tt
@@ -321,7 +321,7 @@ pub one_text : (m : Shape) → IsTold m → (bytes : List ℕ) (d e : DefectList
 one_text m k bytes d e p q = one_by_entries d e p.right q.right (p.shape ∙ sym q.shape) (sym (by_rest (front (rows_at m k (entries_of d) ++ end_row ∷ []) (rows_at m k (entries_of e) ++ end_row ∷ []) [] (clean_whole m k (entries_of d) (all_entries m d p.shape)) (clean_whole m k (entries_of e) (all_entries m e q.shape))
     (append-nil (written (rows_at m k (entries_of d) ++ end_row ∷ [])) ∙ sym (text_rows m k d p.shape) ∙ sym p.spelled ∙ q.spelled ∙ text_rows m k e q.shape))))
   where
-    by_list : (fs : List Entry) → entries_of e ≡ entries_of d ++ fs → end_row ∷ [] ≡ map (words_of m) fs ++ end_row ∷ [] → entries_of e ≡ entries_of d
+    by_list : (fs : List Entry) → entries_of e ≡ entries_of d ++ fs → end_row ∷ [] ≡ map (entry_words m) fs ++ end_row ∷ [] → entries_of e ≡ entries_of d
     by_list [] parts g = parts ∙ append-nil (entries_of d)
     by_list (f ∷ fs) parts g = absurd (no_end m k f (sym (ap (λ rs. get_or rs 0 []) g)))
 

@@ -17,7 +17,7 @@ use Rattle.defect_db.specs.declared.entry.Entry.TheVariants.{Wire, Cross, Table}
 use Rattle.defect_db.specs.declared.kind.DefectsKind.{DefectsKind}
 use Rattle.defect_db.specs.declared.kind.DefectsKind.TheVariants as kinds
 use Rattle.defect_db.specs.Lists.{DefectList, IsDefectList, no_defects}
-use Rattle.defect_db.specs.Text.{IsEntryOf, words_of, is_before, entries_of, counts_of, first_row, shape_row, end_row, rows_of, text_of}
+use Rattle.defect_db.specs.Text.{IsEntryOf, entry_words, is_before, entries_of, counts_of, first_row, shape_row, end_row, rows_of, text_of}
 use Rattle.defect_db.specs.Faults.{IsForm, IsEntryForm, AreCounts, IsBeforeLast, IsLineFault, IsFirstFault, IsText}
 use Rattle.defect_db.specs.Faults.IsForm.{first_form, shape_form, entry_form, end_form}
 use Rattle.defect_db.specs.Faults.IsEntryForm.{wire_form, cross_form, table_form}
@@ -75,7 +75,7 @@ no_first d bytes none = formless by_form
 
 -- ---- crosspoints by names
 
-pub no_cross_named : (m : Shape) (tap line : List ℕ) → ((x : ℕ) → x < crosses_of m → wire_name m (ends_of m x).0 ≡ tap → wire_name m (ends_of m x).1 ≡ line → ⊥) → (e : Entry) → IsEntryOf m e → words_of m e ≢ (99 ∷ 114 ∷ 111 ∷ 115 ∷ 115 ∷ []) ∷ tap ∷ line ∷ []
+pub no_cross_named : (m : Shape) (tap line : List ℕ) → ((x : ℕ) → x < crosses_of m → wire_name m (ends_of m x).0 ≡ tap → wire_name m (ends_of m x).1 ≡ line → ⊥) → (e : Entry) → IsEntryOf m e → entry_words m e ≢ (99 ∷ 114 ∷ 111 ∷ 115 ∷ 115 ∷ []) ∷ tap ∷ line ∷ []
 no_cross_named m tap line none (Wire w) is e = let h : 119 ≡ 99 = ap (λ (ws : List (List ℕ)). get_or (get_or ws 0 []) 0 0) e in let no : ⊥ = omega (arith, h) in no
 no_cross_named m tap line none (Cross x) is e = none x.0 is (ap (λ ws. get_or ws 1 []) e) (ap (λ ws. get_or ws 2 []) e)
 no_cross_named m tap line none (Table t) is e = let h : 116 ≡ 99 = ap (λ (ws : List (List ℕ)). get_or (get_or ws 0 []) 0 0) e in let no : ⊥ = omega (arith, h) in no
@@ -87,13 +87,13 @@ module _ (m : Shape) (numbered : IsNumbered m) where
   pub line_within : (x : ℕ) → x < crosses_of m → (ends_of m x).1 < wires_of m
   line_within x lt = numbered.ends x (ends_of m x).1 (ends_of m x).0 lt (turned refl refl)
 
-  pub no_tap_named : (tap line : List ℕ) → ((w : ℕ) → w < wires_of m → wire_name m w ≢ tap) → (e : Entry) → IsEntryOf m e → words_of m e ≢ (99 ∷ 114 ∷ 111 ∷ 115 ∷ 115 ∷ []) ∷ tap ∷ line ∷ []
+  pub no_tap_named : (tap line : List ℕ) → ((w : ℕ) → w < wires_of m → wire_name m w ≢ tap) → (e : Entry) → IsEntryOf m e → entry_words m e ≢ (99 ∷ 114 ∷ 111 ∷ 115 ∷ 115 ∷ []) ∷ tap ∷ line ∷ []
   no_tap_named tap line none = no_cross_named m tap line (λ x lt p q. none (ends_of m x).0 (tap_within x lt) p)
 
-  pub no_line_named : (tap line : List ℕ) → ((w : ℕ) → w < wires_of m → wire_name m w ≢ line) → (e : Entry) → IsEntryOf m e → words_of m e ≢ (99 ∷ 114 ∷ 111 ∷ 115 ∷ 115 ∷ []) ∷ tap ∷ line ∷ []
+  pub no_line_named : (tap line : List ℕ) → ((w : ℕ) → w < wires_of m → wire_name m w ≢ line) → (e : Entry) → IsEntryOf m e → entry_words m e ≢ (99 ∷ 114 ∷ 111 ∷ 115 ∷ 115 ∷ []) ∷ tap ∷ line ∷ []
   no_line_named tap line none = no_cross_named m tap line (λ x lt p q. none (ends_of m x).1 (line_within x lt) q)
 
-  pub apart_named : HasNames m → (tap line : List ℕ) (w u : ℕ) → w < wires_of m → u < wires_of m → wire_name m w ≡ tap → wire_name m u ≡ line → ((x : ℕ) → x < crosses_of m → ends_of m x ≢ (w, u)) → (e : Entry) → IsEntryOf m e → words_of m e ≢ (99 ∷ 114 ∷ 111 ∷ 115 ∷ 115 ∷ []) ∷ tap ∷ line ∷ []
+  pub apart_named : HasNames m → (tap line : List ℕ) (w u : ℕ) → w < wires_of m → u < wires_of m → wire_name m w ≡ tap → wire_name m u ≡ line → ((x : ℕ) → x < crosses_of m → ends_of m x ≢ (w, u)) → (e : Entry) → IsEntryOf m e → entry_words m e ≢ (99 ∷ 114 ∷ 111 ∷ 115 ∷ 115 ∷ []) ∷ tap ∷ line ∷ []
   apart_named names tap line w u lw lu nw nu none = no_cross_named m tap line (λ x lt p q.
       let a = names.one_wire (ends_of m x).0 w (tap_within x lt) lw (p ∙ sym nw) in
       let b = names.one_wire (ends_of m x).1 u (line_within x lt) lu (q ∙ sym nu) in
@@ -126,26 +126,26 @@ pub written-more : (rows : List (List (List ℕ))) (r : List (List ℕ)) → wri
 written-more [] r = append-nil (written_line r)
 written-more (s ∷ rows) r = ap (λ t. written_line s ++ t) (written-more rows r) ∙ sym (append_assoc (written_line s) (written rows) (written_line r))
 
-pub rows_more : (d d2 : DefectList) (e : Entry) → d2.shape ≡ d.shape → entries_of d2 ≡ entries_of d ++ e ∷ [] → rows_of d2 ≡ rows_of d ++ words_of d.shape e ∷ []
-rows_more d d2 e same more = (λ i. first_row ∷ shape_row (counts_of (same i).counts) ∷ map (words_of (same i)) (more i)) ∙ ap (λ t. first_row ∷ shape_row (counts_of d.shape.counts) ∷ t) (map-append (words_of d.shape) (entries_of d) (e ∷ []))
+pub rows_more : (d d2 : DefectList) (e : Entry) → d2.shape ≡ d.shape → entries_of d2 ≡ entries_of d ++ e ∷ [] → rows_of d2 ≡ rows_of d ++ entry_words d.shape e ∷ []
+rows_more d d2 e same more = (λ i. first_row ∷ shape_row (counts_of (same i).counts) ∷ map (entry_words (same i)) (more i)) ∙ ap (λ t. first_row ∷ shape_row (counts_of d.shape.counts) ∷ t) (map-append (entry_words d.shape) (entries_of d) (e ∷ []))
 
 module _ (m : Shape) (bytes left : List ℕ) (d : DefectList) (last : Option Entry) (k : IsReadTo m bytes left d last) where
-  pub reads_on : (rest : List ℕ) (d2 : DefectList) (last2 : Option Entry) (e : Entry) → left ≡ written_line (words_of d.shape e) ++ rest → d2.shape ≡ d.shape → IsDefectList d2 → entries_of d2 ≡ entries_of d ++ e ∷ [] → IsLast (entries_of d2) last2 → IsReadTo m bytes rest d2 last2
+  pub reads_on : (rest : List ℕ) (d2 : DefectList) (last2 : Option Entry) (e : Entry) → left ≡ written_line (entry_words d.shape e) ++ rest → d2.shape ≡ d.shape → IsDefectList d2 → entries_of d2 ≡ entries_of d ++ e ∷ [] → IsLast (entries_of d2) last2 → IsReadTo m bytes rest d2 last2
   reads_on rest d2 last2 e line same right more is_last = record {
     shape = same ∙ k.shape;
     right = right;
-    parts = k.parts ∙ ap (λ t. written (rows_of d) ++ t) line ∙ sym (append_assoc (written (rows_of d)) (written_line (words_of d.shape e)) rest) ∙ ap (λ t. t ++ rest) (sym (written-more (rows_of d) (words_of d.shape e)) ∙ ap written (sym (rows_more d d2 e same more)));
+    parts = k.parts ∙ ap (λ t. written (rows_of d) ++ t) line ∙ sym (append_assoc (written (rows_of d)) (written_line (entry_words d.shape e)) rest) ∙ ap (λ t. t ++ rest) (sym (written-more (rows_of d) (entry_words d.shape e)) ∙ ap written (sym (rows_more d d2 e same more)));
     is_last = is_last;
   }
 
   pub one_row_more : (d2 : DefectList) (e : Entry) → d2.shape ≡ d.shape → entries_of d2 ≡ entries_of d ++ e ∷ [] → length (rows_of d2) ≡ length (rows_of d) + 1
-  one_row_more d2 e same more = ap length (rows_more d d2 e same more) ∙ length-append (rows_of d) (words_of d.shape e ∷ [])
+  one_row_more d2 e same more = ap length (rows_more d d2 e same more) ∙ length-append (rows_of d) (entry_words d.shape e ∷ [])
 
   pub rows_within : length (rows_of d) ≤ length bytes
   rows_within = let h = rows_short (rows_of d) in let l = ap length k.parts ∙ length-append (written (rows_of d)) left in omega (arith, h, l)
 
-  pub shorter : (rest : List ℕ) (e : Entry) → left ≡ written_line (words_of d.shape e) ++ rest → length rest < length left
-  shorter rest e line = let l = ap length line ∙ length-append (written_line (words_of d.shape e)) rest in let j = length-append (spaced (words_of d.shape e)) (10 ∷ []) in omega (arith, l, j)
+  pub shorter : (rest : List ℕ) (e : Entry) → left ≡ written_line (entry_words d.shape e) ++ rest → length rest < length left
+  shorter rest e line = let l = ap length line ∙ length-append (written_line (entry_words d.shape e)) rest in let j = length-append (spaced (entry_words d.shape e)) (10 ∷ []) in omega (arith, l, j)
 
   whole : (rest : List ℕ) → left ≡ written_line end_row ++ rest → bytes ≡ text_of d ++ rest
   unfolding text_of
@@ -179,8 +179,8 @@ reads_from m bytes left below d right is e f =
       right = right;
       parts =
           e ∙ ap (λ t. written_line first_row ++ t) f
-          ∙ sym ((λ i. (written_line first_row ++ (written_line (shape_row (counts_of (is i).shape.counts)) ++ written (map (words_of (is i).shape) (entries_of (is i))))) ++ below)
-          ∙ ap (λ es. (written_line first_row ++ (written_line (shape_row (counts_of m.counts)) ++ written (map (words_of m) es))) ++ below) (none_listed m)
+          ∙ sym ((λ i. (written_line first_row ++ (written_line (shape_row (counts_of (is i).shape.counts)) ++ written (map (entry_words (is i).shape) (entries_of (is i))))) ++ below)
+          ∙ ap (λ es. (written_line first_row ++ (written_line (shape_row (counts_of m.counts)) ++ written (map (entry_words m) es))) ++ below) (none_listed m)
           ∙ tidy (written_line first_row) (written_line (shape_row (counts_of m.counts))) below);
       is_last = none;
     }
@@ -189,10 +189,10 @@ reads_from m bytes left below d right is e f =
     tidy a b c = append_assoc a (b ++ []) c ∙ ap (λ t. a ++ (t ++ c)) (append-nil b)
 
 -- the entry of a line, at the list's own shape
-pub entry_here : (d : DefectList) (m : Shape) → m ≡ d.shape → (e : Entry) (row : List (List ℕ)) (line rest left : List ℕ) → left ≡ line ++ 10 ∷ rest → spaced row ≡ line → IsEntryOf m e × (words_of m e ≡ row) → IsEntryOf d.shape e × (left ≡ written_line (words_of d.shape e) ++ rest)
+pub entry_here : (d : DefectList) (m : Shape) → m ≡ d.shape → (e : Entry) (row : List (List ℕ)) (line rest left : List ℕ) → left ≡ line ++ 10 ∷ rest → spaced row ≡ line → IsEntryOf m e × (entry_words m e ≡ row) → IsEntryOf d.shape e × (left ≡ written_line (entry_words d.shape e) ++ rest)
 entry_here d m same e row line rest left p q h = (
   subst (λ n. IsEntryOf n e) same h.0,
-  whole_line line rest left row p q ∙ ap (λ ws. written_line ws ++ rest) (sym h.1 ∙ ap (λ n. words_of n e) same),
+  whole_line line rest left row p q ∙ ap (λ ws. written_line ws ++ rest) (sym h.1 ∙ ap (λ n. entry_words n e) same),
 )
 
 pub none_right : (m : Shape) → IsDefectList (record { shape = m; list = no_defects })

@@ -9,48 +9,48 @@ use Rattle.defect_db.specs.declared.entry.Entry.{Entry}
 use Rattle.defect_db.specs.Lists.{DefectList, those}
 use Rattle.defect_db.specs.Steps.{numerals}
 use Rattle.defect_db.proofs.Numerals.{shape_spaced}
-use Rattle.defect_db.specs.Text.{words_of, as_wire, as_cross, as_table, entries_of, counts_of, first_row, shape_row, end_row, text_of}
+use Rattle.defect_db.specs.Text.{entry_words, as_wire, as_cross, as_table, entries_of, counts_of, first_row, shape_row, end_row, text_of}
 
 written-append : (a b : List (List (List ℕ))) → written (a ++ b) ≡ written a ++ written b
 written-append [] b = refl
 written-append (r ∷ a) b = ap (λ t. written_line r ++ t) (written-append a b) ∙ sym (append_assoc (written_line r) (written a) (written b))
 
 -- the lines of the numbers below one more
-lines_more : (m : Shape) (mk : ℕ → Entry) (f : ℕ → Bool) (n : ℕ) → written (map (words_of m) (map mk (those f (n + 1)))) ≡ written (map (words_of m) (map mk (those f n))) ++ (if f n then written_line (words_of m (mk n)) else [])
+lines_more : (m : Shape) (mk : ℕ → Entry) (f : ℕ → Bool) (n : ℕ) → written (map (entry_words m) (map mk (those f (n + 1)))) ≡ written (map (entry_words m) (map mk (those f n))) ++ (if f n then written_line (entry_words m (mk n)) else [])
 lines_more m mk f n =
-    ap (λ k. written (map (words_of m) (map mk (those f k)))) (let e : n + 1 ≡ suc n = omega arith in e)
-    ∙ ap (λ es. written (map (words_of m) es)) (map-append mk (those f n) (if f n then n ∷ [] else []))
-    ∙ ap written (map-append (words_of m) (map mk (those f n)) (map mk (if f n then n ∷ [] else [])))
-    ∙ written-append (map (words_of m) (map mk (those f n))) (map (words_of m) (map mk (if f n then n ∷ [] else [])))
-    ∙ ap (λ t. written (map (words_of m) (map mk (those f n))) ++ t) (last (f n))
+    ap (λ k. written (map (entry_words m) (map mk (those f k)))) (let e : n + 1 ≡ suc n = omega arith in e)
+    ∙ ap (λ es. written (map (entry_words m) es)) (map-append mk (those f n) (if f n then n ∷ [] else []))
+    ∙ ap written (map-append (entry_words m) (map mk (those f n)) (map mk (if f n then n ∷ [] else [])))
+    ∙ written-append (map (entry_words m) (map mk (those f n))) (map (entry_words m) (map mk (if f n then n ∷ [] else [])))
+    ∙ ap (λ t. written (map (entry_words m) (map mk (those f n))) ++ t) (last (f n))
   where
-    last : (b : Bool) → written (map (words_of m) (map mk (if b then n ∷ [] else []))) ≡ (if b then written_line (words_of m (mk n)) else [])
-    last true = append-nil (written_line (words_of m (mk n)))
+    last : (b : Bool) → written (map (entry_words m) (map mk (if b then n ∷ [] else []))) ≡ (if b then written_line (entry_words m (mk n)) else [])
+    last true = append-nil (written_line (entry_words m (mk n)))
     last false = refl
 
-pub wrote_more : (m n : Shape) (mk : ℕ → Entry) (f : ℕ → Bool) (k : ℕ) (b : Bool) (old now more : List ℕ) → n ≡ m → b ≡ f k → now ≡ old ++ written (map (words_of m) (map mk (those f k))) → more ≡ now ++ (if b then written_line (words_of n (mk k)) else []) → more ≡ old ++ written (map (words_of m) (map mk (those f (k + 1))))
+pub wrote_more : (m n : Shape) (mk : ℕ → Entry) (f : ℕ → Bool) (k : ℕ) (b : Bool) (old now more : List ℕ) → n ≡ m → b ≡ f k → now ≡ old ++ written (map (entry_words m) (map mk (those f k))) → more ≡ now ++ (if b then written_line (entry_words n (mk k)) else []) → more ≡ old ++ written (map (entry_words m) (map mk (those f (k + 1))))
 wrote_more m n mk f k b old now more same is so_far e =
-    e ∙ (λ i. so_far i ++ (if is i then written_line (words_of (same i) (mk k)) else []))
-    ∙ append_assoc old (written (map (words_of m) (map mk (those f k)))) (if f k then written_line (words_of m (mk k)) else [])
+    e ∙ (λ i. so_far i ++ (if is i then written_line (entry_words (same i) (mk k)) else []))
+    ∙ append_assoc old (written (map (entry_words m) (map mk (those f k)))) (if f k then written_line (entry_words m (mk k)) else [])
     ∙ ap (λ t. old ++ t) (sym (lines_more m mk f k))
 
 -- the parts of a text
 abbrev pub wires_text : DefectList → List ℕ
-wires_text d = written (map (words_of d.shape) (map as_wire (those (sets.contains d.list.wires) (wires_of d.shape))))
+wires_text d = written (map (entry_words d.shape) (map as_wire (those (sets.contains d.list.wires) (wires_of d.shape))))
 
 abbrev pub crosses_text : DefectList → List ℕ
-crosses_text d = written (map (words_of d.shape) (map as_cross (those (sets.contains d.list.crosses) (crosses_of d.shape))))
+crosses_text d = written (map (entry_words d.shape) (map as_cross (those (sets.contains d.list.crosses) (crosses_of d.shape))))
 
 abbrev pub tables_text : DefectList → List ℕ
-tables_text d = written (map (words_of d.shape) (map as_table (those (sets.contains d.list.tables) (tables_of d.shape))))
+tables_text d = written (map (entry_words d.shape) (map as_table (those (sets.contains d.list.tables) (tables_of d.shape))))
 
-entries_text : (d : DefectList) → written (map (words_of d.shape) (entries_of d)) ≡ (wires_text d ++ crosses_text d) ++ tables_text d
+entries_text : (d : DefectList) → written (map (entry_words d.shape) (entries_of d)) ≡ (wires_text d ++ crosses_text d) ++ tables_text d
 entries_text d =
     let w = map as_wire (those (sets.contains d.list.wires) (wires_of d.shape)) in
     let x = map as_cross (those (sets.contains d.list.crosses) (crosses_of d.shape)) in
     let t = map as_table (those (sets.contains d.list.tables) (tables_of d.shape)) in
-    ap written (map-append (words_of d.shape) (w ++ x) t) ∙ written-append (map (words_of d.shape) (w ++ x)) (map (words_of d.shape) t)
-    ∙ ap (λ z. z ++ tables_text d) (ap written (map-append (words_of d.shape) w x) ∙ written-append (map (words_of d.shape) w) (map (words_of d.shape) x))
+    ap written (map-append (entry_words d.shape) (w ++ x) t) ∙ written-append (map (entry_words d.shape) (w ++ x)) (map (entry_words d.shape) t)
+    ∙ ap (λ z. z ++ tables_text d) (ap written (map-append (entry_words d.shape) w x) ∙ written-append (map (entry_words d.shape) w) (map (entry_words d.shape) x))
 
 pub text_is : (d : DefectList) (m : Shape) (t0 t1 t2 t3 t4 t5 : List ℕ) → m ≡ d.shape → t0 ≡ [] → t1 ≡ t0 ++ (written_line first_row ++ written_line (shape_row (counts_of m.counts))) → t2 ≡ t1 ++ wires_text d → t3 ≡ t2 ++ crosses_text d → t4 ≡ t3 ++ tables_text d → t5 ≡ t4 ++ written_line end_row → t5 ≡ text_of d
 unfolding text_of

@@ -11,7 +11,7 @@ use Rattle.defect_db.specs.declared.kind.DefectsKind.TheVariants.{Word, Order, N
 use Rattle.defect_db.specs.declared.kind.DefectsFault.{DefectsFault}
 use Rattle.defect_db.specs.declared.kind.DefectsFault.TheVariants.{At, Memory}
 use Rattle.defect_db.specs.Lists.{DefectList, IsDefectList, no_defects}
-use Rattle.defect_db.specs.Text.{IsEntryOf, IsFreeEntry, words_of, is_before, entries_of, counts_of, first_row, shape_row, end_row, rows_of}
+use Rattle.defect_db.specs.Text.{IsEntryOf, IsFreeEntry, entry_words, is_before, entries_of, counts_of, first_row, shape_row, end_row, rows_of}
 use Rattle.defect_db.specs.Text.{text_of}
 
 -- a byte that is neither a space nor the end of a line
@@ -52,10 +52,10 @@ pub data IsLineFault (d : DefectList) (above : ℕ) (left : List ℕ) : DefectsK
   other_machine : (ns more : List ℕ) → above ≡ 1 → AreCounts ns → left ≡ written_line (shape_row ns) ++ more →
       ns ≢ counts_of d.shape.counts → IsLineFault d above left WrongMachine
   nameless : (row : List (List ℕ)) (more : List ℕ) → 2 ≤ above → IsEntryForm row → left ≡ written_line row ++ more →
-      ((e : Entry) → IsEntryOf d.shape e → words_of d.shape e ≢ row) → IsLineFault d above left Name
-  earlier : (e : Entry) (more : List ℕ) → 2 ≤ above → IsEntryOf d.shape e → left ≡ written_line (words_of d.shape e) ++ more →
+      ((e : Entry) → IsEntryOf d.shape e → entry_words d.shape e ≢ row) → IsLineFault d above left Name
+  earlier : (e : Entry) (more : List ℕ) → 2 ≤ above → IsEntryOf d.shape e → left ≡ written_line (entry_words d.shape e) ++ more →
       IsBeforeLast e d → IsLineFault d above left Order
-  again : (e : Entry) (more : List ℕ) → 2 ≤ above → IsEntryOf d.shape e → left ≡ written_line (words_of d.shape e) ++ more →
+  again : (e : Entry) (more : List ℕ) → 2 ≤ above → IsEntryOf d.shape e → left ≡ written_line (entry_words d.shape e) ++ more →
       ¬ IsBeforeLast e d → ¬ IsFreeEntry d e → IsLineFault d above left Doubled
 
 -- the lines at the beginning of a text of this machine that has no fault so far, and what they list

@@ -14,7 +14,7 @@ use Rattle.defect_db.specs.declared.kind.DefectsFault.TheVariants.{At, Memory}
 use Rattle.defect_db.specs.declared.read.Step.{Step}
 use Rattle.defect_db.specs.declared.read.Step.TheVariants.{Further, End, Refused}
 use Rattle.defect_db.specs.Lists.{DefectList, IsDefectList}
-use Rattle.defect_db.specs.Text.{words_of, kind_of, number_of, is_before, entries_of, end_row, rows_of}
+use Rattle.defect_db.specs.Text.{entry_words, kind_of, entry_number, is_before, entries_of, end_row, rows_of}
 use Rattle.defect_db.specs.Faults.{IsLineFault, IsFirstFault}
 
 -- the byte doesn't stand among the bytes
@@ -38,7 +38,7 @@ is_listed d (Cross x) = set.contains d.list.crosses x.0
 is_listed d (Table t) = set.contains d.list.tables t.0
 
 abbrev pub is_same : Entry → Entry → Bool
-is_same a b = (kind_of a == kind_of b) && (number_of a == number_of b)
+is_same a b = (kind_of a == kind_of b) && (entry_number a == entry_number b)
 
 -- the last of the entries, if there is one
 abbrev pub IsLast : List Entry → Option Entry → Type 0
@@ -68,7 +68,7 @@ pub record IsReadTo (m : Shape) (bytes left : List ℕ) (d : DefectList) (last :
 
 -- a line of the list is read
 abbrev pub Steps : DefectList → Option Entry → List ℕ → Step → DefectList → Option Entry → Type 0
-Steps d last left (Further rest) d2 last2 = (e : Entry) × (left ≡ written_line (words_of d.shape e) ++ rest.now) × (d2.shape ≡ d.shape)
+Steps d last left (Further rest) d2 last2 = (e : Entry) × (left ≡ written_line (entry_words d.shape e) ++ rest.now) × (d2.shape ≡ d.shape)
     × IsDefectList d2 × (entries_of d2 ≡ entries_of d ++ e ∷ []) × IsLast (entries_of d2) last2
 Steps d last left (End rest) d2 last2 = (left ≡ written_line end_row ++ rest.now) × (d2 ≡ d)
 Steps d last left (Refused kind) d2 last2 = (above : ℕ) → 2 ≤ above → IsLineFault d above left kind

@@ -19,10 +19,10 @@ IsEntryOf m (Cross x) = x.0 < crosses_of m
 IsEntryOf m (Table t) = t.0 < tables_of m
 
 -- its words: a crosspoint stands by its tap and its line
-abbrev pub words_of : Shape → Entry → List (List ℕ)
-words_of m (Wire w) = codes "wire" ∷ wire_name m w.0 ∷ []
-words_of m (Cross x) = codes "cross" ∷ wire_name m (ends_of m x.0).0 ∷ wire_name m (ends_of m x.0).1 ∷ []
-words_of m (Table t) = codes "table" ∷ table_name m t.0 ∷ []
+abbrev pub entry_words : Shape → Entry → List (List ℕ)
+entry_words m (Wire w) = codes "wire" ∷ wire_name m w.0 ∷ []
+entry_words m (Cross x) = codes "cross" ∷ wire_name m (ends_of m x.0).0 ∷ wire_name m (ends_of m x.0).1 ∷ []
+entry_words m (Table t) = codes "table" ∷ table_name m t.0 ∷ []
 
 -- what the entry lists is free
 abbrev pub IsFreeEntry : DefectList → Entry → Type 0
@@ -36,13 +36,13 @@ kind_of (Wire w) = 0
 kind_of (Cross x) = 1
 kind_of (Table t) = 2
 
-abbrev pub number_of : Entry → ℕ
-number_of (Wire w) = w.0
-number_of (Cross x) = x.0
-number_of (Table t) = t.0
+abbrev pub entry_number : Entry → ℕ
+entry_number (Wire w) = w.0
+entry_number (Cross x) = x.0
+entry_number (Table t) = t.0
 
 abbrev pub is_before : Entry → Entry → Bool
-is_before a b = nat_lt (kind_of a) (kind_of b) || ((kind_of a == kind_of b) && nat_lt (number_of a) (number_of b))
+is_before a b = nat_lt (kind_of a) (kind_of b) || ((kind_of a == kind_of b) && nat_lt (entry_number a) (entry_number b))
 
 abbrev pub as_wire : ℕ → Entry
 as_wire w = Wire (record { 0 = w })
@@ -77,7 +77,7 @@ end_row = codes "end" ∷ []
 
 -- the lines above the last one, by their words
 abbrev pub rows_of : DefectList → List (List (List ℕ))
-rows_of d = first_row ∷ shape_row (counts_of d.shape.counts) ∷ map (words_of d.shape) (entries_of d)
+rows_of d = first_row ∷ shape_row (counts_of d.shape.counts) ∷ map (entry_words d.shape) (entries_of d)
 
 -- the text, with single spaces
 unfoldable pub text_of : DefectList → List ℕ

@@ -1,7 +1,7 @@
 //! What a line of a text lists.
 
 ghost use Rattle.std.specs.Prelude.{◌≡◌};
-ghost use Rattle.defect_db.specs.Text.{kind_of, number_of, is_before};
+ghost use Rattle.defect_db.specs.Text.{kind_of, entry_number, is_before};
 
 use hierarchy::{Cross, Table, Wire};
 
@@ -26,7 +26,7 @@ fn kind_of(e: Entry) -> u8
 
 /// The number of what is listed.
 fn number_of(e: Entry) -> u32
-    ensures { result ≡ number_of e }
+    ensures { result ≡ entry_number e }
 {
     match e {
         Entry::Wire { wire } => wire.0,

@@ -4,7 +4,7 @@ ghost use Rattle.std.specs.Prelude.{◌≡◌, ◌≢◌, ◌↔◌, ◌<◌, �
 ghost use Rattle.std.specs.Prelude.{MatchResult, OnOk};
 ghost use Rattle.tm_text.specs.Written.{written_line};
 ghost use Rattle.defect_db.specs.Lists.{IsDefectList, DefectList, no_defects};
-ghost use Rattle.defect_db.specs.Text.{IsEntryOf, IsFreeEntry, words_of, counts_of, entries_of, is_before, first_row, shape_row};
+ghost use Rattle.defect_db.specs.Text.{IsEntryOf, IsFreeEntry, entry_words, counts_of, entries_of, is_before, first_row, shape_row};
 ghost use Rattle.tm_text.specs.Size.{most_bytes};
 ghost use Rattle.defect_db.specs.Faults.{AreCounts, IsLineFault, IsRefusedAs, IsText, GivesOrLacks};
 ghost use Rattle.defect_db.specs.Steps.{row_of, IsLast, IsReadTo, Steps, IsFirst, IsAdded, IsBeyond, is_behind};
@@ -80,8 +80,8 @@ fn behind_shape<'a>(shape: &Shape, bytes: &'a [u8]) -> Result<&'a [u8], DefectsK
 
 /// The crosspoint of two names.
 fn cross_of(shape: &Shape, tap: &[u8], line: &[u8]) -> Option<Entry>
-    ensures { MatchOption result ((e : Entry) → IsEntryOf shape.now e → words_of shape.now e ≢ codes "cross" ∷ tap.now ∷ line.now ∷ [])
-        (λ e. IsEntryOf shape.now e × (words_of shape.now e ≡ codes "cross" ∷ tap.now ∷ line.now ∷ [])) }
+    ensures { MatchOption result ((e : Entry) → IsEntryOf shape.now e → entry_words shape.now e ≢ codes "cross" ∷ tap.now ∷ line.now ∷ [])
+        (λ e. IsEntryOf shape.now e × (entry_words shape.now e ≡ codes "cross" ∷ tap.now ∷ line.now ∷ [])) }
 {
     hierarchy::names_are_one_to_one();
     hierarchy::the_numbering_is_sound();
@@ -99,8 +99,8 @@ fn cross_of(shape: &Shape, tap: &[u8], line: &[u8]) -> Option<Entry>
 
 /// What a line of this form lists.
 fn entry_of(shape: &Shape, form: &Form<'_>) -> Option<Entry>
-    ensures { MatchOption result ((e : Entry) → IsEntryOf shape.now e → words_of shape.now e ≢ row_of form.now)
-        (λ e. IsEntryOf shape.now e × (words_of shape.now e ≡ row_of form.now)) }
+    ensures { MatchOption result ((e : Entry) → IsEntryOf shape.now e → entry_words shape.now e ≢ row_of form.now)
+        (λ e. IsEntryOf shape.now e × (entry_words shape.now e ≡ row_of form.now)) }
 {
     match form {
         Form::Wire { name } => match shape.wire_of(name) {

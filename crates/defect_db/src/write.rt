@@ -5,7 +5,7 @@ ghost use Rattle.std.specs.FinSet as set;
 ghost use Rattle.hierarchy.specs.Shape.{wires_of, crosses_of, tables_of};
 ghost use Rattle.tm_text.specs.Written.{written, written_line};
 ghost use Rattle.defect_db.specs.Lists.{those};
-ghost use Rattle.defect_db.specs.Text.{IsEntryOf, words_of, first_row, shape_row, counts_of, as_wire, as_cross, as_table, text_of};
+ghost use Rattle.defect_db.specs.Text.{IsEntryOf, entry_words, first_row, shape_row, counts_of, as_wire, as_cross, as_table, text_of};
 ghost use Rattle.defect_db.specs.Faults.{IsText};
 ghost use Rattle.defect_db.specs.Steps.{numerals};
 
@@ -49,7 +49,7 @@ fn put_next(text: &mut Vec<u8>, word: &[u8]) -> Result<(), AllocError>
 /// Appends the line of an entry.
 fn put_entry(text: &mut Vec<u8>, shape: &Shape, e: Entry) -> Result<(), AllocError>
     requires { IsEntryOf shape.now e }
-    ensures { OnOk result (text.new.items ≡ text.old.items ++ written_line (words_of shape.now e)) }
+    ensures { OnOk result (text.new.items ≡ text.old.items ++ written_line (entry_words shape.now e)) }
 {
     match e {
         Entry::Wire { wire } => {
@@ -74,7 +74,7 @@ fn put_entry(text: &mut Vec<u8>, shape: &Shape, e: Entry) -> Result<(), AllocErr
 /// Appends the line of an entry, if it is listed.
 fn put_listed(text: &mut Vec<u8>, shape: &Shape, listed: bool, e: Entry) -> Result<(), AllocError>
     requires { IsEntryOf shape.now e }
-    ensures { OnOk result (text.new.items ≡ text.old.items ++ (if listed then written_line (words_of shape.now e) else [])) }
+    ensures { OnOk result (text.new.items ≡ text.old.items ++ (if listed then written_line (entry_words shape.now e) else [])) }
 {
     if listed {
         put_entry(text, shape, e)
@@ -86,7 +86,7 @@ fn put_listed(text: &mut Vec<u8>, shape: &Shape, listed: bool, e: Entry) -> Resu
 /// Appends the listed wires.
 fn put_wires(text: &mut Vec<u8>, list: &Defects) -> Result<(), AllocError>
     ensures { OnOk result (text.new.items ≡ text.old.items ++ written
-        (map (words_of list.now.shape) (map as_wire (those (set.contains list.now.list.wires) (wires_of list.now.shape))))) }
+        (map (entry_words list.now.shape) (map as_wire (those (set.contains list.now.list.wires) (wires_of list.now.shape))))) }
 {
     let shape = list.shape();
     'wires: for w in 0..shape.wires() {
@@ -99,7 +99,7 @@ fn put_wires(text: &mut Vec<u8>, list: &Defects) -> Result<(), AllocError>
 /// Appends the listed crosspoints.
 fn put_crosses(text: &mut Vec<u8>, list: &Defects) -> Result<(), AllocError>
     ensures { OnOk result (text.new.items ≡ text.old.items ++ written
-        (map (words_of list.now.shape) (map as_cross (those (set.contains list.now.list.crosses) (crosses_of list.now.shape))))) }
+        (map (entry_words list.now.shape) (map as_cross (those (set.contains list.now.list.crosses) (crosses_of list.now.shape))))) }
 {
     let shape = list.shape();
     'crosses: for x in 0..shape.crosses() {
@@ -117,7 +117,7 @@ fn put_crosses(text: &mut Vec<u8>, list: &Defects) -> Result<(), AllocError>
 /// Appends the listed tables.
 fn put_tables(text: &mut Vec<u8>, list: &Defects) -> Result<(), AllocError>
     ensures { OnOk result (text.new.items ≡ text.old.items ++ written
-        (map (words_of list.now.shape) (map as_table (those (set.contains list.now.list.tables) (tables_of list.now.shape))))) }
+        (map (entry_words list.now.shape) (map as_table (those (set.contains list.now.list.tables) (tables_of list.now.shape))))) }
 {
     let shape = list.shape();
     'tables: for t in 0..shape.tables() {

@@ -15,7 +15,7 @@ use Rattle.fault_model.specs.declared.head.Head.{Head}
 use Rattle.fault_model.specs.declared.head.Head.TheVariants as head
 use Rattle.fault_model.specs.Adding.{CanHave}
 use Rattle.fault_model.specs.Heads.{word_of}
-use Rattle.fault_model.specs.Text.{bit_word, head_of, rest_of, words_of}
+use Rattle.fault_model.specs.Text.{bit_word, head_of, rest_of, fault_words}
 use Rattle.fault_model.proofs.Words.{IsTold, tap_in, line_in}
 
 short_steps : (letters : List ℕ) (p : Path) → All (λ i. i < 100000) p → length (steps_name letters p) ≤ 7 * length letters
@@ -90,19 +90,19 @@ short_behind (w ∷ ws) p =
     let r = short_behind ws p.1 in
     omega (arith, p.0)
 
-short_line : (m : Shape) → IsTold m → (x : Fault) → CanHave m x → length (written_line (words_of m x)) ≤ 256
+short_line : (m : Shape) → IsTold m → (x : Fault) → CanHave m x → length (written_line (fault_words m x)) ≤ 256
 short_line m k x p =
     let f = few_short m k x p in
     let h = short_head (head_of x) in
     let r = short_behind (rest_of m x) f.1 in
     let n = length-append (word_of (head_of x)) (flat_map (λ v. 32 ∷ v) (rest_of m x)) in
-    let l = length-append (spaced (words_of m x)) (10 ∷ []) in
+    let l = length-append (spaced (fault_words m x)) (10 ∷ []) in
     omega (arith, f.0)
 
-pub short_text : (m : Shape) → IsTold m → (xs : List Fault) → AllByRecursion (CanHave m) xs → length (written (map (words_of m) xs)) ≤ 256 * length xs
+pub short_text : (m : Shape) → IsTold m → (xs : List Fault) → AllByRecursion (CanHave m) xs → length (written (map (fault_words m) xs)) ≤ 256 * length xs
 short_text m k [] p = omega arith
 short_text m k (x ∷ xs) p =
-    let n = length-append (written_line (words_of m x)) (written (map (words_of m) xs)) in
+    let n = length-append (written_line (fault_words m x)) (written (map (fault_words m) xs)) in
     let l = short_line m k x p.0 in
     let r = short_text m k xs p.1 in
     omega arith

@@ -15,7 +15,7 @@ use Rattle.fault_model.specs.declared.head.Head.{Head}
 use Rattle.fault_model.specs.declared.head.Head.TheVariants as head
 use Rattle.fault_model.specs.Adding.{CanHave}
 use Rattle.fault_model.specs.Heads.{word_of}
-use Rattle.fault_model.specs.Text.{bit_word, head_of, rest_of, words_of}
+use Rattle.fault_model.specs.Text.{bit_word, head_of, rest_of, fault_words}
 use Rattle.fault_model.proofs.Words.{IsTold, tap_in, line_in}
 
 plain_byte : ℕ → Bool
@@ -55,7 +55,7 @@ rest_words m k (Cell t a v) p = (table_word m t.0 p.0, ((decimal_nonempty a (ome
 rest_words m k (Register t v) p = (table_word m t.0 p, (bit_is_word v, tt))
 rest_words m k (Bridge a b) p = (wire_word m a.0 p.0, (wire_word m b.0 p.1, tt))
 
-pub entry_words : (m : Shape) → IsTold m → (x : Fault) → CanHave m x → AreWords (words_of m x)
+pub entry_words : (m : Shape) → IsTold m → (x : Fault) → CanHave m x → AreWords (fault_words m x)
 entry_words m k x p = (head_word (head_of x), rest_words m k x p)
 
 good_byte : (b : ℕ) → 35 < b → b < 127 → is_bad b ≡ false
@@ -72,5 +72,5 @@ good_words : (ws : List (List ℕ)) → AreWords ws → list_any (list_any is_ba
 good_words [] p = refl
 good_words (w ∷ ws) p = (λ i. good_word w p.0.1 i || good_words ws p.1 i)
 
-pub good_entry : (m : Shape) → IsTold m → (x : Fault) → CanHave m x → list_any (list_any is_bad) (words_of m x) ≡ false
-good_entry m k x p = good_words (words_of m x) (entry_words m k x p)
+pub good_entry : (m : Shape) → IsTold m → (x : Fault) → CanHave m x → list_any (list_any is_bad) (fault_words m x) ≡ false
+good_entry m k x p = good_words (fault_words m x) (entry_words m k x p)

@@ -26,7 +26,7 @@ use Rattle.fault_model.specs.declared.kind.FaultsFault.{FaultsFault}
 use Rattle.fault_model.specs.declared.kind.FaultsFault.TheVariants.{At, Memory}
 use Rattle.fault_model.specs.Adding.{Faulty, CanHave, IsRefusal, no_faults, with_fault, refusal_of}
 use Rattle.fault_model.specs.Heads.{word_of, follow_of, has_wires, has_cross}
-use Rattle.fault_model.specs.Text.{end_names, head_of, rest_of, words_of, with_all, AreAdded, IsFaultText}
+use Rattle.fault_model.specs.Text.{end_names, head_of, rest_of, fault_words, with_all, AreAdded, IsFaultText}
 use Rattle.fault_model.specs.Refusals.{IsRestFault, IsNoEntry, IsLineFault, IsFirstFault, IsFirst, GivesOrLacks, Takes, told_of, line_told, AreWireNames}
 use Rattle.fault_model.specs.Refusals.IsNoEntry.{formless, formed}
 use Rattle.fault_model.specs.Refusals.IsLineFault.{bad, no_entry, refused}
@@ -56,7 +56,7 @@ module _ (m : Shape) (first : List ℕ) (rest words : List (List ℕ)) (parts : 
       let tails : r ≡ rest = cc in
       size (ap length (sym tails) ∙ f.size ∙ ap follow_of same))
 
-  pub read_form : (h : Head) → word_of h ≡ first → length rest ≡ follow_of h → (r : Result Fault FaultsKind) → MatchResult r (λ x. CanHave m x × (words_of m x ≡ word_of h ∷ rest)) (IsRestFault m h rest) → MatchResult r (λ x. CanHave m x × (words_of m x ≡ words)) (IsNoEntry m words)
+  pub read_form : (h : Head) → word_of h ≡ first → length rest ≡ follow_of h → (r : Result Fault FaultsKind) → MatchResult r (λ x. CanHave m x × (fault_words m x ≡ word_of h ∷ rest)) (IsRestFault m h rest) → MatchResult r (λ x. CanHave m x × (fault_words m x ≡ words)) (IsNoEntry m words)
   read_form h is size (Ok x) got = (got.0, got.1 ∙ ap (λ w. w ∷ rest) is ∙ parts)
   read_form h is size (Err k) got = formed h rest (record { all = ap (λ w. w ∷ rest) is ∙ parts; size = size }) got
 
@@ -76,7 +76,7 @@ pub record IsReadTo (m : Shape) (lines left : List LogicalLine) (s : Faulty) : T
   pub above : List LogicalLine
   pub entries : List Fault
   pub parts : above ++ left ≡ lines
-  pub rows : map (λ l. l.words) above ≡ map (words_of m) entries
+  pub rows : map (λ l. l.words) above ≡ map (fault_words m) entries
   pub added : AreAdded m no_faults entries
   pub all : with_all no_faults entries ≡ s.faults
 
@@ -90,7 +90,7 @@ module _ (m : Shape) (lines left rest : List LogicalLine) (l : LogicalLine) (s :
     above = k.above ++ l ∷ [];
     entries = k.entries ++ took.0 ∷ [];
     parts = append_assoc k.above (l ∷ []) rest ∙ ap (λ ls. k.above ++ ls) (sym next) ∙ k.parts;
-    rows = map-append (λ (r : LogicalLine). r.words) k.above (l ∷ []) ∙ (λ i. k.rows i ++ sym (subst (λ n. words_of n took.0 ≡ l.words) k.shape took.1) i ∷ []) ∙ sym (map-append (words_of m) k.entries (took.0 ∷ []));
+    rows = map-append (λ (r : LogicalLine). r.words) k.above (l ∷ []) ∙ (λ i. k.rows i ++ sym (subst (λ n. fault_words n took.0 ≡ l.words) k.shape took.1) i ∷ []) ∙ sym (map-append (fault_words m) k.entries (took.0 ∷ []));
     added = added_more m no_faults k.entries took.0 k.added (subst (λ n. CanHave n took.0) k.shape took.2) (subst (λ f. refusal_of f took.0 ≡ None) (sym k.all) took.3);
     all = with_all_more no_faults k.entries took.0 ∙ ap (λ f. with_fault f took.0) k.all ∙ sym (ap (λ v. v.faults) took.4);
   }
@@ -130,7 +130,7 @@ ends m bytes left s k none = record {
 
 -- ---- what a refusal of the set is told
 
-pub refusal_told : (m : Shape) (s : Faulty) (l : LogicalLine) (x : Fault) (why : AddFault) (t : Faulty) → is_bad_line l ≡ false → words_of s.shape x ≡ l.words → CanHave s.shape x → IsRefusal (refusal_of s.faults x) why → Takes s l (Err (told_of l.number why)) t
+pub refusal_told : (m : Shape) (s : Faulty) (l : LogicalLine) (x : Fault) (why : AddFault) (t : Faulty) → is_bad_line l ≡ false → fault_words s.shape x ≡ l.words → CanHave s.shape x → IsRefusal (refusal_of s.faults x) why → Takes s l (Err (told_of l.number why)) t
 refusal_told m s l x add.Memory t sound w is r = tt
 refusal_told m s l x add.Same t sound w is r = (refl, refused x add.Same sound w is r)
 refusal_told m s l x add.Doubled t sound w is r = (refl, refused x add.Doubled sound w is r)
@@ -138,10 +138,10 @@ refusal_told m s l x add.Against t sound w is r = (refl, refused x add.Against s
 refusal_told m s l x add.Limit t sound w is r = (refl, refused x add.Limit sound w is r)
 
 -- the same where the entry was read at this shape, of these words
-pub refusal_at_line : (s : Faulty) (l : LogicalLine) (x : Fault) (why : AddFault) (t : Faulty) (n : Shape) (words : List (List ℕ)) (number : ℕ) (e : FaultsFault) → n ≡ s.shape → words ≡ l.words → number ≡ l.number → e ≡ told_of number why → is_bad_line l ≡ false → CanHave n x × (words_of n x ≡ words) → IsRefusal (refusal_of s.faults x) why → Takes s l (Err e) t
+pub refusal_at_line : (s : Faulty) (l : LogicalLine) (x : Fault) (why : AddFault) (t : Faulty) (n : Shape) (words : List (List ℕ)) (number : ℕ) (e : FaultsFault) → n ≡ s.shape → words ≡ l.words → number ≡ l.number → e ≡ told_of number why → is_bad_line l ≡ false → CanHave n x × (fault_words n x ≡ words) → IsRefusal (refusal_of s.faults x) why → Takes s l (Err e) t
 refusal_at_line s l x why t n words number e shape same here told sound got r =
     subst (λ f. Takes s l (Err f) t) (sym (told ∙ ap (λ k. told_of k why) here))
-    (refusal_told s.shape s l x why t sound (subst (λ m. words_of m x ≡ words) shape got.1 ∙ same) (subst (λ m. CanHave m x) shape got.0) r)
+    (refusal_told s.shape s l x why t sound (subst (λ m. fault_words m x ≡ words) shape got.1 ∙ same) (subst (λ m. CanHave m x) shape got.0) r)
 
 pub no_entry_at_line : (s : Faulty) (l : LogicalLine) (n : Shape) (words : List (List ℕ)) (k : FaultsKind) → n ≡ s.shape → words ≡ l.words → is_bad_line l ≡ false → IsNoEntry n words k → IsLineFault s.shape s.faults l k
 no_entry_at_line s l n words k shape same sound none = no_entry sound (subst (λ m. IsNoEntry m l.words k) shape (subst (λ ws. IsNoEntry n ws k) same none))
@@ -170,14 +170,14 @@ rest_right m k x p kind.Cell f = f.1 x p refl
 rest_right m k x p kind.Register f = f.1 x p refl
 rest_right m k x p _ f = f
 
-entry_right : (m : Shape) → IsTold m → (x : Fault) → CanHave m x → (k' : FaultsKind) → IsNoEntry m (words_of m x) k' → ⊥
+entry_right : (m : Shape) → IsTold m → (x : Fault) → CanHave m x → (k' : FaultsKind) → IsNoEntry m (fault_words m x) k' → ⊥
 entry_right m k x p k' (formless none) = none (head_of x) (rest_of m x) (record { all = refl; size = right_size m x })
 entry_right m k x p k' (formed h rest f r) =
     let same : h ≡ head_of x = one_head h (head_of x) (ap (λ ws. get_or ws 0 []) f.all) in
     let tails : rest ≡ rest_of m x = cc (f.all) in
     rest_right m k x p k' (subst (λ t. IsRestFault m (head_of x) t k') tails (subst (λ g. IsRestFault m g rest k') same r))
 
-line_right : (m : Shape) → IsTold m → (f : Faults) (l : LogicalLine) (x : Fault) → l.words ≡ words_of m x → CanHave m x → refusal_of f x ≡ None → (k' : FaultsKind) → IsLineFault m f l k' → ⊥
+line_right : (m : Shape) → IsTold m → (f : Faults) (l : LogicalLine) (x : Fault) → l.words ≡ fault_words m x → CanHave m x → refusal_of f x ≡ None → (k' : FaultsKind) → IsLineFault m f l k' → ⊥
 line_right m k f l x w p free k' (bad b) = let e : true ≡ false = sym b ∙ ap (list_any (list_any is_bad)) w ∙ good_entry m k x p in cc
 line_right m k f l x w p free k' (no_entry sound n) = entry_right m k x p k' (subst (λ ws. IsNoEntry m ws k') w n)
 line_right m k f l x w p free k' (refused y why sound v q r) =
@@ -185,24 +185,24 @@ line_right m k f l x w p free k' (refused y why sound v q r) =
     let e : ◌≡◌ {A = Option AddFault} None (Some why) = sym free ∙ ap (refusal_of f) (sym same) ∙ r in
     cc
 
-no_first : (m : Shape) → IsTold m → (f : Faults) (above : List LogicalLine) (l : LogicalLine) (below : List LogicalLine) (es fs : List Fault) (k' : FaultsKind) → map (λ (r : LogicalLine). r.words) (above ++ l ∷ below) ≡ map (words_of m) fs → map (λ (r : LogicalLine). r.words) above ≡ map (words_of m) es → AreAdded m f es → AreAdded m f fs → IsLineFault m (with_all f es) l k' → ⊥
+no_first : (m : Shape) → IsTold m → (f : Faults) (above : List LogicalLine) (l : LogicalLine) (below : List LogicalLine) (es fs : List Fault) (k' : FaultsKind) → map (λ (r : LogicalLine). r.words) (above ++ l ∷ below) ≡ map (fault_words m) fs → map (λ (r : LogicalLine). r.words) above ≡ map (fault_words m) es → AreAdded m f es → AreAdded m f fs → IsLineFault m (with_all f es) l k' → ⊥
 no_first m k f [] l below [] [] k' all rows p q h = cc
 no_first m k f [] l below [] (x ∷ fs) k' all rows p q h = line_right m k f l x (cc) q.0 q.1 k' h
 no_first m k f [] l below (e ∷ es) fs k' all rows p q h = cc
 no_first m k f (a ∷ above) l below [] fs k' all rows p q h = cc
 no_first m k f (a ∷ above) l below (e ∷ es) [] k' all rows p q h = cc
 no_first m k f (a ∷ above) l below (e ∷ es) (x ∷ fs) k' all rows p q h =
-    let heads : words_of m x ≡ words_of m e = cc in
+    let heads : fault_words m x ≡ fault_words m e = cc in
     let same : x ≡ e = one_fault m k x e q.0 p.0 heads in
     no_first m k (with_fault f e) above l below es fs k' (cc) (cc) p.2 (subst (λ y. AreAdded m (with_fault f y) fs) same q.2) h
 
-one_list : (m : Shape) → IsTold m → (f g : Faults) (es fs : List Fault) → map (words_of m) es ≡ map (words_of m) fs → AreAdded m f es → AreAdded m g fs → es ≡ fs
+one_list : (m : Shape) → IsTold m → (f g : Faults) (es fs : List Fault) → map (fault_words m) es ≡ map (fault_words m) fs → AreAdded m f es → AreAdded m g fs → es ≡ fs
 one_list m k f g [] [] e p q = refl
 one_list m k f g [] (x ∷ fs) e p q = absurd cc
 one_list m k f g (x ∷ es) [] e p q = absurd cc
 one_list m k f g (x ∷ es) (y ∷ fs) e p q =
-    let heads : words_of m x ≡ words_of m y = cc in
-    let tails : map (words_of m) es ≡ map (words_of m) fs = cc in
+    let heads : fault_words m x ≡ fault_words m y = cc in
+    let tails : map (fault_words m) es ≡ map (fault_words m) fs = cc in
     let same = one_fault m k x y p.0 q.0 heads in
     let others = one_list m k (with_fault f x) (with_fault g y) es fs tails p.2 q.2 in
     (λ i. same i ∷ others i)

@@ -13,7 +13,7 @@ use Rattle.fault_model.specs.declared.head.Head.{Head}
 use Rattle.fault_model.specs.declared.head.Head.TheVariants as head
 use Rattle.fault_model.specs.Adding.{CanHave}
 use Rattle.fault_model.specs.Heads.{word_of, follow_of}
-use Rattle.fault_model.specs.Text.{bit_word, head_of, rest_of, words_of}
+use Rattle.fault_model.specs.Text.{bit_word, head_of, rest_of, fault_words}
 
 -- ---- first words
 
@@ -91,10 +91,10 @@ one_bit a b e = sym (bit_back a) ∙ ap is_one e ∙ bit_back b
 
 -- ---- entries
 
-pub same_head : (m : Shape) (x y : Fault) → words_of m x ≡ words_of m y → head_of x ≡ head_of y
+pub same_head : (m : Shape) (x y : Fault) → fault_words m x ≡ fault_words m y → head_of x ≡ head_of y
 same_head m x y e = one_head (head_of x) (head_of y) (ap (λ ws. get_or ws 0 []) e)
 
-same_class : (m : Shape) (x y : Fault) → words_of m x ≡ words_of m y → class_of_fault x ≡ class_of_fault y
+same_class : (m : Shape) (x y : Fault) → fault_words m x ≡ fault_words m y → class_of_fault x ≡ class_of_fault y
 same_class m x y e = sym (is_class x) ∙ ap class_of (same_head m x y e) ∙ is_class y
 
 nth : (k : ℕ) (us vs : List (List ℕ)) → us ≡ vs → get_or us k [] ≡ get_or vs k []
@@ -111,7 +111,7 @@ tap_in m k x lt = k.numbered.ends x (ends_of m x).0 (ends_of m x).1 lt (in_order
 pub line_in : (m : Shape) → IsTold m → (x : ℕ) → x < crosses_of m → (ends_of m x).1 < wires_of m
 line_in m k x lt = k.numbered.ends x (ends_of m x).1 (ends_of m x).0 lt (turned refl refl)
 
-pub one_fault : (m : Shape) → IsTold m → (x y : Fault) → CanHave m x → CanHave m y → words_of m x ≡ words_of m y → x ≡ y
+pub one_fault : (m : Shape) → IsTold m → (x y : Fault) → CanHave m x → CanHave m y → fault_words m x ≡ fault_words m y → x ≡ y
 one_fault m k (Stuck w v) (Stuck u q) p r e =
     let n = k.names.one_wire w.0 u.0 p r (nth 1 _ _ e) in
     let b = sym (says_stuck w v) ∙ ap says (same_head m (Stuck w v) (Stuck u q) e) ∙ says_stuck u q in

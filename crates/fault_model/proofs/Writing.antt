@@ -16,7 +16,7 @@ use Rattle.fault_model.specs.declared.fault.Fault.{Fault}
 use Rattle.fault_model.specs.declared.fault.AddFault.TheVariants.{Same, Limit}
 use Rattle.fault_model.specs.Adding.{IsFaultSet, CanHave, no_faults, with_fault, value_at, value_of, is_loop, lower_first, refusal_at, refusal_of, count_of}
 use Rattle.tm_text.specs.Size.{most_bytes}
-use Rattle.fault_model.specs.Text.{words_of, with_all, AreAdded, IsFaultText}
+use Rattle.fault_model.specs.Text.{fault_words, with_all, AreAdded, IsFaultText}
 use Rattle.fault_model.specs.Written.{Kinds, AreAscending, AreInOrder, grouped, faults_of, stuck_wire_at, stuck_cross_at, wrong_cell_at, stuck_register_at, bridge_of}
 use Rattle.fault_model.proofs.Adding.{count_more, count_none}
 use Rattle.hierarchy.proofs.Pairs.{pairs_total, pairs_exact}
@@ -209,9 +209,9 @@ as_words : (ws : List (List ℕ)) → AreWords ws → AllByRecursion text.IsWord
 as_words [] p = tt
 as_words (w ∷ ws) p = ((p.0.0, plain_graphic w p.0.1), as_words ws p.1)
 
-rows_of : (m : Shape) → IsTold m → (xs : List Fault) → AllByRecursion (CanHave m) xs → AllByRecursion (λ words. (0 < length words) × All text.IsWord words) (map (words_of m) xs)
+rows_of : (m : Shape) → IsTold m → (xs : List Fault) → AllByRecursion (CanHave m) xs → AllByRecursion (λ words. (0 < length words) × All text.IsWord words) (map (fault_words m) xs)
 rows_of m k [] p = tt
-rows_of m k (x ∷ xs) p = ((omega arith, all_from text.IsWord (words_of m x) (as_words (words_of m x) (entry_words m k x p.0))), rows_of m k xs p.1)
+rows_of m k (x ∷ xs) p = ((omega arith, all_from text.IsWord (fault_words m x) (as_words (fault_words m x) (entry_words m k x p.0))), rows_of m k xs p.1)
 
 words_numbered : (n : ℕ) (rows : List (List (List ℕ))) → map (λ l. l.words) (numbered n rows) ≡ rows
 words_numbered n [] = refl
@@ -231,17 +231,17 @@ module _ (m : Shape) (f : Faults) (s : IsFaultSet (record { shape = m; faults = 
   each_of_shape = all_from (CanHave m) xs (all_of_shape m no_faults xs makes.0)
 
   -- the lines of these faults are a text of the set
-  pub text_is : IsTold m → (bytes : List ℕ) → bytes ≡ written (map (words_of m) xs) → IsFaultText m bytes f
+  pub text_is : IsTold m → (bytes : List ℕ) → bytes ≡ written (map (fault_words m) xs) → IsFaultText m bytes f
   text_is k bytes is = record {
     entries = xs;
     rows = ap (λ bs. map (λ l. l.words) (logical_lines false bs)) is
-        ∙ ap (map (λ l. l.words)) (lines_back 1 (map (words_of m) xs) (all_from _ _ (rows_of m k xs (all_of_shape m no_faults xs makes.0))))
-        ∙ words_numbered 1 (map (words_of m) xs);
+        ∙ ap (map (λ l. l.words)) (lines_back 1 (map (fault_words m) xs) (all_from _ _ (rows_of m k xs (all_of_shape m no_faults xs makes.0))))
+        ∙ words_numbered 1 (map (fault_words m) xs);
     added = added m no_faults xs makes.0 (omega (arith, few_of, count_none));
     all = makes.1;
   }
 
-  pub few_bytes : IsTold m → (bytes : List ℕ) → bytes ≡ written (map (words_of m) xs) → length bytes ≤ most_bytes
+  pub few_bytes : IsTold m → (bytes : List ℕ) → bytes ≡ written (map (fault_words m) xs) → length bytes ≤ most_bytes
   few_bytes k bytes is =
       let t = short_text m k xs (all_of_shape m no_faults xs makes.0) in
       let e = ap length is in

@@ -19,7 +19,7 @@ use Rattle.fault_model.specs.declared.kind.FaultsFault.{FaultsFault}
 use Rattle.fault_model.specs.declared.kind.FaultsFault.TheVariants.{At, Memory}
 use Rattle.fault_model.specs.Adding.{Faulty, no_faults, with_fault, refusal_of, CanHave}
 use Rattle.fault_model.specs.Heads.{word_of, follow_of, has_wires, has_cross}
-use Rattle.fault_model.specs.Text.{end_names, words_of, with_all, AreAdded}
+use Rattle.fault_model.specs.Text.{end_names, fault_words, with_all, AreAdded}
 
 abbrev pub IsWireName : Shape → List ℕ → Type 0
 IsWireName m word = (w : ℕ) × (w < wires_of m) × (wire_name m w ≡ word)
@@ -30,7 +30,7 @@ AreWireNames m (word ∷ words) = IsWireName m word × AreWireNames m words
 
 -- no fault has these words behind a first word
 abbrev pub IsNoFault : Shape → Head → List (List ℕ) → Type 0
-IsNoFault m h rest = (x : Fault) → CanHave m x → words_of m x ≢ word_of h ∷ rest
+IsNoFault m h rest = (x : Fault) → CanHave m x → fault_words m x ≢ word_of h ∷ rest
 
 -- what is wrong with the words behind a first word
 abbrev pub IsRestFault : Shape → Head → List (List ℕ) → FaultsKind → Type 0
@@ -62,7 +62,7 @@ kind_of add.Memory = Limit
 pub data IsLineFault (m : Shape) (f : Faults) (l : LogicalLine) : FaultsKind → Type 0 where
   bad : is_bad_line l ≡ true → IsLineFault m f l Byte
   no_entry : {kind : FaultsKind} → is_bad_line l ≡ false → IsNoEntry m l.words kind → IsLineFault m f l kind
-  refused : (x : Fault) (why : AddFault) → is_bad_line l ≡ false → words_of m x ≡ l.words → CanHave m x → refusal_of f x ≡ Some why →
+  refused : (x : Fault) (why : AddFault) → is_bad_line l ≡ false → fault_words m x ≡ l.words → CanHave m x → refusal_of f x ≡ Some why →
       IsLineFault m f l (kind_of why)
 
 -- the first line that has a fault: those above it are entries
@@ -72,7 +72,7 @@ pub record IsFirstFault (m : Shape) (lines : List LogicalLine) (number : ℕ) (k
   pub below : List LogicalLine
   pub parts : above ++ line ∷ below ≡ lines
   pub entries : List Fault
-  pub rows : map (λ l. l.words) above ≡ map (words_of m) entries
+  pub rows : map (λ l. l.words) above ≡ map (fault_words m) entries
   pub added : AreAdded m no_faults entries
   pub here : line.number ≡ number
   pub fault : IsLineFault m (with_all no_faults entries) line kind
@@ -113,7 +113,7 @@ IsFirst m lines (At number kind) = IsFirstFault m lines number kind
 
 -- the fault that the line gives is added, or the line's fault is told
 abbrev pub Takes : Faulty → LogicalLine → Result (Unit {0}) FaultsFault → Faulty → Type 0
-Takes old l (Ok u) new = (x : Fault) × (words_of old.shape x ≡ l.words) × CanHave old.shape x × (refusal_of old.faults x ≡ None)
+Takes old l (Ok u) new = (x : Fault) × (fault_words old.shape x ≡ l.words) × CanHave old.shape x × (refusal_of old.faults x ≡ None)
     × (new ≡ record { shape = old.shape; faults = with_fault old.faults x })
 Takes old l (Err Memory) new = Unit {0}
 Takes old l (Err (At number kind)) new = (number ≡ l.number) × IsLineFault old.shape old.faults l kind

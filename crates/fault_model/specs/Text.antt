@@ -38,8 +38,8 @@ rest_of m (Cell table address value) = table_name m table.0 ∷ decimal address 
 rest_of m (Register table value) = table_name m table.0 ∷ bit_word value ∷ []
 rest_of m (Bridge a b) = wire_name m a.0 ∷ wire_name m b.0 ∷ []
 
-abbrev pub words_of : Shape → Fault → List (List ℕ)
-words_of m x = word_of (head_of x) ∷ rest_of m x
+abbrev pub fault_words : Shape → Fault → List (List ℕ)
+fault_words m x = word_of (head_of x) ∷ rest_of m x
 
 -- the faults with further ones, and that each of them may be added to those before it
 abbrev pub with_all : Faults → List Fault → Faults
@@ -53,6 +53,6 @@ AreAdded m f (x ∷ xs) = CanHave m x × (refusal_of f x ≡ None) × AreAdded m
 -- a text gives these faults of a machine: each of its lines is an entry, and these are all its entries
 pub record IsFaultText (m : Shape) (bytes : List ℕ) (f : Faults) : Type 0 where
   pub entries : List Fault
-  pub rows : map (λ l. l.words) (logical_lines false bytes) ≡ map (words_of m) entries
+  pub rows : map (λ l. l.words) (logical_lines false bytes) ≡ map (fault_words m) entries
   pub added : AreAdded m no_faults entries
   pub all : with_all no_faults entries ≡ f

@@ -10,7 +10,7 @@ use Rattle.hierarchy.specs.Faults.{Faults, pair_cmp}
 use Rattle.tm_text.specs.Written.{written}
 use Rattle.fault_model.specs.declared.fault.Fault.{Fault}
 use Rattle.fault_model.specs.declared.fault.Fault.TheVariants.{Stuck, CrossStuck, Cell, Register, Bridge}
-use Rattle.fault_model.specs.Text.{words_of}
+use Rattle.fault_model.specs.Text.{fault_words}
 
 abbrev pub stuck_wire_at : ℕ × Bool → Fault
 stuck_wire_at e = Stuck (record { 0 = e.0 }) e.1
@@ -74,4 +74,4 @@ pub record AreInOrder (f : Faults) (faults : List Fault) : Type 0 where
 pub record IsWritten (m : Shape) (f : Faults) (text : List ℕ) : Type 0 where
   pub faults : List Fault
   pub ordered : AreInOrder f faults
-  pub lines : text ≡ written (map (words_of m) faults)
+  pub lines : text ≡ written (map (fault_words m) faults)

@@ -5,7 +5,7 @@ ghost use Rattle.hierarchy.specs.Shape.{wires_of, crosses_of};
 ghost use Rattle.hierarchy.specs.Names.{wire_name};
 ghost use Rattle.fault_model.specs.Adding.{CanHave};
 ghost use Rattle.fault_model.specs.Heads.{word_of, follow_of};
-ghost use Rattle.fault_model.specs.Text.{bit_word, words_of, end_names};
+ghost use Rattle.fault_model.specs.Text.{bit_word, fault_words, end_names};
 ghost use Rattle.fault_model.specs.Refusals.{AreWireNames, IsNoFault, IsRestFault, IsNoEntry};
 ghost use Rattle.fault_model.specs.declared.head.Head.TheVariants as heads;
 
@@ -57,7 +57,7 @@ fn cross_of(shape: &Shape, tap: Wire, line: Wire) -> Option<Cross>
 fn crossing(shape: &Shape, words: &[&[u8]], closed: bool) -> Result<Fault, FaultsKind>
     requires { length words.now ≡ 2 }
     ensures { MatchResult result (λ x. CanHave shape.now x
-        × (words_of shape.now x ≡ word_of (if closed then heads.Closed else heads.Open) ∷ map (λ w. w.now) words.now))
+        × (fault_words shape.now x ≡ word_of (if closed then heads.Closed else heads.Open) ∷ map (λ w. w.now) words.now))
         (IsRestFault shape.now (if closed then heads.Closed else heads.Open) (map (λ w. w.now) words.now)) }
 {
     let Some((tap, line)) = two_wires(shape, words) else {
@@ -86,7 +86,7 @@ fn bit(word: &[u8]) -> Option<bool>
 fn cell(shape: &Shape, words: &[&[u8]]) -> Option<Fault>
     requires { length words.now ≡ 3 }
     ensures { MatchOption result (IsNoFault shape.now heads.Cell (map (λ w. w.now) words.now))
-        (λ x. CanHave shape.now x × (words_of shape.now x ≡ word_of heads.Cell ∷ map (λ w. w.now) words.now)) }
+        (λ x. CanHave shape.now x × (fault_words shape.now x ≡ word_of heads.Cell ∷ map (λ w. w.now) words.now)) }
 {
     let table = shape.table_of(words[0])?;
     let address = read_number(words[1], LAST_ADDRESS)?;
@@ -102,7 +102,7 @@ fn cell(shape: &Shape, words: &[&[u8]]) -> Option<Fault>
 fn register(shape: &Shape, words: &[&[u8]]) -> Option<Fault>
     requires { length words.now ≡ 2 }
     ensures { MatchOption result (IsNoFault shape.now heads.Register (map (λ w. w.now) words.now))
-        (λ x. CanHave shape.now x × (words_of shape.now x ≡ word_of heads.Register ∷ map (λ w. w.now) words.now)) }
+        (λ x. CanHave shape.now x × (fault_words shape.now x ≡ word_of heads.Register ∷ map (λ w. w.now) words.now)) }
 {
     let table = shape.table_of(words[0])?;
     let value = bit(words[1])?;
@@ -112,7 +112,7 @@ fn register(shape: &Shape, words: &[&[u8]]) -> Option<Fault>
 /// The fault that the words behind a first word give.
 fn fault_of(shape: &Shape, head: Head, words: &[&[u8]]) -> Result<Fault, FaultsKind>
     requires { length words.now ≡ follow_of head }
-    ensures { MatchResult result (λ x. CanHave shape.now x × (words_of shape.now x ≡ word_of head ∷ map (λ w. w.now) words.now))
+    ensures { MatchResult result (λ x. CanHave shape.now x × (fault_words shape.now x ≡ word_of head ∷ map (λ w. w.now) words.now))
         (IsRestFault shape.now head (map (λ w. w.now) words.now)) }
 {
     match head {
@@ -146,7 +146,7 @@ fn parted<'a, 'b>(words: &'b [&'a [u8]]) -> (&'a [u8], &'b [&'a [u8]])
 /// The fault that the words of a line give.
 pub fn entry_of(shape: &Shape, words: &[&[u8]]) -> Result<Fault, FaultsKind>
     requires { 0 < length words.now }
-    ensures { MatchResult result (λ x. CanHave shape.now x × (words_of shape.now x ≡ map (λ w. w.now) words.now))
+    ensures { MatchResult result (λ x. CanHave shape.now x × (fault_words shape.now x ≡ map (λ w. w.now) words.now))
         (IsNoEntry shape.now (map (λ w. w.now) words.now)) }
 {
     let (first, rest) = parted(words);

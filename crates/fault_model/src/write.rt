@@ -9,7 +9,7 @@ ghost use Rattle.tm_text.specs.Written.{written, written_line};
 ghost use Rattle.fault_model.specs.Adding.{CanHave};
 ghost use Rattle.fault_model.specs.Stored.{kinds_in};
 ghost use Rattle.tm_text.specs.Size.{most_bytes};
-ghost use Rattle.fault_model.specs.Text.{words_of, bit_word, IsFaultText};
+ghost use Rattle.fault_model.specs.Text.{fault_words, bit_word, IsFaultText};
 ghost use Rattle.fault_model.specs.Written.{stuck_wire_at, stuck_cross_at, wrong_cell_at, stuck_register_at, bridge_of, grouped};
 ghost use Rattle.fault_model.specs.Written.{AreAscending, IsWritten};
 
@@ -40,7 +40,7 @@ fn put_next(text: &mut Vec<u8>, word: &[u8]) -> Result<(), AllocError>
 /// Appends the line of a fault.
 fn put_fault(text: &mut Vec<u8>, shape: &Shape, fault: Fault) -> Result<(), AllocError>
     requires { CanHave shape.now fault }
-    ensures { OnOk result (text.new.items ≡ text.old.items ++ written_line (words_of shape.now fault)) }
+    ensures { OnOk result (text.new.items ≡ text.old.items ++ written_line (fault_words shape.now fault)) }
 {
     match fault {
         Fault::Stuck { wire, value } => {
@@ -190,7 +190,7 @@ pub fn in_order(alloc: Global, entries: &Entries) -> Result<Vec<Fault>, AllocErr
 /// Appends the lines of faults.
 fn put_faults(text: &mut Vec<u8>, shape: &Shape, faults: &[Fault]) -> Result<(), AllocError>
     requires { All (CanHave shape.now) faults.now }
-    ensures { OnOk result (text.new.items ≡ text.old.items ++ written (map (words_of shape.now) faults.now)) }
+    ensures { OnOk result (text.new.items ≡ text.old.items ++ written (map (fault_words shape.now) faults.now)) }
 {
     for fault in faults {
         put_fault(text, shape, *fault)?;

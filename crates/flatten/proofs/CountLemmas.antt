@@ -7,13 +7,13 @@ use Rattle.netlist.specs.declared.draft.Cover.{Cover}
 use Rattle.netlist.specs.declared.draft.LatchDef.{LatchDef}
 use Rattle.netlist.specs.declared.draft.PortDef.{PortDef}
 use Rattle.netlist.specs.Orders.{IsBefore}
-use Rattle.netlist.specs.Drafts.{word, signal_at, line_at, cover_drive, latch_drive, cover_reads, latch_read, drives_of, reads_of}
+use Rattle.netlist.specs.Drafts.{word, signal_at, line_at, cover_drive, latch_drive, cover_reads, latch_read, drive_words, reads_of}
 use Rattle.netlist.specs.Checks.{IsDoubledIn}
 use Rattle.netlist.proofs.OrderLemmas.{not_itself}
 use Rattle.flatten.specs.declared.model.Signal.{Signal}
 use Rattle.flatten.specs.declared.model.Model.{Model}
 use Rattle.flatten.specs.Lines.{Part, InputPart, OutputPart, CoverPart, LatchPart, UsePart, Line}
-use Rattle.flatten.specs.Signals.{number_of, signals_of}
+use Rattle.flatten.specs.Signals.{signal_number, signals_of}
 use Rattle.flatten.specs.Netlists.{input_on, output_on, cover_on, latch_on, IsReadFrom}
 use Rattle.flatten.specs.Words.{drive_on, read_on, drives_in, reads_in, IsUndrivenIn}
 
@@ -129,9 +129,9 @@ none_undriven xs ys rs qs drives reads none k lk undriven =
 
 -- ---- the words of a netlist and those of the lines that it is read from
 
-input_words : (signals : List Signal) (n : ℕ) (ins : List Signal) → map (word n) (map (number_of signals) ins) ≡ map (λ t. word n (number_of signals t)) ins
+input_words : (signals : List Signal) (n : ℕ) (ins : List Signal) → map (word n) (map (signal_number signals) ins) ≡ map (λ t. word n (signal_number signals t)) ins
 input_words signals n [] = refl
-input_words signals n (t ∷ ins) = ap (λ ws. word n (number_of signals t) ∷ ws) (input_words signals n ins)
+input_words signals n (t ∷ ins) = ap (λ ws. word n (signal_number signals t) ∷ ws) (input_words signals n ins)
 
 module _ (signals : List Signal) (s : ℕ) where
   abbrev inputs : List (Line Signal) → List PortDef
@@ -168,8 +168,8 @@ module _ (signals : List Signal) (s : ℕ) where
       by (OutputPart t) e = omega arith
       by (CoverPart out ins rows off) e = omega (
         arith,
-        count-append s (map (word l.number) (map (number_of signals) ins)) (flat_map cover_reads (covers lines)),
-        count-append s (map (λ t. word l.number (number_of signals t)) ins) (flat_map (read_on signals) lines),
+        count-append s (map (word l.number) (map (signal_number signals) ins)) (flat_map cover_reads (covers lines)),
+        count-append s (map (λ t. word l.number (signal_number signals t)) ins) (flat_map (read_on signals) lines),
         ap (count s) (input_words signals l.number ins),
       )
       by (LatchPart from out init control) e = omega arith
@@ -179,9 +179,9 @@ module _ (ms : List Model) (lines : List (Line Signal)) (d : Draft) (h : IsReadF
   abbrev S : List Signal
   S = signals_of lines
 
-  pub drives_as_many : AreAsMany (drives_of d) (drives_in lines)
+  pub drives_as_many : AreAsMany (drive_words d) (drives_in lines)
   drives_as_many s =
-      let e : count s (drives_of d) ≡ count s ((inputs S s lines ++ map cover_drive (covers S s lines)) ++ map latch_drive (latches S s lines)) = λ i. count s ((h.inputs i ++ map cover_drive (h.covers i)) ++ map latch_drive (h.latches i)) in
+      let e : count s (drive_words d) ≡ count s ((inputs S s lines ++ map cover_drive (covers S s lines)) ++ map latch_drive (latches S s lines)) = λ i. count s ((h.inputs i ++ map cover_drive (h.covers i)) ++ map latch_drive (h.latches i)) in
       omega (
         arith,
         e,

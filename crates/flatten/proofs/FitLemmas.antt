@@ -10,7 +10,7 @@ use Rattle.flatten.specs.declared.model.Piece.TheVariants as piece
 use Rattle.flatten.specs.declared.model.Signal.{Signal}
 use Rattle.flatten.specs.InOrder.{put_in_order, in_order}
 use Rattle.flatten.specs.Lines.{Part, InputPart, OutputPart, CoverPart, LatchPart, UsePart, Line, input_line, output_line, piece_line, ordered_lines, number_of_line, with_place, next_place, with_places, lines_of_model, is_port, RowsFit, PiecesFit, HaveRightRows}
-use Rattle.flatten.specs.Substitution.{Place, given, becomes, through, part_through, lines_at, without_ports, first_model, model_named, replace, replace_first, at_first, after}
+use Rattle.flatten.specs.Substitution.{ModelPlace, given, becomes, through, part_through, lines_at, without_ports, first_model, model_named, replace, replace_first, at_first, after}
 
 -- ---- rows
 
@@ -69,7 +69,7 @@ fit_places k (l ∷ ls) h = (by l.part h.0, fit_places (next_place k l.part) ls 
 fit_model : (m : Model) → PiecesFit m.pieces → LinesFit (lines_of_model m)
 fit_model m h = fit_places 0 (ordered_lines m) (fit_in_order (map input_line m.inputs ++ map output_line m.outputs ++ map piece_line m.pieces) (fit_append (map input_line m.inputs ++ map output_line m.outputs) (map piece_line m.pieces) (fit_append (map input_line m.inputs) (map output_line m.outputs) (fit_inputs m.inputs) (fit_outputs m.outputs)) (fit_pieces m.pieces h)))
 
-fit_through : (at : Place) (names : List (List ℕ)) (ls : List (Line ℕ)) → LinesFit ls → LinesFit (map (through at names) ls)
+fit_through : (at : ModelPlace) (names : List (List ℕ)) (ls : List (Line ℕ)) → LinesFit ls → LinesFit (map (through at names) ls)
 fit_through at names [] h = tt
 fit_through at names (l ∷ ls) h = (by l.part h.0, fit_through at names ls h.1)
   where
@@ -107,7 +107,7 @@ module _ (ms : List Model) (right : HaveRightRows ms) where
     where
       by : (p : Part Signal) → PartFits p → LinesFit (replace_first ms k ls) → LinesFit (replace ms k (record { number = l.number; part = p }) p ls (replace_first ms k ls))
       by (UsePart m pairs way) own later =
-          let at : Place = record { used = k; way = way; actuals = given pairs } in
+          let at : ModelPlace = record { used = k; way = way; actuals = given pairs } in
           let model = model_named ms m in
           fit_append (without_ports (lines_at model at)) ls (fit_without (lines_at model at) (fit_through at model.names (lines_of_model model) (fit_model model (fit_named m ms right)))) h.1
       by (InputPart s) own later = (own, later)
@@ -176,7 +176,7 @@ outputs-places k (l ∷ ls) = by l.part (outputs-places (next_place k l.part) ls
     by (CoverPart out ins rows off) e = omega (arith, e)
     by (LatchPart from out init control) e = omega (arith, e)
 
-outputs-through : (at : Place) (names : List (List ℕ)) (ls : List (Line ℕ)) → count_outputs (map (through at names) ls) ≡ count_outputs ls
+outputs-through : (at : ModelPlace) (names : List (List ℕ)) (ls : List (Line ℕ)) → count_outputs (map (through at names) ls) ≡ count_outputs ls
 outputs-through at names [] = refl
 outputs-through at names (l ∷ ls) = by l.part (outputs-through at names ls)
   where

@@ -11,7 +11,7 @@ use Rattle.flatten.specs.declared.model.Piece.TheVariants as piece
 use Rattle.flatten.specs.declared.model.Signal.{Signal}
 use Rattle.flatten.specs.InOrder.{put_in_order, in_order}
 use Rattle.flatten.specs.Lines.{Part, InputPart, OutputPart, CoverPart, LatchPart, UsePart, Line, is_port, input_line, output_line, piece_line, ordered_lines, number_of_line, with_places}
-use Rattle.flatten.specs.Substitution.{Place, through, lines_at, without_ports, first_model, at_first}
+use Rattle.flatten.specs.Substitution.{ModelPlace, through, lines_at, without_ports, first_model, at_first}
 use Rattle.flatten.proofs.OrderLemmas.{Rises, AreAtLeast, Rises-in_order}
 
 abbrev no_ports : List (Line ℕ) → List (Line ℕ)
@@ -82,7 +82,7 @@ pieces_left m =
     no_ports-in_order (map input_line m.inputs ++ map output_line m.outputs ++ map piece_line m.pieces)
     ∙ ap (in_order n) (ap no_ports (append_assoc (map input_line m.inputs) (map output_line m.outputs) (map piece_line m.pieces)) ∙ no_ports-inputs m.inputs (map output_line m.outputs ++ map piece_line m.pieces) ∙ no_ports-outputs m.outputs (map piece_line m.pieces) ∙ no_ports-pieces m.pieces)
 
-module _ (at : Place) (names : List (List ℕ)) where
+module _ (at : ModelPlace) (names : List (List ℕ)) where
   abbrev T : List (Line ℕ) → List (Line Signal)
   T ls = map (through at names) ls
 
@@ -98,7 +98,7 @@ module _ (at : Place) (names : List (List ℕ)) where
       by (UsePart m pairs way) rest more = ap (λ xs. through at names (record { number = l.number; part = UsePart m pairs (k ∷ []) }) ∷ xs) more
 
 -- what replaces a line
-pub pieces_at : (m : Model) (at : Place) → without_ports (lines_at m at) ≡ map (through at m.names) (with_places 0 (in_order n (map piece_line m.pieces)))
+pub pieces_at : (m : Model) (at : ModelPlace) → without_ports (lines_at m at) ≡ map (through at m.names) (with_places 0 (in_order n (map piece_line m.pieces)))
 pieces_at m at = without at m.names 0 (ordered_lines m) ∙ ap (λ ls. map (through at m.names) (with_places 0 ls)) (pieces_left m)
 
 pub first_found : (ms : List Model) (m : Model) → Some m ≡ slice_get ms 0 → first_model ms ≡ m

@@ -10,7 +10,7 @@ use Rattle.std.proofs.lemmas.List.{append-nil}
 use Rattle.std.proofs.lemmas.List.Concat.{flat_map-append}
 use Rattle.netlist.specs.Drafts.{word}
 use Rattle.flatten.specs.Lines.{Part, InputPart, OutputPart, CoverPart, LatchPart, UsePart, Line}
-use Rattle.flatten.specs.Signals.{same_signal, with_signal, with_signals, number_of, words_in, words_on, signals_of}
+use Rattle.flatten.specs.Signals.{same_signal, with_signal, with_signals, signal_number, words_in, words_on, signals_of}
 use Rattle.flatten.specs.Words.{drive_on, drives_in}
 use Rattle.flatten.proofs.SignalsLemmas.{signals_one}
 
@@ -41,7 +41,7 @@ abbrev pub AreKnown : List Signal → List Signal → Type 0
 AreKnown signals [] = Unit {0}
 AreKnown signals (w ∷ words) = IsKnown signals w × AreKnown signals words
 
-pub number_below : (signals : List Signal) (s : Signal) → IsKnown signals s → number_of signals s < length signals
+pub number_below : (signals : List Signal) (s : Signal) → IsKnown signals s → signal_number signals s < length signals
 number_below signals s h = any_place (same_signal s) signals h
 
 still : (signals : List Signal) (s t : Signal) → IsKnown signals t → IsKnown (with_signal signals s) t
@@ -58,15 +58,15 @@ newly signals s = by (list_any (same_signal s) signals) refl
     by true h = h
     by false h = list_any-append (same_signal s) signals (s ∷ []) ∙ ap (λ b. list_any (same_signal s) signals || (b || false)) (same_self s) ∙ or-true (list_any (same_signal s) signals)
 
-number_one : (signals : List Signal) (x s : Signal) → IsKnown signals s → number_of (with_signal signals x) s ≡ number_of signals s
+number_one : (signals : List Signal) (x s : Signal) → IsKnown signals s → signal_number (with_signal signals x) s ≡ signal_number signals s
 number_one signals x s h = by (list_any (same_signal x) signals)
   where
-    by : (b : Bool) → number_of (cond b signals (signals ++ x ∷ [])) s ≡ number_of signals s
+    by : (b : Bool) → signal_number (cond b signals (signals ++ x ∷ [])) s ≡ signal_number signals s
     by true = refl
     by false = place_stays (same_signal s) signals x h
 
 -- a signal keeps its number
-number_stays : (more signals : List Signal) (s : Signal) → IsKnown signals s → number_of (with_signals signals more) s ≡ number_of signals s
+number_stays : (more signals : List Signal) (s : Signal) → IsKnown signals s → signal_number (with_signals signals more) s ≡ signal_number signals s
 number_stays [] signals s h = refl
 number_stays (x ∷ more) signals s h = number_stays more (with_signal signals x) s (still signals x s h) ∙ number_one signals x s h
 
@@ -86,16 +86,16 @@ pub known_split : (signals xs ys : List Signal) → AreKnown signals (xs ++ ys) 
 known_split signals [] ys h = (tt, h)
 known_split signals (x ∷ xs) ys h = let p = known_split signals xs ys h.1 in ((h.0, p.0), p.1)
 
-pub numbers_below : (signals words : List Signal) → AreKnown signals words → All (λ k. k < length signals) (map (number_of signals) words)
+pub numbers_below : (signals words : List Signal) → AreKnown signals words → All (λ k. k < length signals) (map (signal_number signals) words)
 numbers_below signals [] h = All-nil (λ k. k < length signals)
-numbers_below signals (w ∷ words) h = All-cons (λ k. k < length signals) (number_of signals w) (map (number_of signals) words) (number_below signals w h.0) (numbers_below signals words h.1)
+numbers_below signals (w ∷ words) h = All-cons (λ k. k < length signals) (signal_number signals w) (map (signal_number signals) words) (number_below signals w h.0) (numbers_below signals words h.1)
 
 -- ---- the words that drive, with a line more
 
 drive_stays : (signals more : List Signal) (l : Line Signal) → AreKnown signals (words_on l) → drive_on (with_signals signals more) l ≡ drive_on signals l
 drive_stays signals more l h = by l.part h
   where
-    stays : (s : Signal) → IsKnown signals s → word l.number (number_of (with_signals signals more) s) ∷ [] ≡ word l.number (number_of signals s) ∷ []
+    stays : (s : Signal) → IsKnown signals s → word l.number (signal_number (with_signals signals more) s) ∷ [] ≡ word l.number (signal_number signals s) ∷ []
     stays s h = ap (λ k. word l.number k ∷ []) (number_stays more signals s h)
 
     by : (p : Part Signal) → AreKnown signals (words_in p) → drive_on (with_signals signals more) (record { number = l.number; part = p }) ≡ drive_on signals (record { number = l.number; part = p })

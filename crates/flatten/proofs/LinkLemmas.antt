@@ -6,11 +6,11 @@ use Rattle.std.proofs.lemmas.Bool.{cases_eq}
 use Rattle.std.proofs.lemmas.List.{length-set, get_or_append_left, get_or_push, length_push}
 use Rattle.std.proofs.lemmas.List.Elements.{Contains-get_or, Contains-push, Contains-push_cases, Contains-append_left}
 use Rattle.netlist.specs.declared.draft.Cover.{Cover}
-use Rattle.netlist.specs.Covers.{no_cover, cover_at, Reads, Reaches as Leads, here as at_once, onward as through}
+use Rattle.netlist.specs.Covers.{no_cover, cover_at, Reads, LeadsToModel as Leads, here as at_once, onward as through}
 use Rattle.netlist.specs.Groups.{AreGroups}
 use Rattle.netlist.proofs.OrderLemmas.{first_same}
 use Rattle.flatten.specs.declared.model.Model.{Model}
-use Rattle.flatten.specs.Uses.{Use, use_at, uses_of, is_among, Reaches, here, onward, IsRecursive}
+use Rattle.flatten.specs.Uses.{Use, use_at, uses_of, is_among, LeadsToModel, here, onward, IsRecursive}
 use Rattle.flatten.specs.UseFaults.{IsFirstUse}
 use Rattle.flatten.specs.declared.uses.UseLine.{UseLine}
 use Rattle.flatten.specs.UseLines.{use_in, listed, IsFirstListed}
@@ -152,18 +152,18 @@ module _ (models : List Model) (names : List (List ℕ)) (covers : List Cover) (
         ((linked.ins (number_in names (use_at models k).own) (number_in names (use_at models k).model) (own_less k lt)).1 (k, lt, refl, refl));
   }
 
-  there : (a b : List ℕ) → Reaches models a b → Leads covers (number_in names a) (number_in names b)
+  there : (a b : List ℕ) → LeadsToModel models a b → Leads covers (number_in names a) (number_in names b)
   there a b here = at_once
   there a b (onward k lt r) = through (edge k lt) (there (use_at models k).model b r)
 
-  back : (i j : ℕ) → Leads covers i j → (a b : List ℕ) → number_in names a ≡ i → number_in names b ≡ j → number_in names a < length names → Reaches models a b
-  back i j at_once a b ea eb la = subst (λ w. Reaches models a w) (same_number names a b (ea ∙ sym eb) la) here
+  back : (i j : ℕ) → Leads covers i j → (a b : List ℕ) → number_in names a ≡ i → number_in names b ≡ j → number_in names a < length names → LeadsToModel models a b
+  back i j at_once a b ea eb la = subst (λ w. LeadsToModel models a w) (same_number names a b (ea ∙ sym eb) la) here
   back i j (through {j = m} r w) a b ea eb la =
       let li : i < length names = omega (arith, r.reader, linked.len) in
       let lm : m < length names = omega (arith, r.driver, linked.len) in
       let link = (linked.ins i m li).0 (subst (Contains (cover_at covers i).ins) (linked.outs m lm) r.input) in
       let k = link.0 in
-      subst (λ v. Reaches models v b) (same_number names (use_at models k).own a (link.2 ∙ sym ea) (own_less k link.1))
+      subst (λ v. LeadsToModel models v b) (same_number names (use_at models k).own a (link.2 ∙ sym ea) (own_less k link.1))
       (onward k link.1 (back m j w (use_at models k).model b link.3 eb (model_less k link.1)))
 
   module _ (groups : List ℕ) (are : AreGroups covers groups) where

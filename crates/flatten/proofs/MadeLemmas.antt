@@ -17,7 +17,7 @@ use Rattle.flatten.specs.declared.model.Model.{Model}
 use Rattle.flatten.specs.declared.model.Signal.{Signal}
 use Rattle.flatten.specs.Lines.{Part, InputPart, OutputPart, CoverPart, LatchPart, UsePart, Line, HaveRightRows}
 use Rattle.flatten.specs.Substitution.{first_model}
-use Rattle.flatten.specs.Signals.{number_of, words_in, words_on, signals_of, size_in, size_of, is_over}
+use Rattle.flatten.specs.Signals.{signal_number, words_in, words_on, signals_of, size_in, size_of, is_over}
 use Rattle.flatten.specs.Netlists.{printed, input_on, output_on, cover_on, latch_on, IsReadFrom, IsWithin}
 use Rattle.flatten.specs.Words.{drive_on, read_on, drives_in, reads_in}
 use Rattle.flatten.proofs.KnownLemmas.{IsKnown, AreKnown, number_below, lines_known, known_split, numbers_below}
@@ -41,12 +41,12 @@ module _ (S : List Signal) where
   abbrev pub Below : PortDef → Type 0
   Below w = w.signal < length S
 
-  one_word : (line : ℕ) (s : Signal) → IsKnown S s → All Below (word line (number_of S s) ∷ [])
-  one_word line s h = All-cons Below (word line (number_of S s)) [] (number_below S s h) (All-nil Below)
+  one_word : (line : ℕ) (s : Signal) → IsKnown S s → All Below (word line (signal_number S s) ∷ [])
+  one_word line s h = All-cons Below (word line (signal_number S s)) [] (number_below S s h) (All-nil Below)
 
-  words_below : (line : ℕ) (ins : List Signal) → AreKnown S ins → All Below (map (λ s. word line (number_of S s)) ins)
+  words_below : (line : ℕ) (ins : List Signal) → AreKnown S ins → All Below (map (λ s. word line (signal_number S s)) ins)
   words_below line [] h = All-nil Below
-  words_below line (s ∷ ins) h = All-cons Below (word line (number_of S s)) (map (λ s. word line (number_of S s)) ins) (number_below S s h.0) (words_below line ins h.1)
+  words_below line (s ∷ ins) h = All-cons Below (word line (signal_number S s)) (map (λ s. word line (signal_number S s)) ins) (number_below S s h.0) (words_below line ins h.1)
 
   drive_below : (l : Line Signal) → AreKnown S (words_on l) → All Below (drive_on S l)
   drive_below l = by l.part
@@ -99,11 +99,11 @@ module _ (S : List Signal) where
       by (OutputPart s) known fit = All-nil IsOver
       by (CoverPart out ins rows off) known fit =
           let p = known_split S ins (out ∷ []) known in
-          All-cons IsOver (record { out = number_of S out; ins = map (number_of S) ins; rows = rows; off = off; line = l.number }) []
+          All-cons IsOver (record { out = signal_number S out; ins = map (signal_number S) ins; rows = rows; off = off; line = l.number }) []
           (record {
             out = number_below S out p.1.0;
             ins = λ k lk. numbers_below S ins p.0 k 0 lk;
-            rows = λ k lk. rows_at (length ins) rows fit k lk ∙ sym (length-map ins (number_of S));
+            rows = λ k lk. rows_at (length ins) rows fit k lk ∙ sym (length-map ins (signal_number S));
           })
           (All-nil IsOver)
       by (LatchPart from out init control) known fit = All-nil IsOver
@@ -120,7 +120,7 @@ module _ (S : List Signal) where
       by (OutputPart s) known = All-nil IsLatchBelow
       by (CoverPart out ins rows off) known = All-nil IsLatchBelow
       by (LatchPart from out init control) known =
-          All-cons IsLatchBelow (record { from = number_of S from; out = number_of S out; init = init; line = l.number }) [] (number_below S out known.1.0, number_below S from known.0) (All-nil IsLatchBelow)
+          All-cons IsLatchBelow (record { from = signal_number S from; out = signal_number S out; init = init; line = l.number }) [] (number_below S out known.1.0, number_below S from known.0) (All-nil IsLatchBelow)
       by (UsePart m pairs way) known = All-nil IsLatchBelow
 
   characters_are : (lines : List (Line Signal)) → sum_by cover_characters (flat_map (cover_on S) lines) ≡ size_of lines
@@ -133,7 +133,7 @@ module _ (S : List Signal) where
       by : (p : Part Signal) → sum_by cover_characters (flat_map (cover_on S) lines) ≡ size_of lines → sum_by cover_characters (flat_map (cover_on S) (record { number = l.number; part = p } ∷ lines)) ≡ size_of (record { number = l.number; part = p } ∷ lines)
       by (CoverPart out ins rows off) e =
           let k : Line Signal = record { number = l.number; part = CoverPart out ins rows off } in
-          let c : Cover = record { out = number_of S out; ins = map (number_of S) ins; rows = rows; off = off; line = l.number } in
+          let c : Cover = record { out = signal_number S out; ins = map (signal_number S) ins; rows = rows; off = off; line = l.number } in
           sum_by-cons cover_characters c (flat_map (cover_on S) lines) ∙ ap (λ m. cover_characters c + m) e ∙ sym (sum_by-cons (λ l. size_in l.part) k lines)
       by (InputPart s) e = plain (InputPart s) refl e
       by (OutputPart s) e = plain (OutputPart s) refl e

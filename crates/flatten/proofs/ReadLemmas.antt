@@ -8,7 +8,7 @@ use Rattle.netlist.specs.declared.fault.DesignFault.{DesignFault}
 use Rattle.netlist.specs.declared.fault.DesignFault.TheVariants as fault
 use Rattle.netlist.specs.declared.fault.DesignKind.TheVariants as kind
 use Rattle.netlist.specs.Covers.{cover_at, cover_line, IsOnCycle}
-use Rattle.netlist.specs.Drafts.{drives_of, reads_of, signal_at, line_at, IsWellMade}
+use Rattle.netlist.specs.Drafts.{drive_words, reads_of, signal_at, line_at, IsWellMade}
 use Rattle.netlist.specs.Checks.{IsChecked, IsRefusalOf}
 use Rattle.netlist.specs.Orders.{IsFirst}
 use Rattle.flatten.specs.declared.model.Model.{Model}
@@ -64,8 +64,8 @@ clean_words ms d lines is checked w =
     let same : is.lines ≡ lines = one_design ms is.read.design.replaced w.replaced is.lines lines is.read.design.substituted w.substituted in
     let h : IsReadFrom ms lines d = subst (λ x. IsReadFrom ms x d) same is.read.netlist in
     let drives = drives_as_many ms lines d h in (
-      none_doubled (drives_of d) (drives_in lines) drives (once_none d checked),
-      none_undriven (drives_of d) (drives_in lines) (reads_of d) (reads_in lines) drives (reads_as_many ms lines d h) (driven_none d checked),
+      none_doubled (drive_words d) (drives_in lines) drives (once_none d checked),
+      none_undriven (drive_words d) (drives_in lines) (reads_of d) (reads_in lines) drives (reads_as_many ms lines d h) (driven_none d checked),
     )
 
 pub word_fault : (ms : List Model) (lines : List (Line Signal)) (line : ℕ) (name : List ℕ) (k : ℕ) → IsClean ms lines → IsFirstDoubled lines (Some k) → line ≡ line_at (drives_in lines) k → name ≡ name_in ms lines (signal_at (drives_in lines) k) → IsModelsFault ms line (kind.Doubled name)
@@ -96,10 +96,10 @@ is_fault : (ms : List Model) (d : Draft) (e : DesignFault) → IsReading ms d �
 is_fault ms d fault.Memory is h = tt
 is_fault ms d (fault.At line (kind.Doubled name)) is h =
     let first = h.1 in
-    absurd (none_doubled (drives_in is.lines) (drives_of d) (swapped (drives_of d) (drives_in is.lines) (drives_as_many ms is.lines d is.netlist)) is.undoubled h.0 first.0 first.1)
+    absurd (none_doubled (drives_in is.lines) (drive_words d) (swapped (drive_words d) (drives_in is.lines) (drives_as_many ms is.lines d is.netlist)) is.undoubled h.0 first.0 first.1)
 is_fault ms d (fault.At line (kind.Undriven name)) is h =
     let first = h.2 in
-    absurd (none_undriven (drives_in is.lines) (drives_of d) (reads_in is.lines) (reads_of d) (swapped (drives_of d) (drives_in is.lines) (drives_as_many ms is.lines d is.netlist)) (swapped (reads_of d) (reads_in is.lines) (reads_as_many ms is.lines d is.netlist)) is.driven h.1 first.0 first.1)
+    absurd (none_undriven (drives_in is.lines) (drive_words d) (reads_in is.lines) (reads_of d) (swapped (drive_words d) (drives_in is.lines) (drives_as_many ms is.lines d is.netlist)) (swapped (reads_of d) (reads_in is.lines) (reads_as_many ms is.lines d is.netlist)) is.driven h.1 first.0 first.1)
 is_fault ms d (fault.At line (kind.Cyclic name)) is h =
     let k = h.2 in
     let covers : d.covers ≡ covers_in is.lines = is.netlist.covers in

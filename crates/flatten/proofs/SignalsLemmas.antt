@@ -10,7 +10,7 @@ use Rattle.flatten.specs.declared.refusal.Refusal.{Refusal}
 use Rattle.flatten.specs.declared.refusal.Refusal.TheVariants.{Memory, Limit}
 use Rattle.flatten.specs.Lines.{Line}
 use Rattle.flatten.specs.Refusals.{IsPast, IsOver}
-use Rattle.flatten.specs.Signals.{same_signal, with_signal, with_signals, words_on, signals_of, size_in, size_of, is_over, number_of}
+use Rattle.flatten.specs.Signals.{same_signal, with_signal, with_signals, words_on, signals_of, size_in, size_of, is_over, signal_number}
 
 with_signal-longer : (signals : List Signal) (s : Signal) → length signals ≤ length (with_signal signals s)
 with_signal-longer signals s = by (list_any (same_signal s) signals)
@@ -79,18 +79,18 @@ past_size n xs l d h = over_by_size (xs ++ l ∷ []) (omega (arith, size_one xs 
 
 -- ---- numbers
 
-number_of-le : (s : Signal) (signals : List Signal) → number_of signals s ≤ length signals
+number_of-le : (s : Signal) (signals : List Signal) → signal_number signals s ≤ length signals
 number_of-le s [] = omega arith
 number_of-le s (t ∷ signals) = by (same_signal s t) (number_of-le s signals)
   where
-    by : (b : Bool) → number_of signals s ≤ length signals → cond (not b) (1 + number_of signals s) 0 ≤ length (t ∷ signals)
+    by : (b : Bool) → signal_number signals s ≤ length signals → cond (not b) (1 + signal_number signals s) 0 ≤ length (t ∷ signals)
     by true le = omega arith
     by false le = omega arith
 
-pub absent_number : (s : Signal) (signals : List Signal) → position (same_signal s) signals ≡ None → length signals ≡ number_of signals s
-absent_number s signals e = by (nat_lt (number_of signals s) (length signals)) refl e
+pub absent_number : (s : Signal) (signals : List Signal) → position (same_signal s) signals ≡ None → length signals ≡ signal_number signals s
+absent_number s signals e = by (nat_lt (signal_number signals s) (length signals)) refl e
   where
-    by : (b : Bool) → nat_lt (number_of signals s) (length signals) ≡ b → cond b (Some (number_of signals s)) None ≡ None → length signals ≡ number_of signals s
+    by : (b : Bool) → nat_lt (signal_number signals s) (length signals) ≡ b → cond b (Some (signal_number signals s)) None ≡ None → length signals ≡ signal_number signals s
     by true t h = absurd cc
     by false t h = omega (arith, ltb-false _ _ t, number_of-le s signals)
 

@@ -7,7 +7,7 @@ use Rattle.std.proofs.lemmas.List.{take_all}
 use Rattle.netlist.specs.declared.draft.Draft.{Draft}
 use Rattle.netlist.specs.declared.draft.PortDef.{PortDef}
 use Rattle.netlist.specs.Orders.{IsBefore, IsFirst}
-use Rattle.netlist.specs.Drafts.{word, word_at, signal_at, line_at, drives_of, reads_of}
+use Rattle.netlist.specs.Drafts.{word, word_at, signal_at, line_at, drive_words, reads_of}
 use Rattle.netlist.specs.Checks.{IsChecked}
 use Rattle.netlist.specs.Words.{place_at, AreFirstWords, sooner}
 use Rattle.netlist.proofs.OrderLemmas.{not_itself, first_same}
@@ -61,17 +61,17 @@ module _ (drives reads : List PortDef) (firsts : List (Option ℕ)) (count : ℕ
 
 -- ---- of a checked netlist
 
-pub once_none : (d : Draft) → IsChecked d → NoneDoubled (drives_of d)
+pub once_none : (d : Draft) → IsChecked d → NoneDoubled (drive_words d)
 once_none d checked k lk dbl = elim (cases_lt dbl.0 k) [
   | inl lt ↦ checked.once dbl.0 k lt lk dbl.3
   | inr le ↦ elim (cases_lt k dbl.0) [
     | inl lt ↦ checked.once k dbl.0 lt dbl.1 (sym dbl.3)
     | inr ge ↦
         let same : dbl.0 ≡ k = omega arith in
-        let before : IsBefore (line_at (drives_of d)) k k = rw same at dbl.2 in
-        not_itself (line_at (drives_of d)) k before
+        let before : IsBefore (line_at (drive_words d)) k k = rw same at dbl.2 in
+        not_itself (line_at (drive_words d)) k before
   ]
 ]
 
-pub driven_none : (d : Draft) → IsChecked d → NoneUndriven (drives_of d) (reads_of d)
+pub driven_none : (d : Draft) → IsChecked d → NoneUndriven (drive_words d) (reads_of d)
 driven_none d checked k lk undriven = undriven (checked.driven k lk)

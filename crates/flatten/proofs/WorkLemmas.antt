@@ -22,7 +22,7 @@ use Rattle.flatten.specs.Given.{looked_up, place_of}
 use Rattle.flatten.specs.Placed.{part_of}
 use Rattle.flatten.specs.Refusals.{IsOver}
 use Rattle.flatten.specs.Signals.{is_over}
-use Rattle.flatten.specs.Substitution.{given, Place, becomes, pair_through, through, part_through, lines_at, at_first, first_model, without_ports, model_named, replace, replace_first, after, is_left, IsSubstituted}
+use Rattle.flatten.specs.Substitution.{given, ModelPlace, becomes, pair_through, through, part_through, lines_at, at_first, first_model, without_ports, model_named, replace, replace_first, after, is_left, IsSubstituted}
 use Rattle.flatten.specs.Netlists.{first_use, origin_of}
 use Rattle.flatten.specs.Frames.{way_to, left_from, left_in, left_of, AreFrames, use_line, IsPlaced, IsOverIn}
 use Rattle.flatten.specs.Origins.{IsOrigin, AreOrigins, IsRefused}
@@ -276,7 +276,7 @@ refused_line Memory before l all back none plain d h = tt
 refused_line Limit before l all back none plain d h =
     (before ++ l ∷ [], back, d ∙ sym (append_assoc before (l ∷ []) back), left_after before (l ∷ []) none ∙ ap (λ b. b || false) plain, h)
 
-pub plain_through : (at : Place) (names : List (List ℕ)) (l : Line ℕ) → is_use l.part ≡ false → is_use (through at names l).part ≡ false
+pub plain_through : (at : ModelPlace) (names : List (List ℕ)) (l : Line ℕ) → is_use l.part ≡ false → is_use (through at names l).part ≡ false
 plain_through at names l h = by l.part h
   where
     by : (p : Part ℕ) → is_use p ≡ false → is_use (part_through at (becomes at names) p) ≡ false

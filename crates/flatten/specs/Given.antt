@@ -4,10 +4,10 @@ use Rattle.std.specs.Str.{bytes_eq}
 use Rattle.std.specs.HashMap.{get_by}
 use Rattle.flatten.specs.declared.model.Signal.{Signal}
 use Rattle.flatten.specs.declared.given.Given.{Given}
-use Rattle.flatten.specs.Substitution.{Place}
+use Rattle.flatten.specs.Substitution.{ModelPlace}
 
 abbrev pub looked_up : Given → List ℕ → Option Signal
 looked_up g w = get_by (λ k. bytes_eq w k.now) g.map
 
-abbrev pub place_of : Given → List ℕ → Place
+abbrev pub place_of : Given → List ℕ → ModelPlace
 place_of g way = record { used = g.used; way = way; actuals = looked_up g }

@@ -12,7 +12,7 @@ use Rattle.flatten.specs.declared.model.Model.{Model}
 use Rattle.flatten.specs.declared.model.Signal.{Signal}
 use Rattle.flatten.specs.Lines.{Control, GivenControl, NamedControl, Part, InputPart, OutputPart, CoverPart, LatchPart, UsePart, Line}
 use Rattle.flatten.specs.Substitution.{after, first_model, model_named, IsSubstituted}
-use Rattle.flatten.specs.Signals.{number_of, signals_of, is_over}
+use Rattle.flatten.specs.Signals.{signal_number, signals_of, is_over}
 use Rattle.flatten.specs.Uses.{KeepsRules}
 
 -- ---- printed names
@@ -87,14 +87,14 @@ module _ (signals : List Signal) where
   input_on l = by l.part
     where
       by : Part Signal → List PortDef
-      by (InputPart s) = record { signal = number_of signals s; line = l.number } ∷ []
+      by (InputPart s) = record { signal = signal_number signals s; line = l.number } ∷ []
       by _ = []
 
   abbrev pub output_on : Line Signal → List PortDef
   output_on l = by l.part
     where
       by : Part Signal → List PortDef
-      by (OutputPart s) = record { signal = number_of signals s; line = l.number } ∷ []
+      by (OutputPart s) = record { signal = signal_number signals s; line = l.number } ∷ []
       by _ = []
 
   abbrev pub cover_on : Line Signal → List Cover
@@ -102,7 +102,7 @@ module _ (signals : List Signal) where
     where
       by : Part Signal → List Cover
       by (CoverPart out ins rows off) =
-          record { out = number_of signals out; ins = map (number_of signals) ins; rows = rows; off = off; line = l.number } ∷ []
+          record { out = signal_number signals out; ins = map (signal_number signals) ins; rows = rows; off = off; line = l.number } ∷ []
       by _ = []
 
   abbrev pub latch_on : Line Signal → List LatchDef
@@ -110,7 +110,7 @@ module _ (signals : List Signal) where
     where
       by : Part Signal → List LatchDef
       by (LatchPart from out init control) =
-          record { from = number_of signals from; out = number_of signals out; init = init; line = l.number } ∷ []
+          record { from = signal_number signals from; out = signal_number signals out; init = init; line = l.number } ∷ []
       by _ = []
 
 -- the draft is the netlist that these lines spell

@@ -16,8 +16,8 @@ abbrev pub with_signals : List Signal → List Signal → List Signal
 with_signals signals more = fold with_signal signals more
 
 -- the number of a signal
-abbrev pub number_of : List Signal → Signal → ℕ
-number_of signals s = position_or_len (same_signal s) signals
+abbrev pub signal_number : List Signal → Signal → ℕ
+signal_number signals s = position_or_len (same_signal s) signals
 
 -- the signals that stand on a line, from left to right; those that are only given to a model are none of them
 abbrev pub words_in : Part Signal → List Signal

@@ -15,17 +15,17 @@ given [] w = None
 given (p ∷ pairs) w = option_or (given pairs w) (if bytes_eq p.formal w then Some p.actual else None)
 
 -- where a model replaces a line: the number of that line, the way to it, and what it gives
-pub record Place : Type 0 where
+pub record ModelPlace : Type 0 where
   pub used : ℕ
   pub way : List ℕ
   pub actuals : List ℕ → Option Signal
 
 -- a given formal becomes its actual and every other signal becomes a new one
-abbrev pub becomes : Place → List (List ℕ) → ℕ → Signal
+abbrev pub becomes : ModelPlace → List (List ℕ) → ℕ → Signal
 becomes at names s = unwrap_or (at.actuals (slice_index_or names s [])) (record { used = at.used; own = s })
 
 -- a control that is a given formal becomes its actual; another keeps its name
-abbrev pub control_becomes : Place → Control ℕ → Control Signal
+abbrev pub control_becomes : ModelPlace → Control ℕ → Control Signal
 control_becomes at (GivenControl s) = GivenControl (record { used = at.used; own = s })
 control_becomes at (NamedControl w) = by (at.actuals w)
   where
@@ -36,7 +36,7 @@ control_becomes at (NamedControl w) = by (at.actuals w)
 abbrev pub pair_through : (ℕ → Signal) → Pair ℕ → Pair Signal
 pair_through f p = record { formal = p.formal; actual = f p.actual }
 
-abbrev pub part_through : Place → (ℕ → Signal) → Part ℕ → Part Signal
+abbrev pub part_through : ModelPlace → (ℕ → Signal) → Part ℕ → Part Signal
 part_through at f (InputPart s) = InputPart (f s)
 part_through at f (OutputPart s) = OutputPart (f s)
 part_through at f (CoverPart out ins rows off) = CoverPart (f out) (map f ins) rows off
@@ -44,10 +44,10 @@ part_through at f (LatchPart from out init control) = LatchPart (f from) (f out)
 part_through at f (UsePart m pairs way) = UsePart m (map (pair_through f) pairs) (at.way ++ way)
 
 -- a line keeps its number
-abbrev pub through : Place → List (List ℕ) → Line ℕ → Line Signal
+abbrev pub through : ModelPlace → List (List ℕ) → Line ℕ → Line Signal
 through at names l = record { number = l.number; part = part_through at (becomes at names) l.part }
 
-abbrev pub lines_at : Model → Place → List (Line Signal)
+abbrev pub lines_at : Model → ModelPlace → List (Line Signal)
 lines_at m at = map (through at m.names) (lines_of_model m)
 
 -- the `.names` lines with their rows, the `.latch` and the `.subckt` lines
@@ -76,7 +76,7 @@ replace_first models k [] = []
 replace_first models k (l ∷ lines) = replace models k l l.part lines (replace_first models k lines)
 
 -- where the first model stands
-abbrev pub at_first : Place
+abbrev pub at_first : ModelPlace
 at_first = record { used = 0; way = []; actuals = λ w. None }
 
 -- the lines of the first model, after the first line that uses a model was replaced k times

@@ -60,14 +60,14 @@ pub record IsRightlyGiven (m : Model) (pairs : List (Pair ℕ)) : Type 0 where
 -- ---- models that use themselves
 
 -- a model is used by another, directly or through others, or is it
-pub data Reaches (models : List Model) : List ℕ → List ℕ → Type 0 where
-  here : {a : List ℕ} → Reaches models a a
-  onward : (k : ℕ) → {b : List ℕ} → k < length (uses_of models) → Reaches models (use_at models k).model b →
-      Reaches models (use_at models k).own b
+pub data LeadsToModel (models : List Model) : List ℕ → List ℕ → Type 0 where
+  here : {a : List ℕ} → LeadsToModel models a a
+  onward : (k : ℕ) → {b : List ℕ} → k < length (uses_of models) → LeadsToModel models (use_at models k).model b →
+      LeadsToModel models (use_at models k).own b
 
 -- through the line its own model is used again
 abbrev pub IsRecursive : List Model → ℕ → Type 0
-IsRecursive models k = Reaches models (use_at models k).model (use_at models k).own
+IsRecursive models k = LeadsToModel models (use_at models k).model (use_at models k).own
 
 -- ---- the rules
 

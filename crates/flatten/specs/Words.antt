@@ -9,7 +9,7 @@ use Rattle.netlist.specs.Drafts.{word, signal_at, line_at}
 use Rattle.netlist.specs.Checks.{IsDoubledIn}
 use Rattle.flatten.specs.declared.model.Signal.{Signal}
 use Rattle.flatten.specs.Lines.{Part, InputPart, OutputPart, CoverPart, LatchPart, UsePart, Line}
-use Rattle.flatten.specs.Signals.{number_of, signals_of}
+use Rattle.flatten.specs.Signals.{signal_number, signals_of}
 use Rattle.flatten.specs.Netlists.{cover_on}
 
 -- signals by their numbers
@@ -19,10 +19,10 @@ module _ (signals : List Signal) where
   drive_on l = by l.part
     where
       by : Part Signal → List PortDef
-      by (InputPart s) = word l.number (number_of signals s) ∷ []
+      by (InputPart s) = word l.number (signal_number signals s) ∷ []
       by (OutputPart s) = []
-      by (CoverPart out ins rows off) = word l.number (number_of signals out) ∷ []
-      by (LatchPart from out init control) = word l.number (number_of signals out) ∷ []
+      by (CoverPart out ins rows off) = word l.number (signal_number signals out) ∷ []
+      by (LatchPart from out init control) = word l.number (signal_number signals out) ∷ []
       by (UsePart m pairs way) = []
 
   -- an output of the design reads, and so do the inputs of a cover, from left to right, and the input of a latch
@@ -31,9 +31,9 @@ module _ (signals : List Signal) where
     where
       by : Part Signal → List PortDef
       by (InputPart s) = []
-      by (OutputPart s) = word l.number (number_of signals s) ∷ []
-      by (CoverPart out ins rows off) = map (λ s. word l.number (number_of signals s)) ins
-      by (LatchPart from out init control) = word l.number (number_of signals from) ∷ []
+      by (OutputPart s) = word l.number (signal_number signals s) ∷ []
+      by (CoverPart out ins rows off) = map (λ s. word l.number (signal_number signals s)) ins
+      by (LatchPart from out init control) = word l.number (signal_number signals from) ∷ []
       by (UsePart m pairs way) = []
 
 -- in the order of the lines

@@ -3,7 +3,7 @@
 ghost use Rattle.std.specs.Prelude.{◌≡◌, IfOk, OnOk, map};
 ghost use Rattle.flatten.specs.Placed.{placed_line};
 ghost use Rattle.flatten.specs.Lists.{Adds, AreLists};
-ghost use Rattle.flatten.specs.Signals.{number_of};
+ghost use Rattle.flatten.specs.Signals.{signal_number};
 
 use crate::model::Signal;
 use crate::placed::{Placed, PlacedPart};
@@ -22,7 +22,7 @@ pub struct Lists {
 }
 
 fn numbers(alloc: Global, signals: &Signals, words: &[Signal]) -> Result<Vec<u32>, AllocError>
-    ensures { IfOk result (λ v. v.items ≡ map (number_of signals.now) words.now) }
+    ensures { IfOk result (λ v. v.items ≡ map (signal_number signals.now) words.now) }
 {
     let mut found = Vec::new(alloc);
     'words: for word in words {

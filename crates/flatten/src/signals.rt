@@ -2,7 +2,7 @@
 
 ghost use Rattle.std.specs.Prelude.{◌≡◌, ◌≤◌, [], length, IfErr, OnOk};
 ghost use Rattle.flatten.specs.Refusals.{IsPast};
-ghost use Rattle.flatten.specs.Signals.{with_signal, with_signals, number_of};
+ghost use Rattle.flatten.specs.Signals.{with_signal, with_signals, signal_number};
 
 use crate::model::Signal;
 use crate::refusal::Refusal;
@@ -67,7 +67,7 @@ impl Signals {
 
     /// The number of a signal.
     pub fn number(&self, signal: Signal) -> u32
-        ensures { result ≡ number_of self.now signal }
+        ensures { result ≡ signal_number self.now signal }
     {
         match self.set.get_index_of(&signal) {
             Some(number) => number as u32,

@@ -9,7 +9,7 @@ ghost use Rattle.netlist.specs.Words.{sooner};
 ghost use Rattle.flatten.specs.declared.refusal.Refusal.TheVariants.{Memory};
 ghost use Rattle.flatten.specs.Drives.{AreDrives, places_of};
 ghost use Rattle.flatten.specs.Placed.{placed_line};
-ghost use Rattle.flatten.specs.Signals.{number_of};
+ghost use Rattle.flatten.specs.Signals.{signal_number};
 ghost use Rattle.flatten.specs.Words.{drive_on, read_on};
 
 use crate::drives::{Driver, Drives, first_at};
@@ -88,7 +88,7 @@ fn among_inputs(
     line: u64,
     found: Option<PortDef>,
 ) -> Option<PortDef>
-    ensures { result ≡ fold (sooner (places_of firsts.now)) found (map (λ s. word line (number_of signals.now s)) ins.now) }
+    ensures { result ≡ fold (sooner (places_of firsts.now)) found (map (λ s. word line (signal_number signals.now s)) ins.now) }
 {
     let mut best = found;
     'ins: for k in 0..ins.len() {

@@ -3,7 +3,7 @@ use Rattle.std.specs.Prelude.{◌≡◌, ℕ, ◌+◌, ◌≤◌, Bool, List, []
 use Rattle.std.specs.List.{All}
 use Rattle.tm_outside.specs.Told.{Told}
 use Rattle.tm_outside.specs.Counts.{next_count}
-use Rattle.tm_outside.specs.Store.{Place, StoreState}
+use Rattle.tm_outside.specs.Store.{StorePlace, StoreState}
 use Rattle.hierarchy.specs.Circuit.{Pins}
 use Rattle.hierarchy.specs.Faults.{Faults}
 use Rattle.config_set.specs.Faulty.{IsRun}
@@ -37,7 +37,7 @@ pub record IsSession (rig : RigState) (i : ImageValue) (vectors rows : List (Lis
   pub room : most_rows ≤ spare_of rig + length rows
 
 -- the rows of an image
-abbrev pub image_rows : ImageValue → Told → Option Place → RigState → RowWork
+abbrev pub image_rows : ImageValue → Told → Option StorePlace → RigState → RowWork
 image_rows i told place rig = record {
   width = length i.inputs;
   told = told;

@@ -1,7 +1,7 @@
 -- What is laid on a machine: one design, or several side by side.
 use Rattle.std.specs.Prelude.{◌≡◌, ◌≤◌, ℕ, Bool, List, length, Option, IfSome}
 use Rattle.tm_outside.specs.Told.{Told}
-use Rattle.tm_outside.specs.Store.{Place}
+use Rattle.tm_outside.specs.Store.{StorePlace}
 use Rattle.hierarchy.specs.Defects.{Covers}
 use Rattle.hierarchy.specs.Faults.{Faults}
 use Rattle.defect_db.specs.Lists.{DefectList}
@@ -32,7 +32,7 @@ pub record AreLaidRows (w : Laid) (rig : RigState) (i : ImageValue) (vectors row
   pub read : AreRowsOf rig i vectors rows
   pub right : IfSome rig.machine.faults (λ f. w.rows vectors rows)
 
-abbrev pub rows_work : Laid → ImageValue → Told → Option Place → RigState → RowWork
+abbrev pub rows_work : Laid → ImageValue → Told → Option StorePlace → RigState → RowWork
 rows_work w i told place rig = record {
   width = length i.inputs;
   told = told;

@@ -9,7 +9,7 @@ use Rattle.netlist.specs.declared.draft.PortDef.{PortDef}
 use Rattle.netlist.specs.declared.checks.Found.TheVariants.{Undriven, Cyclic}
 use Rattle.netlist.specs.Orders.{IsBefore, IsFirst}
 use Rattle.netlist.specs.Covers.{cover_at, no_cover}
-use Rattle.netlist.specs.Drafts.{word, word_at, signal_at, line_at, cover_drive, latch_drive, drives_of, reads_of, IsDriven, IsWellMade}
+use Rattle.netlist.specs.Drafts.{word, word_at, signal_at, line_at, cover_drive, latch_drive, drive_words, reads_of, IsDriven, IsWellMade}
 use Rattle.netlist.specs.Checks.{IsChecked, IsDoubledIn, IsUndriven, IsFirstDoubled, IsFirstUndriven}
 use Rattle.netlist.specs.Words.{place_at, AreFirstWords, sooner, IsDrivenOnce, IsFoundIn}
 use Rattle.netlist.proofs.ListLemmas.{few_numbers}
@@ -18,20 +18,20 @@ use Rattle.netlist.proofs.WordLemmas.{IsFree, place, place_first, at_place, fold
 
 -- where the output of a cover stands among the words that drive
 module _ (d : Draft) where
-  pub cover_place : (i : ℕ) → i < length d.covers → length d.inputs + i < length (drives_of d)
+  pub cover_place : (i : ℕ) → i < length d.covers → length d.inputs + i < length (drive_words d)
   cover_place i li =
       omega (arith, length-append (d.inputs ++ map cover_drive d.covers) (map latch_drive d.latches), length-append d.inputs (map cover_drive d.covers), length-map d.covers cover_drive)
 
-  pub cover_word : (i : ℕ) → i < length d.covers → word_at (drives_of d) (length d.inputs + i) ≡ cover_drive (cover_at d.covers i)
+  pub cover_word : (i : ℕ) → i < length d.covers → word_at (drive_words d) (length d.inputs + i) ≡ cover_drive (cover_at d.covers i)
   cover_word i li =
       get_or_append_left (d.inputs ++ map cover_drive d.covers) (map latch_drive d.latches) (word 0 0) (length d.inputs + i) (omega (arith, length-append d.inputs (map cover_drive d.covers), length-map d.covers cover_drive))
       ∙ get_or-append-add d.inputs (map cover_drive d.covers) i (word 0 0)
       ∙ get_or-map cover_drive d.covers i no_cover (word 0 0) li
 
-  pub cover_signal : (i : ℕ) → i < length d.covers → signal_at (drives_of d) (length d.inputs + i) ≡ (cover_at d.covers i).out
+  pub cover_signal : (i : ℕ) → i < length d.covers → signal_at (drive_words d) (length d.inputs + i) ≡ (cover_at d.covers i).out
   cover_signal i li = ap (λ (w : PortDef). w.signal) (cover_word i li)
 
-  pub outs_apart : ((j k : ℕ) → j < k → k < length (drives_of d) → signal_at (drives_of d) j ≡ signal_at (drives_of d) k → ⊥) → (i j : ℕ) → i < j → j < length d.covers → (cover_at d.covers i).out ≡ (cover_at d.covers j).out → ⊥
+  pub outs_apart : ((j k : ℕ) → j < k → k < length (drive_words d) → signal_at (drive_words d) j ≡ signal_at (drive_words d) k → ⊥) → (i j : ℕ) → i < j → j < length d.covers → (cover_at d.covers i).out ≡ (cover_at d.covers j).out → ⊥
   outs_apart once i j lt lj e = once (length d.inputs + i) (length d.inputs + j) (omega arith) (cover_place j lj) (cover_signal i (omega arith) ∙ e ∙ sym (cover_signal j lj))
 
 -- covers that drive different signals are no more than the signals
@@ -46,42 +46,42 @@ few_covers covers signals below apart =
     out_at k lk = get_or-map (λ (c : Cover). c.out) covers k no_cover 0 lk
 
 module _ (d : Draft) where
-  pub once_of : IsFirstDoubled d None → (j k : ℕ) → j < k → k < length (drives_of d) → signal_at (drives_of d) j ≡ signal_at (drives_of d) k → ⊥
+  pub once_of : IsFirstDoubled d None → (j k : ℕ) → j < k → k < length (drive_words d) → signal_at (drive_words d) j ≡ signal_at (drive_words d) k → ⊥
   once_of none j k lt lk e =
-      elim (cases_lt (line_at (drives_of d) k) (line_at (drives_of d) j)) [
+      elim (cases_lt (line_at (drive_words d) k) (line_at (drive_words d) j)) [
         | inl l ↦ none j (omega arith) (k, lk, inl l, sym e)
-        | inr l ↦ none k lk (j, omega arith, upper (cases_lt (line_at (drives_of d) j) (line_at (drives_of d) k)) l lt, e)
+        | inr l ↦ none k lk (j, omega arith, upper (cases_lt (line_at (drive_words d) j) (line_at (drive_words d) k)) l lt, e)
       ]
     where
-      upper : (line_at (drives_of d) j < line_at (drives_of d) k) ⊎ (line_at (drives_of d) k ≤ line_at (drives_of d) j) → line_at (drives_of d) j ≤ line_at (drives_of d) k → j < k → IsBefore (line_at (drives_of d)) j k
+      upper : (line_at (drive_words d) j < line_at (drive_words d) k) ⊎ (line_at (drive_words d) k ≤ line_at (drive_words d) j) → line_at (drive_words d) j ≤ line_at (drive_words d) k → j < k → IsBefore (line_at (drive_words d)) j k
       upper (inl a) l lt = inl a
       upper (inr a) l lt = inr (omega arith, lt)
 
-  pub found_doubled : (words : List PortDef) → words ≡ drives_of d → (k : ℕ) → IsFirst (line_at words) (length words) (IsDoubledIn words) (Some k) → IsFirstDoubled d (Some k)
+  pub found_doubled : (words : List PortDef) → words ≡ drive_words d → (k : ℕ) → IsFirst (line_at words) (length words) (IsDoubledIn words) (Some k) → IsFirstDoubled d (Some k)
   found_doubled words e k h =
       let P : List PortDef → Type 0 = λ ws. IsFirst (line_at ws) (length ws) (IsDoubledIn ws) (Some k) in
       subst P e h
 
-  pub none_doubled : (words : List PortDef) → words ≡ drives_of d → IsFirst (line_at words) (length words) (IsDoubledIn words) None → IsFirstDoubled d None
+  pub none_doubled : (words : List PortDef) → words ≡ drive_words d → IsFirst (line_at words) (length words) (IsDoubledIn words) None → IsFirstDoubled d None
   none_doubled words e h =
       let P : List PortDef → Type 0 = λ ws. IsFirst (line_at ws) (length ws) (IsDoubledIn ws) None in
       subst P e h
 
-  module _ (made : IsWellMade d) (firsts : List (Option ℕ)) (words : List PortDef) (are_words : words ≡ drives_of d) (count : ℕ) (same : count ≡ length d.names) (table : AreFirstWords words (length words) count firsts) where
-    are : AreFirstWords (drives_of d) (length (drives_of d)) (length d.names) firsts
+  module _ (made : IsWellMade d) (firsts : List (Option ℕ)) (words : List PortDef) (are_words : words ≡ drive_words d) (count : ℕ) (same : count ≡ length d.names) (table : AreFirstWords words (length words) count firsts) where
+    are : AreFirstWords (drive_words d) (length (drive_words d)) (length d.names) firsts
     are =
         let P : List PortDef → Type 0 = λ ws. AreFirstWords ws (length ws) count firsts in
         λ s ls. subst P are_words table s (omega arith)
 
-    free_of : (s : ℕ) (found : Option ℕ) → IsFirst (line_at (drives_of d)) (length (drives_of d)) (λ k. signal_at (drives_of d) k ≡ s) found → not (is_some found) ≡ true → IsDriven d s → ⊥
+    free_of : (s : ℕ) (found : Option ℕ) → IsFirst (line_at (drive_words d)) (length (drive_words d)) (λ k. signal_at (drive_words d) k ≡ s) found → not (is_some found) ≡ true → IsDriven d s → ⊥
     free_of s None h e driven = h driven.0 driven.1 driven.2
     free_of s (Some j) h e driven = cc
 
-    of_free : (s : ℕ) (found : Option ℕ) → IsFirst (line_at (drives_of d)) (length (drives_of d)) (λ k. signal_at (drives_of d) k ≡ s) found → (IsDriven d s → ⊥) → not (is_some found) ≡ true
+    of_free : (s : ℕ) (found : Option ℕ) → IsFirst (line_at (drive_words d)) (length (drive_words d)) (λ k. signal_at (drive_words d) k ≡ s) found → (IsDriven d s → ⊥) → not (is_some found) ≡ true
     of_free s None h undriven = refl
     of_free s (Some j) h undriven = absurd (undriven (j, h.0, h.1))
 
-    driven_of : (s : ℕ) (found : Option ℕ) → IsFirst (line_at (drives_of d)) (length (drives_of d)) (λ k. signal_at (drives_of d) k ≡ s) found → (not (is_some found) ≡ true → ⊥) → IsDriven d s
+    driven_of : (s : ℕ) (found : Option ℕ) → IsFirst (line_at (drive_words d)) (length (drive_words d)) (λ k. signal_at (drive_words d) k ≡ s) found → (not (is_some found) ≡ true → ⊥) → IsDriven d s
     driven_of s None h e = absurd (e refl)
     driven_of s (Some j) h e = (j, h.0, h.1)
 

@@ -9,10 +9,10 @@ use Rattle.netlist.specs.declared.draft.Draft.{Draft}
 use Rattle.netlist.specs.declared.draft.LatchDef.{LatchDef}
 use Rattle.netlist.specs.declared.draft.PortDef.{PortDef}
 use Rattle.netlist.specs.Covers.{cover_at}
-use Rattle.netlist.specs.Drafts.{word, signal_at, cover_drive, latch_drive, drives_of, IsDriven}
+use Rattle.netlist.specs.Drafts.{word, signal_at, cover_drive, latch_drive, drive_words, IsDriven}
 use Rattle.netlist.specs.Valuations.{IsSettled}
 use Rattle.netlist.specs.Checks.{IsChecked}
-use Rattle.netlist.specs.Rows.{IsRight, HasOneRight, RowsFrom, outputs_in, next_state}
+use Rattle.netlist.specs.Rows.{IsRightValuation, HasOneRight, RowsFrom, outputs_in, next_state}
 use Rattle.netlist.proofs.ListLemmas.{stands_or}
 use Rattle.netlist.proofs.CheckLemmas.{cover_place, cover_signal, outs_apart}
 use Rattle.netlist.proofs.ValuationLemmas.{one_valuation}
@@ -67,20 +67,20 @@ module _ (d : Draft) where
   inputs_covers : List PortDef
   inputs_covers = d.inputs ++ map cover_drive d.covers
 
-  length_drives : length (drives_of d) ≡ length d.inputs + length d.covers + length d.latches
+  length_drives : length (drive_words d) ≡ length d.inputs + length d.covers + length d.latches
   length_drives = omega (arith, length-append (d.inputs ++ map cover_drive d.covers) (map latch_drive d.latches), length-append d.inputs (map cover_drive d.covers), length-map d.covers cover_drive, length-map d.latches latch_drive)
 
-  input_signal : (k : ℕ) → k < length d.inputs → signal_at (drives_of d) k ≡ (get_or d.inputs k no_port).signal
+  input_signal : (k : ℕ) → k < length d.inputs → signal_at (drive_words d) k ≡ (get_or d.inputs k no_port).signal
   input_signal k lk =
       ap (λ (w : PortDef). w.signal)
       (get_or_append_left (d.inputs ++ map cover_drive d.covers) (map latch_drive d.latches) no_port k (omega (arith, length-append d.inputs (map cover_drive d.covers)))
       ∙ get_or_append_left d.inputs (map cover_drive d.covers) no_port k lk)
 
-  latch_signal : (k : ℕ) → k < length d.latches → signal_at (drives_of d) (length d.inputs + length d.covers + k) ≡ (get_or d.latches k no_latch).out
+  latch_signal : (k : ℕ) → k < length d.latches → signal_at (drive_words d) (length d.inputs + length d.covers + k) ≡ (get_or d.latches k no_latch).out
   latch_signal k lk =
       let n : length d.inputs + length d.covers ≡ length (d.inputs ++ map cover_drive d.covers) = omega (arith, length-append d.inputs (map cover_drive d.covers), length-map d.covers cover_drive) in
       ap (λ (w : PortDef). w.signal)
-      (ap (λ m. get_or (drives_of d) (m + k) no_port) n
+      (ap (λ m. get_or (drive_words d) (m + k) no_port) n
       ∙ get_or-append-add (d.inputs ++ map cover_drive d.covers) (map latch_drive d.latches) k no_port
       ∙ get_or-map latch_drive d.latches k no_latch no_port lk)
 
@@ -93,7 +93,7 @@ module _ (d : Draft) where
     not_latch k lk i li e = is.once (length d.inputs + i) (length d.inputs + length d.covers + k) (omega arith) (omega (arith, length_drives)) (cover_signal d i li ∙ e ∙ sym (latch_signal k lk))
 
     -- covers that are settled over the vector, the state and 0 are right
-    pub settled_is_right : (state vector : List Bool) (base given : ℕ → Bool) → map (λ p. base p.signal) d.inputs ≡ vector → map (λ l. base l.out) d.latches ≡ state → ((s : ℕ) → (IsDriven d s → ⊥) → base s ≡ false) → IsSettled d.covers base given → IsRight d state vector given
+    pub settled_is_right : (state vector : List Bool) (base given : ℕ → Bool) → map (λ p. base p.signal) d.inputs ≡ vector → map (λ l. base l.out) d.latches ≡ state → ((s : ℕ) → (IsDriven d s → ⊥) → base s ≡ false) → IsSettled d.covers base given → IsRightValuation d state vector given
     settled_is_right state vector base given inputs latches others settled = record {
       inputs = map_each (λ (p : PortDef). given p.signal) (λ (p : PortDef). base p.signal) no_port d.inputs (λ k lk. settled.others (get_or d.inputs k no_port).signal (not_input k lk)) ∙ inputs;
       latches = map_each (λ (l : LatchDef). given l.out) (λ (l : LatchDef). base l.out) no_latch d.latches (λ k lk. settled.others (get_or d.latches k no_latch).out (not_latch k lk)) ∙ latches;
@@ -109,17 +109,17 @@ module _ (d : Draft) where
       latch : (k : ℕ) → k < length d.latches → (get_or d.latches k no_latch).out ≡ s → Source s
 
     signals : List ℕ
-    signals = map (λ (w : PortDef). w.signal) (drives_of d)
+    signals = map (λ (w : PortDef). w.signal) (drive_words d)
 
-    signal_is : (k e : ℕ) → k < length (drives_of d) → get_or signals k e ≡ signal_at (drives_of d) k
+    signal_is : (k e : ℕ) → k < length (drive_words d) → get_or signals k e ≡ signal_at (drive_words d) k
     unfolding signals
-    signal_is k e lk = get_or-map (λ (w : PortDef). w.signal) (drives_of d) k no_port e lk
+    signal_is k e lk = get_or-map (λ (w : PortDef). w.signal) (drive_words d) k no_port e lk
 
-    length_signals : length signals ≡ length (drives_of d)
+    length_signals : length signals ≡ length (drive_words d)
     unfolding signals
-    length_signals = length-map (drives_of d) (λ (w : PortDef). w.signal)
+    length_signals = length-map (drive_words d) (λ (w : PortDef). w.signal)
 
-    place : (k s : ℕ) → k < length (drives_of d) → signal_at (drives_of d) k ≡ s → Source s
+    place : (k s : ℕ) → k < length (drive_words d) → signal_at (drive_words d) k ≡ s → Source s
     place k s lk e = by (cases_lt k (length d.inputs)) (cases_lt k (length d.inputs + length d.covers))
       where
         by : (k < length d.inputs) ⊎ (length d.inputs ≤ k) → (k < length d.inputs + length d.covers) ⊎ (length d.inputs + length d.covers ≤ k) → Source s
@@ -127,22 +127,22 @@ module _ (d : Draft) where
         by (inr g) (inl l) =
             let i : ℕ = k - length d.inputs in
             let at : length d.inputs + i ≡ k = omega arith in
-            cover i (omega arith) (sym (cover_signal d i (omega arith)) ∙ ap (λ x. signal_at (drives_of d) x) at ∙ e)
+            cover i (omega arith) (sym (cover_signal d i (omega arith)) ∙ ap (λ x. signal_at (drive_words d) x) at ∙ e)
         by (inr g) (inr h) =
             let i : ℕ = k - (length d.inputs + length d.covers) in
             let at : length d.inputs + length d.covers + i ≡ k = omega arith in
             let li : i < length d.latches = omega (arith, length_drives) in
-            latch i li (sym (latch_signal i li) ∙ ap (λ x. signal_at (drives_of d) x) at ∙ e)
+            latch i li (sym (latch_signal i li) ∙ ap (λ x. signal_at (drive_words d) x) at ∙ e)
 
     source : (s : ℕ) → Source s
     source s = by (stands_or signals s)
       where
         by : Contains signals s ⊎ (Contains signals s → ⊥) → Source s
-        by (inl c) = let lk : c.0 < length (drives_of d) = omega (arith, c.1, length_signals) in place c.0 s lk (sym (signal_is c.0 s lk) ∙ c.2)
+        by (inl c) = let lk : c.0 < length (drive_words d) = omega (arith, c.1, length_signals) in place c.0 s lk (sym (signal_is c.0 s lk) ∙ c.2)
         by (inr n) = nobody (λ driven. n (driven.0, omega (arith, driven.1, length_signals), signal_is driven.0 s driven.1 ∙ driven.2))
 
     -- a right valuation is settled over another one
-    settled_over : (state vector : List Bool) (x y : ℕ → Bool) → IsRight d state vector x → IsRight d state vector y → IsSettled d.covers x y
+    settled_over : (state vector : List Bool) (x y : ℕ → Bool) → IsRightValuation d state vector x → IsRightValuation d state vector y → IsSettled d.covers x y
     settled_over state vector x y p q = record { truths = q.truths; others = λ s none. by s none (source s) }
       where
         by : (s : ℕ) → ((i : ℕ) → i < length d.covers → (cover_at d.covers i).out ≡ s → ⊥) → Source s → y s ≡ x s
@@ -151,7 +151,7 @@ module _ (d : Draft) where
         by s none (cover i li e) = absurd (none i li e)
         by s none (latch k lk e) = subst (λ z. y z ≡ x z) e (at_map (λ (l : LatchDef). y l.out) no_latch d.latches state k q.latches lk ∙ sym (at_map (λ (l : LatchDef). x l.out) no_latch d.latches state k p.latches lk))
 
-    pub right_agrees : (state vector : List Bool) (x y : ℕ → Bool) → IsRight d state vector x → IsRight d state vector y → (s : ℕ) → x s ≡ y s
+    pub right_agrees : (state vector : List Bool) (x y : ℕ → Bool) → IsRightValuation d state vector x → IsRightValuation d state vector y → (s : ℕ) → x s ≡ y s
     right_agrees state vector x y p q s =
         let one = one_valuation d.covers (outs_apart d is.once) is.acyclic x in
         one.2 x (settled_over state vector x x p p) s ∙ sym (one.2 y (settled_over state vector x y p q) s)
@@ -160,7 +160,7 @@ module _ (d : Draft) where
       bits : List Bool
       bits = vector ++ map (λ (c : Cover). false) d.covers ++ state
 
-      length_bits : length bits ≡ length (drives_of d)
+      length_bits : length bits ≡ length (drive_words d)
       unfolding bits
       length_bits = omega (arith, length_drives, len_vector, len_state, length-append (vector ++ map (λ (c : Cover). false) d.covers) state, length-append vector (map (λ (c : Cover). false) d.covers), length-map d.covers (λ (c : Cover). false))
 
@@ -177,7 +177,7 @@ module _ (d : Draft) where
       base : ℕ → Bool
       base s = first_bit signals bits s
 
-      base_at : (k : ℕ) → k < length (drives_of d) → base (signal_at (drives_of d) k) ≡ get_or bits k false
+      base_at : (k : ℕ) → k < length (drive_words d) → base (signal_at (drive_words d) k) ≡ get_or bits k false
       unfolding base
       base_at k lk =
           ap (λ s. first_bit signals bits s) (sym (signal_is k 0 lk)) ∙ first_bit_at signals bits k (omega (arith, length_signals)) (omega (arith, length_bits, length_signals)) (λ j lj e. is.once j k lj lk (sym (signal_is j 0 (omega arith)) ∙ e ∙ signal_is k 0 lk))
@@ -207,7 +207,7 @@ module _ (d : Draft) where
         let rest = one_rows (next_state d one.0) vectors (length-map d.latches (λ (l : LatchDef). one.0 l.from)) (λ k e lk. all (suc k) e (omega arith)) in
         (outputs_in d one.0 ∷ rest.0, (one.0, one.1, refl, rest.1), λ other h. only one.0 one.2 rest.0 rest.2 other h)
       where
-        only : (given : ℕ → Bool) → ((other : ℕ → Bool) → IsRight d state vector other → (s : ℕ) → other s ≡ given s) → (rows : List (List Bool)) → ((other : List (List Bool)) → RowsFrom d (next_state d given) vectors other → other ≡ rows) → (other : List (List Bool)) → RowsFrom d state (vector ∷ vectors) other → other ≡ outputs_in d given ∷ rows
+        only : (given : ℕ → Bool) → ((other : ℕ → Bool) → IsRightValuation d state vector other → (s : ℕ) → other s ≡ given s) → (rows : List (List Bool)) → ((other : List (List Bool)) → RowsFrom d (next_state d given) vectors other → other ≡ rows) → (other : List (List Bool)) → RowsFrom d state (vector ∷ vectors) other → other ≡ outputs_in d given ∷ rows
         only given same rows unique [] h = absurd h
         only given same rows unique (row ∷ others) h =
             let outs : row ≡ outputs_in d given = h.2 ∙ map_each (λ (p : PortDef). h.0 p.signal) (λ (p : PortDef). given p.signal) no_port d.outputs (λ k lk. same h.0 h.1 (get_or d.outputs k no_port).signal) in

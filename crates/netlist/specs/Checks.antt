@@ -8,12 +8,12 @@ use Rattle.netlist.specs.declared.fault.DesignFault.{DesignFault}
 use Rattle.netlist.specs.declared.fault.DesignFault.TheVariants.{At, Memory}
 use Rattle.netlist.specs.Orders.{IsBefore, IsFirst}
 use Rattle.netlist.specs.Covers.{cover_at, cover_line, IsOnCycle}
-use Rattle.netlist.specs.Drafts.{drives_of, reads_of, signal_at, line_at, IsDriven, name_at, IsWellMade}
+use Rattle.netlist.specs.Drafts.{drive_words, reads_of, signal_at, line_at, IsDriven, name_at, IsWellMade}
 
 -- none is driven twice, each signal that is read is driven, and no cover is on a cycle
 pub record IsChecked (d : Draft) : Type 0 where
   pub made : IsWellMade d
-  pub once : (j k : ℕ) → j < k → k < length (drives_of d) → signal_at (drives_of d) j ≡ signal_at (drives_of d) k → ⊥
+  pub once : (j k : ℕ) → j < k → k < length (drive_words d) → signal_at (drive_words d) j ≡ signal_at (drive_words d) k → ⊥
   pub driven : (k : ℕ) → k < length (reads_of d) → IsDriven d (signal_at (reads_of d) k)
   pub acyclic : (i : ℕ) → i < length d.covers → IsOnCycle d.covers i → ⊥
 
@@ -23,14 +23,14 @@ IsDoubledIn words k = (j : ℕ) × (j < length words) × IsBefore (line_at words
 
 -- the word drives a signal that an earlier word drives
 abbrev pub IsDoubled : Draft → ℕ → Type 0
-IsDoubled d k = IsDoubledIn (drives_of d) k
+IsDoubled d k = IsDoubledIn (drive_words d) k
 
 -- the word reads a signal that nothing drives
 abbrev pub IsUndriven : Draft → ℕ → Type 0
 IsUndriven d k = IsDriven d (signal_at (reads_of d) k) → ⊥
 
 abbrev pub IsFirstDoubled : Draft → Option ℕ → Type 0
-IsFirstDoubled d found = IsFirst (line_at (drives_of d)) (length (drives_of d)) (IsDoubled d) found
+IsFirstDoubled d found = IsFirst (line_at (drive_words d)) (length (drive_words d)) (IsDoubled d) found
 
 abbrev pub IsFirstUndriven : Draft → Option ℕ → Type 0
 IsFirstUndriven d found = IsFirst (line_at (reads_of d)) (length (reads_of d)) (IsUndriven d) found
@@ -42,7 +42,7 @@ IsFirstCyclic d found = IsFirst (cover_line d.covers) (length d.covers) (IsOnCyc
 -- The name is the signal's
 abbrev pub IsDesignFault : Draft → ℕ → DesignKind → Type 0
 IsDesignFault d line (Doubled name) =
-    (k : ℕ) × IsFirstDoubled d (Some k) × (line ≡ line_at (drives_of d) k) × (name ≡ name_at d (signal_at (drives_of d) k))
+    (k : ℕ) × IsFirstDoubled d (Some k) × (line ≡ line_at (drive_words d) k) × (name ≡ name_at d (signal_at (drive_words d) k))
 IsDesignFault d line (Undriven name) =
     IsFirstDoubled d None × (k : ℕ) × IsFirstUndriven d (Some k) × (line ≡ line_at (reads_of d) k)
     × (name ≡ name_at d (signal_at (reads_of d) k))

@@ -28,8 +28,8 @@ abbrev pub latch_drive : LatchDef → PortDef
 latch_drive l = word l.line l.out
 
 -- inputs, outputs of covers and outputs of latches drive
-abbrev pub drives_of : Draft → List PortDef
-drives_of d = d.inputs ++ map cover_drive d.covers ++ map latch_drive d.latches
+abbrev pub drive_words : Draft → List PortDef
+drive_words d = d.inputs ++ map cover_drive d.covers ++ map latch_drive d.latches
 
 abbrev pub cover_reads : Cover → List PortDef
 cover_reads c = map (word c.line) c.ins
@@ -43,7 +43,7 @@ reads_of d = d.outputs ++ flat_map cover_reads d.covers ++ map latch_read d.latc
 
 -- some word drives the signal
 abbrev pub IsDriven : Draft → ℕ → Type 0
-IsDriven d s = (k : ℕ) × (k < length (drives_of d)) × (signal_at (drives_of d) k ≡ s)
+IsDriven d s = (k : ℕ) × (k < length (drive_words d)) × (signal_at (drive_words d) k ≡ s)
 
 abbrev pub name_at : Draft → ℕ → List ℕ
 name_at d s = slice_index_or d.names s []
@@ -58,7 +58,7 @@ cover_characters c = sum_by row_characters c.rows
 -- signals are below the number of names, rows as long as the inputs, and nothing is more than is allowed
 pub record IsWellMade (d : Draft) : Type 0 where
   pub covers : (i : ℕ) → i < length d.covers → IsCoverOver (cover_at d.covers i) (length d.names)
-  pub drives : (k : ℕ) → k < length (drives_of d) → signal_at (drives_of d) k < length d.names
+  pub drives : (k : ℕ) → k < length (drive_words d) → signal_at (drive_words d) k < length d.names
   pub reads : (k : ℕ) → k < length (reads_of d) → signal_at (reads_of d) k < length d.names
   pub names : length d.names ≤ 65535
   pub outputs : length d.outputs ≤ 16777216

@@ -3,7 +3,7 @@ use Rattle.std.specs.Prelude.{ℕ, ◌≡◌, ◌<◌, ◌↔◌, List, map, len
 use Rattle.netlist.specs.declared.draft.Cover.{Cover}
 use Rattle.netlist.specs.declared.search.State.{State}
 use Rattle.netlist.specs.Covers.{Reaches}
-use Rattle.netlist.specs.Searches.{number_of}
+use Rattle.netlist.specs.Searches.{search_number}
 use Rattle.netlist.specs.Valuations.{number_at}
 
 -- two covers have the same number exactly where each reaches the other
@@ -13,4 +13,4 @@ pub record AreGroups (covers : List Cover) (groups : List ℕ) : Type 0 where
       (number_at groups u ≡ number_at groups v) ↔ (Reaches covers u v × Reaches covers v u)
 
 abbrev pub numbers_of : List State → List ℕ
-numbers_of states = map number_of states
+numbers_of states = map search_number states

@@ -5,7 +5,7 @@ use Rattle.netlist.specs.Covers.{cover_at, truth}
 use Rattle.netlist.specs.Drafts.{IsDriven}
 
 -- inputs have the vector, outputs of latches the state, outputs of covers their truths, and what nothing drives is 0
-pub record IsRight (d : Draft) (state vector : List Bool) (given : ℕ → Bool) : Type 0 where
+pub record IsRightValuation (d : Draft) (state vector : List Bool) (given : ℕ → Bool) : Type 0 where
   pub inputs : map (λ p. given p.signal) d.inputs ≡ vector
   pub latches : map (λ l. given l.out) d.latches ≡ state
   pub truths : (i : ℕ) → i < length d.covers → given (cover_at d.covers i).out ≡ truth given (cover_at d.covers i)
@@ -27,7 +27,7 @@ RowsFrom d state [] [] = Unit {0}
 RowsFrom d state [] (row ∷ rows) = ⊥
 RowsFrom d state (vector ∷ vectors) [] = ⊥
 RowsFrom d state (vector ∷ vectors) (row ∷ rows) =
-    (given : ℕ → Bool) × IsRight d state vector given × (row ≡ outputs_in d given) × RowsFrom d (next_state d given) vectors rows
+    (given : ℕ → Bool) × IsRightValuation d state vector given × (row ≡ outputs_in d given) × RowsFrom d (next_state d given) vectors rows
 
 abbrev pub AreRows : Draft → List (List Bool) → List (List Bool) → Type 0
 AreRows d vectors rows = RowsFrom d (first_state d) vectors rows
@@ -35,7 +35,7 @@ AreRows d vectors rows = RowsFrom d (first_state d) vectors rows
 -- exactly one valuation is right
 abbrev pub HasOneRight : Draft → List Bool → List Bool → Type 0
 HasOneRight d state vector =
-    (given : ℕ → Bool) × IsRight d state vector given × ((other : ℕ → Bool) → IsRight d state vector other → (s : ℕ) → other s ≡ given s)
+    (given : ℕ → Bool) × IsRightValuation d state vector given × ((other : ℕ → Bool) → IsRightValuation d state vector other → (s : ℕ) → other s ≡ given s)
 
 -- exactly one list is that of the rows
 abbrev pub HasOneRows : Draft → List (List Bool) → Type 0

@@ -134,10 +134,10 @@ pub record AreNumbered (covers : List Cover) (states : List State) : Type 0 wher
   pub closed : (u v k : ℕ) → state_at states u ≡ Done k → Reads covers u v → (l : ℕ) × (state_at states v ≡ Done l) × (l ≤ k)
   pub together : (u v k : ℕ) → state_at states u ≡ Done k → state_at states v ≡ Done k → Reaches covers u v
 
-abbrev pub number_of : State → ℕ
-number_of New = 0
-number_of (Open p) = 0
-number_of (Done k) = k
+abbrev pub search_number : State → ℕ
+search_number New = 0
+search_number (Open p) = 0
+search_number (Done k) = k
 
 -- the covers that have numbers, in the order of these
 pub record IsListed (covers : List Cover) (states : List State) (order : List ℕ) : Type 0 where

@@ -7,7 +7,7 @@ use Rattle.netlist.specs.declared.checks.Found.{Found}
 use Rattle.netlist.specs.declared.checks.Found.TheVariants.{Doubled, Undriven, Cyclic, Order}
 use Rattle.netlist.specs.Orders.{IsFirst}
 use Rattle.netlist.specs.Covers.{cover_at}
-use Rattle.netlist.specs.Drafts.{signal_at, line_at, word_at, drives_of, reads_of, cover_drive, IsDriven, IsWellMade}
+use Rattle.netlist.specs.Drafts.{signal_at, line_at, word_at, drive_words, reads_of, cover_drive, IsDriven, IsWellMade}
 use Rattle.netlist.specs.Checks.{IsFirstDoubled, IsFirstUndriven, IsFirstCyclic}
 use Rattle.netlist.specs.Valuations.{IsOrder}
 
@@ -45,13 +45,13 @@ sooner firsts found w = if is_some (place_at firsts w.signal) then found else ne
 pub record IsDrivenOnce (d : Draft) : Type 0 where
   pub made : IsWellMade d
   pub undoubled : IsFirstDoubled d None
-  pub once : (j k : ℕ) → j < k → k < length (drives_of d) → signal_at (drives_of d) j ≡ signal_at (drives_of d) k → ⊥
+  pub once : (j k : ℕ) → j < k → k < length (drive_words d) → signal_at (drive_words d) j ≡ signal_at (drive_words d) k → ⊥
   pub complete : IsFirstUndriven d None
   pub driven : (k : ℕ) → k < length (reads_of d) → IsDriven d (signal_at (reads_of d) k)
 
 -- the word of the first fault, or that there is none
 abbrev pub IsFoundIn : Draft → Found → Type 0
-IsFoundIn d (Doubled w) = (k : ℕ) × IsFirstDoubled d (Some k) × (w ≡ word_at (drives_of d) k)
+IsFoundIn d (Doubled w) = (k : ℕ) × IsFirstDoubled d (Some k) × (w ≡ word_at (drive_words d) k)
 IsFoundIn d (Undriven w) = IsFirstDoubled d None × (k : ℕ) × IsFirstUndriven d (Some k) × (w ≡ word_at (reads_of d) k)
 IsFoundIn d (Cyclic w) = IsDrivenOnce d × (k : ℕ) × IsFirstCyclic d (Some k) × (w ≡ cover_drive (cover_at d.covers k))
 IsFoundIn d (Order order) = IsDrivenOnce d × IsFirstCyclic d None × IsOrder d.covers order.items

@@ -6,7 +6,7 @@ ghost use Rattle.std.specs.Option.{ForSome};
 ghost use Rattle.netlist.specs.Orders.{IsFirst, is_sooner};
 ghost use Rattle.netlist.specs.Covers.{cover_at};
 ghost use Rattle.netlist.specs.Drivers.{AreDriversBelow};
-ghost use Rattle.netlist.specs.Drafts.{signal_at, line_at, cover_drive, latch_drive, drives_of};
+ghost use Rattle.netlist.specs.Drafts.{signal_at, line_at, cover_drive, latch_drive, drive_words};
 ghost use Rattle.netlist.specs.Checks.{IsDoubledIn};
 ghost use Rattle.netlist.specs.Words.{AreFirstWords};
 
@@ -43,7 +43,7 @@ fn push_latches(words: &mut Vec<PortDef>, latches: &[LatchDef]) -> Result<(), Al
 
 /// The words that drive: inputs, then the outputs of covers, then those of latches.
 pub fn drives_of(alloc: Global, draft: &Draft) -> Result<Vec<PortDef>, AllocError>
-    ensures { IfOk result (λ words. words.items ≡ drives_of draft.now) }
+    ensures { IfOk result (λ words. words.items ≡ drive_words draft.now) }
 {
     let mut words = Vec::from_slice(alloc, draft.inputs.as_slice())?;
     push_covers(&mut words, draft.covers.as_slice())?;

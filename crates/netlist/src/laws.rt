@@ -4,7 +4,7 @@ ghost use Rattle.std.specs.Prelude.{◌≡◌, ◌<◌, ℕ, Bool, List, All, le
 ghost use Rattle.netlist.specs.declared.draft.Draft.{Draft};
 ghost use Rattle.netlist.specs.Drafts.{IsDriven};
 ghost use Rattle.netlist.specs.Checks.{IsChecked};
-ghost use Rattle.netlist.specs.Rows.{IsRight, HasOneRight, HasOneRows};
+ghost use Rattle.netlist.specs.Rows.{IsRightValuation, HasOneRight, HasOneRows};
 ghost use Rattle.netlist.specs.declared.draft.Cover.{Cover};
 ghost use Rattle.netlist.specs.Covers.{cover_at, IsOnCycle};
 ghost use Rattle.netlist.specs.Valuations.{HasOneValuation, IsSettled};
@@ -34,5 +34,5 @@ pub fn designs_have_one_list_of_rows()
 pub fn settled_valuations_are_right()
     ensures { (d : Draft) (state vector : List Bool) (base given : ℕ → Bool) → IsChecked d → map (λ p. base p.signal) d.inputs ≡ vector →
         map (λ l. base l.out) d.latches ≡ state → ((s : ℕ) → (IsDriven d s → ⊥) → base s ≡ false) → IsSettled d.covers base given →
-        IsRight d state vector given }
+        IsRightValuation d state vector given }
 {}

@@ -4,7 +4,7 @@ ghost use Rattle.std.specs.Prelude.{◌≡◌, ◌<◌, ◌≤◌, ◌+◌, ◌-
 ghost use Rattle.std.specs.Prelude.{None, MatchOption};
 ghost use Rattle.std.specs.Option.{IsSomeAnd};
 ghost use Rattle.netlist.specs.Drivers.{AreDrivers};
-ghost use Rattle.netlist.specs.Searches.{targets, state_at, number_of, LeadsTo, IsClosed, IsKept, IsTaken, IsListed, IsJoinedOn, StaysSeen};
+ghost use Rattle.netlist.specs.Searches.{targets, state_at, search_number, LeadsTo, IsClosed, IsKept, IsTaken, IsListed, IsJoinedOn, StaysSeen};
 ghost use Rattle.netlist.specs.Searches.{AreNumbered};
 ghost use Rattle.netlist.specs.States.{IsSearching, left_of, IsLast, IsLastOf, IsReadFromLast};
 ghost use Rattle.netlist.specs.declared.search.State.TheVariants.{New};
@@ -257,7 +257,7 @@ fn is_new(states: &Vec<State>, cover: usize) -> bool
 /// The number of a cover.
 pub fn number_of(states: &Vec<State>, cover: usize) -> usize
     requires { cover < length states.now.items }
-    ensures { result ≡ number_of (state_at states.now.items cover) }
+    ensures { result ≡ search_number (state_at states.now.items cover) }
 {
     match states[cover] {
         State::Done(number) => number,

@@ -11,10 +11,10 @@ use Rattle.netlist.specs.declared.draft.Draft.{Draft}
 use Rattle.netlist.specs.declared.draft.LatchDef.{LatchDef}
 use Rattle.netlist.specs.declared.draft.PortDef.{PortDef}
 use Rattle.netlist.specs.Covers.{no_cover, cover_at, IsCoverOver}
-use Rattle.netlist.specs.Drafts.{word, signal_at, cover_drive, latch_drive, cover_reads, latch_read, drives_of, reads_of, IsDriven}
+use Rattle.netlist.specs.Drafts.{word, signal_at, cover_drive, latch_drive, cover_reads, latch_read, drive_words, reads_of, IsDriven}
 use Rattle.netlist.specs.Valuations.{number_at, bit_at, IsOrder, IsSettled}
 use Rattle.netlist.specs.Checks.{IsChecked}
-use Rattle.netlist.specs.Rows.{IsRight}
+use Rattle.netlist.specs.Rows.{IsRightValuation}
 use Rattle.netlist.proofs.ListLemmas.{few_numbers}
 use Rattle.netlist.proofs.RightLemmas.{settled_is_right}
 use Rattle.netlist.proofs.ValuationLemmas.{map_same}
@@ -45,7 +45,7 @@ froms latches = map (λ (l : LatchDef). l.from) latches
 abbrev front : Draft → List ℕ
 front d = signals d.inputs ++ map (λ (c : Cover). c.out) d.covers
 
-drive-signals : (d : Draft) → signals (drives_of d) ≡ front d ++ outs d.latches
+drive-signals : (d : Draft) → signals (drive_words d) ≡ front d ++ outs d.latches
 drive-signals d =
     map-append (λ (w : PortDef). w.signal) (d.inputs ++ map cover_drive d.covers) (map latch_drive d.latches) ∙
     ap (λ (xs : List ℕ). xs ++ signals (map latch_drive d.latches)) (map-append (λ (w : PortDef). w.signal) d.inputs (map cover_drive d.covers) ∙ ap (λ (xs : List ℕ). signals d.inputs ++ xs) (map-map (λ (w : PortDef). w.signal) cover_drive d.covers)) ∙
@@ -58,14 +58,14 @@ read-signals d =
     ap (λ (xs : List ℕ). (signals d.outputs ++ signals (flat_map cover_reads d.covers)) ++ xs) (map-map (λ (w : PortDef). w.signal) latch_read d.latches)
 
 module _ (d : Draft) (is : IsChecked d) where
-  drive-at : (k : ℕ) → k < length (signals (drives_of d)) → get_or (signals (drives_of d)) k 0 ≡ signal_at (drives_of d) k
-  drive-at k lk = get_or-map (λ (w : PortDef). w.signal) (drives_of d) k (word 0 0) 0 (omega (arith, length-map (drives_of d) (λ (w : PortDef). w.signal)))
+  drive-at : (k : ℕ) → k < length (signals (drive_words d)) → get_or (signals (drive_words d)) k 0 ≡ signal_at (drive_words d) k
+  drive-at k lk = get_or-map (λ (w : PortDef). w.signal) (drive_words d) k (word 0 0) 0 (omega (arith, length-map (drive_words d) (λ (w : PortDef). w.signal)))
 
   drives-apart : AreApart (front d ++ outs d.latches)
-  drives-apart = subst AreApart (drive-signals d) (λ j k jk lk e. is.once j k jk (omega (arith, length-map (drives_of d) (λ (w : PortDef). w.signal))) (sym (drive-at j (omega arith)) ∙ e ∙ drive-at k lk))
+  drives-apart = subst AreApart (drive-signals d) (λ j k jk lk e. is.once j k jk (omega (arith, length-map (drive_words d) (λ (w : PortDef). w.signal))) (sym (drive-at j (omega arith)) ∙ e ∙ drive-at k lk))
 
   drives-below : AreBelow (length d.names) (front d ++ outs d.latches)
-  drives-below = subst (AreBelow (length d.names)) (drive-signals d) (λ k lk. omega (arith, drive-at k lk, is.made.drives k (omega (arith, length-map (drives_of d) (λ (w : PortDef). w.signal)))))
+  drives-below = subst (AreBelow (length d.names)) (drive-signals d) (λ k lk. omega (arith, drive-at k lk, is.made.drives k (omega (arith, length-map (drive_words d) (λ (w : PortDef). w.signal)))))
 
   reads-below : AreBelow (length d.names) ((signals d.outputs ++ signals (flat_map cover_reads d.covers)) ++ froms d.latches)
   reads-below = subst (AreBelow (length d.names)) (read-signals d) (λ k lk. (let n = length-map (reads_of d) (λ (w : PortDef). w.signal) in omega (arith, get_or-map (λ (w : PortDef). w.signal) (reads_of d) k (word 0 0) 0 (omega (arith, n)), is.made.reads k (omega (arith, n)))))
@@ -86,8 +86,8 @@ module _ (d : Draft) (is : IsChecked d) where
   driven : (s k : ℕ) → k < length (front d ++ outs d.latches) → get_or (front d ++ outs d.latches) k 0 ≡ s → IsDriven d s
   driven s k lk e =
       let size = ap (λ (xs : List ℕ). length xs) (drive-signals d) in
-      let lk' : k < length (signals (drives_of d)) = omega (arith, size) in
-      (k, omega (arith, size, length-map (drives_of d) (λ (w : PortDef). w.signal)), sym (drive-at k lk') ∙ ap (λ (xs : List ℕ). get_or xs k 0) (drive-signals d) ∙ e)
+      let lk' : k < length (signals (drive_words d)) = omega (arith, size) in
+      (k, omega (arith, size, length-map (drive_words d) (λ (w : PortDef). w.signal)), sym (drive-at k lk') ∙ ap (λ (xs : List ℕ). get_or xs k 0) (drive-signals d) ∙ e)
 
   pub input-driven : (s k : ℕ) → k < length (signals d.inputs) → get_or (signals d.inputs) k 0 ≡ s → IsDriven d s
   input-driven s k lk e =
@@ -197,7 +197,7 @@ module _ (d : Draft) (is : IsChecked d) where
         subst (λ (vs : List Bool). IsSettled d.covers (bit_at vs) (bit_at new)) at (subst (λ (cs : List Cover). IsSettled cs (bit_at second) (bit_at new)) e h)
 
     module _ (settled : List Bool) (s : IsSettled d.covers (bit_at given_all) (bit_at settled)) where
-      right : IsRight d state vector (bit_at settled)
+      right : IsRightValuation d state vector (bit_at settled)
       right = settled_is_right d is state vector (bit_at given_all) (bit_at settled) inputs-given latches-given others-given s
 
       pub step-is : (row next : List Bool) → row ≡ map (bit_at settled) (signals d.outputs) → next ≡ map (bit_at settled) (froms d.latches) → IsStep (record { netlist = d; state = state }) vector row (record { netlist = d; state = next })

@@ -1,7 +1,7 @@
 -- A design that is run, vector by vector.
 use Rattle.std.specs.Prelude.{◌≡◌, ℕ, List, Bool}
 use Rattle.netlist.specs.declared.draft.Draft.{Draft}
-use Rattle.netlist.specs.Rows.{IsRight, outputs_in, next_state, first_state}
+use Rattle.netlist.specs.Rows.{IsRightValuation, outputs_in, next_state, first_state}
 
 -- a design, and what its latches give next
 pub record EvalState : Type 0 where
@@ -14,6 +14,6 @@ first_eval netlist = record { netlist = netlist; state = first_state netlist }
 -- at a vector: the row is the outputs in a right valuation, and the latches take what they read in it
 pub record IsStep (old : EvalState) (vector row : List Bool) (new : EvalState) : Type 0 where
   pub given : ℕ → Bool
-  pub right : IsRight old.netlist old.state vector given
+  pub right : IsRightValuation old.netlist old.state vector given
   pub outputs : row ≡ outputs_in old.netlist given
   pub next : new ≡ record { netlist = old.netlist; state = next_state old.netlist given }

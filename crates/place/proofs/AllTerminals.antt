@@ -14,7 +14,7 @@ use Rattle.table_map.specs.Networks.{table_at}
 use Rattle.hierarchy.specs.Shape.{pin_wire, table_wire}
 use Rattle.place.specs.Lists.{nth_of}
 use Rattle.place.specs.Plans.{places, place_of, net_of, IsTerminal, drives, reads, shows}
-use Rattle.place.specs.Terminals.{first_input, drive_by, give_by, read_by, show_by, drives_of, gives_of, reads_at, reads_to, shows_of, all_terminals}
+use Rattle.place.specs.Terminals.{first_input, drive_by, give_by, read_by, show_by, drive_terminals, gives_of, reads_at, reads_to, shows_of, all_terminals}
 use Rattle.place.proofs.Ranges.{in_range, range_below}
 
 module _ {X : Type 0} where
@@ -51,26 +51,26 @@ module _ (m : Shape) (n : Network) (p : Plan) (tables : length p.tables ≡ leng
 
   listed : (t : Terminal) → Contains (all_terminals m n p) t → Is t
   unfolding Is
-  listed t h = by (Contains-append_cases ((drives_of m p.inputs (length p.inputs) ++ gives_of m n.inputs (places p) (length p.tables)) ++ reads_to m n (places p) (length p.tables)) (shows_of m n.inputs p.outputs n.outputs (length p.outputs)) t h)
+  listed t h = by (Contains-append_cases ((drive_terminals m p.inputs (length p.inputs) ++ gives_of m n.inputs (places p) (length p.tables)) ++ reads_to m n (places p) (length p.tables)) (shows_of m n.inputs p.outputs n.outputs (length p.outputs)) t h)
     where
       at_read : (j : ℕ) → j < length n.tables → Contains (reads_at m n (places p) j) t → Is t
       at_read j l q = let r = in_made _ _ t q in subst Is r.2 (reads j r.0 (get_or (table_at n j).ins r.0 first_input) l r.1 (get_or_default (table_at n j).ins r.0 _ first_input r.1))
 
-      at_drive : Contains (drives_of m p.inputs (length p.inputs)) t ⊎ Contains (gives_of m n.inputs (places p) (length p.tables)) t → Is t
+      at_drive : Contains (drive_terminals m p.inputs (length p.inputs)) t ⊎ Contains (gives_of m n.inputs (places p) (length p.tables)) t → Is t
       at_drive (inl q) = let r = in_made _ _ t q in subst Is r.2 (drives (source.Input r.0) (let l = r.1 in omega arith))
       at_drive (inr q) = let r = in_made _ _ t q in subst Is r.2 (drives (source.Table r.0) (let l = r.1 in omega arith))
 
-      before : Contains (drives_of m p.inputs (length p.inputs) ++ gives_of m n.inputs (places p) (length p.tables)) t ⊎ Contains (reads_to m n (places p) (length p.tables)) t → Is t
+      before : Contains (drive_terminals m p.inputs (length p.inputs) ++ gives_of m n.inputs (places p) (length p.tables)) t ⊎ Contains (reads_to m n (places p) (length p.tables)) t → Is t
       before (inl q) = at_drive (Contains-append_cases _ _ t q)
       before (inr q) = let r = in_flat _ _ t q in at_read r.0 (let l = range_below (length p.tables) r.0 r.1 in omega arith) r.2
 
-      by : Contains ((drives_of m p.inputs (length p.inputs) ++ gives_of m n.inputs (places p) (length p.tables)) ++ reads_to m n (places p) (length p.tables)) t ⊎ Contains (shows_of m n.inputs p.outputs n.outputs (length p.outputs)) t → Is t
+      by : Contains ((drive_terminals m p.inputs (length p.inputs) ++ gives_of m n.inputs (places p) (length p.tables)) ++ reads_to m n (places p) (length p.tables)) t ⊎ Contains (shows_of m n.inputs p.outputs n.outputs (length p.outputs)) t → Is t
       by (inl q) = before (Contains-append_cases _ _ t q)
       by (inr q) = let r = in_made _ _ t q in let l : r.0 < length n.outputs = (let x = r.1 in omega arith) in subst Is r.2 (shows r.0 (get_or n.outputs r.0 first_input) l (get_or_default n.outputs r.0 _ first_input l))
 
   -- the four parts of the list, and their members
   Ds : List Terminal
-  Ds = drives_of m p.inputs (length p.inputs)
+  Ds = drive_terminals m p.inputs (length p.inputs)
 
   Gs : List Terminal
   Gs = gives_of m n.inputs (places p) (length p.tables)

@@ -38,8 +38,8 @@ reads_to m n places j = flat_map (reads_at m n places) (range_with_len 0 j)
 abbrev pub drive_by : Shape → List ℕ → ℕ → Terminal
 drive_by m ins k = record { net = k; wire = pin_wire m (nth_of ins k) }
 
-abbrev pub drives_of : Shape → List ℕ → ℕ → List Terminal
-drives_of m ins n = map (drive_by m ins) (range_with_len 0 n)
+abbrev pub drive_terminals : Shape → List ℕ → ℕ → List Terminal
+drive_terminals m ins n = map (drive_by m ins) (range_with_len 0 n)
 
 abbrev pub give_by : Shape → ℕ → List ℕ → ℕ → Terminal
 give_by m inputs places j = record { net = inputs + j; wire = table_wire m (nth_of places j) 6 }
@@ -55,7 +55,7 @@ shows_of m inputs outs sources n = map (show_by m inputs outs sources) (range_wi
 
 -- all terminals, net numbers and wires
 abbrev pub all_terminals : Shape → Network → Plan → List Terminal
-all_terminals m n p = ((drives_of m p.inputs (length p.inputs) ++ gives_of m n.inputs (places p) (length p.tables)) ++ reads_to m n
+all_terminals m n p = ((drive_terminals m p.inputs (length p.inputs) ++ gives_of m n.inputs (places p) (length p.tables)) ++ reads_to m n
     (places p) (length p.tables)) ++ shows_of m n.inputs p.outputs n.outputs (length p.outputs)
 
 -- the nets of these sources have numbers below the count

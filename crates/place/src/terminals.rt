@@ -2,7 +2,7 @@
 ghost use Rattle.std.specs.Prelude.{◌≡◌, ◌+◌, ◌^◌, ◌<◌, ◌≤◌, ◌++◌, ◌∷◌, [], All, IfOk, OnOk, length, map, slice_set};
 ghost use Rattle.hierarchy.specs.Shape.{pins_of, tables_of};
 ghost use Rattle.place.specs.Plans.{IsPlan, net_by, number_of};
-ghost use Rattle.place.specs.Terminals.{AreGrouped, ArePlanNets, IsSized, NetsBelow, all_terminals, drives_of, gives_of, reads_of};
+ghost use Rattle.place.specs.Terminals.{AreGrouped, ArePlanNets, IsSized, NetsBelow, all_terminals, drive_terminals, gives_of, reads_of};
 ghost use Rattle.place.specs.Terminals.{reads_to, shows_of};
 ghost use Rattle.place.specs.Touches.{list_at};
 ghost use Rattle.table_map.specs.Networks.{IsNetwork};
@@ -37,7 +37,7 @@ fn net_of(inputs: u32, source: Source) -> u32
 fn push_drives(terminals: &mut Vec<Terminal>, shape: &Shape, pins: &[u32]) -> Result<(), AllocError>
     requires few { length pins.now < 2 ^ 32 }
     requires within { All (λ k. k < pins_of shape.now) pins.now }
-    ensures { OnOk result (terminals.new.items ≡ terminals.old.items ++ drives_of shape.now pins.now (length pins.now)) }
+    ensures { OnOk result (terminals.new.items ≡ terminals.old.items ++ drive_terminals shape.now pins.now (length pins.now)) }
 {
     for k in 0..pins.len() {
         terminals.push(Terminal {

@@ -1,7 +1,7 @@
 -- The course of a command: its steps in the order of work, and so what may have been written wherever it ends.
 use Rattle.std.specs.Prelude.{◌≡◌, ◌⊎◌, ℕ, Bool, List, [], ◌∷◌, ◌++◌, length, flat_map, Option, None}
 use Rattle.tm_outside.specs.Told.{Told}
-use Rattle.tm_outside.specs.Store.{Place}
+use Rattle.tm_outside.specs.Store.{StorePlace}
 use Rattle.vector_text.specs.Rows.{row_line}
 use Rattle.steps.specs.Files.{AreFirst, AreAll, AreBeforeFault, IsNearNext}
 use Rattle.steps.specs.declared.refusal.Refusal.{Refusal}
@@ -49,7 +49,7 @@ pub record RowWork : Type 1 where
   -- the file of vectors, where it is told
   pub told : Told
   -- where the store stands at the end
-  pub place : Option Place
+  pub place : Option StorePlace
   -- these are the rows of these vectors
   pub are : (vectors rows : List (List Bool)) → Type 0
   -- and the rig's session is these vectors and rows

@@ -2,7 +2,7 @@
 use Rattle.std.specs.Prelude.{◌≡◌, ℕ, ◌+◌, ◌<◌, ◌≤◌, Bool, List, map, length, take, slice_get}
 use Rattle.std.specs.Prelude.{Option, None, Some, IfSome, option_map, unwrap_or}
 use Rattle.tm_outside.specs.Told.{Told, untold, IfTold, IsPresent}
-use Rattle.tm_outside.specs.Store.{Place, StoreState}
+use Rattle.tm_outside.specs.Store.{StorePlace, StoreState}
 use Rattle.vector_text.specs.Vectors.{SaidVectors, VectorLine, file_says}
 use Rattle.vector_text.specs.declared.vectors.VectorKind.{VectorKind}
 
@@ -27,7 +27,7 @@ abbrev pub end_at : ℕ → List ℕ → ℕ → ℕ
 end_at width bytes k = unwrap_or (option_map (λ (v : VectorLine). v.next_at) (slice_get (says_at width bytes).vectors k)) (length bytes)
 
 -- the place is not far beyond this end
-abbrev pub IsNear : Option Place → ℕ → Type 0
+abbrev pub IsNear : Option StorePlace → ℕ → Type 0
 IsNear place end = IfSome place (λ p. p.at ≤ end + most_ahead)
 
 -- ---- of a file of vectors of this width, where it is told
@@ -46,14 +46,14 @@ AreBeforeFault width told line kind vectors =
     IfTold told (λ bytes. (vectors_at width bytes ≡ vectors) × ((says_at width bytes).fault ≡ Some (record { line = line; kind = kind })))
 
 -- a vector follows after so many, and the place is not far beyond its line
-abbrev pub IsNearNext : ℕ → Told → Option Place → ℕ → Type 0
+abbrev pub IsNearNext : ℕ → Told → Option StorePlace → ℕ → Type 0
 IsNearNext width told place count =
     IfTold told (λ bytes. (count < length (vectors_at width bytes)) × IsNear place (end_at width bytes count))
 
 -- ---- a file that is read on
 
 -- what is told of the current file
-abbrev pub file_in : (List ℕ → Told) → Option Place → Told
+abbrev pub file_in : (List ℕ → Told) → Option StorePlace → Told
 file_in contents None = untold
 file_in contents (Some p) = contents p.name
 

@@ -10,7 +10,7 @@ use Rattle.table_map.specs.declared.source.Source.TheVariants.{Input, Table}
 use Rattle.table_map.specs.declared.network.NetTable.{NetTable}
 use Rattle.table_map.specs.declared.network.Network.{Network}
 use Rattle.table_map.specs.Networks.{no_table, table_at, IsSourceOf, IsCombinational, IsLatched, IsPath, alone, onward, IsNetwork}
-use Rattle.table_map.specs.Rows.{number_of, cell_at, bit_of, truth, IsRight, outputs_in, next_state, first_state, RowsFrom, AreRows}
+use Rattle.table_map.specs.Rows.{number_of, cell_at, bit_of, truth, IsNetworkValuation, outputs_in, next_state, first_state, RowsFrom, AreRows}
 use Rattle.table_map.specs.Compacting.{is_dropped, rank, renamed, renamed_table, kept_tables, compacted, named_by, AreRanks, IsKept, IsClosed, IsCompacted}
 use Rattle.table_map.specs.Joining.{IsReduced, IsUnread}
 use Rattle.table_map.proofs.ValuationLemmas.{one_rows}
@@ -198,7 +198,7 @@ module _ (n : Network) (is : IsNetwork n) (dropped : List Bool) (closed : IsClos
     was_combinational : (k : ℕ) → IsCombinational small k → IsCombinational n (place dropped k)
     was_combinational k c = record { within = (placed k c.within).0; latched = sym (ap (λ t. t.latched) (at_new k c.within)) ∙ c.latched }
 
-    small_right : (state less : ℕ → Bool) → ((k : ℕ) → k < length small.tables → less k ≡ state (place dropped k)) → IsRight n state vector given → IsRight small less vector fewer
+    small_right : (state less : ℕ → Bool) → ((k : ℕ) → k < length small.tables → less k ≡ state (place dropped k)) → IsNetworkValuation n state vector given → IsNetworkValuation small less vector fewer
     small_right state less same p = record {
       inputs = p.inputs;
       latched = λ k c. p.latched (place dropped k) (was_latched k c) ∙ sym (same k c.within);

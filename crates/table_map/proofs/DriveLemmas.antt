@@ -10,7 +10,7 @@ use Rattle.netlist.specs.declared.draft.Draft.{Draft}
 use Rattle.netlist.specs.declared.draft.LatchDef.{LatchDef}
 use Rattle.netlist.specs.declared.draft.PortDef.{PortDef}
 use Rattle.netlist.specs.Covers.{cover_at}
-use Rattle.netlist.specs.Drafts.{word, signal_at, cover_drive, latch_drive, drives_of, cover_characters}
+use Rattle.netlist.specs.Drafts.{word, signal_at, cover_drive, latch_drive, drive_words, cover_characters}
 use Rattle.netlist.specs.Checks.{IsChecked}
 use Rattle.netlist.proofs.ListLemmas.{few_numbers}
 use Rattle.netlist.proofs.MadeLemmas as made
@@ -100,7 +100,7 @@ latch_sources : (first : ℕ) (ls : List LatchDef) → source_list (latch_drives
 latch_sources first [] = refl
 latch_sources first (l ∷ ls) = ap (λ xs. Table first ∷ xs) (latch_sources (first + 1) ls)
 
-pub signals_are : (d : Draft) → signals_in (all_drives d) ≡ map (λ (p : PortDef). p.signal) (drives_of d)
+pub signals_are : (d : Draft) → signals_in (all_drives d) ≡ map (λ (p : PortDef). p.signal) (drive_words d)
 signals_are d =
     map-append (λ (x : Drive). x.signal) (input_drives 0 d.inputs ++ cover_drives 0 d.covers) (latch_drives (sum_by cover_size d.covers) d.latches)
     ∙ ap (λ xs. xs ++ signals_in (latch_drives (sum_by cover_size d.covers) d.latches)) (map-append (λ (x : Drive). x.signal) (input_drives 0 d.inputs) (cover_drives 0 d.covers))
@@ -130,25 +130,25 @@ among_is (w ∷ ws) (x ∷ ds) s e =
     ap (λ n. if n == s then x.source else source_among ws (source_list ds) s) head ∙ ap (λ y. if x.signal == s then x.source else y) (among_is ws ds s rest)
 
 pub source_is : (d : Draft) (s : ℕ) → source_of d s ≡ pick (all_drives d) s (Input 0)
-source_is d s = ap (λ xs. source_among (drives_of d) xs s) (sym (sources_are d)) ∙ among_is (drives_of d) (all_drives d) s (sym (signals_are d))
+source_is d s = ap (λ xs. source_among (drive_words d) xs s) (sym (sources_are d)) ∙ among_is (drive_words d) (all_drives d) s (sym (signals_are d))
 
 module _ (d : Draft) (is : IsChecked d) where
-  pub signal_here : (k : ℕ) → k < length (drives_of d) → get_or (signals_in (all_drives d)) k 0 ≡ signal_at (drives_of d) k
-  signal_here k lk = ap (λ xs. get_or xs k 0) (signals_are d) ∙ get_or-map (λ (p : PortDef). p.signal) (drives_of d) k (word 0 0) 0 lk
+  pub signal_here : (k : ℕ) → k < length (drive_words d) → get_or (signals_in (all_drives d)) k 0 ≡ signal_at (drive_words d) k
+  signal_here k lk = ap (λ xs. get_or xs k 0) (signals_are d) ∙ get_or-map (λ (p : PortDef). p.signal) (drive_words d) k (word 0 0) 0 lk
 
-  pub length_drives : length (signals_in (all_drives d)) ≡ length (drives_of d)
-  length_drives = ap length (signals_are d) ∙ length-map (drives_of d) (λ (p : PortDef). p.signal)
+  pub length_drives : length (signals_in (all_drives d)) ≡ length (drive_words d)
+  length_drives = ap length (signals_are d) ∙ length-map (drive_words d) (λ (p : PortDef). p.signal)
 
   pub drives_apart : AreApart (signals_in (all_drives d))
-  drives_apart j k lt lk e = let l : k < length (drives_of d) = omega (arith, length_drives) in is.once j k lt l (sym (signal_here j (omega arith)) ∙ e ∙ signal_here k l)
+  drives_apart j k lt lk e = let l : k < length (drive_words d) = omega (arith, length_drives) in is.once j k lt l (sym (signal_here j (omega arith)) ∙ e ∙ signal_here k l)
 
   drives_within : (k : ℕ) → k < length (signals_in (all_drives d)) → get_or (signals_in (all_drives d)) k 0 < length d.names
-  drives_within k lk = let l : k < length (drives_of d) = omega (arith, length_drives) in subst (λ n. n < length d.names) (sym (signal_here k l)) (is.made.drives k l)
+  drives_within k lk = let l : k < length (drive_words d) = omega (arith, length_drives) in subst (λ n. n < length d.names) (sym (signal_here k l)) (is.made.drives k l)
 
-  pub few_drives : length (drives_of d) ≤ length d.names
+  pub few_drives : length (drive_words d) ≤ length d.names
   few_drives = let l : length (signals_in (all_drives d)) ≤ length d.names = few_numbers (length d.names) (signals_in (all_drives d)) drives_within drives_apart in omega (arith, length_drives)
 
-  pub length_words : length (drives_of d) ≡ length d.inputs + length d.covers + length d.latches
+  pub length_words : length (drive_words d) ≡ length d.inputs + length d.covers + length d.latches
   length_words = length-append (d.inputs ++ map cover_drive d.covers) (map latch_drive d.latches) ∙ ap (λ n. n + length (map latch_drive d.latches)) (length-append d.inputs (map cover_drive d.covers)) ∙ ap (λ n. length d.inputs + n + length (map latch_drive d.latches)) (length-map d.covers cover_drive) ∙ ap (λ n. length d.inputs + length d.covers + n) (length-map d.latches latch_drive)
 
   -- the list that is written has the source of each signal

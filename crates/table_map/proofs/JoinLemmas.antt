@@ -8,7 +8,7 @@ use Rattle.table_map.specs.declared.source.Source.{Source}
 use Rattle.table_map.specs.declared.source.Source.TheVariants.{Input, Table}
 use Rattle.table_map.specs.declared.network.NetTable.{NetTable}
 use Rattle.table_map.specs.declared.network.Network.{Network}
-use Rattle.table_map.specs.Rows.{number_of, cell_at, bit_of, pins_of, truth, IsRight, next_state, first_state, RowsFrom, AreRows}
+use Rattle.table_map.specs.Rows.{number_of, cell_at, bit_of, pins_of, truth, IsNetworkValuation, next_state, first_state, RowsFrom, AreRows}
 use Rattle.table_map.specs.Plain.{pin_named}
 use Rattle.table_map.specs.Merging.{number}
 use Rattle.table_map.specs.Joining.{bit_with, address_by, joined_truth, IsJoined}
@@ -65,8 +65,8 @@ pub record IsLike (n m : Network) : Type 0 where
   pub inputs : n.inputs ≡ m.inputs
   pub outputs : n.outputs ≡ m.outputs
   pub inits : (j : ℕ) → first_state n j ≡ first_state m j
-  pub right : (state : ℕ → Bool) (vector : List Bool) (given : ℕ → Bool) → IsRight n state vector given → IsRight m state vector given
-  pub next : (state : ℕ → Bool) (vector : List Bool) (given : ℕ → Bool) → IsRight n state vector given → (j : ℕ) → next_state n vector given j ≡ next_state m vector given j
+  pub right : (state : ℕ → Bool) (vector : List Bool) (given : ℕ → Bool) → IsNetworkValuation n state vector given → IsNetworkValuation m state vector given
+  pub next : (state : ℕ → Bool) (vector : List Bool) (given : ℕ → Bool) → IsNetworkValuation n state vector given → (j : ℕ) → next_state n vector given j ≡ next_state m vector given j
 
 module _ (n m : Network) (like : IsLike n m) where
   pub like_from : (vectors rows : List (List Bool)) (state : ℕ → Bool) → RowsFrom n state vectors rows → RowsFrom m state vectors rows

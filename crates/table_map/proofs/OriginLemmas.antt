@@ -11,7 +11,7 @@ use Rattle.netlist.specs.declared.draft.Cover.{Cover}
 use Rattle.netlist.specs.declared.draft.Draft.{Draft}
 use Rattle.netlist.specs.declared.draft.PortDef.{PortDef}
 use Rattle.netlist.specs.Covers.{cover_at, no_cover}
-use Rattle.netlist.specs.Drafts.{word, word_at, signal_at, cover_drive, latch_drive, drives_of, cover_reads, latch_read, reads_of, IsDriven}
+use Rattle.netlist.specs.Drafts.{word, word_at, signal_at, cover_drive, latch_drive, drive_words, cover_reads, latch_read, reads_of, IsDriven}
 use Rattle.netlist.specs.Checks.{IsChecked}
 use Rattle.netlist.proofs.CheckLemmas.{cover_place, cover_signal}
 use Rattle.table_map.specs.declared.source.Source.{Source}
@@ -95,10 +95,10 @@ module _ (d : Draft) (is : IsChecked d) where
   rows_are i li = (is.made.covers i li).rows
 
   -- the source of a word that drives
-  word_source : (m : ℕ) → m < length (drives_of d) → source_of d (signal_at (drives_of d) m) ≡ get_or (sources_of d) m (Input 0)
+  word_source : (m : ℕ) → m < length (drive_words d) → source_of d (signal_at (drive_words d) m) ≡ get_or (sources_of d) m (Input 0)
   word_source m lm =
-      let n : length (all_drives d) ≡ length (drives_of d) = sym (length-map (all_drives d) (λ (x : Drive). x.signal)) ∙ length_drives d is in
-      source_is d (signal_at (drives_of d) m)
+      let n : length (all_drives d) ≡ length (drive_words d) = sym (length-map (all_drives d) (λ (x : Drive). x.signal)) ∙ length_drives d is in
+      source_is d (signal_at (drive_words d) m)
       ∙ ap (λ s. pick (all_drives d) s (Input 0)) (sym (signal_here d is m lm))
       ∙ pick_at (all_drives d) m (Input 0) (drives_apart d is) (omega arith)
       ∙ ap (λ xs. get_or xs m (Input 0)) (sources_are d)
@@ -109,7 +109,7 @@ module _ (d : Draft) (is : IsChecked d) where
   length_middle : length (map Input (range_with_len 0 (length d.inputs)) ++ cover_ends 0 d.covers) ≡ length d.inputs + length d.covers
   length_middle = length-append (map Input (range_with_len 0 (length d.inputs))) (cover_ends 0 d.covers) ∙ ap (λ n. n + length (cover_ends 0 d.covers)) length_front ∙ ap (λ n. length d.inputs + n) (length-ends_of 0 d.covers)
 
-  input_word : (k : ℕ) → k < length d.inputs → word_at (drives_of d) k ≡ word_at d.inputs k
+  input_word : (k : ℕ) → k < length d.inputs → word_at (drive_words d) k ≡ word_at d.inputs k
   input_word k lk = get_or_append_left (d.inputs ++ map cover_drive d.covers) (map latch_drive d.latches) (word 0 0) k (omega (arith, length-append d.inputs (map cover_drive d.covers))) ∙ get_or_append_left d.inputs (map cover_drive d.covers) (word 0 0) k lk
 
   pub input_source : (k : ℕ) → k < length d.inputs → source_of d (signal_at d.inputs k) ≡ Input k
@@ -135,9 +135,9 @@ module _ (d : Draft) (is : IsChecked d) where
   length_firsts : length (d.inputs ++ map cover_drive d.covers) ≡ length d.inputs + length d.covers
   length_firsts = length-append d.inputs (map cover_drive d.covers) ∙ ap (λ n. length d.inputs + n) (length-map d.covers cover_drive)
 
-  latch_word : (l : ℕ) → l < length d.latches → word_at (drives_of d) (length d.inputs + length d.covers + l) ≡ latch_drive (latch_at d.latches l)
+  latch_word : (l : ℕ) → l < length d.latches → word_at (drive_words d) (length d.inputs + length d.covers + l) ≡ latch_drive (latch_at d.latches l)
   latch_word l ll =
-      ap (λ m. word_at (drives_of d) (m + l)) (sym length_firsts)
+      ap (λ m. word_at (drive_words d) (m + l)) (sym length_firsts)
       ∙ get_or-append-add (d.inputs ++ map cover_drive d.covers) (map latch_drive d.latches) l (word 0 0)
       ∙ get_or-map latch_drive d.latches l no_latch (word 0 0) ll
 
@@ -168,17 +168,17 @@ module _ (d : Draft) (is : IsChecked d) where
   pub origin : (s : ℕ) → IsDriven d s → Origin s
   origin s driven = by driven.0 driven.1 driven.2 (cases_lt driven.0 (length d.inputs)) (cases_lt driven.0 (length d.inputs + length d.covers))
     where
-      by : (m : ℕ) → m < length (drives_of d) → signal_at (drives_of d) m ≡ s → (m < length d.inputs) ⊎ (length d.inputs ≤ m) → (m < length d.inputs + length d.covers) ⊎ (length d.inputs + length d.covers ≤ m) → Origin s
+      by : (m : ℕ) → m < length (drive_words d) → signal_at (drive_words d) m ≡ s → (m < length d.inputs) ⊎ (length d.inputs ≤ m) → (m < length d.inputs + length d.covers) ⊎ (length d.inputs + length d.covers ≤ m) → Origin s
       by m lm e (inl l) o = from_input m l (ap (λ (w : PortDef). w.signal) (sym (input_word m l)) ∙ e)
       by m lm e (inr g) (inl l) =
           let i : ℕ = m - length d.inputs in
           let at : length d.inputs + i ≡ m = omega arith in
-          from_cover i (omega arith) (sym (cover_signal d i (omega arith)) ∙ ap (λ x. signal_at (drives_of d) x) at ∙ e)
+          from_cover i (omega arith) (sym (cover_signal d i (omega arith)) ∙ ap (λ x. signal_at (drive_words d) x) at ∙ e)
       by m lm e (inr g) (inr o) =
           let l : ℕ = m - (length d.inputs + length d.covers) in
           let at : length d.inputs + length d.covers + l ≡ m = omega arith in
           let ll : l < length d.latches = omega (arith, length_words d is) in
-          from_latch l ll (ap (λ (w : PortDef). w.signal) (sym (latch_word l ll)) ∙ ap (λ x. signal_at (drives_of d) x) at ∙ e)
+          from_latch l ll (ap (λ (w : PortDef). w.signal) (sym (latch_word l ll)) ∙ ap (λ x. signal_at (drive_words d) x) at ∙ e)
 
   -- what is read is driven
 

@@ -9,7 +9,7 @@ use Rattle.table_map.specs.declared.source.Source.TheVariants.{Input, Table}
 use Rattle.table_map.specs.declared.network.NetTable.{NetTable}
 use Rattle.table_map.specs.declared.network.Network.{Network}
 use Rattle.table_map.specs.Networks.{no_table, IsSourceOf, IsCombinational, IsLatched, IsPath, alone, onward, IsNetwork}
-use Rattle.table_map.specs.Rows.{truth, IsRight, AreRows}
+use Rattle.table_map.specs.Rows.{truth, IsNetworkValuation, AreRows}
 use Rattle.table_map.specs.Merging.{Reads, CanJoin}
 use Rattle.table_map.specs.Joining.{in_tables, IsPut, Puts, none, more, IsUnread}
 use Rattle.table_map.proofs.PathLemmas.{no_loop}
@@ -108,17 +108,17 @@ module _ (inputs : ℕ) (old : List NetTable) (outputs : List Source) (j r : ℕ
       | inr d ↦ ap (truth vector given) (at_other i d)
     ]
 
-    old_right : (state : ℕ → Bool) (vector : List Bool) (given : ℕ → Bool) → IsRight (net inputs old outputs) state vector given → IsRight (net inputs new outputs) state vector given
+    old_right : (state : ℕ → Bool) (vector : List Bool) (given : ℕ → Bool) → IsNetworkValuation (net inputs old outputs) state vector given → IsNetworkValuation (net inputs new outputs) state vector given
     old_right state vector given q = record {
       inputs = q.inputs;
       latched = λ i c. q.latched i (latched_old i c);
       combinational = λ i c. q.combinational i (to_old i c) ∙ sym (same_truth vector given (q.combinational j inner_is) i);
     }
 
-    inner_value : (state : ℕ → Bool) (vector : List Bool) (given : ℕ → Bool) → IsRight (net inputs new outputs) state vector given → given j ≡ truth vector given (in_tables old j)
+    inner_value : (state : ℕ → Bool) (vector : List Bool) (given : ℕ → Bool) → IsNetworkValuation (net inputs new outputs) state vector given → given j ≡ truth vector given (in_tables old j)
     inner_value state vector given q = q.combinational j (to_new j inner_is) ∙ ap (truth vector given) (at_other j p.may.apart)
 
-    new_right : (state : ℕ → Bool) (vector : List Bool) (given : ℕ → Bool) → IsRight (net inputs new outputs) state vector given → IsRight (net inputs old outputs) state vector given
+    new_right : (state : ℕ → Bool) (vector : List Bool) (given : ℕ → Bool) → IsNetworkValuation (net inputs new outputs) state vector given → IsNetworkValuation (net inputs old outputs) state vector given
     new_right state vector given q = record {
       inputs = q.inputs;
       latched = λ i c. q.latched i (latched_new i c);

@@ -9,14 +9,14 @@ use Rattle.netlist.specs.declared.draft.LatchDef.{LatchDef}
 use Rattle.netlist.specs.declared.draft.PortDef.{PortDef}
 use Rattle.netlist.specs.Covers as cover
 use Rattle.netlist.specs.Covers.{cover_at}
-use Rattle.netlist.specs.Drafts.{word, signal_at, drives_of, IsDriven}
+use Rattle.netlist.specs.Drafts.{word, signal_at, drive_words, IsDriven}
 use Rattle.netlist.specs.Checks.{IsChecked}
 use Rattle.netlist.specs.Rows as netlist
 use Rattle.netlist.proofs.ValuationLemmas as valuation
 use Rattle.netlist.proofs.RightLemmas as right
 use Rattle.table_map.specs.declared.source.Source.TheVariants.{Input}
 use Rattle.table_map.specs.declared.network.Network.{Network}
-use Rattle.table_map.specs.Rows.{bit_of, pins_of, truth, IsRight, outputs_in, next_state, first_state, RowsFrom, AreRows, HasRowsOf}
+use Rattle.table_map.specs.Rows.{bit_of, pins_of, truth, IsNetworkValuation, outputs_in, next_state, first_state, RowsFrom, AreRows, HasRowsOf}
 use Rattle.table_map.specs.Plain.{cover_size, latch_table, source_of, plain_network}
 use Rattle.table_map.specs.Cells.{is_among}
 use Rattle.table_map.specs.Bounds.{latch_at, no_latch}
@@ -46,22 +46,22 @@ among_place (x ∷ xs) s e = elim (cases_eq x s) [
 
 module _ (d : Draft) (is : IsChecked d) where
   is_driven : ℕ → Bool
-  is_driven s = is_among (map (λ (w : PortDef). w.signal) (drives_of d)) s
+  is_driven s = is_among (map (λ (w : PortDef). w.signal) (drive_words d)) s
 
   when_driven : (s : ℕ) → IsDriven d s → is_driven s ≡ true
   unfolding is_driven
-  when_driven s p = subst (λ x. is_among (map (λ (w : PortDef). w.signal) (drives_of d)) x ≡ true) (get_or-map (λ (w : PortDef). w.signal) (drives_of d) p.0 (word 0 0) 0 p.1 ∙ p.2) (among_one (map (λ (w : PortDef). w.signal) (drives_of d)) p.0 (omega (arith, p.1, length-map (drives_of d) (λ (w : PortDef). w.signal))))
+  when_driven s p = subst (λ x. is_among (map (λ (w : PortDef). w.signal) (drive_words d)) x ≡ true) (get_or-map (λ (w : PortDef). w.signal) (drive_words d) p.0 (word 0 0) 0 p.1 ∙ p.2) (among_one (map (λ (w : PortDef). w.signal) (drive_words d)) p.0 (omega (arith, p.1, length-map (drive_words d) (λ (w : PortDef). w.signal))))
 
   when_not : (s : ℕ) → (IsDriven d s → ⊥) → is_driven s ≡ false
   unfolding is_driven
-  when_not s none = by (true_or (is_among (map (λ (w : PortDef). w.signal) (drives_of d)) s))
+  when_not s none = by (true_or (is_among (map (λ (w : PortDef). w.signal) (drive_words d)) s))
     where
-      by : (is_among (map (λ (w : PortDef). w.signal) (drives_of d)) s ≡ true) ⊎ (is_among (map (λ (w : PortDef). w.signal) (drives_of d)) s ≡ false) → is_among (map (λ (w : PortDef). w.signal) (drives_of d)) s ≡ false
+      by : (is_among (map (λ (w : PortDef). w.signal) (drive_words d)) s ≡ true) ⊎ (is_among (map (λ (w : PortDef). w.signal) (drive_words d)) s ≡ false) → is_among (map (λ (w : PortDef). w.signal) (drive_words d)) s ≡ false
       by (inr e) = e
       by (inl e) =
-          let p = among_place (map (λ (w : PortDef). w.signal) (drives_of d)) s e in
-          let l : p.0 < length (drives_of d) = omega (arith, p.1, length-map (drives_of d) (λ (w : PortDef). w.signal)) in
-          absurd (none (p.0, l, sym (get_or-map (λ (w : PortDef). w.signal) (drives_of d) p.0 (word 0 0) 0 l) ∙ p.2))
+          let p = among_place (map (λ (w : PortDef). w.signal) (drive_words d)) s e in
+          let l : p.0 < length (drive_words d) = omega (arith, p.1, length-map (drive_words d) (λ (w : PortDef). w.signal)) in
+          absurd (none (p.0, l, sym (get_or-map (λ (w : PortDef). w.signal) (drive_words d) p.0 (word 0 0) 0 l) ∙ p.2))
 
   module _ (vector : List Bool) (h : ℕ → Bool) where
     -- the bits of the signals, by what the tables give
@@ -76,7 +76,7 @@ module _ (d : Draft) (is : IsChecked d) where
     unfolding value
     value_none s none = ap (λ b. if b then bit_of vector h (source_of d s) else false) (when_not s none)
 
-    module _ (state : ℕ → Bool) (st : List Bool) (len : length st ≡ length d.latches) (same : (l : ℕ) → l < length d.latches → get_or st l false ≡ state (sum_by cover_size d.covers + l)) (p : IsRight (plain_network d) state vector h) where
+    module _ (state : ℕ → Bool) (st : List Bool) (len : length st ≡ length d.latches) (same : (l : ℕ) → l < length d.latches → get_or st l false ≡ state (sum_by cover_size d.covers + l)) (p : IsNetworkValuation (plain_network d) state vector h) where
       inputs_right : map (λ (w : PortDef). value w.signal) d.inputs ≡ vector
       inputs_right = ext_get_or true _ _ (length-map d.inputs (λ (w : PortDef). value w.signal) ∙ sym (p.inputs ∙ inputs_are d is)) (λ k lk. (let l : k < length d.inputs = omega (arith, length-map d.inputs (λ (w : PortDef). value w.signal)) in
           get_or-map (λ (w : PortDef). value w.signal) d.inputs k (word 0 0) true l

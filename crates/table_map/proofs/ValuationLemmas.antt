@@ -8,7 +8,7 @@ use Rattle.table_map.specs.declared.source.Source.{Source}
 use Rattle.table_map.specs.declared.source.Source.TheVariants.{Input, Table}
 use Rattle.table_map.specs.declared.network.Network.{Network}
 use Rattle.table_map.specs.Networks.{no_table, table_at, IsSourceOf, IsCombinational, IsLatched, IsPath, alone, onward, IsDeepest, IsNetwork}
-use Rattle.table_map.specs.Rows.{number_of, cell_at, bit_of, truth, IsRight, outputs_in, next_state, first_state, RowsFrom, AreRows, HasOneRows}
+use Rattle.table_map.specs.Rows.{number_of, cell_at, bit_of, truth, IsNetworkValuation, outputs_in, next_state, first_state, RowsFrom, AreRows, HasOneRows}
 use Rattle.table_map.proofs.PlainLemmas.{true_or}
 
 module _ (n : Network) (net : IsNetwork n) where
@@ -29,7 +29,7 @@ module _ (n : Network) (net : IsNetwork n) where
 
   module _ (depth : ℕ) (deep : IsDeepest n depth) (state : ℕ → Bool) (vector : List Bool) where
     -- two right valuations are one, on paths of at most t tables
-    one_value_to : {x y : ℕ → Bool} {old : ℕ → Bool} → IsRight n state vector x → IsRight n old vector y → ((j : ℕ) → j < length n.tables → state j ≡ old j) → (t j : ℕ) → j < length n.tables → ((k : ℕ) → IsPath n j k → k ≤ t) → x j ≡ y j
+    one_value_to : {x y : ℕ → Bool} {old : ℕ → Bool} → IsNetworkValuation n state vector x → IsNetworkValuation n old vector y → ((j : ℕ) → j < length n.tables → state j ≡ old j) → (t j : ℕ) → j < length n.tables → ((k : ℕ) → IsPath n j k → k ≤ t) → x j ≡ y j
     one_value_to {x} {y} p q alike zero j h low = by (true_or (table_at n j).latched)
       where
         by : ((table_at n j).latched ≡ true) ⊎ ((table_at n j).latched ≡ false) → x j ≡ y j
@@ -75,7 +75,7 @@ module _ (n : Network) (net : IsNetwork n) where
             step_combinational _ j is ∙ same_truth vector (step (after t)) (after t) j h (λ i l at. before i l (λ k path. let d : suc k ≤ suc t = low (suc k) (onward path is at) in omega arith)) ∙ sym (step_combinational _ j is)
 
     -- the first state is that of latched tables alone, so one step more
-    right_exists : length vector ≡ n.inputs → (given : ℕ → Bool) × IsRight n state vector given
+    right_exists : length vector ≡ n.inputs → (given : ℕ → Bool) × IsNetworkValuation n state vector given
     unfolding after
     right_exists len = (step (after depth), record { inputs = len; latched = λ j is. step_latched (after depth) j is; combinational = λ j is. at_combinational j is })
       where
@@ -85,7 +85,7 @@ module _ (n : Network) (net : IsNetwork n) where
             ∙ same_truth vector (after depth) (step (after depth)) j is.within (λ i l at. sym (settled depth i l (λ k path. deep i k path)))
 
   -- two right valuations for states that agree
-  pub one_value : {state old x y : ℕ → Bool} {vector : List Bool} → IsRight n state vector x → IsRight n old vector y → ((j : ℕ) → j < length n.tables → state j ≡ old j) → (j : ℕ) → j < length n.tables → x j ≡ y j
+  pub one_value : {state old x y : ℕ → Bool} {vector : List Bool} → IsNetworkValuation n state vector x → IsNetworkValuation n old vector y → ((j : ℕ) → j < length n.tables → state j ≡ old j) → (j : ℕ) → j < length n.tables → x j ≡ y j
   one_value {state} {old} {x} {y} {vector} p q alike j h = one_value_to net.acyclic.0 net.acyclic.1 state vector p q alike net.acyclic.0 j h (λ k path. net.acyclic.1 j k path)
 
   same_row : (vector : List Bool) (x y : ℕ → Bool) → ((j : ℕ) → j < length n.tables → x j ≡ y j) → outputs_in n vector x ≡ outputs_in n vector y

@@ -9,7 +9,7 @@ use Rattle.netlist.specs.declared.draft.PortDef.{PortDef}
 use Rattle.netlist.specs.declared.draft.Lit.{Lit}
 use Rattle.netlist.specs.declared.draft.Lit.TheVariants.{One, Any}
 use Rattle.netlist.specs.Covers.{fits, truth}
-use Rattle.netlist.specs.Drafts.{drives_of}
+use Rattle.netlist.specs.Drafts.{drive_words}
 use Rattle.table_map.specs.declared.source.Source.{Source}
 use Rattle.table_map.specs.declared.source.Source.TheVariants.{Input, Table}
 use Rattle.table_map.specs.declared.want.Want.{Want}
@@ -171,7 +171,7 @@ source_among (w ∷ ws) (x ∷ xs) s = if w.signal == s then x else source_among
 
 -- what gives a signal: the source of the word that drives it
 abbrev pub source_of : Draft → ℕ → Source
-source_of d s = source_among (drives_of d) (sources_of d) s
+source_of d s = source_among (drive_words d) (sources_of d) s
 
 unfoldable pub plain_network : Draft → Network
 plain_network d = record {

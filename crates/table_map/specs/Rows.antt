@@ -33,7 +33,7 @@ abbrev pub truth : List Bool → (ℕ → Bool) → NetTable → Bool
 truth vector given t = cell_at t.cells (number_of (pins_of vector given t.ins))
 
 -- latched tables have the state, and combinational ones the cells that their pins address
-pub record IsRight (n : Network) (state : ℕ → Bool) (vector : List Bool) (given : ℕ → Bool) : Type 0 where
+pub record IsNetworkValuation (n : Network) (state : ℕ → Bool) (vector : List Bool) (given : ℕ → Bool) : Type 0 where
   pub inputs : length vector ≡ n.inputs
   pub latched : (j : ℕ) → IsLatched n j → given j ≡ state j
   pub combinational : (j : ℕ) → IsCombinational n j → given j ≡ truth vector given (table_at n j)
@@ -54,7 +54,7 @@ RowsFrom n state [] [] = Unit {0}
 RowsFrom n state [] (row ∷ rows) = ⊥
 RowsFrom n state (vector ∷ vectors) [] = ⊥
 RowsFrom n state (vector ∷ vectors) (row ∷ rows) =
-    (given : ℕ → Bool) × IsRight n state vector given × (row ≡ outputs_in n vector given)
+    (given : ℕ → Bool) × IsNetworkValuation n state vector given × (row ≡ outputs_in n vector given)
     × RowsFrom n (next_state n vector given) vectors rows
 
 -- the network's rows for the vectors

@@ -7,7 +7,7 @@ use Rattle.table_map.specs.declared.source.Source.TheVariants.{Input, Table}
 use Rattle.table_map.specs.declared.network.NetTable.{NetTable}
 use Rattle.table_map.specs.declared.network.Network.{Network}
 use Rattle.table_map.specs.Networks.{no_table, table_at, IsCombinational, IsLatched, IsSourceOf, IsPath, alone, onward, IsDeepest, IsNetwork}
-use Rattle.table_map.specs.Rows.{number_of, cell_at, bit_of, truth, IsRight, outputs_in, next_state, first_state, RowsFrom, AreRows}
+use Rattle.table_map.specs.Rows.{number_of, cell_at, bit_of, truth, IsNetworkValuation, outputs_in, next_state, first_state, RowsFrom, AreRows}
 use Rattle.tenants.specs.declared.site.Site.{Site}
 use Rattle.tenants.specs.JointNetworks.{part, moved, moved_table}
 use Rattle.tenants.specs.Sites.{StandsIn}
@@ -62,7 +62,7 @@ module _ (s : Site) (n joint : Network) (stands : StandsIn s n joint) (net : IsN
         ap (truth v given) (table_there j h)
         ∙ ap (λ bs. cell_at (table_at n j).cells (number_of (map (λ k. get_or bs k true) (range_with_len 0 6)))) (bits (table_at n j).ins (net.sources j no_table h))
 
-    right_there : (state own_state : ℕ → Bool) → ((j : ℕ) → j < length n.tables → own_state j ≡ state (s.table + j)) → IsRight joint state v given → IsRight n own_state (vector_of v) (own given)
+    right_there : (state own_state : ℕ → Bool) → ((j : ℕ) → j < length n.tables → own_state j ≡ state (s.table + j)) → IsNetworkValuation joint state v given → IsNetworkValuation n own_state (vector_of v) (own given)
     right_there state own_state same right = record {
       inputs = length_part s.input n.inputs v (let l = right.inputs in let e = stands.inputs in omega (arith, l, e));
       latched = λ j is. right.latched (s.table + j) (latched_there j is) ∙ sym (same j is.within);

@@ -1,7 +1,7 @@
 -- What the command `eval` is.
 use Rattle.std.specs.Prelude.{◌≡◌, ℕ, ◌≤◌, List, [], ◌∷◌, ◌++◌, length, Option, Some, None}
 use Rattle.tm_outside.specs.Told.{Told, holds}
-use Rattle.tm_outside.specs.Store.{StoreState, Place}
+use Rattle.tm_outside.specs.Store.{StoreState, StorePlace}
 use Rattle.netlist.specs.declared.draft.Draft.{Draft}
 use Rattle.netlist.specs.Rows.{AreRows}
 use Rattle.blif_read.specs.Designs.{IsDesign}
@@ -15,7 +15,7 @@ use Rattle.steps.specs.Jobs.{Job}
 use Rattle.steps.specs.declared.design_file.DesignFile.TheVariants.{Design}
 
 -- the rows of a design, for which no memory is wanted
-abbrev pub eval_rows : Draft → Told → Option Place → RowWork
+abbrev pub eval_rows : Draft → Told → Option StorePlace → RowWork
 eval_rows draft told place = record {
   width = length draft.inputs;
   told = told;

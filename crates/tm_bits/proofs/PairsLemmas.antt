@@ -4,15 +4,15 @@ use Rattle.std.proofs.Math.ListN.{set, get_or-eq_default}
 use Rattle.std.proofs.lemmas.Nat.{mul-le}
 use Rattle.std.proofs.lemmas.Bool.{cases_lt, cases_eq, cases_Bool, false≢true}
 use Rattle.std.proofs.lemmas.List.{get_or-set_same, get_or-set_other, get_or-replicate, length-replicate}
-use Rattle.tm_bits.specs.Pairs.{Pairs, HasEach, words_of, place_of, is_pair, has_pair, is_same_pair, is_with}
+use Rattle.tm_bits.specs.Pairs.{Pairs, HasEach, words_for, place_of, is_pair, has_pair, is_same_pair, is_with}
 
 -- ---- places
 
 pub row_after : (w a c : ℕ) → a < c → w * a + w ≤ w * c
 row_after w a c lt = omega (arith, mul-le w (a + 1) w c (omega arith) (omega arith))
 
-pub place_inside : (n a b : ℕ) → a < n → b < n → place_of n a b < 64 * (words_of n * n)
-place_inside n a b in_a in_b = omega (arith, row_after (words_of n) a n in_a)
+pub place_inside : (n a b : ℕ) → a < n → b < n → place_of n a b < 64 * (words_for n * n)
+place_inside n a b in_a in_b = omega (arith, row_after (words_for n) a n in_a)
 
 -- the bits before the row of a, of rows of w words
 pub rows_fit : (w a : ℕ) → w ≤ 2 ^ 26 → a < 2 ^ 32 → w * a ≤ 2 ^ 26 * (2 ^ 32 - 1)
@@ -21,11 +21,11 @@ rows_fit w a few below = mul-le w a (2 ^ 26) (2 ^ 32 - 1) few (omega arith)
 one_place : (n a b c d : ℕ) → b < n → d < n → place_of n a b ≡ place_of n c d → (a ≡ c) × (b ≡ d)
 one_place n a b c d in_b in_d e =
     elim (cases_eq a c) [
-      | inl one ↦ (one, omega (arith, e, ap (λ k. words_of n * k) one))
+      | inl one ↦ (one, omega (arith, e, ap (λ k. words_for n * k) one))
       | inr apart ↦
           elim (cases_lt a c) [
-            | inl lt ↦ absurd (omega (arith, e, row_after (words_of n) a c lt))
-            | inr le ↦ let gt : c < a = omega arith in absurd (omega (arith, e, row_after (words_of n) c a gt))
+            | inl lt ↦ absurd (omega (arith, e, row_after (words_for n) a c lt))
+            | inr le ↦ let gt : c < a = omega arith in absurd (omega (arith, e, row_after (words_for n) c a gt))
           ]
     ]
 
@@ -118,7 +118,7 @@ module _ (n : ℕ) (old new : List Bool) (put : ℕ → ℕ → Bool) (row : ℕ
         | inr out ↦ has_no_pair n new c d out ∙ sym (ap (λ t. t || has_pair (record { n = n; marks = old }) c d) (outside c d out) ∙ has_no_pair n old c d out)
       ]
 
-module _ (n a b : ℕ) (marks : List Bool) (in_a : a < n) (in_b : b < n) (differ : a ≢ b) (size : length marks ≡ 64 * (words_of n * n)) where
+module _ (n a b : ℕ) (marks : List Bool) (in_a : a < n) (in_b : b < n) (differ : a ≢ b) (size : length marks ≡ 64 * (words_for n * n)) where
   abbrev marked : List Bool
   marked = set marks (place_of n a b) true
 
@@ -149,7 +149,7 @@ module _ (n a b : ℕ) (marks : List Bool) (in_a : a < n) (in_b : b < n) (differ
       same_turned : (c d : ℕ) → is_same_pair a b c d ≡ (((a == c) && (b == d)) || ((a == d) && (b == c)))
       same_turned c d = refl
 
-  pub has_each-mark : (all : List Bool) → length all ≡ 64 * words_of n → HasEach n marks all → HasEach n marked (set all b true)
+  pub has_each-mark : (all : List Bool) → length all ≡ 64 * words_for n → HasEach n marks all → HasEach n marked (set all b true)
   has_each-mark all len_is has = record { at = there }
     where
       there : (x y : ℕ) → x < n → y < n → get_or marked (place_of n x y) false ≡ true → get_or (set all b true) y false ≡ true
@@ -163,9 +163,9 @@ module _ (n a b : ℕ) (marks : List Bool) (in_a : a < n) (in_b : b < n) (differ
           ]
 
 module _ (n a : ℕ) (numbers old new : List Bool) (in_a : a < n) (size : length numbers ≡ n)
-    (joined : (i : ℕ) → i < 64 * words_of n → i < length numbers → get_or new (64 * (words_of n * a) + i) false ≡ (get_or old (64 * (words_of n * a) + i) false || get_or numbers i false))
-    (kept : (i : ℕ) → i < length old → (i < 64 * (words_of n * a)) ⊎ (64 * (words_of n * a + words_of n) ≤ i) → get_or new i false ≡ get_or old i false)
-    (square : length old ≡ 64 * (words_of n * n)) where
+    (joined : (i : ℕ) → i < 64 * words_for n → i < length numbers → get_or new (64 * (words_for n * a) + i) false ≡ (get_or old (64 * (words_for n * a) + i) false || get_or numbers i false))
+    (kept : (i : ℕ) → i < length old → (i < 64 * (words_for n * a)) ⊎ (64 * (words_for n * a + words_for n) ≤ i) → get_or new i false ≡ get_or old i false)
+    (square : length old ≡ 64 * (words_for n * n)) where
   row_with : (c d : ℕ) → c < n → d < n → get_or new (place_of n c d) false ≡ (((a == c) && get_or numbers d false) || get_or old (place_of n c d) false)
   row_with c d in_c in_d =
       elim (cases_eq a c) [
@@ -182,11 +182,11 @@ module _ (n a : ℕ) (numbers old new : List Bool) (in_a : a < n) (size : length
             ∙ ap (λ t. (t && get_or numbers d false) || get_or old (place_of n c d) false) (sym other)
       ]
     where
-      elsewhere : a ≢ c → (place_of n c d < 64 * (words_of n * a)) ⊎ (64 * (words_of n * a + words_of n) ≤ place_of n c d)
+      elsewhere : a ≢ c → (place_of n c d < 64 * (words_for n * a)) ⊎ (64 * (words_for n * a + words_for n) ≤ place_of n c d)
       elsewhere differ =
           elim (cases_lt c a) [
-            | inl lt ↦ inl (omega (arith, row_after (words_of n) c a lt))
-            | inr le ↦ let gt : a < c = omega arith in inr (omega (arith, row_after (words_of n) a c gt))
+            | inl lt ↦ inl (omega (arith, row_after (words_for n) c a lt))
+            | inr le ↦ let gt : a < c = omega arith in inr (omega (arith, row_after (words_for n) a c gt))
           ]
 
   abbrev put : ℕ → ℕ → Bool
@@ -231,7 +231,7 @@ module _ (n a : ℕ) (numbers old new : List Bool) (in_a : a < n) (size : length
   has_pair-with = has_pair-put n old new put (λ c d. (a == c) && get_or numbers d false) row_with put_inside put_outside
 
   pub has_each-with : (all now : List Bool)
-      → ((i : ℕ) → i < 64 * words_of n → i < length numbers → get_or now (64 * 0 + i) false ≡ (get_or all (64 * 0 + i) false || get_or numbers i false))
+      → ((i : ℕ) → i < 64 * words_for n → i < length numbers → get_or now (64 * 0 + i) false ≡ (get_or all (64 * 0 + i) false || get_or numbers i false))
       → HasEach n old all → HasEach n new now
   has_each-with all now joined_all has = record { at = there }
     where

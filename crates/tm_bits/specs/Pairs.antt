@@ -8,12 +8,12 @@ pub record Pairs : Type 0 where
   pub marks : List Bool
 
 -- how many words of 64 bits a row has
-abbrev pub words_of : ℕ → ℕ
-words_of n = (n + 63) / 64
+abbrev pub words_for : ℕ → ℕ
+words_for n = (n + 63) / 64
 
 -- the place of b in the row of a
 abbrev pub place_of : ℕ → ℕ → ℕ → ℕ
-place_of n a b = 64 * (words_of n * a) + b
+place_of n a b = 64 * (words_for n * a) + b
 
 -- each row has marks only where the row of all marks has one
 pub record HasEach (n : ℕ) (marks all : List Bool) : Type 0 where

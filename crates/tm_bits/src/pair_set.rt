@@ -1,7 +1,7 @@
 //! A set of unordered pairs of numbers.
 
 ghost use Rattle.std.specs.Prelude.{◌≡◌, ◌≢◌, ◌<◌, ◌&&◌, ◌||◌, ◌==◌, ℕ, false, not, length, IfOk};
-ghost use Rattle.tm_bits.specs.Pairs.{Pairs, words_of, place_of, has_pair, is_same_pair, is_with};
+ghost use Rattle.tm_bits.specs.Pairs.{Pairs, words_for, place_of, has_pair, is_same_pair, is_with};
 
 use crate::bit_set::BitSet;
 use crate::bits::Bits;
@@ -22,19 +22,19 @@ pub struct PairSet {
 
 impl Model for PairSet {
     ghost use Rattle.std.specs.Prelude.{◌≡◌, ◌*◌, length};
-    ghost use Rattle.tm_bits.specs.Pairs.{Pairs, HasEach, words_of};
+    ghost use Rattle.tm_bits.specs.Pairs.{Pairs, HasEach, words_for};
 
     ghost Value = { Pairs };
 
     ghost view = { λ s. record { n = s.n; marks = s.bits } };
 
-    ghost invariant = { λ s. (length s.bits ≡ 64 * (words_of s.n * s.n)) × (length s.marked ≡ 64 * words_of s.n)
+    ghost invariant = { λ s. (length s.bits ≡ 64 * (words_for s.n * s.n)) × (length s.marked ≡ 64 * words_for s.n)
         × HasEach s.n s.bits s.marked };
 }
 
 /// How many words the row of a number has.
 fn words_of(n: u32) -> u64
-    ensures { result ≡ words_of n }
+    ensures { result ≡ words_for n }
 {
     (u64::from(n) + 63) / 64
 }

@@ -1,12 +1,12 @@
 -- Files of the system.
 use Rattle.std.specs.Prelude.{ℕ, List, Option}
 use Rattle.tm_outside.specs.Told.{untold}
-use Rattle.tm_outside.specs.Store.{Place, StoreState}
+use Rattle.tm_outside.specs.Store.{StorePlace, StoreState}
 
 -- what is known of them
 pub record SystemFiles : Type 0 where
   pub asked : List (List ℕ)
-  pub current : Option Place
+  pub current : Option StorePlace
   pub failures : ℕ
 
 -- what they mean as a store: no contents are told

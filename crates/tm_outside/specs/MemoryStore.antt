@@ -1,7 +1,7 @@
 -- Files in memory.
 use Rattle.std.specs.Prelude.{ℕ, List, Option, None, Some, find, min, option_map, string_bytes, bytes_eq}
 use Rattle.tm_outside.specs.Told.{Told, absent, holds}
-use Rattle.tm_outside.specs.Store.{Place, StoreState}
+use Rattle.tm_outside.specs.Store.{StorePlace, StoreState}
 use Rattle.tm_outside.specs.declared.memory_store.File.{File}
 
 -- what a store in memory means
@@ -14,7 +14,7 @@ pub record MemoryFiles : Type 0 where
   -- how many calls there were
   pub calls : ℕ
   pub asked : List (List ℕ)
-  pub current : Option Place
+  pub current : Option StorePlace
   pub failures : ℕ
 
 -- the bytes of the first file of this name

@@ -6,7 +6,7 @@ use Rattle.tm_outside.specs.declared.store.StoreFail.{StoreFail}
 use Rattle.tm_outside.specs.declared.store.StoreFail.TheVariants.{Failed, Memory}
 
 -- a file that was started, and how many of its bytes were read
-pub record Place : Type 0 where
+pub record StorePlace : Type 0 where
   pub name : List ℕ
   pub at : ℕ
 
@@ -17,12 +17,12 @@ pub record StoreState : Type 0 where
   -- the names that `start` was given, in order, also where the file failed
   pub asked : List (List ℕ)
   -- the file that `read` goes on with
-  pub current : Option Place
+  pub current : Option StorePlace
   -- a count that never falls
   pub failures : ℕ
 
 -- the place, n bytes on
-abbrev pub moved : Option Place → ℕ → Option Place
+abbrev pub moved : Option StorePlace → ℕ → Option StorePlace
 moved place n = option_map (λ p. record { name = p.name; at = p.at + n }) place
 
 -- the bytes of the current file from its place on, where they are told

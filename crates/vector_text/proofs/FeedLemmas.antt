@@ -3,14 +3,14 @@ use Rattle.std.proofs.Common.{◌≡◌, ℕ, ◌+◌, ◌≤◌, List, ◌++◌
 use Rattle.std.specs.Prelude.{option_and_then}
 use Rattle.std.proofs.lemmas.List.{take-take, take-append-le, take-append-drop, drop-drop}
 use Rattle.tm_outside.specs.Told.{Told, bytes_of}
-use Rattle.tm_outside.specs.Store.{StoreState, Place, AreNext, moved, rest_of}
+use Rattle.tm_outside.specs.Store.{StoreState, StorePlace, AreNext, moved, rest_of}
 use Rattle.vector_text.specs.Readings.{bytes_ahead}
 
 told-moved : (told : Option (List ℕ)) (at n : ℕ) → option_map (λ bytes. drop (at + n) bytes) told ≡ option_map (λ (bytes : List ℕ). drop n bytes) (option_map (λ bytes. drop at bytes) told)
 told-moved None at n = refl
 told-moved (Some bytes) at n = ap Some (sym (drop-drop n at bytes))
 
-place-moved : (contents : List ℕ → Told) (current : Option Place) (n : ℕ) → option_and_then (λ p. option_map (λ bytes. drop p.at bytes) (bytes_of (contents p.name))) (moved current n) ≡ option_map (λ (bytes : List ℕ). drop n bytes) (option_and_then (λ p. option_map (λ bytes. drop p.at bytes) (bytes_of (contents p.name))) current)
+place-moved : (contents : List ℕ → Told) (current : Option StorePlace) (n : ℕ) → option_and_then (λ p. option_map (λ bytes. drop p.at bytes) (bytes_of (contents p.name))) (moved current n) ≡ option_map (λ (bytes : List ℕ). drop n bytes) (option_and_then (λ p. option_map (λ bytes. drop p.at bytes) (bytes_of (contents p.name))) current)
 place-moved contents None n = refl
 place-moved contents (Some p) n = told-moved (bytes_of (contents p.name)) p.at n
 

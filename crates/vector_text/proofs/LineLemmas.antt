@@ -6,7 +6,7 @@ use Rattle.std.proofs.lemmas.List.{append-nil}
 use Rattle.vector_text.specs.declared.vectors.VectorKind.{VectorKind}
 use Rattle.vector_text.specs.declared.vectors.VectorKind.TheVariants.{Char, Width, Limit}
 use Rattle.vector_text.specs.declared.line.Step.TheVariants.{Onward, Vector, Fault}
-use Rattle.vector_text.specs.Vectors.{is_blank, is_comment_mark, is_line_feed, is_vector_byte, vector_size, PhysicalLine, put_before, physical_lines, shown, byte_fault, end_fault, fault_or, line_fault, line_says, lines_say, bits_of, SaidVectors, fault_said, with_vector, nothing_said}
+use Rattle.vector_text.specs.Vectors.{is_row_blank, is_comment_mark, is_line_feed, is_vector_byte, vector_size, PhysicalLine, put_before, numbered_lines, shown, byte_fault, end_fault, fault_or, line_fault, line_says, lines_say, bits_of, SaidVectors, fault_said, with_vector, nothing_said}
 use Rattle.vector_text.specs.Lines.{PartLine, IsSound, front_of, begun, says_on, HasRead}
 use Rattle.vector_text.proofs.TextLemmas.{lines-limit, lines-feed, lines-more, lines-end, put_before-twice, put_before-nil, first-line, shown-nil, shown-right, shown-comment, shown-blank, shown-other, unmarked, no_byte_fault, char_fault, width_fault}
 
@@ -27,8 +27,8 @@ says-same width front other (l ∷ ls) h =
     sym (says-first width (record l { bytes = other ++ l.bytes }) ls (shown (other ++ l.bytes)) refl)
 
 -- a byte that doesn't end the line belongs to its beginning
-says-byte : (p : PartLine) (b : ℕ) (bs : List ℕ) → p.at < p.limit → is_line_feed b ≡ false → says_on p (b ∷ bs) ≡ lines_say p.width (put_before (front_of p ++ b ∷ []) (physical_lines p.limit p.number (p.at + 1) bs))
-says-byte p b bs lt e = ap (λ (ls : List PhysicalLine). lines_say p.width (put_before (front_of p) ls)) (lines-more p.limit p.number p.at b bs lt e) ∙ ap (lines_say p.width) (put_before-twice (front_of p) (b ∷ []) (physical_lines p.limit p.number (p.at + 1) bs))
+says-byte : (p : PartLine) (b : ℕ) (bs : List ℕ) → p.at < p.limit → is_line_feed b ≡ false → says_on p (b ∷ bs) ≡ lines_say p.width (put_before (front_of p ++ b ∷ []) (numbered_lines p.limit p.number (p.at + 1) bs))
+says-byte p b bs lt e = ap (λ (ls : List PhysicalLine). lines_say p.width (put_before (front_of p) ls)) (lines-more p.limit p.number p.at b bs lt e) ∙ ap (lines_say p.width) (put_before-twice (front_of p) (b ∷ []) (numbered_lines p.limit p.number (p.at + 1) bs))
 
 -- the same line, a byte on
 one_on : PartLine → PartLine
@@ -46,7 +46,7 @@ onward old new b lt e w l n a h = record {
   full = tt;
   says = λ rest.
       says-byte old b rest lt e ∙
-      says-same old.width (front_of old ++ b ∷ []) (front_of new) (physical_lines old.limit old.number (old.at + 1) rest) h ∙
+      says-same old.width (front_of old ++ b ∷ []) (front_of new) (numbered_lines old.limit old.number (old.at + 1) rest) h ∙
       rw (w, l, n, a) refl;
 }
 
@@ -58,7 +58,7 @@ on-comment old new b sound lt e c is =
     shown-comment old.width old.shown (b ∷ more) sound.right ∙
     sym (ap shown (append_assoc old.shown (35 ∷ []) more) ∙ shown-comment old.width old.shown more sound.right)))
 
-on-blank : (old new : PartLine) (b : ℕ) → IsSound old → old.at < old.limit → is_line_feed b ≡ false → is_comment_mark b ≡ false → is_blank b ≡ true → old.in_comment ≡ false → new ≡ record old { at = old.at + 1 } → HasRead Onward (b ∷ []) 1 old new
+on-blank : (old new : PartLine) (b : ℕ) → IsSound old → old.at < old.limit → is_line_feed b ≡ false → is_comment_mark b ≡ false → is_row_blank b ≡ true → old.in_comment ≡ false → new ≡ record old { at = old.at + 1 } → HasRead Onward (b ∷ []) 1 old new
 on-blank old new b sound lt e m h c is =
     onward old new b lt e (rw is refl) (rw is refl) (rw is refl) (rw is refl)
     (λ more. rw (is, c) (
@@ -67,7 +67,7 @@ on-blank old new b sound lt e m h c is =
     sym (ap shown (append_assoc old.shown [] more))))
 
 -- in a comment, or at a blank
-pub on-passed : (old new : PartLine) (b : ℕ) → IsSound old → old.at < old.limit → is_line_feed b ≡ false → (old.in_comment ≡ true) ⊎ ((old.in_comment ≡ false) × (is_blank b ≡ true)) → new ≡ record old { at = old.at + 1 } → HasRead Onward (b ∷ []) 1 old new
+pub on-passed : (old new : PartLine) (b : ℕ) → IsSound old → old.at < old.limit → is_line_feed b ≡ false → (old.in_comment ≡ true) ⊎ ((old.in_comment ≡ false) × (is_row_blank b ≡ true)) → new ≡ record old { at = old.at + 1 } → HasRead Onward (b ∷ []) 1 old new
 on-passed old new b sound lt e (inl c) is = on-comment old new b sound lt e c is
 on-passed old new b sound lt e (inr h) is = on-blank old new b sound lt e (unmarked b h.1) h.1 h.0 is
 
@@ -82,7 +82,7 @@ on-byte old new b sound lt e c is =
     (λ more. rw (is, c) (ap (λ (t : List ℕ). shown (t ++ more)) (ap (λ (t : List ℕ). t ++ b ∷ []) (append-nil old.shown) ∙ sym (append-nil (old.shown ++ b ∷ [])))))
 
 -- a fault of a byte, whatever follows on the line
-faulty : (p : PartLine) (b : ℕ) (kind : VectorKind) → IsSound p → p.at < p.limit → is_line_feed b ≡ false → is_comment_mark b ≡ false → is_blank b ≡ false → p.in_comment ≡ false → ((more : List ℕ) → byte_fault p.width (p.shown ++ b ∷ more) ≡ Some kind) → HasRead (Fault kind) (b ∷ []) 1 p p
+faulty : (p : PartLine) (b : ℕ) (kind : VectorKind) → IsSound p → p.at < p.limit → is_line_feed b ≡ false → is_comment_mark b ≡ false → is_row_blank b ≡ false → p.in_comment ≡ false → ((more : List ℕ) → byte_fault p.width (p.shown ++ b ∷ more) ≡ Some kind) → HasRead (Fault kind) (b ∷ []) 1 p p
 faulty p b kind sound lt e m h c fault = record {
   width = refl;
   limit = refl;
@@ -100,10 +100,10 @@ faulty p b kind sound lt e m h c fault = record {
       rw (fault (shown first.line.bytes), first.numbered) refl;
 }
 
-pub on-wrong : (p : PartLine) (b : ℕ) → IsSound p → p.at < p.limit → is_line_feed b ≡ false → is_comment_mark b ≡ false → is_blank b ≡ false → p.in_comment ≡ false → is_vector_byte p.width b ≡ false → HasRead (Fault Char) (b ∷ []) 1 p p
+pub on-wrong : (p : PartLine) (b : ℕ) → IsSound p → p.at < p.limit → is_line_feed b ≡ false → is_comment_mark b ≡ false → is_row_blank b ≡ false → p.in_comment ≡ false → is_vector_byte p.width b ≡ false → HasRead (Fault Char) (b ∷ []) 1 p p
 on-wrong p b sound lt e m h c wrong = faulty p b Char sound lt e m h c (λ more. char_fault p.width b p.shown more sound.right sound.room wrong)
 
-pub on-extra : (p : PartLine) (b : ℕ) → IsSound p → p.at < p.limit → is_line_feed b ≡ false → is_comment_mark b ≡ false → is_blank b ≡ false → p.in_comment ≡ false → is_vector_byte p.width b ≡ true → length p.shown ≡ vector_size p.width → HasRead (Fault Width) (b ∷ []) 1 p p
+pub on-extra : (p : PartLine) (b : ℕ) → IsSound p → p.at < p.limit → is_line_feed b ≡ false → is_comment_mark b ≡ false → is_row_blank b ≡ false → p.in_comment ≡ false → is_vector_byte p.width b ≡ true → length p.shown ≡ vector_size p.width → HasRead (Fault Width) (b ∷ []) 1 p p
 on-extra p b sound lt e m h c right full = faulty p b Width sound lt e m h c (λ more. width_fault p.width b p.shown more sound.right full right)
 
 -- what is left of the line where it ends here
@@ -155,8 +155,8 @@ vector-ends width number next_at [] later full = absurd (omega (arith, full))
 vector-ends width number next_at (b ∷ bs) later full = ap (λ (f : Option VectorKind). line_says width number next_at f (b ∷ bs) later) (full_fault width (b ∷ bs) full)
 
 -- at the byte LF
-says-feed : (p : PartLine) (rest : List ℕ) → IsSound p → p.at < p.limit → says_on p (10 ∷ rest) ≡ line_says p.width p.number (p.at + 1) (end_fault p.width false p.shown) p.shown (lines_say p.width (physical_lines p.limit (p.number + 1) (p.at + 1) rest))
-says-feed p rest sound lt = ap (λ (ls : List PhysicalLine). lines_say p.width (put_before (front_of p) ls)) (lines-feed p.limit p.number p.at rest lt) ∙ ends p (p.at + 1) false (physical_lines p.limit (p.number + 1) (p.at + 1) rest) sound
+says-feed : (p : PartLine) (rest : List ℕ) → IsSound p → p.at < p.limit → says_on p (10 ∷ rest) ≡ line_says p.width p.number (p.at + 1) (end_fault p.width false p.shown) p.shown (lines_say p.width (numbered_lines p.limit (p.number + 1) (p.at + 1) rest))
+says-feed p rest sound lt = ap (λ (ls : List PhysicalLine). lines_say p.width (put_before (front_of p) ls)) (lines-feed p.limit p.number p.at rest lt) ∙ ends p (p.at + 1) false (numbered_lines p.limit (p.number + 1) (p.at + 1) rest) sound
 
 pub feed-blank : (old new : PartLine) → IsSound old → old.at < old.limit → old.shown ≡ [] → new ≡ record old { at = old.at + 1; number = old.number + 1; in_comment = false } → HasRead Onward (10 ∷ []) 1 old new
 feed-blank old new sound lt e is = record {
@@ -169,7 +169,7 @@ feed-blank old new sound lt e is = record {
   full = tt;
   says = λ rest.
       says-feed old rest sound lt ∙
-      rw (is, e, blank_fault old.width) (sym (ap (lines_say old.width) (put_before-nil (physical_lines old.limit (old.number + 1) (old.at + 1) rest))));
+      rw (is, e, blank_fault old.width) (sym (ap (lines_say old.width) (put_before-nil (numbered_lines old.limit (old.number + 1) (old.at + 1) rest))));
 }
 
 pub feed-vector : (old new : PartLine) → IsSound old → old.at < old.limit → length old.shown ≡ vector_size old.width → new ≡ record old { at = old.at + 1; number = old.number + 1 } → HasRead Vector (10 ∷ []) 1 old new
@@ -183,8 +183,8 @@ feed-vector old new sound lt e is = record {
   full = rw is e;
   says = λ rest.
       says-feed old rest sound lt ∙
-      vector-ends old.width old.number (old.at + 1) old.shown (lines_say old.width (physical_lines old.limit (old.number + 1) (old.at + 1) rest)) e ∙
-      rw is (ap (λ (ls : List PhysicalLine). with_vector (bits_of old.width old.shown) (old.at + 1) (lines_say old.width ls)) (sym (put_before-nil (physical_lines old.limit (old.number + 1) (old.at + 1) rest))));
+      vector-ends old.width old.number (old.at + 1) old.shown (lines_say old.width (numbered_lines old.limit (old.number + 1) (old.at + 1) rest)) e ∙
+      rw is (ap (λ (ls : List PhysicalLine). with_vector (bits_of old.width old.shown) (old.at + 1) (lines_say old.width ls)) (sym (put_before-nil (numbered_lines old.limit (old.number + 1) (old.at + 1) rest))));
 }
 
 pub feed-short : (p : PartLine) → IsSound p → p.at < p.limit → 0 < length p.shown → length p.shown < vector_size p.width → HasRead (Fault Width) (10 ∷ []) 1 p p

@@ -3,12 +3,12 @@ use Rattle.std.proofs.Common.{◌≡◌, ◌⊎◌, ℕ, ◌+◌, ◌-◌, ◌<�
 use Rattle.std.specs.Prelude.{Err, IsSome}
 use Rattle.std.proofs.Math.Seq.{take-add, take-append-add, take-append_seam}
 use Rattle.std.proofs.lemmas.List.{length-drop, append-nil}
-use Rattle.tm_outside.specs.Store.{StoreState, Place, moved, rest_of}
+use Rattle.tm_outside.specs.Store.{StoreState, StorePlace, moved, rest_of}
 use Rattle.vector_text.specs.declared.vectors.VectorsFail.{VectorsFail}
 use Rattle.vector_text.specs.declared.vectors.VectorsFail.TheVariants.{Text, Failed}
 use Rattle.vector_text.specs.declared.line.Step.{Step}
 use Rattle.vector_text.specs.declared.line.Step.TheVariants.{Onward, Vector, Fault}
-use Rattle.vector_text.specs.Vectors.{PhysicalLine, physical_lines, put_before, shown, byte_fault, lines_say, SaidVectors, nothing_said, fault_said, with_vector, bits_of, vector_size}
+use Rattle.vector_text.specs.Vectors.{PhysicalLine, numbered_lines, put_before, shown, byte_fault, lines_say, SaidVectors, nothing_said, fault_said, with_vector, bits_of, vector_size}
 use Rattle.vector_text.specs.Readings.{bytes_ahead, says_next, said_ahead, NextGives, NextFails, HasMoved, AreOpen, AskedOpen, StaysWithin}
 use Rattle.vector_text.specs.Lines.{PartLine, IsSound, front_of, begun, says_on, EndsAs, EndSays}
 use Rattle.vector_text.specs.Steps.{reading_of, IsRefilled, IsStoreFail, HasReadOn, answer_of, LineGives, LineFails, HasAnswered, IsWaiting, GoesOn}
@@ -34,15 +34,15 @@ map-if f g y (Some x) (Some z) e h = cc
 
 -- places
 
-moved-none : (current : Option Place) → current ≡ moved current 0
+moved-none : (current : Option StorePlace) → current ≡ moved current 0
 moved-none None = refl
 moved-none (Some p) = let e : p.at ≡ p.at + 0 = omega arith in ap (λ (n : ℕ). Some (record { name = p.name; at = n })) e
 
-moved-twice : (current : Option Place) (m n : ℕ) → moved (moved current m) n ≡ moved current (m + n)
+moved-twice : (current : Option StorePlace) (m n : ℕ) → moved (moved current m) n ≡ moved current (m + n)
 moved-twice None m n = refl
 moved-twice (Some p) m n = let e : p.at + m + n ≡ p.at + (m + n) = omega arith in ap (λ (k : ℕ). Some (record { name = p.name; at = k })) e
 
-still-open : (current : Option Place) (n : ℕ) → IsSome current → IsSome (moved current n)
+still-open : (current : Option StorePlace) (n : ℕ) → IsSome current → IsSome (moved current n)
 still-open None n h = h
 still-open (Some p) n h = h
 
@@ -61,7 +61,7 @@ moves-on old line new unread left fresh rest more count before mid after content
     let size : length rest ≡ length fresh - count = ap length is ∙ length-drop count fresh in
     record {
       count = h.count + r.count;
-      place = r.place ∙ ap (λ (c : Option Place). moved c r.count) h.place ∙ moved-twice before.current h.count r.count;
+      place = r.place ∙ ap (λ (c : Option StorePlace). moved c r.count) h.place ∙ moved-twice before.current h.count r.count;
       bytes = omega (arith, h.bytes, r.bytes, size);
       within = both-within (rest_of before) h.count r.count h.within
           (subst (λ (told : Option (List ℕ)). IfSome told (λ rest. r.count ≤ length rest))
@@ -81,7 +81,7 @@ open-of old line unread bytes none sound w l says =
       right = ap (byte_fault old.width) left ∙ ap (λ (width : ℕ). byte_fault width line.shown) (sym w)
           ∙ no_byte_fault line.width line.shown sound.right sound.room;
       says = λ rest.
-          let lines : List PhysicalLine = physical_lines old.limit old.number old.at (bytes ++ rest) in
+          let lines : List PhysicalLine = numbered_lines old.limit old.number old.at (bytes ++ rest) in
           sym (ap (λ (f : List ℕ). lines_say old.width (put_before f lines)) none ∙ ap (lines_say old.width) (put_before-nil lines)) ∙
           says rest ∙
           rw (w, l) refl;
@@ -91,7 +91,7 @@ if-more : {X : Type 0} (P Q : X → Type 0) (o : Option X) → IfSome o P → ((
 if-more P Q None h more = tt
 if-more P Q (Some x) h more = more x h
 
-a-piece : (current : Option Place) (n c : ℕ) → c ≤ 65536 →
+a-piece : (current : Option StorePlace) (n c : ℕ) → c ≤ 65536 →
     IfSome (moved (moved current n) c) (λ p. IfSome current (λ q. p.at ≤ q.at + n + 65536))
 a-piece None n c le = tt
 a-piece (Some q) n c le = omega arith
@@ -172,8 +172,8 @@ module _ (old line : PartLine) (unread left fresh : List ℕ) (before mid after 
     unread = opens none sound empty (h.open_ none);
     count = h.moves.count;
     last = opens-last none sound empty;
-    piece = subst (λ (c : Option Place). IfSome c (λ p. IfSome before.current (λ q. p.at ≤ q.at + h.moves.count + 65536)))
-        (sym (r.place ∙ ap (λ (c : Option Place). moved c r.count) h.moves.place))
+    piece = subst (λ (c : Option StorePlace). IfSome c (λ p. IfSome before.current (λ q. p.at ≤ q.at + h.moves.count + 65536)))
+        (sym (r.place ∙ ap (λ (c : Option StorePlace). moved c r.count) h.moves.place))
         (a-piece before.current h.moves.count r.count (omega (arith, r.bytes)));
   }
 
@@ -248,7 +248,7 @@ module _ (old line : PartLine) (unread left fresh : List ℕ) (before mid after 
     contents = contents ∙ h.contents;
     asked = asked ∙ h.asked;
     later = omega (arith, h.later);
-    current = let P : Option Place → Type 0 = λ c. IsSome c in subst P (sym r.place) (still-open mid.current r.count h.current);
+    current = let P : Option StorePlace → Type 0 = λ c. IsSome c in subst P (sym r.place) (still-open mid.current r.count h.current);
   }
 
   -- the store went on to the fresh bytes
@@ -271,7 +271,7 @@ module _ (old line : PartLine) (unread left fresh : List ℕ) (before mid after 
     refused = tt;
     width = s.width ∙ h.width;
     limit = s.limit ∙ h.limit;
-    current = let P : Option Place → Type 0 = λ c. IsSome c in subst P (sym r.place) (still-open mid.current r.count h.current);
+    current = let P : Option StorePlace → Type 0 = λ c. IsSome c in subst P (sym r.place) (still-open mid.current r.count h.current);
     moves = moves-on old line new unread left fresh rest true s.count before mid after h.contents h.moves r s.at s.within s.rest;
     onward = λ _. (let whole = s.whole refl in (omega (arith, h.from, whole.0), whole.1));
     stopped = tt;
@@ -329,7 +329,7 @@ module _ (old line : PartLine) (unread left fresh : List ℕ) (before mid after 
     refused = tt;
     width = h.width;
     limit = h.limit;
-    current = let P : Option Place → Type 0 = λ c. IsSome c in subst P (sym r.place) (still-open mid.current r.count h.current);
+    current = let P : Option StorePlace → Type 0 = λ c. IsSome c in subst P (sym r.place) (still-open mid.current r.count h.current);
     moves = moves-on old line line unread left fresh fresh false 0 before mid after h.contents h.moves r (omega arith) (omega arith) refl;
     onward = λ _. tt;
     stopped = tt;
@@ -349,7 +349,7 @@ module _ (old line : PartLine) (unread left fresh : List ℕ) (before mid after 
     refused = tt;
     width = h.width;
     limit = h.limit;
-    current = let P : Option Place → Type 0 = λ c. IsSome c in subst P (sym r.place) (still-open mid.current r.count h.current);
+    current = let P : Option StorePlace → Type 0 = λ c. IsSome c in subst P (sym r.place) (still-open mid.current r.count h.current);
     moves = moves-on old line line unread left fresh fresh false 0 before mid after h.contents h.moves r (omega arith) (omega arith) refl;
     onward = λ none. further none ends h.onward;
     stopped = tt;
@@ -391,7 +391,7 @@ module _ (old line : PartLine) (unread left fresh : List ℕ) (before mid after 
       unread = opens none sound empty (h.open_ none);
       count = h.moves.count;
       last = opens-last none sound empty;
-      piece = subst (λ (c : Option Place). IfSome c (λ p. IfSome before.current (λ q. p.at ≤ q.at + h.moves.count + 65536)))
+      piece = subst (λ (c : Option StorePlace). IfSome c (λ p. IfSome before.current (λ q. p.at ≤ q.at + h.moves.count + 65536)))
           (sym fault.closed) tt;
     });
     contents = contents ∙ h.contents;
@@ -402,7 +402,7 @@ module _ (old line : PartLine) (unread left fresh : List ℕ) (before mid after 
 -- from a line's beginning to the reader between two lines
 
 begun-says : (line : PartLine) (unread bytes : List ℕ) → says_next (reading_of line unread) bytes ≡ says_on (begun line) bytes
-begun-says line unread bytes = sym (ap (lines_say line.width) (put_before-nil (physical_lines line.limit line.number line.at bytes)))
+begun-says line unread bytes = sym (ap (lines_say line.width) (put_before-nil (numbered_lines line.limit line.number line.at bytes)))
 
 map-twice : {X Y Z : Type 0} (f : Y → Z) (g : X → Y) (o : Option X) → option_map (λ x. f (g x)) o ≡ option_map f (option_map g o)
 map-twice f g None = refl

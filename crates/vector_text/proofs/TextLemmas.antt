@@ -6,24 +6,24 @@ use Rattle.std.proofs.lemmas.Bool.{le-leb, lt-leb, eqb-true, lt-ltb, le-ltb, and
 use Rattle.std.proofs.lemmas.List.{length-append, append-nil}
 use Rattle.std.proofs.lemmas.List.Sums.{take_while-cons}
 use Rattle.vector_text.specs.declared.vectors.VectorKind.TheVariants.{Char, Width}
-use Rattle.vector_text.specs.Vectors.{is_blank, is_comment_mark, is_line_feed, is_vector_byte, vector_size, PhysicalLine, put_before, physical_lines, shown, byte_fault}
+use Rattle.vector_text.specs.Vectors.{is_row_blank, is_comment_mark, is_line_feed, is_vector_byte, vector_size, PhysicalLine, put_before, numbered_lines, shown, byte_fault}
 
 -- physical lines
 
-pub lines-limit : (limit number at b : ℕ) (bs : List ℕ) → limit ≤ at → physical_lines limit number at (b ∷ bs) ≡ record { number = number; bytes = []; next_at = at; is_cut = true } ∷ []
-unfolding physical_lines
+pub lines-limit : (limit number at b : ℕ) (bs : List ℕ) → limit ≤ at → numbered_lines limit number at (b ∷ bs) ≡ record { number = number; bytes = []; next_at = at; is_cut = true } ∷ []
+unfolding numbered_lines
 lines-limit limit number at b bs le = rw (le-leb limit at le) refl
 
-pub lines-feed : (limit number at : ℕ) (bs : List ℕ) → at < limit → physical_lines limit number at (10 ∷ bs) ≡ record { number = number; bytes = []; next_at = at + 1; is_cut = false } ∷ physical_lines limit (number + 1) (at + 1) bs
-unfolding physical_lines
+pub lines-feed : (limit number at : ℕ) (bs : List ℕ) → at < limit → numbered_lines limit number at (10 ∷ bs) ≡ record { number = number; bytes = []; next_at = at + 1; is_cut = false } ∷ numbered_lines limit (number + 1) (at + 1) bs
+unfolding numbered_lines
 lines-feed limit number at bs lt = rw (lt-leb limit at lt) refl
 
-pub lines-more : (limit number at b : ℕ) (bs : List ℕ) → at < limit → is_line_feed b ≡ false → physical_lines limit number at (b ∷ bs) ≡ put_before (b ∷ []) (physical_lines limit number (at + 1) bs)
-unfolding physical_lines
+pub lines-more : (limit number at b : ℕ) (bs : List ℕ) → at < limit → is_line_feed b ≡ false → numbered_lines limit number at (b ∷ bs) ≡ put_before (b ∷ []) (numbered_lines limit number (at + 1) bs)
+unfolding numbered_lines
 lines-more limit number at b bs lt e = rw (lt-leb limit at lt, e) refl
 
-pub lines-end : (limit number at : ℕ) → physical_lines limit number at [] ≡ record { number = number; bytes = []; next_at = at; is_cut = false } ∷ []
-unfolding physical_lines
+pub lines-end : (limit number at : ℕ) → numbered_lines limit number at [] ≡ record { number = number; bytes = []; next_at = at; is_cut = false } ∷ []
+unfolding numbered_lines
 lines-end limit number at = refl
 
 pub put_before-twice : (xs ys : List ℕ) (ls : List PhysicalLine) → put_before xs (put_before ys ls) ≡ put_before (xs ++ ys) ls
@@ -49,23 +49,23 @@ put_before-first number front lines h = record {
   numbered = h.numbered;
 }
 
-pub first-line : (limit number at : ℕ) (bs : List ℕ) → HasFirst number (physical_lines limit number at bs)
-unfolding physical_lines
+pub first-line : (limit number at : ℕ) (bs : List ℕ) → HasFirst number (numbered_lines limit number at bs)
+unfolding numbered_lines
 first-line limit number at [] = record { line = record { number = number; bytes = []; next_at = at; is_cut = false }; later = []; is = refl; numbered = refl }
 first-line limit number at (b ∷ bs) = by (nat_le limit at) (is_line_feed b) (first-line limit number (at + 1) bs)
   where
-    by : (c d : Bool) → HasFirst number (physical_lines limit number (at + 1) bs) → HasFirst number (if c then record { number = number; bytes = []; next_at = at; is_cut = true } ∷ [] else if d then record { number = number; bytes = []; next_at = at + 1; is_cut = false } ∷ physical_lines limit (number + 1) (at + 1) bs else put_before (b ∷ []) (physical_lines limit number (at + 1) bs))
+    by : (c d : Bool) → HasFirst number (numbered_lines limit number (at + 1) bs) → HasFirst number (if c then record { number = number; bytes = []; next_at = at; is_cut = true } ∷ [] else if d then record { number = number; bytes = []; next_at = at + 1; is_cut = false } ∷ numbered_lines limit (number + 1) (at + 1) bs else put_before (b ∷ []) (numbered_lines limit number (at + 1) bs))
     by true d h = record { line = record { number = number; bytes = []; next_at = at; is_cut = true }; later = []; is = refl; numbered = refl }
-    by false true h = record { line = record { number = number; bytes = []; next_at = at + 1; is_cut = false }; later = physical_lines limit (number + 1) (at + 1) bs; is = refl; numbered = refl }
-    by false false h = put_before-first number (b ∷ []) (physical_lines limit number (at + 1) bs) h
+    by false true h = record { line = record { number = number; bytes = []; next_at = at + 1; is_cut = false }; later = numbered_lines limit (number + 1) (at + 1) bs; is = refl; numbered = refl }
+    by false false h = put_before-first number (b ∷ []) (numbered_lines limit number (at + 1) bs) h
 
 -- what is shown
 
-pub shown-cons : (b : ℕ) (bs : List ℕ) → shown (b ∷ bs) ≡ (if is_comment_mark b then [] else if is_blank b then shown bs else b ∷ shown bs)
+pub shown-cons : (b : ℕ) (bs : List ℕ) → shown (b ∷ bs) ≡ (if is_comment_mark b then [] else if is_row_blank b then shown bs else b ∷ shown bs)
 unfolding shown
-shown-cons b bs = ap (filter (λ x. not (is_blank x))) (take_while-cons (λ x. not (is_comment_mark x)) b bs) ∙ by (is_comment_mark b) (is_blank b) (before_first is_comment_mark bs) refl
+shown-cons b bs = ap (filter (λ x. not (is_row_blank x))) (take_while-cons (λ x. not (is_comment_mark x)) b bs) ∙ by (is_comment_mark b) (is_row_blank b) (before_first is_comment_mark bs) refl
   where
-    by : (c d : Bool) (rest : List ℕ) → is_blank b ≡ d → filter (λ x. not (is_blank x)) (cond (not c) (b ∷ rest) []) ≡ (if c then [] else if d then filter (λ x. not (is_blank x)) rest else b ∷ filter (λ x. not (is_blank x)) rest)
+    by : (c d : Bool) (rest : List ℕ) → is_row_blank b ≡ d → filter (λ x. not (is_row_blank x)) (cond (not c) (b ∷ rest) []) ≡ (if c then [] else if d then filter (λ x. not (is_row_blank x)) rest else b ∷ filter (λ x. not (is_row_blank x)) rest)
     by true d rest e = refl
     by false true rest e = rw e refl
     by false false rest e = rw e refl
@@ -75,18 +75,18 @@ unfolding shown
 shown-nil = refl
 
 -- a byte of a vector is neither a blank nor the mark of a comment
-plain_byte : (width b : ℕ) → is_vector_byte width b ≡ true → (is_comment_mark b ≡ false) × (is_blank b ≡ false)
+plain_byte : (width b : ℕ) → is_vector_byte width b ≡ true → (is_comment_mark b ≡ false) × (is_row_blank b ≡ false)
 plain_byte width b e = by (width == 0) (b == 46) (b == 48) (b == 49) refl refl refl e
   where
-    at : (c : ℕ) → (b == c) ≡ true → (is_comment_mark c ≡ false) × (is_blank c ≡ false) → (is_comment_mark b ≡ false) × (is_blank b ≡ false)
-    at c f h = let P : ℕ → Type 0 = λ n. (is_comment_mark n ≡ false) × (is_blank n ≡ false) in subst P (sym (eqb-true b c f)) h
+    at : (c : ℕ) → (b == c) ≡ true → (is_comment_mark c ≡ false) × (is_row_blank c ≡ false) → (is_comment_mark b ≡ false) × (is_row_blank b ≡ false)
+    at c f h = let P : ℕ → Type 0 = λ n. (is_comment_mark n ≡ false) × (is_row_blank n ≡ false) in subst P (sym (eqb-true b c f)) h
 
-    by : (u x y z : Bool) → (b == 46) ≡ x → (b == 48) ≡ y → (b == 49) ≡ z → (if u then x else y || z) ≡ true → (is_comment_mark b ≡ false) × (is_blank b ≡ false)
+    by : (u x y z : Bool) → (b == 46) ≡ x → (b == 48) ≡ y → (b == 49) ≡ z → (if u then x else y || z) ≡ true → (is_comment_mark b ≡ false) × (is_row_blank b ≡ false)
     by true x y z ex ey ez f = at 46 (ex ∙ f) (refl, refl)
     by false x true z ex ey ez f = at 48 ey (refl, refl)
     by false x false z ex ey ez f = at 49 (ez ∙ f) (refl, refl)
 
-pub unmarked : (b : ℕ) → is_blank b ≡ true → is_comment_mark b ≡ false
+pub unmarked : (b : ℕ) → is_row_blank b ≡ true → is_comment_mark b ≡ false
 unmarked b e = by (b == 32) (b == 9) (b == 13) refl refl refl e
   where
     at : (c : ℕ) → (b == c) ≡ true → is_comment_mark c ≡ false → is_comment_mark b ≡ false
@@ -112,10 +112,10 @@ shown-right width (b ∷ bs) more h =
 pub shown-comment : (width : ℕ) (s more : List ℕ) → AreRight width s → shown (s ++ 35 ∷ more) ≡ s
 shown-comment width s more h = shown-right width s (35 ∷ more) h ∙ ap (λ (t : List ℕ). s ++ t) (shown-cons 35 more) ∙ append-nil s
 
-pub shown-blank : (width : ℕ) (s more : List ℕ) (b : ℕ) → AreRight width s → is_comment_mark b ≡ false → is_blank b ≡ true → shown (s ++ b ∷ more) ≡ shown (s ++ more)
+pub shown-blank : (width : ℕ) (s more : List ℕ) (b : ℕ) → AreRight width s → is_comment_mark b ≡ false → is_row_blank b ≡ true → shown (s ++ b ∷ more) ≡ shown (s ++ more)
 shown-blank width s more b h m e = shown-right width s (b ∷ more) h ∙ ap (λ (t : List ℕ). s ++ t) (shown-cons b more ∙ rw (m, e) refl) ∙ sym (shown-right width s more h)
 
-pub shown-other : (width : ℕ) (s more : List ℕ) (b : ℕ) → AreRight width s → is_comment_mark b ≡ false → is_blank b ≡ false → shown (s ++ b ∷ more) ≡ s ++ b ∷ shown more
+pub shown-other : (width : ℕ) (s more : List ℕ) (b : ℕ) → AreRight width s → is_comment_mark b ≡ false → is_row_blank b ≡ false → shown (s ++ b ∷ more) ≡ s ++ b ∷ shown more
 shown-other width s more b h m e = shown-right width s (b ∷ more) h ∙ ap (λ (t : List ℕ). s ++ t) (shown-cons b more ∙ rw (m, e) refl)
 
 -- faults

@@ -3,7 +3,7 @@ use Rattle.std.specs.Prelude.{◌≡◌, ℕ, ◌+◌, ◌<◌, ◌≤◌, List,
 use Rattle.std.specs.List.{list_all}
 use Rattle.vector_text.specs.declared.line.Step.{Step}
 use Rattle.vector_text.specs.declared.line.Step.TheVariants.{Onward, Vector, Fault}
-use Rattle.vector_text.specs.Vectors.{physical_lines, lines_say, put_before, SaidVectors, nothing_said, fault_said, with_vector, bits_of}
+use Rattle.vector_text.specs.Vectors.{numbered_lines, lines_say, put_before, SaidVectors, nothing_said, fault_said, with_vector, bits_of}
 use Rattle.vector_text.specs.Vectors.{is_vector_byte, vector_size}
 use Rattle.vector_text.specs.declared.vectors.VectorKind.TheVariants.{Width}
 
@@ -37,7 +37,7 @@ begun line = record line { in_comment = false; shown = [] }
 
 -- what the line and the lines after it say, with these bytes next
 abbrev pub says_on : PartLine → List ℕ → SaidVectors
-says_on line bytes = lines_say line.width (put_before (front_of line) (physical_lines line.limit line.number line.at bytes))
+says_on line bytes = lines_say line.width (put_before (front_of line) (numbered_lines line.limit line.number line.at bytes))
 
 -- what a step says of the bytes before it and after it
 abbrev pub SaysStep : Step → PartLine → List ℕ → PartLine → List ℕ → Type 0

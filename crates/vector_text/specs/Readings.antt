@@ -3,7 +3,7 @@ use Rattle.std.specs.Prelude.{◌≡◌, ℕ, ◌+◌, ◌<◌, ◌≤◌, List,
 use Rattle.tm_outside.specs.Store.{StoreState, IsFailure, moved, rest_of}
 use Rattle.vector_text.specs.declared.vectors.VectorsFail.{VectorsFail}
 use Rattle.vector_text.specs.declared.vectors.VectorsFail.TheVariants.{Text, Failed}
-use Rattle.vector_text.specs.Vectors.{physical_lines, put_before, shown, byte_fault, lines_say, SaidVectors, nothing_said, fault_said}
+use Rattle.vector_text.specs.Vectors.{numbered_lines, put_before, shown, byte_fault, lines_say, SaidVectors, nothing_said, fault_said}
 use Rattle.vector_text.specs.Vectors.{with_vector}
 
 -- a reader between two lines
@@ -29,7 +29,7 @@ bytes_ahead unread store = option_map (λ rest. unread ++ rest) (rest_of store)
 
 -- what these bytes say, as the reader's next lines
 abbrev pub says_next : VectorReading → List ℕ → SaidVectors
-says_next reading bytes = lines_say reading.width (physical_lines reading.limit reading.line reading.at bytes)
+says_next reading bytes = lines_say reading.width (numbered_lines reading.limit reading.line reading.at bytes)
 
 -- what is left of the file says, where the store tells it
 abbrev pub said_ahead : VectorReading → StoreState → Option SaidVectors
@@ -60,7 +60,7 @@ pub record AreOpen (reading : VectorReading) (bytes : List ℕ) : Type 0 where
   pub front : List ℕ
   pub right : byte_fault reading.width (shown front) ≡ None
   pub says : (rest : List ℕ) → says_next reading (bytes ++ rest) ≡
-      lines_say reading.width (put_before front (physical_lines reading.limit number at rest))
+      lines_say reading.width (put_before front (numbered_lines reading.limit number at rest))
 
 -- the store was asked for bytes only while no vector's line and no fault was decided in those before: neither in the
 -- bytes that were unread, nor in those before the last piece

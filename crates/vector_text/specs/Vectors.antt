@@ -6,8 +6,8 @@ use Rattle.vector_text.specs.declared.vectors.VectorKind.{VectorKind}
 use Rattle.vector_text.specs.declared.vectors.VectorKind.TheVariants.{Char, Width, Limit}
 
 -- space, tab and carriage return
-abbrev pub is_blank : ℕ → Bool
-is_blank b = (b == 32) || (b == 9) || (b == 13)
+abbrev pub is_row_blank : ℕ → Bool
+is_row_blank b = (b == 32) || (b == 9) || (b == 13)
 
 -- the byte `#`, which begins a comment
 abbrev pub is_comment_mark : ℕ → Bool
@@ -43,17 +43,17 @@ put_before front (l ∷ ls) = record l { bytes = front ++ l.bytes } ∷ ls
 
 -- the physical lines of a text whose first line has this number and whose first byte has this place.
 -- Only bytes at places below the limit are looked at
-unfoldable pub physical_lines : ℕ → ℕ → ℕ → List ℕ → List PhysicalLine
-physical_lines limit number at [] = record { number = number; bytes = []; next_at = at; is_cut = false } ∷ []
-physical_lines limit number at (b ∷ bs) =
+unfoldable pub numbered_lines : ℕ → ℕ → ℕ → List ℕ → List PhysicalLine
+numbered_lines limit number at [] = record { number = number; bytes = []; next_at = at; is_cut = false } ∷ []
+numbered_lines limit number at (b ∷ bs) =
     if nat_le limit at then record { number = number; bytes = []; next_at = at; is_cut = true } ∷ []
-    else if is_line_feed b then record { number = number; bytes = []; next_at = at + 1; is_cut = false } ∷ physical_lines limit
+    else if is_line_feed b then record { number = number; bytes = []; next_at = at + 1; is_cut = false } ∷ numbered_lines limit
     (number + 1) (at + 1) bs
-    else put_before (b ∷ []) (physical_lines limit number (at + 1) bs)
+    else put_before (b ∷ []) (numbered_lines limit number (at + 1) bs)
 
 -- what is left of a line: no comment and no blanks
 unfoldable pub shown : List ℕ → List ℕ
-shown bytes = filter (λ b. not (is_blank b)) (before_first is_comment_mark bytes)
+shown bytes = filter (λ b. not (is_row_blank b)) (before_first is_comment_mark bytes)
 
 -- the first byte that may not stand in a vector, or that is one too many
 unfoldable pub byte_fault : ℕ → List ℕ → Option VectorKind
@@ -119,4 +119,4 @@ lines_say width (l ∷ ls) =
 
 -- what a whole file says to a design with so many inputs, where the reader allows so many bytes
 abbrev pub file_says : ℕ → ℕ → List ℕ → SaidVectors
-file_says width limit bytes = lines_say width (physical_lines limit 1 0 bytes)
+file_says width limit bytes = lines_say width (numbered_lines limit 1 0 bytes)

@@ -3,7 +3,7 @@
 ghost use Rattle.std.specs.Prelude.{◌≡◌, ◌+◌, ◌-◌, ◌^◌, ◌<◌, ◌≤◌, [], ◌∷◌, length, false, map, IfOk};
 ghost use Rattle.std.specs.Prelude.{take, ◌==◌};
 ghost use Rattle.vector_text.specs.Lines.{HasRead};
-ghost use Rattle.vector_text.specs.Vectors.{bits_of, is_vector_byte, vector_size, is_blank, is_comment_mark, is_line_feed};
+ghost use Rattle.vector_text.specs.Vectors.{bits_of, is_vector_byte, vector_size, is_row_blank, is_comment_mark, is_line_feed};
 
 use crate::vectors::VectorKind;
 use std::alloc::{AllocError, Global};
@@ -58,7 +58,7 @@ fn is_vector_byte(width: u32, byte: u8) -> bool
 
 /// Whether the byte is a space, a tab or a CR.
 fn is_blank(byte: u8) -> bool
-    ensures { result ≡ is_blank byte }
+    ensures { result ≡ is_row_blank byte }
 {
     byte == b' ' || byte == b'\t' || byte == b'\r'
 }
@@ -147,7 +147,7 @@ impl Line {
     fn show(&mut self, byte: u8) -> Step
         requires limit { self.old.at < self.old.limit }
         requires comment { self.old.in_comment ≡ false }
-        requires blank { is_blank byte ≡ false }
+        requires blank { is_row_blank byte ≡ false }
         requires mark { is_comment_mark byte ≡ false }
         requires feed { is_line_feed byte ≡ false }
         ensures { HasRead result (byte ∷ []) 1 self.old self.new }

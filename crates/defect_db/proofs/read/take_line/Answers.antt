@@ -2,7 +2,7 @@ use Rattle.std.proofs.Common.{◌≡◌, ◌∙◌, sym, subst}
 use Rattle.std.specs.Str.{bytes_eq}
 use Rattle.std.proofs.lemmas.Bool.{false≢true}
 use Rattle.hierarchy.specs.declared.Shape.{Shape}
-use Rattle.defect_db.specs.Text.{IsEntryOf, words_of}
+use Rattle.defect_db.specs.Text.{IsEntryOf, entry_words}
 use Rattle.defect_db.specs.Steps.{row_of}
 use Rattle.defect_db.specs.Faults.IsLineFault.{nameless, earlier, again}
 use Rattle.defect_db.proofs.Entries.{beyond_all, free_unlisted}
@@ -20,7 +20,7 @@ returns-in_default-form_of c = λ above two. other_line c.args.list.now above c.
 pub returns-in_default-entry_of : goal.returns-in_default-entry_of
 returns-in_default-entry_of c = λ above two. nameless (row_of c.in-Some-form_of.form) c.in-Some.rest.now two c.in-Some-form_of.ensures.0
     (whole_line c.in-Some.line.now c.in-Some.rest.now c.args.left.now (row_of c.in-Some-form_of.form) c.in-Some.ensures.some.0 c.in-Some-form_of.ensures.1)
-    (subst (λ (m : Shape). (e : _) → IsEntryOf m e → words_of m e ≡ row_of c.in-Some-form_of.form → ⊥) c.shape.ensures.shape c.in_default-entry_of.ensures)
+    (subst (λ (m : Shape). (e : _) → IsEntryOf m e → entry_words m e ≡ row_of c.in-Some-form_of.form → ⊥) c.shape.ensures.shape c.in_default-entry_of.ensures)
 
 pub returns-then-is_behind : goal.returns-then-is_behind
 returns-then-is_behind c = λ above two.

@@ -3,7 +3,7 @@ use Rattle.std.specs.Prelude.{All}
 use Rattle.hierarchy.specs.declared.Shape.{Shape}
 use Rattle.tm_text.specs.Written.{written}
 use Rattle.fault_model.specs.Adding.{CanHave}
-use Rattle.fault_model.specs.Text.{words_of}
+use Rattle.fault_model.specs.Text.{fault_words}
 use Rattle.fault_model.proofs.Words.{IsTold}
 use Rattle.fault_model.proofs.Writing.{each_of_shape, text_is, few_bytes}
 use Rattle.fault_model.proofs.write.faults_text.Goals as goal
@@ -20,8 +20,8 @@ told c =
     let m : Shape = c.args.set.now.shape in
     record { names = c.names_are_one_to_one.ensures m; crosses = c.the_crosspoints_are_sound.ensures.crosses m; numbered = c.the_numbering_is_sound.ensures.numbered m }
 
-lines : (c : After-drop-faults-2) → c.put_faults.new.text.items ≡ written (map (words_of c.args.set.now.shape) c.in_ok-faults.faults.items)
-lines c = c.in_ok-put_faults.ensures ∙ (λ i. c.new-text.ensures.items i ++ written (map (words_of (c.shape-shape.ensures.shape i)) (c.deref.ensures.value i)))
+lines : (c : After-drop-faults-2) → c.put_faults.new.text.items ≡ written (map (fault_words c.args.set.now.shape) c.in_ok-faults.faults.items)
+lines c = c.in_ok-put_faults.ensures ∙ (λ i. c.new-text.ensures.items i ++ written (map (fault_words (c.shape-shape.ensures.shape i)) (c.deref.ensures.value i)))
 
 pub returns-clause-faults : goal.returns-clause-faults
 returns-clause-faults c =

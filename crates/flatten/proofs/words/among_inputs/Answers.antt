@@ -3,7 +3,7 @@ use Rattle.std.proofs.lemmas.List.Sums.{fold_more}
 use Rattle.netlist.specs.Drafts.{word}
 use Rattle.netlist.specs.Words.{sooner}
 use Rattle.flatten.specs.Drives.{places_of}
-use Rattle.flatten.specs.Signals.{number_of}
+use Rattle.flatten.specs.Signals.{signal_number}
 use Rattle.flatten.proofs.words.among_inputs.Goals as goal
 
 pub ins-preserved : goal.ins-preserved
@@ -11,4 +11,4 @@ ins-preserved c =
     let F = sooner (places_of c.args.firsts.now) in
     c.sooner-best.ensures
     ∙ (λ i. F (c.ins.invariant i) (word c.args.line (c.number.ensures i)))
-    ∙ sym (fold_more (λ b s. F b (word c.args.line (number_of c.args.signals.now s))) c.args.found c.args.ins.now c.ins.k _ c.ins-test.true)
+    ∙ sym (fold_more (λ b s. F b (word c.args.line (signal_number c.args.signals.now s))) c.args.found c.args.ins.now c.ins.k _ c.ins-test.true)

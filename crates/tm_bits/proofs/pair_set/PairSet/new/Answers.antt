@@ -1,5 +1,5 @@
 use Rattle.std.proofs.Common.{◌∙◌, ap, arith}
-use Rattle.tm_bits.specs.Pairs.{words_of, has_pair}
+use Rattle.tm_bits.specs.Pairs.{words_for, has_pair}
 use Rattle.tm_bits.proofs.PairsLemmas.{rows_fit, none_is_empty}
 use Rattle.tm_bits.proofs.pair_set.PairSet.new.Goals as goal
 
