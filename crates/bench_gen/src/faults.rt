@@ -10,12 +10,10 @@ use crate::hits::is_allowed;
 use fault_model::{AddFault, Fault, FaultSet};
 use hierarchy::{Cross, Shape, Table, Wire};
 use std::alloc::{AllocError, Global};
+use tm_items::TABLE_CELLS;
 
 /// How many turns there are.
 const TURNS: u32 = 400;
-
-/// How many addresses a table has.
-const ADDRESSES: u32 = 64;
 
 // Draws a wire of all.
 fn draw_wire(draws: &mut Draws, shape: &Shape) -> Wire
@@ -69,7 +67,7 @@ fn draw_fault(draws: &mut Draws, shape: &Shape) -> Fault
         },
         4 => Fault::Cell {
             table: draw_table(draws, shape),
-            address: draws.draw(ADDRESSES) as u8,
+            address: draws.draw(TABLE_CELLS) as u8,
             value: draws.draw(2) == 1,
         },
         _ => Fault::Bridge {

@@ -9,9 +9,7 @@ use config_set::Setting;
 use fault_model::FaultSet;
 use hierarchy::Table;
 use rig::PinBits;
-
-/// How many inputs a table has.
-pub const INPUTS: usize = 6;
+use tm_items::TABLE_INPUTS;
 
 /// A table that is on.
 #[derive(Clone, Copy, Debug)]
@@ -21,7 +19,7 @@ pub struct Gate {
     /// What its register always holds, if it has one and that is stuck.
     pub held: Option<bool>,
     /// The roots of its inputs.
-    pub ins: [u32; INPUTS],
+    pub ins: [u32; TABLE_INPUTS],
     /// The root of its output.
     pub out: u32,
     /// What it gives now.

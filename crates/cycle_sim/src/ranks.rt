@@ -3,8 +3,9 @@
 ghost use Rattle.std.specs.Prelude.{◌≡◌, ◌<◌, true, length, slice_index, All, IfOk};
 ghost use Rattle.cycle_sim.specs.Settling.{IsWithin, IsRankedOrLatched, Settles};
 
-use crate::gates::{Gate, INPUTS};
+use crate::gates::Gate;
 use std::alloc::AllocError;
+use tm_items::TABLE_INPUTS;
 
 /// With fewer ticks neither an order of the tables nor a list of readers saves anything.
 pub const FEW_TICKS: u16 = 3;
@@ -23,7 +24,7 @@ fn lower(ranks: &mut [u16], gate: Gate)
     ensures { length ranks.new ≡ length ranks.old }
 {
     ranks[gate.out as usize] = 0;
-    'inputs: for j in 0..INPUTS {
+    'inputs: for j in 0..TABLE_INPUTS {
         ranks[gate.ins[j] as usize] = 0;
     }
 }
@@ -43,7 +44,7 @@ fn rank_above(ranks: &[u16], gate: Gate) -> u16
     requires { IsWithin (length ranks.now) gate }
 {
     let mut highest = 0;
-    'inputs: for j in 0..INPUTS {
+    'inputs: for j in 0..TABLE_INPUTS {
         let rank = ranks[gate.ins[j] as usize];
         if highest < rank {
             highest = rank;
@@ -84,7 +85,7 @@ fn is_ranked(ranks: &[u16], gate: Gate, most: u16) -> bool
     if rank > most {
         return false;
     }
-    'inputs: for j in 0..INPUTS {
+    'inputs: for j in 0..TABLE_INPUTS {
         if ranks[gate.ins[j] as usize] >= rank {
             return false;
         }

@@ -6,9 +6,10 @@ ghost use Rattle.std.specs.List.Sorted.{IsNonDecreasingBy};
 ghost use Rattle.cycle_sim.specs.Queues.{is_marked, IsQueue, KeepsMarks};
 ghost use Rattle.cycle_sim.specs.Readers.{AreListed, AreStarts, AreReaders, StartsAt, HaveGrown};
 
-use crate::gates::{Gate, INPUTS};
+use crate::gates::Gate;
 use crate::queue::{Queue, add};
 use std::alloc::AllocError;
+use tm_items::TABLE_INPUTS;
 
 /// A table that reads a class.
 #[derive(Clone, Copy, Debug)]
@@ -31,7 +32,7 @@ pub struct Readers {
 fn push_readers(list: &mut Vec<Reader>, gate: Gate, place: usize) -> Result<(), AllocError>
     ensures { OnOk result (HaveGrown gate place list.old.items list.new.items) }
 {
-    'inputs: for j in 0..INPUTS {
+    'inputs: for j in 0..TABLE_INPUTS {
         list.push(Reader {
             class: gate.ins[j],
             place,

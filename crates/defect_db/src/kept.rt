@@ -12,9 +12,7 @@ use crate::sweep::bar_all;
 use hierarchy::{Cross, Node, Shape, Table, Wire};
 use std::alloc::{AllocError, Global};
 use tm_bits::BitSet;
-
-/// How many pins a table has.
-const TABLE_PINS: u32 = 7;
+use tm_items::TABLE_PINS;
 
 /// What is kept of a list.
 #[derive(Debug, Drop)]

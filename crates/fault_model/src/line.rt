@@ -13,10 +13,8 @@ use crate::fault::Fault;
 use crate::head::{self, Head};
 use crate::kind::FaultsKind;
 use hierarchy::{Cross, Shape, Wire};
+use tm_items::TABLE_CELLS;
 use tm_text::read_number;
-
-/// The highest address of a cell.
-const LAST_ADDRESS: u64 = 63;
 
 /// The wire that the only word names.
 fn one_wire(shape: &Shape, words: &[&[u8]]) -> Option<Wire>
@@ -89,7 +87,7 @@ fn cell(shape: &Shape, words: &[&[u8]]) -> Option<Fault>
         (λ x. CanHave shape.now x × (fault_words shape.now x ≡ word_of heads.Cell ∷ map (λ w. w.now) words.now)) }
 {
     let table = shape.table_of(words[0])?;
-    let address = read_number(words[1], LAST_ADDRESS)?;
+    let address = read_number(words[1], TABLE_CELLS as u64 - 1)?;
     let value = bit(words[2])?;
     Some(Fault::Cell {
         table,

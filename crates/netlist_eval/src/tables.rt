@@ -6,9 +6,7 @@ ghost use Rattle.netlist_eval.specs.Bits.{AreBelow};
 ghost use Rattle.netlist_eval.specs.Tables.{address, six_bits, AreCells, AreWires, IsTableOf};
 
 use netlist::{Cover, truth_of};
-
-/// The most inputs of a cover that gets a table.
-const MOST_INPUTS: usize = 6;
+use tm_items::TABLE_INPUTS;
 
 /// The places of the bits of an address.
 const PLACES: [u32; 6] = [0, 1, 2, 3, 4, 5];
@@ -79,7 +77,7 @@ pub fn table_of(cover: &Cover) -> Option<Table>
     ensures { IsTableOf result cover.now }
 {
     let count = cover.ins.as_slice().len();
-    if count > MOST_INPUTS {
+    if count > TABLE_INPUTS {
         return None;
     }
     let wires = wires_of(cover);

@@ -12,9 +12,7 @@ ghost use Rattle.table_map.specs.Joining.{address_by, bit_with, in_tables, joine
 use crate::network::NetTable;
 use crate::source::{Source, Sources};
 use std::alloc::Global;
-
-/// The most inputs of a table.
-const MOST_INPUTS: usize = 6;
+use tm_items::TABLE_INPUTS;
 
 /// A number for each source.
 pub fn number(source: Source) -> u64
@@ -66,7 +64,7 @@ fn together(alloc: Global, table: u32, first: &[Source], second: &[Source]) -> O
         if is_in(sources.as_slice(), source) {
             continue;
         }
-        if sources.as_slice().len() == MOST_INPUTS {
+        if sources.as_slice().len() == TABLE_INPUTS {
             return None;
         }
         sources.push(source);

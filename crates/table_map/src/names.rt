@@ -8,9 +8,7 @@ ghost use Rattle.table_map.specs.Sizes.{is_wanted, wants_in, tree_size, rows_siz
 
 use netlist::{Cover, Cube, Lit};
 use std::alloc::{AllocError, Global};
-
-/// The most different inputs of a cover that is one table.
-const MOST_NAMES: usize = 6;
+use tm_items::TABLE_INPUTS;
 
 fn is_among(names: &[u32], name: u32) -> bool
     ensures { result ≡ is_among names.now name }
@@ -28,12 +26,12 @@ pub fn distinct_names(alloc: Global, ins: &[u32]) -> Result<Option<Vec<u32>>, Al
     ensures { IfOk result (λ found. MatchOption found (6 < length (distinct ins.now))
         (λ names. (names.items ≡ distinct ins.now) × (length names.items ≤ 6))) }
 {
-    let mut names = Vec::with_capacity(alloc, MOST_NAMES)?;
+    let mut names = Vec::with_capacity(alloc, TABLE_INPUTS)?;
     'ins: for k in 0..ins.len() {
         if is_among(&names, ins[k]) {
             continue;
         }
-        if names.len() == MOST_NAMES {
+        if names.len() == TABLE_INPUTS {
             return Ok(None);
         }
         names.push(ins[k])?;

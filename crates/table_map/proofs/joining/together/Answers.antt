@@ -21,8 +21,8 @@ both-preserved-then-is_in c =
     let at = number_at c.args.first.now c.args.second.now c.both.k c.source_of_both-source.result c.both-test.true c.source_of_both-source.ensures in
     (name_kept (2 * c.args.table + 1) (map number (c.args.first.now ++ c.args.second.now)) c.both.k (in_both c.args.first.now c.args.second.now c.both.k c.both-test.true) (map number c.both.sources) c.both.invariant.0 (λ e. c.if-number.false (c.number.ensures ∙ at ∙ e ∙ sym c.number-in-both.ensures)) (sym c.if-is_in.true ∙ c.is_in.ensures ∙ ap (λ ss. is_among (map number ss) (number c.source_of_both-source.result)) c.as_slice.ensures.sources ∙ ap (is_among (map number c.both.sources)) at), c.both.invariant.1)
 
-pub returns-then-as_slice-eq-MOST_INPUTS : goal.returns-then-as_slice-eq-MOST_INPUTS
-returns-then-as_slice-eq-MOST_INPUTS c =
+pub returns-then-as_slice-eq-TABLE_INPUTS : goal.returns-then-as_slice-eq-TABLE_INPUTS
+returns-then-as_slice-eq-TABLE_INPUTS c =
     let at = number_at c.args.first.now c.args.second.now c.both.k c.source_of_both-source.result c.both-test.true c.source_of_both-source.ensures in
     let six : length (map number c.both.sources) ≡ 6 = omega (arith, length-map c.both.sources number, ap length c.as_slice-in-both.ensures.sources) in
     too_many_names (2 * c.args.table + 1) (map number (c.args.first.now ++ c.args.second.now)) c.both.k (in_both c.args.first.now c.args.second.now c.both.k c.both-test.true) (map number c.both.sources) c.both.invariant.0 (λ e. c.if-number.false (c.number.ensures ∙ at ∙ e ∙ sym c.number-in-both.ensures)) (sym c.if-is_in.false ∙ c.is_in.ensures ∙ ap (λ ss. is_among (map number ss) (number c.source_of_both-source.result)) c.as_slice.ensures.sources ∙ ap (is_among (map number c.both.sources)) at) six

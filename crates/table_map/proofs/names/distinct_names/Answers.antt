@@ -7,8 +7,8 @@ use Rattle.table_map.proofs.names.distinct_names.Goals as goal
 pub ins-preserved-then-is_among : goal.ins-preserved-then-is_among
 ins-preserved-then-is_among c = (names_kept c.args.ins.now c.ins.names.items c.ins.k c.ins-test.true c.ins.invariant.0 (sym c.if-is_among.true ∙ c.is_among.ensures ∙ ap (λ ns. is_among ns (get_or c.args.ins.now c.ins.k 0)) c.deref.ensures.value), c.ins.invariant.1)
 
-pub returns-then-len-eq-MOST_NAMES : goal.returns-then-len-eq-MOST_NAMES
-returns-then-len-eq-MOST_NAMES c =
+pub returns-then-len-eq-TABLE_INPUTS : goal.returns-then-len-eq-TABLE_INPUTS
+returns-then-len-eq-TABLE_INPUTS c =
     let six : length c.ins.names.items ≡ 6 = omega arith in
     too_many c.args.ins.now c.ins.names.items c.ins.k c.ins-test.true c.ins.invariant.0 (sym c.if-is_among.false ∙ c.is_among.ensures ∙ ap (λ ns. is_among ns (get_or c.args.ins.now c.ins.k 0)) c.deref.ensures.value) six
 
