@@ -3,12 +3,13 @@ use Rattle.std.proofs.Common.{◌≡◌, ◌≢◌, ◌⊎◌, ℕ, zero, suc, �
 use Rattle.std.specs.Prelude.{IsSome, slice_get}
 use Rattle.std.specs.FinMap as map
 use Rattle.std.specs.FinSet as set
+use Rattle.std.specs.Ordering.{nat_cmp}
 use Rattle.std.proofs.lemmas.Bool.{cases_eq}
 use Rattle.tm_bits.specs.Numbers.{has_number}
 use Rattle.hierarchy.specs.declared.Shape.{Shape}
 use Rattle.hierarchy.specs.Laws.{IsNumbered, IsTree, HasMeetings, HasParents}
 use Rattle.hierarchy.specs.Shape.{wires_of, crosses_of, nodes_of, pins_of, tables_of, pin_wire, table_wire, ends_of, node_of, parent_of, hextant_of, IsLine, IsPort, IsTap, tap_table, IsAbove, itself, below, Ends, in_order, turned}
-use Rattle.hierarchy.specs.Faults.{Faults, IsFaultless, stuck_cross, stuck_wire}
+use Rattle.hierarchy.specs.Faults.{Faults, IsFaultless, stuck_cross, stuck_wire, pair_cmp}
 use Rattle.hierarchy.specs.Sound.{IsSoundWire, IsSoundTable, IsServed}
 use Rattle.hierarchy.specs.Served.{HasHomes}
 use Rattle.hierarchy.specs.Defects.{IsClear}
@@ -79,7 +80,14 @@ no_faults : Faults
 no_faults = record { wires = map.empty; crosses = map.empty; cells = map.empty; registers = map.empty; bridges = set.empty }
 
 without : IsFaultless no_faults
-without = record { wires = λ w. refl; crosses = λ x. refl; cells = λ t a. refl; registers = λ t. refl; bridges = λ p. refl }
+unfolding no_faults
+without = record {
+  wires = λ w. map.get-empty nat_cmp w;
+  crosses = λ x. map.get-empty nat_cmp x;
+  cells = λ t a. map.get-empty pair_cmp (t, a);
+  registers = λ t. map.get-empty nat_cmp t;
+  bridges = λ p. set.contains-empty pair_cmp p;
+}
 
 module _ (i : ImageValue) (laws : AreLaws i.config.shape) (within : (w : ℕ) → Uses i w → w < wires_of i.config.shape)
     (f : Faults) (unharmed : IsUnharmed f i) (a : Field) (fits : IsFieldOf i.config.shape a) (sk : HasSkeleton i a)
@@ -264,8 +272,8 @@ module _ (i : ImageValue) (laws : AreLaws i.config.shape) (within : (w : ℕ) �
           one = (sk.lines c).0;
           two = (sk.lines c).1;
           different = l.0.differ;
-          first = (l.1, record { sound = all_sound (sk.lines c).0; crosses = λ x b e. refl });
-          second = (l.2, record { sound = all_sound (sk.lines c).1; crosses = λ x b e. refl });
+          first = (l.1, record { sound = all_sound (sk.lines c).0; crosses = λ x b e. without.crosses x });
+          second = (l.2, record { sound = all_sound (sk.lines c).1; crosses = λ x b e. without.crosses x });
         });
     ports = λ c above other. (let up = involved_too i above is in let l = sk.two_ports c up in
         record {
