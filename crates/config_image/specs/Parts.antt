@@ -1,7 +1,8 @@
--- What an image is made of, what of it is free, and how wide a machine has to be for it.
+-- What an image is made of, what of it is free, how wide a machine has to be for it, and what surrounds it there.
 use Rattle.std.specs.Prelude.{◌≡◌, ℕ, ◌<◌, ◌≤◌, true, ◌++◌, IsSome, All, Contains}
 use Rattle.hierarchy.specs.declared.Shape.{Shape}
-use Rattle.hierarchy.specs.Shape.{pins_of, lines_of, own_ports_of, pin_wire, table_wire, ends_of, node_of, node_of_cross, IsAbove}
+use Rattle.hierarchy.specs.Shape.{pins_of, lines_of, own_ports_of, crosses_of, pin_wire, table_wire, ends_of, node_of, node_of_cross}
+use Rattle.hierarchy.specs.Shape.{IsAbove, IsLine, IsPort}
 use Rattle.hierarchy.specs.Defects.{Defects, IsFreeWire, IsFreeCross, IsFreeTable}
 use Rattle.config_set.specs.Configuration.{is_closed, setting_of}
 use Rattle.config_image.specs.Images.{ImageValue}
@@ -40,3 +41,18 @@ pub record IsWideEnough (m : Shape) (i : ImageValue) : Type 0 where
   pub pins : 2 ≤ pins_of m
   pub lines : (n : ℕ) → IsInvolved i n → 2 ≤ lines_of m n
   pub ports : (n : ℕ) → 0 < n → IsInvolved i n → 2 ≤ own_ports_of m n
+
+-- The surroundings of an image. A wire of them is one that it uses, or a line or an own port of an involved node; the root has the
+-- pins of the machine for own ports
+pub data IsSurroundingWire (i : ImageValue) (w : ℕ) : Type 0 where
+  used_wire : Uses i w → IsSurroundingWire i w
+  node_line : (n : ℕ) → IsInvolved i n → IsLine i.config.shape n w → IsSurroundingWire i w
+  node_port : (n : ℕ) → IsInvolved i n → IsPort i.config.shape n w → IsSurroundingWire i w
+  root_pin : (k : ℕ) → IsInvolved i 0 → k < pins_of i.config.shape → w ≡ pin_wire i.config.shape k → IsSurroundingWire i w
+
+-- .. and a crosspoint of them is one of an involved node between two such wires
+pub record IsSurroundingCross (i : ImageValue) (x : ℕ) : Type 0 where
+  pub within : x < crosses_of i.config.shape
+  pub node : IsInvolved i (node_of_cross i.config.shape x)
+  pub tap : IsSurroundingWire i (ends_of i.config.shape x).0
+  pub line : IsSurroundingWire i (ends_of i.config.shape x).1

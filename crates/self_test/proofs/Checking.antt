@@ -5,14 +5,9 @@ use Rattle.std.specs.List.{count_by}
 use Rattle.tm_bits.specs.Numbers.{size_of}
 use Rattle.hierarchy.specs.declared.Shape.{Shape}
 use Rattle.hierarchy.specs.declared.Table.{Table}
-use Rattle.hierarchy.specs.Laws.{IsNumbered, IsTree, HasMeetings, HasParents}
-use Rattle.hierarchy.specs.Faults.{Faults, IsFaultless}
-use Rattle.hierarchy.specs.Sound.{IsSoundWire, IsSoundTable}
-use Rattle.hierarchy.specs.Served.{HasHomes}
-use Rattle.hierarchy.specs.Standing.{HasStandingParts}
+use Rattle.hierarchy.specs.Faults.{Faults}
 use Rattle.config_set.specs.Configuration.{setting_of}
 use Rattle.config_image.specs.Images.{ImageValue, IsImage}
-use Rattle.config_image.specs.Parts.{IsWideEnough}
 use Rattle.evidence.specs.Kept.{Kept, HoldsFor, IsMore}
 use Rattle.growth.specs.Field.{IsFieldOf, ClosedIf}
 use Rattle.growth.specs.Tables.{SeatedAreKept}
@@ -21,44 +16,33 @@ use Rattle.growth.specs.declared.step.Step.{Step}
 use Rattle.self_test.specs.Fields.{IsFewFor}
 use Rattle.self_test.specs.Looks.{AreRoutesKnown, KeepsTableOf, AreSeated, RoutesIf, TablesIf, WholeIf, TakesInField, TakesAtMost, HasClosed, HasTablesOn}
 use Rattle.self_test.specs.Skeleton.{HasSkeleton}
-use Rattle.self_test.specs.Soundly.{KeepsRoutes, KeepsTables, KeepsParts, SoundIf, YesIf, RunsSoundly}
+use Rattle.self_test.specs.Soundly.{KeepsRoutes, KeepsTables, KeepsParts, SoundIf, YesIf, RunsSoundly, IsUnharmed}
 use Rattle.self_test.specs.Used.{AreUsed}
 use Rattle.self_test.proofs.Covering.{on_within, used_within}
 use Rattle.config_image.proofs.Keyed.{of_set, to_set}
 use Rattle.self_test.proofs.Counting.{list_fits}
 use Rattle.self_test.proofs.Looking.{on_of, routes_stay, tables_kept, tests_keep}
-use Rattle.self_test.proofs.Wholly.{routes_known, seated}
+use Rattle.self_test.proofs.Wholly.{AreLaws, routes_known, seated}
 
--- what the laws say of a machine
-pub record AreLaws (m : Shape) : Type 0 where
-  pub numbered : IsNumbered m
-  pub tree : IsTree m
-  pub parents : HasParents m
-  pub meetings : HasMeetings m
-  pub homes : HasHomes m
-  pub wires : (f : Faults) → IsFaultless f → (w : ℕ) → IsSoundWire m f w
-  pub tables : (f : Faults) → IsFaultless f → (t : ℕ) → IsSoundTable m f t
-  pub standing : (f : Faults) → HasStandingParts m f
-
--- without faults growth reaches all that the image needs
+-- growth reaches all that an unharmed image needs
 pub routes_if : (told : Option Faults) (old new : Kept) (ss : List Step) (i : ImageValue) (used : List Bool) (a : Field) (answer : Bool) → AreLaws i.config.shape → IsImage i → AreUsed i used → IsFieldOf i.config.shape a → new.shape ≡ i.config.shape →
     ClosedIf told new a ss → ((f : Faults) → told ≡ Some f → HoldsFor old f → HoldsFor new f) → (AreRoutesKnown new ss i → IsTrue answer) → RoutesIf told old new ss i a answer
 routes_if told old new ss i used a answer laws right are fits shape closed holds_on known = record { at = at }
   where
-    at : (f : Faults) → told ≡ Some f → HoldsFor old f → IsFaultless f → IsWideEnough i.config.shape i → HasSkeleton i a → IsTrue answer × AreSeated new ss i
-    at f is holds none wide sk =
+    at : (f : Faults) → told ≡ Some f → HoldsFor old f → IsUnharmed f i → HasSkeleton i a → IsTrue answer × AreSeated new ss i
+    at f is holds unharmed sk =
         let grown = closed.at f is (holds_on f is holds) in
         let within = used_within i used right are in (
-          known (routes_known i laws.numbered laws.tree laws.parents laws.meetings laws.homes within f none (laws.wires f none) (laws.tables f none) (laws.standing f) wide a fits sk new shape ss grown),
-          λ t on. seated i laws.numbered laws.tree laws.parents laws.meetings laws.homes within f none (laws.wires f none) (laws.tables f none) (laws.standing f) wide a fits sk new shape ss grown t on (on_within i right t on),
+          known (routes_known i laws within f unharmed a fits sk new shape ss grown),
+          λ t on. seated i laws within f unharmed a fits sk new shape ss grown t on (on_within i right t on),
         )
 
 -- the tests of the tables that are on keep what the image needs of them, where they are seated
 pub tables_if : (told : Option Faults) (k l : Kept) (ss : List Step) (i : ImageValue) (tables : List Table) (answer : Bool) → ((t : ℕ) → count_by (λ (y : Table). y.0 == t) tables ≡ (if is_some (setting_of i.config t) then 1 else 0)) →
     SeatedAreKept told k l ss tables → (KeepsTables l i → IsTrue answer) → TablesIf told k ss i answer
 tables_if told k l ss i tables answer counts kept known = record {
-  at = λ f is holds none seated_all. known (tables_kept l i (to_set (λ (t : Table). t.0) tables (λ q. is_some (setting_of i.config q)) counts (KeepsTableOf l i)
-      (tests_keep told k l ss i f tables kept is holds none seated_all (of_set (λ (t : Table). t.0) tables (λ q. is_some (setting_of i.config q)) counts (λ q. is_some (setting_of i.config q) ≡ true) (λ q e. e)))));
+  at = λ f is holds parts seated_all. known (tables_kept l i (to_set (λ (t : Table). t.0) tables (λ q. is_some (setting_of i.config q)) counts (KeepsTableOf l i)
+      (tests_keep told k l ss i f tables kept is holds parts seated_all (of_set (λ (t : Table). t.0) tables (λ q. is_some (setting_of i.config q)) counts (λ q. is_some (setting_of i.config q) ≡ true) (λ q e. e)))));
 }
 
 -- so many loads for each of them are so many for any list that has them
@@ -102,4 +86,4 @@ pub sound_if : (told : Option Faults) (k l : Kept) (i : ImageValue) (answer : Bo
 sound_if told k l i answer nothing holds_on keeps law = record { at = λ f is so. law f (holds_on f is (nothing f)) (keeps so) }
 
 pub yes_if : (told : Option Faults) (k : Kept) (i : ImageValue) (answer : Bool) → ((f : Faults) → HoldsFor k f) → WholeIf told k i answer → YesIf told i answer
-yes_if told k i answer nothing whole = record { at = λ f is none wide. whole.at f is (nothing f) none wide }
+yes_if told k i answer nothing whole = record { at = λ f is unharmed. whole.at f is (nothing f) unharmed }

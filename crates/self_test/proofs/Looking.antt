@@ -5,7 +5,9 @@ use Rattle.std.proofs.lemmas.Bool.{cases_eq, cases_lt}
 use Rattle.std.proofs.lemmas.Option.{slice_get-get_or}
 use Rattle.tm_bits.specs.Numbers.{has_number}
 use Rattle.hierarchy.specs.declared.Table.{Table}
-use Rattle.hierarchy.specs.Faults.{Faults, IsFaultless}
+use Rattle.hierarchy.specs.declared.Shape.{Shape}
+use Rattle.hierarchy.specs.Faults.{Faults}
+use Rattle.hierarchy.specs.Sound.{IsSoundTable}
 use Rattle.hierarchy.specs.Tight.{IsRightTable}
 use Rattle.config_set.specs.declared.Setting.{Setting}
 use Rattle.config_set.specs.Configuration.{setting_of}
@@ -15,20 +17,20 @@ use Rattle.growth.specs.Known.{KnownWires, HasWire, IsAt, IsKnown}
 use Rattle.growth.specs.Tables.{SeatedAreKept}
 use Rattle.growth.specs.declared.step.Step.{Step}
 use Rattle.table_test.specs.Seats.{KeepsTable}
-use Rattle.self_test.specs.Looks.{AreRoutesKnown, KeepsTableOf, AreSeated}
-use Rattle.self_test.specs.Soundly.{KeepsRoutes, KeepsTables}
+use Rattle.self_test.specs.Looks.{KeepsTableOf, AreSeated}
+use Rattle.self_test.specs.Soundly.{KeepsRoutes, KeepsTables, PartsAreSound}
 
 -- ---- known wires are kept, and each two of them are a kept pair
 
-module _ (k : Kept) (known : KnownWires) (is : IsKnown k known) (turned : (a b : ℕ) → keeps_pair k a b ≡ keeps_pair k b a) where
-  wire_kept : (w : ℕ) → HasWire known.steps w → keeps_wire k w ≡ true
+module _ (k : Kept) (known : KnownWires) (is : IsKnown k known) where
+  pub wire_kept : (w : ℕ) → HasWire known.steps w → keeps_wire k w ≡ true
   wire_kept w h = subst (λ u. keeps_wire k u ≡ true) h.at.wire (is.steps h.place h.at.step h.at.here).kept
 
   earlier_kept : (w u i j : ℕ) → i < j → IsAt known.steps i w → IsAt known.steps j u → keeps_pair k w u ≡ true
   earlier_kept w u i j l a b = subst (λ v. keeps_pair k w v ≡ true) b.wire ((is.steps j b.step b.here).apart w (record { place = i; early = l; at = a }))
 
-  pair_kept : (w u : ℕ) → HasWire known.steps w → HasWire known.steps u → w ≢ u → keeps_pair k w u ≡ true
-  pair_kept w u a b differ = by (cases_eq a.place b.place) (cases_lt a.place b.place)
+  pub pair_kept : ((a b : ℕ) → keeps_pair k a b ≡ keeps_pair k b a) → (w u : ℕ) → HasWire known.steps w → HasWire known.steps u → w ≢ u → keeps_pair k w u ≡ true
+  pair_kept turned w u a b differ = by (cases_eq a.place b.place) (cases_lt a.place b.place)
     where
       same : a.place ≡ b.place → w ≡ u
       same e = sym a.at.wire ∙ ap (λ (s : Step). s.wire.0) (let one = a.at.here in let other = b.at.here in let at = sym one ∙ ap (slice_get known.steps) e ∙ other in let is_ : a.at.step ≡ b.at.step = cc in is_) ∙ b.at.wire
@@ -37,13 +39,6 @@ module _ (k : Kept) (known : KnownWires) (is : IsKnown k known) (turned : (a b :
       by (inl e) less = absurd (differ (same e))
       by (inr other) (inl l) = earlier_kept w u a.place b.place l a.at b.at
       by (inr other) (inr l) = turned w u ∙ earlier_kept u w b.place a.place (omega arith) b.at a.at
-
-  pub routes_kept : (i : ImageValue) → AreRoutesKnown k known.steps i → KeepsRoutes k i
-  routes_kept i are = record {
-    crosses = are.crosses;
-    wires = λ w uses. wire_kept w (are.wires w uses);
-    pairs = λ w u p q differ. pair_kept w u (are.wires w p) (are.wires u q) differ;
-  }
 
 -- what was kept of routes stays kept
 pub routes_stay : {k l : Kept} {i : ImageValue} → IsMore k l → KeepsRoutes k i → KeepsRoutes l i
@@ -82,12 +77,13 @@ tables_each k i keeps t on = record {
 pub whole_table : (k : Kept) (i : ImageValue) (t : ℕ) → KeepsTable k t → KeepsTableOf k i t
 whole_table k i t keeps = record { cells = keeps.cells; register = λ s on latched. keeps.register }
 
-pub all_right : (f : Faults) → IsFaultless f → (t : ℕ) → IsRightTable f t
-all_right f none t = record { cells = λ a l. none.cells t a; register = none.registers t }
+right_of : {m : Shape} {f : Faults} {t : ℕ} → IsSoundTable m f t → IsRightTable f t
+right_of sound = record { cells = sound.cells; register = sound.register }
 
 -- the tests of seated tables keep them
-pub tests_keep : (told : Option Faults) (k l : Kept) (ss : List Step) (i : ImageValue) (f : Faults) (tables : List Table) → SeatedAreKept told k l ss tables → told ≡ Some f → HoldsFor k f → IsFaultless f → AreSeated k ss i →
+pub tests_keep : (told : Option Faults) (k l : Kept) (ss : List Step) (i : ImageValue) (f : Faults) (tables : List Table) → SeatedAreKept told k l ss tables → told ≡ Some f → HoldsFor k f → PartsAreSound f i → AreSeated k ss i →
     All (λ t. is_some (setting_of i.config t.0) ≡ true) tables → All (λ t. KeepsTableOf l i t.0) tables
-tests_keep told k l ss i f tables kept is holds none seated on j d within =
+tests_keep told k l ss i f tables kept is holds parts seated on j d within =
     let t = get_or tables j d in
-    whole_table l i t.0 ((kept.each j t (slice_get-get_or tables j d within)).at f is holds (seated t.0 (on_of i t.0 (on j d within))) (all_right f none t.0))
+    let is_on = on_of i t.0 (on j d within) in
+    whole_table l i t.0 ((kept.each j t (slice_get-get_or tables j d within)).at f is holds (seated t.0 is_on) (right_of (parts.tables t.0 is_on)))

@@ -1,17 +1,18 @@
 -- What the looks at an image's parts say.
 use Rattle.std.specs.Prelude.{◌≡◌, ℕ, ◌+◌, ◌*◌, ◌<◌, ◌≤◌, Bool, true, Option, Some, IsSome, IsTrue, List, length, Contains}
 use Rattle.tm_bits.specs.Numbers.{size_of}
-use Rattle.hierarchy.specs.Faults.{Faults, IsFaultless}
+use Rattle.hierarchy.specs.Faults.{Faults}
 use Rattle.hierarchy.specs.Standing.{IsSeated}
 use Rattle.config_set.specs.declared.Setting.{Setting}
 use Rattle.config_set.specs.Configuration.{is_closed, setting_of}
 use Rattle.config_image.specs.Images.{ImageValue}
-use Rattle.config_image.specs.Parts.{Uses, IsWideEnough}
+use Rattle.config_image.specs.Parts.{Uses}
 use Rattle.evidence.specs.Kept.{Kept, HoldsFor, keeps_cross, keeps_cell, keeps_register}
 use Rattle.growth.specs.Known.{HasWire, IsKeptCrossOf}
 use Rattle.growth.specs.declared.field.Field.{Field}
 use Rattle.growth.specs.declared.step.Step.{Step}
 use Rattle.self_test.specs.Skeleton.{HasSkeleton}
+use Rattle.self_test.specs.Soundly.{PartsAreSound, IsUnharmed}
 
 -- the used wires are known, and the closed crosspoints kept
 pub record AreRoutesKnown (k : Kept) (ss : List Step) (i : ImageValue) : Type 0 where
@@ -27,24 +28,23 @@ pub record KeepsTableOf (k : Kept) (i : ImageValue) (t : ℕ) : Type 0 where
 abbrev pub AreSeated : Kept → List Step → ImageValue → Type 0
 AreSeated k ss i = (t : ℕ) → IsSome (setting_of i.config t) → IsSeated k.shape (HasWire ss) (IsKeptCrossOf k) t
 
--- Where the faults are told to be none, what was kept is true of them, the machine is wide enough and the field has the image's
--- skeleton, the answer is yes, and the tables are seated.
+-- Where the faults are told, what was kept is true of them, they leave the image unharmed and the field has its skeleton, the answer is
+-- yes, and the tables are seated.
 pub record RoutesIf (told : Option Faults) (old new : Kept) (ss : List Step) (i : ImageValue) (a : Field) (yes : Bool) : Type 0 where
-  pub at : (f : Faults) → told ≡ Some f → HoldsFor old f → IsFaultless f → IsWideEnough i.config.shape i → HasSkeleton i a →
-      IsTrue yes × AreSeated new ss i
+  pub at : (f : Faults) → told ≡ Some f → HoldsFor old f → IsUnharmed f i → HasSkeleton i a → IsTrue yes × AreSeated new ss i
 
--- Where they are told to be none, what was kept is true of them, and the tables are seated, it is yes.
+-- Where they are told, what was kept is true of them, the image's parts are sound and its tables are seated, it is yes.
 pub record TablesIf (told : Option Faults) (k : Kept) (ss : List Step) (i : ImageValue) (yes : Bool) : Type 0 where
-  pub at : (f : Faults) → told ≡ Some f → HoldsFor k f → IsFaultless f → AreSeated k ss i → IsTrue yes
+  pub at : (f : Faults) → told ≡ Some f → HoldsFor k f → PartsAreSound f i → AreSeated k ss i → IsTrue yes
 
--- Where they are told to be none, what was kept is true of them, the machine is wide enough and the field has the image's skeleton, it
--- is found that they are kept.
+-- Where they are told, what was kept is true of them, they leave the image unharmed and the field has its skeleton, it is found that the
+-- parts are kept.
 pub record FieldIf (told : Option Faults) (k : Kept) (i : ImageValue) (a : Field) (found : Option Bool) : Type 0 where
-  pub at : (f : Faults) → told ≡ Some f → HoldsFor k f → IsFaultless f → IsWideEnough i.config.shape i → HasSkeleton i a → found ≡ Some true
+  pub at : (f : Faults) → told ≡ Some f → HoldsFor k f → IsUnharmed f i → HasSkeleton i a → found ≡ Some true
 
--- Where they are told to be none, what was kept is true of them, and the machine is wide enough, it is yes.
+-- Where they are told, what was kept is true of them, and they leave the image unharmed, it is yes.
 pub record WholeIf (told : Option Faults) (k : Kept) (i : ImageValue) (yes : Bool) : Type 0 where
-  pub at : (f : Faults) → told ≡ Some f → HoldsFor k f → IsFaultless f → IsWideEnough i.config.shape i → IsTrue yes
+  pub at : (f : Faults) → told ≡ Some f → HoldsFor k f → IsUnharmed f i → IsTrue yes
 
 -- each closed crosspoint of an image is in the list, and each switched-on table
 abbrev pub HasClosed : ImageValue → List ℕ → Type 0

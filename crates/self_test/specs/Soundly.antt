@@ -2,11 +2,12 @@
 use Rattle.std.specs.Prelude.{◌≡◌, ◌≢◌, ℕ, ◌+◌, ◌*◌, ◌<◌, ◌≤◌, Bool, true, List, map, length, Option, Some, IsSome, IsTrue, Contains}
 use Rattle.hierarchy.specs.Circuit.{Pins}
 use Rattle.hierarchy.specs.Faults.{Faults, IsFaultless}
+use Rattle.hierarchy.specs.Sound.{IsSoundWire, IsSoundCross, IsSoundTable}
 use Rattle.config_set.specs.declared.Setting.{Setting}
 use Rattle.config_set.specs.Configuration.{is_closed, setting_of}
 use Rattle.config_set.specs.Faulty.{IsRun}
 use Rattle.config_image.specs.Images.{ImageValue, drive_of, image_row}
-use Rattle.config_image.specs.Parts.{Uses, Part, IsPartOf, IsInvolved, IsWideEnough}
+use Rattle.config_image.specs.Parts.{Uses, Part, IsPartOf, IsInvolved, IsWideEnough, IsSurroundingWire, IsSurroundingCross}
 use Rattle.evidence.specs.Kept.{Kept, keeps_cross, keeps_wire, keeps_pair, keeps_cell, keeps_register}
 
 -- For every list of vectors on its input pins, with 1 on all other pins, the image reads at its output pins under these faults what
@@ -35,9 +36,26 @@ pub record KeepsParts (k : Kept) (i : ImageValue) : Type 0 where
 pub record SoundIf (told : Option Faults) (i : ImageValue) (yes : Bool) : Type 0 where
   pub at : (f : Faults) → told ≡ Some f → IsTrue yes → RunsSoundly f i
 
--- where they are told to be none, and the machine is wide enough for the image, the answer is yes
+-- under these faults each part of the image is sound: the wires that it uses, its closed crosspoints, its switched-on tables
+pub record PartsAreSound (f : Faults) (i : ImageValue) : Type 0 where
+  pub wires : (w : ℕ) → Uses i w → IsSoundWire i.config.shape f w
+  pub crosses : (x : ℕ) → is_closed i.config x ≡ true → IsSoundCross i.config.shape f x
+  pub tables : (t : ℕ) → IsSome (setting_of i.config t) → IsSoundTable i.config.shape f t
+
+-- .. and each wire and crosspoint of its surroundings
+pub record SurroundingsAreSound (f : Faults) (i : ImageValue) : Type 0 where
+  pub wires : (w : ℕ) → IsSurroundingWire i w → IsSoundWire i.config.shape f w
+  pub crosses : (x : ℕ) → IsSurroundingCross i x → IsSoundCross i.config.shape f x
+
+-- No fault is near the image: the machine is wide enough for it, and its parts and surroundings are sound
+pub record IsUnharmed (f : Faults) (i : ImageValue) : Type 0 where
+  pub wide : IsWideEnough i.config.shape i
+  pub parts : PartsAreSound f i
+  pub surroundings : SurroundingsAreSound f i
+
+-- where they are told, and leave the image unharmed, the answer is yes: faults that are far from the image don't matter
 pub record YesIf (told : Option Faults) (i : ImageValue) (yes : Bool) : Type 0 where
-  pub at : (f : Faults) → told ≡ Some f → IsFaultless f → IsWideEnough i.config.shape i → IsTrue yes
+  pub at : (f : Faults) → told ≡ Some f → IsUnharmed f i → IsTrue yes
 
 -- each part of the image is in the one list, and each involved node in the other
 pub record AreAllOf (i : ImageValue) (parts : List Part) (nodes : List ℕ) : Type 0 where

@@ -48,7 +48,6 @@ fn grow_over(
     ensures loads { (rig_state rig.new).loads ≤ (rig_state rig.old).loads + (8 * size_of field.now.crosses + 3 * size_of field.now.wires) }
     ensures cause { IsErrOf result RigFail.Failed → Rose (rig_state rig.old).failures (rig_state rig.new).failures }
 {
-    kept_facts_are_sound();
     the_numbering_is_sound();
     the_crosspoints_are_sound();
     each_wire_has_a_home();
@@ -162,7 +161,8 @@ fn check_with(
 
 /// Whether an image still runs on the attached machine as on one without faults. Each part of it is tested over routes of the
 /// test's own, with at most 256 loads for each part and each involved node, whatever the answer. `true` means so, where the rig
-/// tells the machine's faults. `false` may be wrong, but not on a machine without faults that is wide enough for the image.
+/// tells the machine's faults. `false` may be wrong, but not on a machine that is wide enough for the image and on which its parts and
+/// surroundings are sound, as all are without faults: a fault that is far from the image doesn't matter.
 ///
 /// # Errors
 ///
@@ -179,6 +179,7 @@ pub fn quick_check(
     ensures whole { IfOk result (YesIf (rig_state rig.old).machine.faults image.now) }
     ensures machine { (rig_state rig.new).machine ≡ (rig_state rig.old).machine }
     ensures later { (rig_state rig.old).failures ≤ (rig_state rig.new).failures }
+    ensures counted { (rig_state rig.old).loads ≤ (rig_state rig.new).loads }
     ensures loads { TakesForParts image.now (rig_state rig.old).loads (rig_state rig.new).loads }
     ensures cause { IsErrOf result RigFail.Failed → Rose (rig_state rig.old).failures (rig_state rig.new).failures }
 {

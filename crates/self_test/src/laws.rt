@@ -1,16 +1,16 @@
 //! What later crates rest on, of images that run soundly.
 ghost use Rattle.std.specs.Prelude.{◌≡◌, Bool, List};
 ghost use Rattle.hierarchy.specs.Defects.{Covers, Defects};
-ghost use Rattle.hierarchy.specs.Faults.{Faults};
+ghost use Rattle.hierarchy.specs.Faults.{Faults, IsFaultless};
 ghost use Rattle.config_image.specs.Images.{ImageValue, IsImage};
-ghost use Rattle.config_image.specs.Parts.{IsFreeImage};
+ghost use Rattle.config_image.specs.Parts.{IsFreeImage, IsWideEnough};
 ghost use Rattle.evidence.specs.Kept.{HoldsFor, Kept};
-ghost use Rattle.self_test.specs.Soundly.{KeepsParts, RunsSoundly};
+ghost use Rattle.self_test.specs.Soundly.{IsUnharmed, KeepsParts, RunsSoundly};
 ghost use Rattle.self_test.specs.Used.{AreUsed};
 
 use config_image::free_images_run_alike;
 use config_set::laws::stuck_registers_hold;
-use hierarchy::every_list_covers_no_faults;
+use hierarchy::{every_list_covers_no_faults, without_faults_all_is_sound};
 
 /// An image that touches only what is free runs soundly under all faults that the list covers.
 pub fn free_images_run_soundly()
@@ -28,4 +28,11 @@ pub fn kept_images_run_soundly()
 {
     stuck_registers_hold();
     free_images_run_soundly();
+}
+
+/// Without faults an image is unharmed on each machine that is wide enough for it.
+pub fn no_faults_leave_images_unharmed()
+    ensures { (f : Faults) (i : ImageValue) → IsFaultless f → IsWideEnough i.config.shape i → IsUnharmed f i }
+{
+    without_faults_all_is_sound();
 }

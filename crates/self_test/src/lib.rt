@@ -15,5 +15,5 @@ mod picks;
 mod used;
 
 pub use check::quick_check;
-pub use laws::{free_images_run_soundly, kept_images_run_soundly};
+pub use laws::{free_images_run_soundly, kept_images_run_soundly, no_faults_leave_images_unharmed};
 pub use used::used_wires;

@@ -1,28 +1,38 @@
 //! Whether an image's parts are kept.
-ghost use Rattle.std.specs.Prelude.{◌≡◌, ◌<◌, ◌↔◌, ℕ, All, IsTrue, true, length};
+ghost use Rattle.std.specs.Prelude.{◌≡◌, ◌≢◌, ◌<◌, ◌↔◌, ℕ, All, IsTrue, true, length};
 ghost use Rattle.tm_bits.specs.Numbers.{has_number};
 ghost use Rattle.hierarchy.specs.Shape.{wires_of, crosses_of, tables_of};
 ghost use Rattle.config_image.specs.Images.{IsImage};
-ghost use Rattle.evidence.specs.Kept.{keeps_cell, keeps_cross};
-ghost use Rattle.growth.specs.Known.{HasWire};
+ghost use Rattle.evidence.specs.Kept.{keeps_cell, keeps_cross, keeps_pair, keeps_wire};
+ghost use Rattle.growth.specs.Known.{HasWire, IsKnown};
 ghost use Rattle.self_test.specs.Looks.{AreRoutesKnown, KeepsTableOf};
-ghost use Rattle.self_test.specs.Soundly.{KeepsTables};
+ghost use Rattle.self_test.specs.Soundly.{KeepsRoutes, KeepsTables};
 ghost use Rattle.self_test.specs.Used.{AreUsed};
 
 use config_image::Image;
 use evidence::Proof;
+use evidence::laws::kept_facts_are_sound;
 use growth::Known;
 use hierarchy::{Cross, Table, Wire};
 use tm_bits::BitSet;
 
-// Whether all of these wires are known.
-fn has_wires(known: &Known, used: &BitSet) -> bool
-    requires { length used.now ≡ wires_of known.now.shape }
-    ensures { IsTrue result ↔ ((w : ℕ) → has_number used.now w ≡ true → HasWire known.now.steps w) }
+// Whether all of these wires are kept and known. Each two known wires are kept apart, which no look at the wires one by one shows.
+fn has_wires(proof: &Proof, known: &Known, used: &BitSet) -> bool
+    requires known { IsKnown proof.now known.now }
+    requires used { length used.now ≡ wires_of proof.now.shape }
+    ensures wires { IsTrue result → (w : ℕ) → has_number used.now w ≡ true → keeps_wire proof.now w ≡ true }
+    ensures pairs { IsTrue result → (w u : ℕ) → has_number used.now w ≡ true → has_number used.now u ≡ true → w ≢ u →
+        keeps_pair proof.now w u ≡ true }
+    ensures all { ((w : ℕ) → has_number used.now w ≡ true → (keeps_wire proof.now w ≡ true) × HasWire known.now.steps w) →
+        IsTrue result }
 {
+    kept_facts_are_sound();
     'wires: for w in 0..used.len() {
         if !used.has(w) {
             continue;
+        }
+        if !proof.keeps_wire(Wire(w)) {
+            return false;
         }
         if !known.has(Wire(w)) {
             return false;
@@ -47,13 +57,14 @@ fn keeps_crosses(proof: &Proof, crosses: &[Cross]) -> bool
 /// Whether an image's used wires are known and its closed crosspoints are kept.
 pub(crate) fn keeps_routes(proof: &Proof, known: &Known, image: &Image, used: &BitSet) -> bool
     requires shape { image.now.config.shape ≡ proof.now.shape }
-    requires known { known.now.shape ≡ proof.now.shape }
+    requires known { IsKnown proof.now known.now }
     requires used { AreUsed image.now used.now }
-    ensures known { IsTrue result ↔ AreRoutesKnown proof.now known.now.steps image.now }
+    ensures keeps { IsTrue result → KeepsRoutes proof.now image.now }
+    ensures all { AreRoutesKnown proof.now known.now.steps image.now → IsTrue result }
     ensures right { IsImage image.now }
 {
     let config = image.config();
-    if !has_wires(known, used) {
+    if !has_wires(proof, known, used) {
         return false;
     }
     keeps_crosses(proof, config.closed())

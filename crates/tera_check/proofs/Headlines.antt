@@ -3,12 +3,11 @@ use Rattle.std.proofs.Common.{◌≡◌, ◌∙◌, ℕ, Bool, true, false, List
 use Rattle.std.proofs.lemmas.Bool.{false≢true}
 use Rattle.tm_outside.specs.Sink.{Wrote}
 use Rattle.hierarchy.specs.declared.Shape.{Shape}
-use Rattle.hierarchy.specs.Faults.{Faults, IsFaultless}
+use Rattle.hierarchy.specs.Faults.{Faults}
 use Rattle.hierarchy.specs.Defects.{Covers}
 use Rattle.hierarchy.specs.Tight.{IsTight}
 use Rattle.config_image.specs.Images.{ImageValue}
-use Rattle.config_image.specs.Parts.{IsWideEnough}
-use Rattle.self_test.specs.Soundly.{TakesForParts}
+use Rattle.self_test.specs.Soundly.{IsUnharmed, TakesForParts}
 use Rattle.steps.specs.Outside.{Outside, around}
 use Rattle.steps.specs.Courses.{ends}
 use Rattle.steps.specs.Texts.{reads_machine, reads_image}
@@ -28,8 +27,8 @@ module _ (machine name image : List ℕ) (old new : Outside) (text : List ℕ)
   -- the line of an answer was written
   answered : (loads : ℕ) (a : Answer) → answer_written (image ∷ machine ∷ []) old.store new.store new.rig loads i a text ends →
       (new.rig.loads ≡ loads → IsFound i old.rig.loads new.rig a) → ((f : Faults) → new.rig.machine.faults ≡ Some f → IsTrueUnder f i a) →
-      ((f : Faults) → new.rig.machine.faults ≡ Some f → IsFaultless f → IsWideEnough i.config.shape i →
-      (a ≡ Sound) × TakesForParts i old.rig.loads loads) → IsChecked machine name image old new
+      ((f : Faults) → new.rig.machine.faults ≡ Some f → IsUnharmed f i → (a ≡ Sound) × TakesForParts i old.rig.loads loads) →
+      IsChecked machine name image old new
   answered loads a at found right whole =
       let here = StandsLoaded (image ∷ machine ∷ []) old.store new.store new.rig loads in
       let line = line-ended (answer_line i.config.shape a) here text at in
@@ -45,23 +44,23 @@ module _ (machine name image : List ℕ) (old new : Outside) (text : List ℕ)
         found = found line.1.1;
         written = subst (λ t. Wrote old.sink.written new.sink.written t) (line.0 ∙ ap (λ (s : Shape). answer_line s a) is.0) wrote;
         right = right;
-        whole = λ f told none wide. let all = whole f told none (rw (← is.0) at wide) in (all.0, rw line.1.1 all.1);
+        whole = λ f told unharmed. let all = whole f told unharmed in (all.0, rw line.1.1 all.1);
       }
 
-  -- by the test, or by a list: a machine without faults that is wide enough isn't listed
+  -- by the test, or by a list: a machine whose faults leave the image unharmed isn't listed
   by-test : (t : Tried) → IsTried i old.rig.loads new.rig t → (sound : Bool) → t.sound ≡ sound →
       by_test sound (answer_written (image ∷ machine ∷ []) old.store new.store new.rig t.loads i Sound)
       (machine_listed (image ∷ machine ∷ []) old.store new.store new.rig i t) text ends → IsChecked machine name image old new
   by-test t tried true found at =
       answered t.loads Sound at (λ loads. tested t tried found refl loads) (λ f told. tried.sound.at f told found)
-      (λ f told none wide. (refl, tried.few))
+      (λ f told unharmed. (refl, tried.few))
   by-test t tried false found (inl h) = absurd h.1
   by-test t tried false found (inr (l, list, inl h)) = absurd h.1
   by-test t tried false found (inr (l, list, inr (a, said, at))) =
       answered l.loads a at (λ loads. listed t l tried found list said.by_list loads)
       (λ f told. subst (λ (s : Shape). Covers s l.list.list f → IsTight s l.list.list f → IsTrueUnder f i a) list.shape (said.right f)
       (list.right.covers f told) (list.right.tight f told))
-      (λ f told none wide. absurd (false≢true (sym found ∙ tried.whole.at f told none wide)))
+      (λ f told unharmed. absurd (false≢true (sym found ∙ tried.whole.at f told unharmed)))
 
 module _ (machine name image : List ℕ) (old new : Outside) where
   pub checked : (text : List ℕ) → new.store.asked ≡ old.store.asked ++ machine ∷ image ∷ [] → Wrote old.sink.written new.sink.written text → check_course machine name image (around old) (around new) text ends → IsChecked machine name image old new

@@ -3,11 +3,10 @@ use Rattle.std.specs.Prelude.{◌≡◌, ℕ, true, false, List, [], ◌∷◌, 
 use Rattle.tm_outside.specs.Told.{IfTold}
 use Rattle.tm_outside.specs.Sink.{Wrote}
 use Rattle.hierarchy.specs.declared.Shape.{Shape}
-use Rattle.hierarchy.specs.Faults.{Faults, IsFaultless}
+use Rattle.hierarchy.specs.Faults.{Faults}
 use Rattle.config_image.specs.Images.{ImageValue, Reads}
-use Rattle.config_image.specs.Parts.{IsWideEnough}
 use Rattle.rig.specs.Rig.{RigState}
-use Rattle.self_test.specs.Soundly.{TakesForParts}
+use Rattle.self_test.specs.Soundly.{IsUnharmed, TakesForParts}
 use Rattle.steps.specs.Outside.{Outside}
 use Rattle.steps.specs.Texts.{IsMachineText}
 use Rattle.listing.specs.Lists.{Listed, IsListed}
@@ -25,8 +24,8 @@ pub data IsFound (i : ImageValue) (before : ℕ) (rig : RigState) (a : Answer) :
 
 -- The machine of the text is attached under the name, and one line is written: that the image of the file is sound, or its first part
 -- that isn't free on a list of the machine's defects. Where the machine's faults are told, an image that is called sound runs soundly
--- under them, and a part that is in doubt isn't sound, or is out of reach; and where there are none and the machine is wide enough for
--- the image, it is called sound, with at most 256 loads for each part and each involved node
+-- under them, and a part that is in doubt isn't sound, or is out of reach; and where no fault is near the image and the machine is wide
+-- enough for it, it is called sound, with at most 256 loads for each part and each involved node
 pub record IsChecked (machine name image : List ℕ) (old new : Outside) : Type 0 where
   pub shape : Shape
   pub given : ImageValue
@@ -39,5 +38,5 @@ pub record IsChecked (machine name image : List ℕ) (old new : Outside) : Type 
   pub found : IsFound given old.rig.loads new.rig answer
   pub written : Wrote old.sink.written new.sink.written (answer_line shape answer)
   pub right : (f : Faults) → new.rig.machine.faults ≡ Some f → IsTrueUnder f given answer
-  pub whole : (f : Faults) → new.rig.machine.faults ≡ Some f → IsFaultless f → IsWideEnough shape given →
+  pub whole : (f : Faults) → new.rig.machine.faults ≡ Some f → IsUnharmed f given →
       (answer ≡ Sound) × TakesForParts given old.rig.loads new.rig.loads

@@ -11,8 +11,8 @@ pub record Tried : Type 0 where
   pub sound : Bool
   pub loads : ℕ
 
--- Where the machine's faults are told: what is found sound runs soundly under them, and where they are none and the machine is wide
--- enough for the image, it is found sound. It took few loads from so many that the rig counted before
+-- Where the machine's faults are told: what is found sound runs soundly under them, and where they leave the image unharmed, it is found
+-- sound. It took few loads from so many that the rig counted before
 pub record IsTried (i : ImageValue) (before : ℕ) (rig : RigState) (t : Tried) : Type 0 where
   pub sound : SoundIf rig.machine.faults i t.sound
   pub whole : YesIf rig.machine.faults i t.sound

@@ -2,17 +2,13 @@ use Rattle.std.proofs.Common.{sym, ◌∙◌, subst}
 use Rattle.hierarchy.specs.declared.Shape.{Shape}
 use Rattle.growth.specs.Field.{IsFieldOf}
 use Rattle.self_test.proofs.Checking.{routes_if}
-use Rattle.self_test.proofs.Looking.{routes_kept}
 use Rattle.self_test.proofs.check.grow_over.Goals as goal
 
 pub keeps_routes-requires-clause-shape : goal.keeps_routes-requires-clause-shape
 keeps_routes-requires-clause-shape g c = c.requires.image ∙ sym c.grow.ensures.advances.more.shape
 
-pub keeps_routes-requires-clause-known : goal.keeps_routes-requires-clause-known
-keeps_routes-requires-clause-known g c = c.grow.ensures.known.shape
-
 pub returns-in-Ok-clause-keeps : goal.returns-in-Ok-clause-keeps
-returns-in-Ok-clause-keeps g c = λ e. routes_kept c.grow.new.proof c.grow.new.known c.grow.ensures.known (c.kept_facts_are_sound.ensures.turned c.grow.new.proof) c.args.image.now (c.keeps_routes.ensures.known.0 e)
+returns-in-Ok-clause-keeps g c = c.keeps_routes.ensures.keeps
 
 pub returns-in-Ok-clause-whole : goal.returns-in-Ok-clause-whole
 returns-in-Ok-clause-whole g c =
@@ -29,4 +25,4 @@ returns-in-Ok-clause-whole g c =
       standing = c.parts_of_served_nodes_stand.ensures m;
     })
     c.keeps_routes.ensures.right c.requires.used (subst (λ (s : Shape). IsFieldOf s c.args.field.now) (sym c.requires.image) c.requires.field) (c.grow.ensures.advances.more.shape ∙ sym c.requires.image)
-    c.in-Ok.ensures.closed c.grow.ensures.advances.holds c.keeps_routes.ensures.known.1
+    c.in-Ok.ensures.closed c.grow.ensures.advances.holds c.keeps_routes.ensures.all
