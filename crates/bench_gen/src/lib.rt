@@ -1,4 +1,8 @@
 //! Work that is made from a number: the faults of a machine, a design, and its vectors.
+//!
+//! The generator's states and answers, the faults of its 400 turns, and the design's text, exactly. Whatever the number, the
+//! faults leave the first 20 pins of the machine and the first 20 ports of each node sound, its first 20 lines whole, and the
+//! first four tables of each hextant sound; so each node of the generator's machine is served (`bench_faults_leave_sound_parts`).
 #![tactic(auto)]
 
 ghost use Rattle.std.specs.Prelude.{◌≡◌, ◌<◌, ℕ};

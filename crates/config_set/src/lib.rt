@@ -1,5 +1,10 @@
 //! Configurations of a machine: which crosspoints are closed, which tables are on and what they do, and
 //! how many ticks a cycle has.
+//!
+//! A configuration after any calls: closed crosspoints, switched-on tables, ticks; a closing can't fail while there is room. The
+//! run of a machine with faults exists for every list of drives and is the only one; readings that differ when a crosspoint, a
+//! cell or a register is toggled show that it isn't stuck, and tests whose wires are as they should be read as they should
+//! (`laws::tests_pass`).
 #![tactic(auto)]
 
 ghost use Rattle.std.specs.Prelude.{◌≡◌, ℕ, ◌+◌, ◌-◌, ◌≤◌, ◌<◌, true, IfOk, OnOk, OnErr, IsOk, IsSome, IfSome, Some, None, count_by};

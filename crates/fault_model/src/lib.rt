@@ -1,4 +1,7 @@
 //! The faults of a machine, and their text.
+//!
+//! A set of faults with each refusal of `add` exactly where it says; a fault text is read exactly, each refusal the first; what
+//! is written lists the groups in order, each ascending, and is the text of that very set, so reading it gives the set again.
 #![tactic(auto)]
 
 mod entries;

@@ -3,6 +3,23 @@
 //! A machine is a tree: one root, modules below it, chips in each module, hextants in each chip, and tables
 //! in each hextant. Each node has one crossbar, with one crosspoint for each pair of a tap and a line. All
 //! are numbered by one walk over the tree, a node before its children.
+//!
+//! Each number of a wire has one meaning, and `Shape::meaning` tells it: a pin of the machine, a line or a port of a node, or a
+//! pin of a table. Taps ascend; a crosspoint and its two ends determine each other: its tap and its line are a tap and a line of
+//! its node, and each tap and line of a node have a crosspoint there; the crossbars are a tree; names and numbers are one to one,
+//! and a node's and a table's name is the name of the node above, a dot, and its letter and position (`laws`). `Shape::new`
+//! refuses exactly the counts that make no shape. Here stand the definitions of faults, joined and shorted wires, wire values,
+//! defect lists that cover, what is sound, which nodes are served, and what is fair; `joining` proves that joined is an
+//! equivalence that grows with what is closed and says the same as a finite list of wires, that each wire has exactly one value,
+//! and that every list covers the empty fault set. `served` proves that the node above a served node is served; that a whole line
+//! of a served node has two sound crosspoints; that a fair list leaves whole lines open, and sound ports, pins and tables free;
+//! and that without faults a machine with two pins, and two ports and two lines at each level, serves every node, so that a fair
+//! list of it is empty. `tight` proves that the sound parts of served nodes stand, that a tight list leaves everything free that
+//! stands and so is fair, that nothing that could stand can be taken off it, and that where it covers the faults exactly one wire
+//! is free of those that are shorted to a clear wire that could stand. All crossbars together have each crosspoint once, and at
+//! most two taps or lines for each wire (`crossbars_add_up`). From `first_cross` on a node's crosspoints stand in rows, one row
+//! for each tap and in it one crosspoint for each line, and the numbers of its lines follow each other, as those of its ports do
+//! (`crosspoints_stand_in_rows`).
 #![tactic(auto)]
 
 ghost use Rattle.std.specs.Prelude.{◌≤◌};

@@ -14,6 +14,9 @@
 //!
 //! Ports are those of each module, chip and hextant, lines those of the root and of each module, chip and hextant.
 //! A text is read as logical lines, none joined to the next; blank lines and comments may stand between.
+//!
+//! A machine's text is read exactly; each refusal is the first line that is wrong below lines that are right, and the kind of
+//! what is wrong with it; what is written is the text of that machine.
 #![tactic(auto)]
 
 mod head;

@@ -1,4 +1,9 @@
 //! Designs as netlists, and the checks that make one sound.
+//!
+//! Accepted exactly where no signal is driven twice, none that is read is undriven and no cover is on a cycle; else the first
+//! such by line and place (`found`, `refused`, `only`). A checked design has exactly one right valuation for each state and
+//! vector, and exactly one list of rows (`laws`). It also groups covers that reach one another (`groups_of`), gives a cover's
+//! truth (`truth_of`), and keeps names that share their beginnings (`Names`).
 #![tactic(auto)]
 
 mod checks;

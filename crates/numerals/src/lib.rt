@@ -1,4 +1,6 @@
 //! Decimal numerals: digits without a leading zero.
+//!
+//! Numerals both ways.
 #![tactic(auto)]
 
 ghost use Rattle.std.specs.Prelude.{◌≡◌, ◌++◌, [], OnOk, OnErr, drop, ◌<◌, ◌≤◌, ◌+◌, ◌*◌, ◌-◌, ℕ, true, IfSome, IfNone, MatchOption};

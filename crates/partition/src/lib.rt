@@ -3,6 +3,12 @@
 //! A search exchanges seats by chance and takes what helps, once from the plan on and once from seats that it fills anew. Of
 //! it nothing is proved but that it keeps the seats; the crossings of what it finds are counted, and a plan that has no fewer
 //! of them is dropped.
+//!
+//! `improve` answers a plan for the network on free and different tables and pins, in which the number of nets that cross a node,
+//! summed over all nodes, is at most that of the plan it was given (`plan`, `crossings`). The pins stay where they are (`pins`),
+//! and the answer is the plan itself, or one that fits and has fewer crossings (`better`). `improve_laid` does the same of a plan
+//! whose layout is at hand, and answers the layout too. `crossings_of` counts crossings. That the search finds anything isn't
+//! proved.
 #![tactic(auto)]
 
 mod better;

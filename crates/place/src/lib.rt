@@ -2,6 +2,12 @@
 //!
 //! Each net wants a port at each node that it crosses and a line at each node that it visits. Ports are given in
 //! order; lines by any choice in which each net has a line of its own whose crosspoints to its taps are free.
+//!
+//! The in-order plan, and whether tables, pins, ports and lines suffice for a plan. `in_order` answers `Short` exactly where that
+//! plan doesn't fit, with the first short resource, its node, need and have; for lines with a set of nets that fewer lines serve
+//! than it has nets. `in_order_laid` answers the layout with the plan: the port of each net at each node that it crosses, and its
+//! line at each node that it visits. Lines are found by any choice in which each net has a line of its own whose crosspoints to
+//! the net's taps are free, and `Short` comes only where there is no such choice.
 #![tactic(auto)]
 
 mod assign;

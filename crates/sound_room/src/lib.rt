@@ -1,4 +1,8 @@
 //! When there is room for certain.
+//!
+//! Where as many tables and pins are free as a network has, and at each node as many lines are open and ports free as it has
+//! nets, nothing is short for its in-order plan; a fair list leaves sound parts of served nodes so, and a tight list standing
+//! parts, whether nodes are served or not.
 #![tactic(auto)]
 
 ghost use Rattle.hierarchy.specs.Defects.{Defects, IsFair};

@@ -1,4 +1,12 @@
 //! Networks of tables with at most six inputs.
+//!
+//! `plain` is the plain network of a netlist: one table for a cover of at most six different inputs, trees of AND and OR for a
+//! wider one, one latched table for a latch. For every list of vectors its rows are the netlist's, and no other (`rows`); its
+//! sources are in range and its combinational tables have no cycle. `merged` comes from the plain network by steps, each of which
+//! puts a combinational table that one table alone reads, and no output, into that reader, where the two have at most six
+//! different sources together, or drops what was put away (`merged`). It has the same rows and no more tables, and no table of it
+//! can be put into its reader any more (`whole`). `merged_of` does the same of any network. `depth` is the most combinational
+//! tables on a path. A network has exactly one list of rows for vectors of the right length (`laws`).
 #![tactic(auto)]
 
 mod build;

@@ -1,4 +1,6 @@
 //! Sets of numbers and sets of unordered pairs of numbers, one bit for each number or pair.
+//!
+//! After any calls a set holds what was put in and not taken out.
 #![tactic(auto)]
 
 mod bit_set;

@@ -2,6 +2,12 @@
 //!
 //! [`FileStore`] and [`StdSink`] stand over the system. [`MemoryStore`], [`MemorySink`] and
 //! [`CutSink`] are kept in memory and tell their bytes; tests choose which of their calls fail.
+//!
+//! The traits say what every file store and every output must do: which names were asked, which bytes come, what was written, and
+//! that a failure is answered only where a count rose, which stays below 2^64 and never falls. A store tells of a name the bytes
+//! of its file, that there is no such file, or nothing; a file that is told to be absent is never started. `read_within` reads at
+//! most one byte beyond its limit, whatever it answers. `MemoryStore`, `MemorySink` and `CutSink` are proved to fail at exactly
+//! the chosen calls; `FileStore` and `StdSink` are proved against the traits.
 #![tactic(auto)]
 
 mod cut_sink;
