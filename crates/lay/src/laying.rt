@@ -83,7 +83,8 @@ fn image_for(alloc: Global, netlist: &Netlist, defects: &Defects) -> Result<Imag
 }
 
 /// An image of a design on what the list leaves free, where there is room for its plain network in order. It is that of the
-/// network with fewer tables, on a plan with fewer crossings, where these fit.
+/// network with fewer tables, on a plan with fewer crossings, where these fit. No table of it is on and no crosspoint closed that
+/// the network doesn't need.
 ///
 /// # Errors
 ///
