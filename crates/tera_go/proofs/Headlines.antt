@@ -46,6 +46,9 @@ module _ (machine name design vectors : List ℕ) (old new : Outside) where
           written_whole = r.written_whole;
           covers_every_fault = r.list.right.covers;
           uses_nothing_listed = r.uses_nothing_listed;
+          inputs = r.laid.0.inputs;
+          outputs = r.laid.0.outputs;
+          routed = r.laid.0.routed;
           image_right = r.right;
           as_the_machine_read = r.as_read;
           exactly_the_outputs = r.outputs;

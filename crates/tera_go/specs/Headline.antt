@@ -17,7 +17,7 @@ use Rattle.diagnose.specs.Diagnosis.{TakesFewLoads}
 use Rattle.steps.specs.Outside.{Outside}
 use Rattle.steps.specs.Texts.{IsMachineText, IsDesignText}
 use Rattle.listing.specs.Lists.{Listed}
-use Rattle.lay.specs.Laying.{HasRoom}
+use Rattle.lay.specs.Laying.{HasRoom, IsRoutedDesign}
 use Rattle.laid_rows.specs.Headline.{IsAskedInOrder, IsWrittenWhole, UsesNothingListed, IsAsRead}
 
 -- Of the rig's one session: its configuration, with a list of input pins and a list of output pins, is `image`
@@ -34,6 +34,11 @@ pub record IsGone (machine name design vectors : List ℕ) (old new : Outside) :
   pub written_whole : IsWrittenWhole vectors made.list (length draft.inputs) all_vectors rows old new
   pub covers_every_fault : (f : Faults) → new.rig.machine.faults ≡ Some f → Covers shape made.list.list f
   pub uses_nothing_listed : UsesNothingListed made.list image new.rig
+  -- a pin for each input and each output of the design, all different
+  pub inputs : length image.inputs ≡ length draft.inputs
+  pub outputs : length image.outputs ≡ length draft.outputs
+  -- no table is on and no crosspoint closed that the design doesn't need
+  pub routed : IsRoutedDesign made.list draft image
   -- for all vectors
   pub image_right : (f : Faults) → new.rig.machine.faults ≡ Some f → IsRightImage f image draft
   pub as_the_machine_read : IsAsRead image all_vectors rows new.rig
