@@ -14,6 +14,7 @@ use std::alloc::Global;
 use std::io;
 
 // How many there were, and how many were right.
+#[derive(Drop)]
 struct Tally {
     right: u32,
     all: u32,

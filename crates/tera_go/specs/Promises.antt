@@ -4,7 +4,7 @@ use Rattle.steps.specs.Outside.{Outside, around}
 use Rattle.steps.specs.Texts.{LoadsOnce}
 use Rattle.listing.specs.Lists.{MadeFewLoads}
 use Rattle.laid_rows.specs.Headline.{BeginsWithList}
-use Rattle.tera_go.specs.Headline.{IsGone, HasRoomLeft}
+use Rattle.tera_go.specs.Headline.{IsWellGone, HasRoomLeft}
 
 -- its words
 abbrev pub go_words : (machine name design vectors : List ℕ) → List (List ℕ)
@@ -17,7 +17,7 @@ pub record GoPromises (words : List (List ℕ)) (status : ℕ) (old new : Outsid
       BeginsWithList machine name old new
   -- at status 0: every fault was listed, an image was loaded that uses nothing listed, and the rows of the design are written
   pub gone : (machine name design vectors : List ℕ) → words ≡ go_words machine name design vectors → status ≡ 0 →
-      IsGone machine name design vectors old new
+      IsWellGone machine name design vectors old new
   -- and the plain network of the design fits, in order, on the list
   pub room : (machine name design vectors : List ℕ) → words ≡ go_words machine name design vectors → status ≡ 0 →
       HasRoomLeft machine design old new
