@@ -8,6 +8,7 @@ pub mod Joining
 pub mod Whole
 pub mod Making
 pub mod Reading
+pub mod Needed
 -- For the proofs of this crate alone.
 mod PinValues
 mod Turns

@@ -12,6 +12,7 @@ ghost use Rattle.place.specs.Laying.{IsLayout};
 ghost use Rattle.place.specs.Plans.{Fits, IsPlan};
 ghost use Rattle.crossbar_route.specs.RightImages.{IsRightForNetwork, IsRightImage};
 ghost use Rattle.crossbar_route.specs.Routed.{AreWiresOf, IsJoined, IsLaidBy, IsRouteOf, IsRouted};
+ghost use Rattle.crossbar_route.specs.RoutedImages.{IsRoutedFor};
 ghost use Rattle.crossbar_route.specs.Ticks.{AreTicks};
 
 use crate::close::{join_all, switch_all_on};
@@ -150,6 +151,8 @@ pub fn route_laid(
     requires plan { IsPlan defects.now.shape defects.now.list network.now plan.now }
     requires layout { IsLayout defects.now.shape defects.now.list network.now plan.now layout.now }
     ensures route { IfOk result (IsRouteOf defects.now.shape defects.now.list network.now plan.now) }
+    ensures routed { IfOk result (λ i. Fits defects.now.shape defects.now.list network.now plan.now →
+        IsRoutedFor defects.now.shape defects.now.list network.now plan.now i) }
     ensures free { IfOk result (IsFreeImage defects.now.list) }
     ensures rows { IfOk result (λ i. (f : Faults) → Covers defects.now.shape defects.now.list f → IsRightForNetwork f i network.now) }
     ensures right { IfOk result (λ i. (netlist : Draft) (f : Faults) → HasRowsOf network.now netlist →
@@ -181,7 +184,7 @@ pub fn route(
     requires network { IsNetwork network.now }
     requires plan { IsPlan defects.now.shape defects.now.list network.now plan.now }
     requires fits { Fits defects.now.shape defects.now.list network.now plan.now }
-    ensures route { IfOk result (IsRouteOf defects.now.shape defects.now.list network.now plan.now) }
+    ensures routed { IfOk result (IsRoutedFor defects.now.shape defects.now.list network.now plan.now) }
     ensures free { IfOk result (IsFreeImage defects.now.list) }
     ensures rows { IfOk result (λ i. (f : Faults) → Covers defects.now.shape defects.now.list f → IsRightForNetwork f i network.now) }
     ensures right { IfOk result (λ i. (netlist : Draft) (f : Faults) → HasRowsOf network.now netlist →

@@ -1,17 +1,20 @@
 -- A design is laid on what a list of defects leaves free.
-use Rattle.std.specs.Prelude.{◌≡◌, length}
+use Rattle.std.specs.Prelude.{◌≡◌, ◌≤◌, length}
 use Rattle.hierarchy.specs.Defects.{Covers}
 use Rattle.hierarchy.specs.Faults.{Faults}
 use Rattle.defect_db.specs.Lists.{DefectList}
 use Rattle.netlist.specs.declared.draft.Draft.{Draft}
 use Rattle.table_map.specs.declared.network.Network.{Network}
-use Rattle.table_map.specs.Plain.{IsPlainNetwork}
+use Rattle.table_map.specs.Networks.{IsNetwork}
+use Rattle.table_map.specs.Plain.{IsPlainNetwork, plain_network}
+use Rattle.table_map.specs.Rows.{HasRowsOf}
 use Rattle.place.specs.declared.plan.Plan.{Plan}
 use Rattle.place.specs.declared.short.Short.{Short}
 use Rattle.place.specs.Plans.{FitsInOrder, IsShortInOrder}
 use Rattle.config_image.specs.Images.{ImageValue, IsImage}
 use Rattle.config_image.specs.Parts.{IsFreeImage}
 use Rattle.crossbar_route.specs.RightImages.{IsRightImage}
+use Rattle.crossbar_route.specs.RoutedImages.{IsRoutedFor}
 use Rattle.steps.specs.Courses.{Step}
 use Rattle.steps.specs.Faults.{ShortPlace}
 use Rattle.steps.specs.declared.refusal.Refusal.{Refusal}
@@ -38,14 +41,24 @@ pub record IsNoRoom (d : DefectList) (draft : Draft) (place : ShortPlace) : Type
   pub shape : place.shape ≡ d.shape
   pub short : IsShortInOrder d.shape d.list network place.short
 
--- The image is of the machine, has a pin for each input and output of the design, touches only what the list leaves free, and
--- is right for the design under all faults that the list covers
+-- The image is routed for the design's plain network, or for another with the same rows and no more tables, on some plan
+pub record IsRoutedDesign (d : DefectList) (draft : Draft) (i : ImageValue) : Type 0 where
+  pub network : Network
+  pub plan : Plan
+  pub is_network : IsNetwork network
+  pub rows : HasRowsOf network draft
+  pub no_more : length network.tables ≤ length (plain_network draft).tables
+  pub routed : IsRoutedFor d.shape d.list network plan i
+
+-- The image is of the machine, has a pin for each input and output of the design, touches only what the list leaves free, closes
+-- and switches on nothing idle, and is right for the design under all faults that the list covers
 pub record IsImageFor (d : DefectList) (draft : Draft) (i : ImageValue) : Type 0 where
   pub image : IsImage i
   pub shape : i.config.shape ≡ d.shape
   pub inputs : length i.inputs ≡ length draft.inputs
   pub outputs : length i.outputs ≡ length draft.outputs
   pub free : IsFreeImage d.list i
+  pub routed : IsRoutedDesign d draft i
   pub right : (f : Faults) → Covers d.shape d.list f → IsRightImage f i draft
 
 abbrev pub NotLaid : DefectList → Draft → Refusal → Type 0

@@ -1,10 +1,10 @@
 //! Designs that are laid on a machine.
-ghost use Rattle.std.specs.Prelude.{◌≡◌, [], IfOk, IfErr, IfSome, length};
+ghost use Rattle.std.specs.Prelude.{◌≡◌, ◌≤◌, [], IfOk, IfErr, IfSome, length};
 ghost use Rattle.table_map.specs.Networks.{IsNetwork};
-ghost use Rattle.table_map.specs.Plain.{IsPlainNetwork};
+ghost use Rattle.table_map.specs.Plain.{IsPlainNetwork, plain_network};
 ghost use Rattle.table_map.specs.Rows.{HasRowsOf};
 ghost use Rattle.place.specs.Laying.{IsLayout};
-ghost use Rattle.place.specs.Plans.{IsPlan};
+ghost use Rattle.place.specs.Plans.{Fits, IsPlan};
 ghost use Rattle.steps.specs.Outside.{Outside};
 ghost use Rattle.steps.specs.Stops.{StepStops};
 ghost use Rattle.steps.specs.Took.{Took};
@@ -21,7 +21,7 @@ use std::alloc::{AllocError, Global};
 use steps::Stop;
 use table_map::{Network, merged_of, plain};
 
-// The image of a network that has a design's rows, on a plan with its layout.
+// The image of a network that has a design's rows and no more tables than its plain network, on a plan that fits, with its layout.
 fn drawn(
     alloc: Global,
     netlist: &Netlist,
@@ -33,7 +33,9 @@ fn drawn(
     requires rows { HasRowsOf network.now netlist.now }
     requires inputs { network.now.inputs ≡ length netlist.now.inputs }
     requires outputs { length network.now.outputs ≡ length netlist.now.outputs }
+    requires tables { length network.now.tables ≤ length (plain_network netlist.now).tables }
     requires plan { IsPlan defects.now.shape defects.now.list network.now placed.now.plan }
+    requires fits { Fits defects.now.shape defects.now.list network.now placed.now.plan }
     requires layout { IsLayout defects.now.shape defects.now.list network.now placed.now.plan placed.now.layout }
     ensures { IfOk result (IsImageFor defects.now netlist.now) }
 {
@@ -81,7 +83,8 @@ fn image_for(alloc: Global, netlist: &Netlist, defects: &Defects) -> Result<Imag
 }
 
 /// An image of a design on what the list leaves free, where there is room for its plain network in order. It is that of the
-/// network with fewer tables, on a plan with fewer crossings, where these fit.
+/// network with fewer tables, on a plan with fewer crossings, where these fit. No table of it is on and no crosspoint closed that
+/// the network doesn't need.
 ///
 /// # Errors
 ///

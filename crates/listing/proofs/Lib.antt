@@ -3,3 +3,4 @@ pub mod ListedLemmas
 pub mod Following
 pub mod Made
 pub mod Texts
+pub mod WrongWords

@@ -13,6 +13,7 @@ pub mod Taking
 pub mod Reading
 pub mod Machines
 pub mod Standing
+pub mod Done
 pub mod JobLemmas
 pub mod WrittenRows
 pub mod OpenedRows

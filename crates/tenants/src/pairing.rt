@@ -7,9 +7,10 @@ ghost use Rattle.netlist.specs.declared.draft.Draft.{Draft};
 ghost use Rattle.table_map.specs.Networks.{IsNetwork};
 ghost use Rattle.table_map.specs.Rows.{HasRowsOf};
 ghost use Rattle.place.specs.Laying.{IsLayout};
-ghost use Rattle.place.specs.Plans.{IsPlaceFail, IsPlan};
+ghost use Rattle.place.specs.Plans.{FitsInOrder, IsPlaceFail, IsPlan};
 ghost use Rattle.crossbar_route.specs.Owners.{AreOwners};
 ghost use Rattle.crossbar_route.specs.RightImages.{IsRightImage, ReadsRows};
+ghost use Rattle.crossbar_route.specs.RoutedImages.{IsRoutedInOrder};
 ghost use Rattle.tenants.specs.JointNetworks.{AreBothRows, joint_network};
 ghost use Rattle.tenants.specs.Sites.{IsSplit, first_site, second_site};
 ghost use Rattle.tenants.specs.Tenants.{AreTenants, HasPinsOf, HaveRoom, StandApart};
@@ -80,7 +81,7 @@ fn owners_by(
     owners_of(alloc, defects.shape(), &layout.nets, &layout.ports)
 }
 
-// The image of both on a plan of their joint network with this layout, and the image of each.
+// The image of both on the in-order plan of their joint network with this layout, and the image of each.
 fn split(
     alloc: Global,
     first: &Network,
@@ -95,9 +96,10 @@ fn split(
     requires tables { length first.now.tables + length second.now.tables < 4294967296 }
     requires joint { network.now ≡ joint_network first.now second.now }
     requires network { IsNetwork network.now }
-    requires plan { IsPlan defects.now.shape defects.now.list network.now placed.now.plan }
+    requires fits { FitsInOrder defects.now.shape defects.now.list network.now placed.now.plan }
     requires layout { IsLayout defects.now.shape defects.now.list network.now placed.now.plan placed.now.layout }
-    ensures { IfOk result (λ p. IsSplit defects.now.shape defects.now.list first.now second.now p.whole p.first p.second) }
+    ensures parts { IfOk result (λ p. IsSplit defects.now.shape defects.now.list first.now second.now p.whole p.first p.second) }
+    ensures routed { IfOk result (λ p. IsRoutedInOrder defects.now.shape defects.now.list network.now p.whole) }
 {
     hierarchy::the_numbering_is_sound();
     table_map::laws::networks_have_one_list_of_rows();
@@ -120,7 +122,8 @@ fn split(
 ///
 /// All three touch nothing that the list names. Under all faults that the list covers each network's image is right for the
 /// netlists that have the network's rows, and each runs in the whole as it does alone. A vector of the whole has the first's
-/// inputs and then the second's, a row of it the first's outputs and then the second's.
+/// inputs and then the second's, a row of it the first's outputs and then the second's. No table of the whole is on and no
+/// crosspoint of it closed that the joint network doesn't need.
 ///
 /// # Errors
 ///
@@ -152,6 +155,7 @@ pub fn lay_pair(
         Covers defects.now.shape defects.now.list f → IsRightImage f p.second netlist) }
     ensures rows { IfOk result (λ p. (f : Faults) → Covers defects.now.shape defects.now.list f →
         ReadsRows f p.whole (AreBothRows first.now second.now)) }
+    ensures routed { IfOk result (λ p. IsRoutedInOrder defects.now.shape defects.now.list (joint_network first.now second.now) p.whole) }
     ensures fail { IfErr result (IsPlaceFail defects.now.shape defects.now.list (joint_network first.now second.now)) }
 {
     let network = match joint(alloc, first, second) {

@@ -64,6 +64,7 @@ module _ (tables : length (plain_network bench_draft).tables ≡ 17) (nets : net
           image_shape = laid.0.shape ∙ listed.shape;
           one_input = one;
           two_outputs = laid.0.outputs ∙ ap (λ (x : Draft). length x.outputs) the;
+          routed = laid.0.routed;
           config = run.config;
           drives = run.drives;
           ones = ones;

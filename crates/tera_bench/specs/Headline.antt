@@ -13,6 +13,7 @@ use Rattle.rig.specs.Rig.{config_of, cycles_of, drives_of, readings_of}
 use Rattle.bench_gen.specs.Work as work
 use Rattle.steps.specs.Outside.{Outside}
 use Rattle.listing.specs.Lists.{Listed, IsListed}
+use Rattle.lay.specs.Laying.{IsRoutedDesign}
 use Rattle.tera_bench.specs.Summary.{summary_text}
 use Rattle.tera_bench.specs.Bench.{bench_machine, bench_vectors, ones_of}
 
@@ -34,6 +35,8 @@ pub record IsBenched (n : ℕ) (old new : Outside) : Type 0 where
   pub image_shape : image.config.shape ≡ shape
   pub one_input : length image.inputs ≡ 1
   pub two_outputs : length image.outputs ≡ 2
+  -- on the list no table is on and no crosspoint closed that the design doesn't need
+  pub routed : IsRoutedDesign made.list draft image
   pub config : config_of new.rig ≡ Some image.config
   -- it has a cycle for each vector, which it drove
   pub drives : drives_of (cycles_of new.rig) ≡ map (drive_of image) (bench_vectors n)

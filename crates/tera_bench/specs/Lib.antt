@@ -2,3 +2,4 @@
 pub mod Summary
 pub mod Bench
 pub mod Headline
+pub mod Promises

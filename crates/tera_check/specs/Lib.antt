@@ -6,3 +6,4 @@ pub mod Answers
 pub mod Testing
 pub mod Check
 pub mod Headline
+pub mod Promises

@@ -9,8 +9,8 @@ use Rattle.steps.specs.Outside.{Outside}
 use Rattle.steps.specs.Texts.{IsMachineText, IsDefectsText, IsDesignText}
 use Rattle.lay.specs.Laying.{IsImageFor, HasRoom}
 
--- The bytes of an image are written that touches only what the list leaves free, and is right for the design under all faults
--- that the list covers. There is room for the design on the list
+-- The bytes of an image are written that touches only what the list leaves free, closes and switches on nothing idle, and is right
+-- for the design under all faults that the list covers. There is room for the design on the list
 pub record IsCompiled (machine defects design : List ℕ) (old new : Outside) : Type 0 where
   pub list : DefectList
   pub draft : Draft

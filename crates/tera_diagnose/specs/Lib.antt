@@ -4,3 +4,4 @@
 
 pub mod Diagnose
 pub mod Headline
+pub mod Promises

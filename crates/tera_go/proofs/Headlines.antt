@@ -12,7 +12,7 @@ use Rattle.listing.specs.Lists.{MadeFewLoads}
 use Rattle.laid_rows.specs.Headline.{BeginsWithList}
 use Rattle.laid_rows.proofs.Headlines as done
 use Rattle.tera_go.specs.Go.{go_course}
-use Rattle.tera_go.specs.Headline.{IsGone, HasRoomLeft}
+use Rattle.tera_go.specs.Headline.{IsWellGone, HasRoomLeft}
 use Rattle.tera_go.proofs.GoLaws.{words}
 
 module _ (machine name design vectors : List ℕ) (old new : Outside) where
@@ -29,26 +29,31 @@ module _ (machine name design vectors : List ℕ) (old new : Outside) where
   -- all is done
   pub gone : (text : List ℕ) → new.store.asked ≡ old.store.asked ++ machine ∷ design ∷ vectors ∷ []
       → Wrote old.sink.written new.sink.written text → course text ends
-      → IsGone machine name design vectors old new × HasRoomLeft machine design old new
+      → IsWellGone machine name design vectors old new × HasRoomLeft machine design old new
   gone text asked wrote at =
       let h = done.has-done (words machine name design vectors) old new text wrote at in
       let r = h.ran.2 in (
         record {
-          shape = h.shape;
-          draft = h.ran.0;
-          made = r.made;
-          image = r.image;
-          all_vectors = r.vectors;
-          rows = r.rows;
-          design_is = h.ran.1;
-          list_shape = r.list.shape;
-          asked_in_order = record { asked = asked; machine_is = h.machine_is; attached = h.attached };
-          written_whole = r.written_whole;
-          covers_every_fault = r.list.right.covers;
-          uses_nothing_listed = r.uses_nothing_listed;
-          image_right = r.right;
-          as_the_machine_read = r.as_read;
-          exactly_the_outputs = r.outputs;
+          gone = record {
+            shape = h.shape;
+            draft = h.ran.0;
+            made = r.made;
+            image = r.image;
+            all_vectors = r.vectors;
+            rows = r.rows;
+            design_is = h.ran.1;
+            list_shape = r.list.shape;
+            asked_in_order = record { asked = asked; machine_is = h.machine_is; attached = h.attached };
+            written_whole = r.written_whole;
+            covers_every_fault = r.list.right.covers;
+            uses_nothing_listed = r.uses_nothing_listed;
+            inputs = r.laid.0.inputs;
+            outputs = r.laid.0.outputs;
+            image_right = r.right;
+            as_the_machine_read = r.as_read;
+            exactly_the_outputs = r.outputs;
+          };
+          routed = r.laid.0.routed;
           tight = r.list.right.tight;
           fair = r.list.right.fair;
           few = r.list.few;
@@ -69,6 +74,6 @@ module _ (machine name design vectors : List ℕ) (old new : Outside) where
   -- at the end of a body
   pub gone-done : {U : Type 0} (result : Result U Stop) → Asks (machine ∷ design ∷ vectors ∷ []) result old.store new.store
       → IsWritten course result old.sink new.sink
-      → OnOk result (IsGone machine name design vectors old new) × OnOk result (HasRoomLeft machine design old new)
+      → OnOk result (IsWellGone machine name design vectors old new) × OnOk result (HasRoomLeft machine design old new)
   gone-done (Ok u) asks w = gone w.0 asks.all w.2 w.1
   gone-done (Err stop) asks w = (tt, tt)

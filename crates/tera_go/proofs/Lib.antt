@@ -1,4 +1,5 @@
 -- What is cited above.
 pub mod Headlines
+pub mod Promising
 -- For the proofs of this crate alone.
 mod GoLaws

@@ -17,7 +17,7 @@ use Rattle.diagnose.specs.Diagnosis.{TakesFewLoads}
 use Rattle.steps.specs.Outside.{Outside}
 use Rattle.steps.specs.Texts.{IsMachineText, IsDesignText}
 use Rattle.listing.specs.Lists.{Listed}
-use Rattle.lay.specs.Laying.{HasRoom}
+use Rattle.lay.specs.Laying.{HasRoom, IsRoutedDesign}
 use Rattle.laid_rows.specs.Headline.{IsAskedInOrder, IsWrittenWhole, UsesNothingListed, IsAsRead}
 
 -- Of the rig's one session: its configuration, with a list of input pins and a list of output pins, is `image`
@@ -34,15 +34,24 @@ pub record IsGone (machine name design vectors : List ℕ) (old new : Outside) :
   pub written_whole : IsWrittenWhole vectors made.list (length draft.inputs) all_vectors rows old new
   pub covers_every_fault : (f : Faults) → new.rig.machine.faults ≡ Some f → Covers shape made.list.list f
   pub uses_nothing_listed : UsesNothingListed made.list image new.rig
+  -- a pin for each input and each output of the design, all different
+  pub inputs : length image.inputs ≡ length draft.inputs
+  pub outputs : length image.outputs ≡ length draft.outputs
   -- for all vectors
   pub image_right : (f : Faults) → new.rig.machine.faults ≡ Some f → IsRightImage f image draft
   pub as_the_machine_read : IsAsRead image all_vectors rows new.rig
   pub exactly_the_outputs : (f : Faults) → new.rig.machine.faults ≡ Some f → AreRows draft all_vectors rows
-  -- the list is tight besides, and so fair; few loads were made for it, and exactly one after it
-  pub tight : (f : Faults) → new.rig.machine.faults ≡ Some f → IsTight shape made.list.list f
-  pub fair : (f : Faults) → new.rig.machine.faults ≡ Some f → IsFair shape made.list.list f
-  pub few : TakesFewLoads new.rig.machine.faults shape old.rig.loads made.loads
-  pub loaded_once : new.rig.loads ≡ next_count made.loads
+
+-- And what it has done besides
+pub record IsWellGone (machine name design vectors : List ℕ) (old new : Outside) : Type 0 where
+  pub gone : IsGone machine name design vectors old new
+  -- no table is on and no crosspoint closed that the design doesn't need
+  pub routed : IsRoutedDesign gone.made.list gone.draft gone.image
+  -- the list is tight, and so fair; few loads were made for it, and exactly one after it
+  pub tight : (f : Faults) → new.rig.machine.faults ≡ Some f → IsTight gone.shape gone.made.list.list f
+  pub fair : (f : Faults) → new.rig.machine.faults ≡ Some f → IsFair gone.shape gone.made.list.list f
+  pub few : TakesFewLoads new.rig.machine.faults gone.shape old.rig.loads gone.made.loads
+  pub loaded_once : new.rig.loads ≡ next_count gone.made.loads
 
 -- The plain network of the design fits, in order, on the list that stands written
 pub record HasRoomLeft (machine design : List ℕ) (old new : Outside) : Type 0 where

@@ -4,7 +4,7 @@ ghost use Rattle.steps.specs.Outside.{outside};
 ghost use Rattle.steps.specs.Jobs.{Does, IsLawful};
 ghost use Rattle.laid_rows.specs.Headline.{BeginsWithList};
 ghost use Rattle.tera_go.specs.Go.{go_job};
-ghost use Rattle.tera_go.specs.Headline.{IsGone, HasRoomLeft};
+ghost use Rattle.tera_go.specs.Headline.{IsWellGone, HasRoomLeft};
 
 use crate::design::OneDesign;
 use laid_rows::list_and_run;
@@ -71,7 +71,7 @@ pub fn go<S: Store, K: Sink>(
         BeginsWithList machine.now name.now old new }
     ensures gone { let old = outside (S.store_state store.old) (rig_state rig.old) (K.sink_state sink.old) in
         let new = outside (S.store_state store.new) (rig_state rig.new) (K.sink_state sink.new) in
-        OnOk result (IsGone machine.now name.now design.now vectors.now old new) }
+        OnOk result (IsWellGone machine.now name.now design.now vectors.now old new) }
     ensures room { let old = outside (S.store_state store.old) (rig_state rig.old) (K.sink_state sink.old) in
         let new = outside (S.store_state store.new) (rig_state rig.new) (K.sink_state sink.new) in
         OnOk result (HasRoomLeft machine.now design.now old new) }

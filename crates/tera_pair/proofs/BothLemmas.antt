@@ -12,6 +12,7 @@ use Rattle.table_map.specs.Rows.{HasRowsOf}
 use Rattle.config_image.specs.Images.{ImageValue, IsImage, image_row}
 use Rattle.config_image.specs.Parts.{IsFreeImage}
 use Rattle.crossbar_route.specs.RightImages.{IsRightImage, ReadsRows}
+use Rattle.crossbar_route.specs.RoutedImages.{IsRoutedInOrder}
 use Rattle.tenants.specs.JointNetworks as joint
 use Rattle.tenants.specs.JointNetworks.{joint_network}
 use Rattle.tenants.specs.Tenants.{AreTenants, HasPinsOf, HaveRoom, StandApart}
@@ -50,14 +51,15 @@ module _ (d : DefectList) (first second : Draft) (n o : Network) (first_is : IsP
     outputs-are : length whole.outputs ≡ length n.outputs + length o.outputs
     outputs-are = rw (tenants.outputs, length-append one.outputs other.outputs, first_pins.outputs, second_pins.outputs) refl
 
-    pub both-image : IsImage whole → whole.config.shape ≡ d.shape → IsFreeImage d.list whole → ((f : Faults) → Covers d.shape d.list f → StandApart f whole one other) → ((netlist : Draft) (f : Faults) → HasRowsOf n netlist → Covers d.shape d.list f → IsRightImage f one netlist) → ((netlist : Draft) (f : Faults) → HasRowsOf o netlist → Covers d.shape d.list f → IsRightImage f other netlist) → ((f : Faults) → Covers d.shape d.list f → ReadsRows f whole (joint.AreBothRows n o)) → HaveRoom d.shape d.list n o → (lays_both d first second).gives whole
-    both-image image shape free apart first_right second_right rows room = (
+    pub both-image : IsImage whole → whole.config.shape ≡ d.shape → IsFreeImage d.list whole → ((f : Faults) → Covers d.shape d.list f → StandApart f whole one other) → ((netlist : Draft) (f : Faults) → HasRowsOf n netlist → Covers d.shape d.list f → IsRightImage f one netlist) → ((netlist : Draft) (f : Faults) → HasRowsOf o netlist → Covers d.shape d.list f → IsRightImage f other netlist) → ((f : Faults) → Covers d.shape d.list f → ReadsRows f whole (joint.AreBothRows n o)) → IsRoutedInOrder d.shape d.list (joint_network n o) whole → HaveRoom d.shape d.list n o → (lays_both d first second).gives whole
+    both-image image shape free apart first_right second_right rows routed room = (
       record {
         image = image;
         shape = shape;
         inputs = rw (inputs-are, plain-inputs first n first_is, plain-inputs second o second_is) refl;
         outputs = rw (outputs-are, plain-outputs first n first_is, plain-outputs second o second_is) refl;
         free = free;
+        routed = rw (first_is, second_is) at routed;
         right = λ f covers vectors reads widths run.
             both-rows n o first second first_rows second_rows (plain-inputs first n first_is) vectors (map (image_row whole) reads)
             (subst (λ (k : ℕ). All (λ v. length v ≡ k) vectors) inputs-are widths) (rows f covers vectors reads widths run);

@@ -49,6 +49,9 @@ module _ (machine name first second vectors : List ℕ) (old new : Outside) wher
           written_whole = r.written_whole;
           covers_every_fault = r.list.right.covers;
           uses_nothing_listed = r.uses_nothing_listed;
+          inputs = both.inputs;
+          outputs = both.outputs;
+          routed = both.routed;
           image_right = r.right;
           as_the_machine_read = r.as_read;
           exactly_the_outputs = r.outputs;

@@ -12,6 +12,7 @@ use Rattle.place.specs.Plans.{IsShortInOrder}
 use Rattle.config_image.specs.Images.{ImageValue, IsImage}
 use Rattle.config_image.specs.Parts.{IsFreeImage}
 use Rattle.crossbar_route.specs.RightImages.{IsRightImage, ReadsRows}
+use Rattle.crossbar_route.specs.RoutedImages.{IsRoutedInOrder}
 use Rattle.tenants.specs.JointNetworks.{joint_network}
 use Rattle.tenants.specs.Tenants.{AreTenants, HaveRoom, StandApart}
 use Rattle.steps.specs.Courses.{Step}
@@ -63,14 +64,16 @@ pub record IsNoRoomForBoth (d : DefectList) (first second : Draft) (place : Shor
 -- ---- the image of both
 
 -- The image is of the machine, has a pin for each input and output of the first design and then of the second, touches only what
--- the list leaves free, and reads the rows of both under all faults that the list covers. What of it is each design's uses no wire
--- of the other's, runs as it does alone, and is right for that design
+-- the list leaves free, closes and switches on nothing that the joint network doesn't need on its in-order plan, and reads the rows of
+-- both under all faults that the list covers. What of it is each design's uses no wire of the other's, runs as it does alone, and is
+-- right for that design
 pub record IsImageForBoth (d : DefectList) (first second : Draft) (i : ImageValue) : Type 0 where
   pub image : IsImage i
   pub shape : i.config.shape ≡ d.shape
   pub inputs : length i.inputs ≡ length first.inputs + length second.inputs
   pub outputs : length i.outputs ≡ length first.outputs + length second.outputs
   pub free : IsFreeImage d.list i
+  pub routed : IsRoutedInOrder d.shape d.list (joint_of first second) i
   pub right : (f : Faults) → Covers d.shape d.list f → ReadsRows f i (AreBothRows first second)
   pub first_image : ImageValue
   pub second_image : ImageValue

@@ -12,13 +12,14 @@ use Rattle.defect_db.specs.Text.{text_of}
 use Rattle.netlist.specs.declared.draft.Draft.{Draft}
 use Rattle.config_image.specs.Images.{ImageValue}
 use Rattle.crossbar_route.specs.RightImages.{IsRightImage, ReadsRows}
+use Rattle.crossbar_route.specs.RoutedImages.{IsRoutedInOrder}
 use Rattle.tenants.specs.Tenants.{AreTenants, StandApart}
 use Rattle.diagnose.specs.Diagnosis.{TakesFewLoads}
 use Rattle.steps.specs.Outside.{Outside}
 use Rattle.steps.specs.Texts.{IsMachineText, IsDesignText}
 use Rattle.listing.specs.Lists.{Listed}
 use Rattle.laid_rows.specs.Headline.{IsAskedInOrder, IsWrittenWhole, UsesNothingListed, IsAsRead}
-use Rattle.tera_pair.specs.Both.{AreBothRows, BothHaveRoom}
+use Rattle.tera_pair.specs.Both.{AreBothRows, BothHaveRoom, joint_of}
 
 -- Of the rig's one session: its configuration, with a list of input pins and a list of output pins, is `image`. The parts of it
 -- that are each design's, `first_image` and `second_image`, share no wire
@@ -37,6 +38,11 @@ pub record IsPaired (machine name first second vectors : List ℕ) (old new : Ou
   pub written_whole : IsWrittenWhole vectors made.list (length first_draft.inputs + length second_draft.inputs) all_vectors rows old new
   pub covers_every_fault : (f : Faults) → new.rig.machine.faults ≡ Some f → Covers shape made.list.list f
   pub uses_nothing_listed : UsesNothingListed made.list image new.rig
+  -- a pin for each input of the first design and then of the second, and so for each output, all different
+  pub inputs : length image.inputs ≡ length first_draft.inputs + length second_draft.inputs
+  pub outputs : length image.outputs ≡ length first_draft.outputs + length second_draft.outputs
+  -- no table is on and no crosspoint closed that the designs don't need, on the in-order plan of their joint network
+  pub routed : IsRoutedInOrder made.list.shape made.list.list (joint_of first_draft second_draft) image
   -- for all vectors the readings are the rows of both designs side by side
   pub image_right : (f : Faults) → new.rig.machine.faults ≡ Some f → ReadsRows f image (AreBothRows first_draft second_draft)
   pub as_the_machine_read : IsAsRead image all_vectors rows new.rig

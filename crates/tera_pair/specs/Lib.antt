@@ -2,3 +2,4 @@
 pub mod Both
 pub mod Pair
 pub mod Headline
+pub mod Promises

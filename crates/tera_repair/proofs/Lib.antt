@@ -1,5 +1,6 @@
 -- What is cited above.
 pub mod Headlines
+pub mod Promising
 -- For the proofs of this crate alone.
 mod RepairLaws
 mod Counting

@@ -5,3 +5,4 @@
 pub mod Repairing
 pub mod Repair
 pub mod Headline
+pub mod Promises

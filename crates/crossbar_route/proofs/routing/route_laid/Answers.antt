@@ -7,9 +7,12 @@ use Rattle.config_image.specs.Parts.{IsFreeImage}
 use Rattle.table_map.specs.Rows.{HasRowsOf}
 use Rattle.place.specs.declared.short.Port.{Port}
 use Rattle.place.specs.declared.short.Visit.{Visit}
+use Rattle.place.specs.Plans.{Fits}
 use Rattle.crossbar_route.specs.RightImages.{IsRightForNetwork, IsRightImage}
 use Rattle.crossbar_route.specs.Routed.{IsLaidBy, IsRouteOf}
+use Rattle.crossbar_route.specs.RoutedImages.{IsRoutedFor}
 use Rattle.crossbar_route.proofs.Making.{laid_by}
+use Rattle.crossbar_route.proofs.Needed.{nothing_idle}
 use Rattle.crossbar_route.proofs.Reading.{route_is_free, route_reads, right_image}
 use Rattle.crossbar_route.proofs.routing.route_laid.Goals as goal
 
@@ -43,3 +46,12 @@ pub returns-clause-right : goal.returns-clause-right
 returns-clause-right c =
     IfOk-weaker c.draw.result (IsRouteOf c.args.defects.now.shape c.args.defects.now.list c.args.network.now c.args.plan.now) (λ i. (netlist : Draft) (f : Faults) → HasRowsOf c.args.network.now netlist → Covers c.args.defects.now.shape c.args.defects.now.list f → IsRightImage f i netlist)
     (λ i r netlist f has covers. right_image c.args.network.now netlist f i has (route_reads c.the_numbering_is_sound.ensures.numbered c.the_numbering_is_sound.ensures.tree c.args.defects.now.shape c.args.defects.now.list c.args.network.now c.args.plan.now i c.requires.plan r c.requires.network f covers)) c.draw.ensures
+
+pub returns-clause-routed : goal.returns-clause-routed
+returns-clause-routed c =
+    let m = c.args.defects.now.shape in
+    let d = c.args.defects.now.list in
+    let n = c.args.network.now in
+    let p = c.args.plan.now in
+    IfOk-weaker c.draw.result (IsRouteOf m d n p) (λ i. Fits m d n p → IsRoutedFor m d n p i)
+    (λ i r. nothing_idle c.the_numbering_is_sound.ensures.numbered c.the_numbering_is_sound.ensures.parents m d n p i c.requires.network c.requires.plan r) c.draw.ensures

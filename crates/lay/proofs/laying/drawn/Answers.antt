@@ -10,5 +10,13 @@ returns c =
       inputs = ap length made.route.inputs ∙ (c.requires.plan.inputs ∙ c.requires.inputs);
       outputs = ap length made.route.outputs ∙ (c.requires.plan.outputs ∙ c.requires.outputs);
       free = made.free;
+      routed = record {
+        network = c.args.network.now;
+        plan = c.args.placed.now.plan;
+        is_network = c.requires.network;
+        rows = c.requires.rows;
+        no_more = c.requires.tables;
+        routed = made.routed c.requires.fits;
+      };
       right = λ f covers. made.right c.args.netlist.now f c.requires.rows covers;
     }

@@ -1,5 +1,5 @@
 use Rattle.std.proofs.lemmas.Result.{err_from_is_err_and}
-use Rattle.lay.proofs.LayLemmas.{plan-image}
+use Rattle.lay.proofs.LayLemmas.{just-as-many, plan-image}
 use Rattle.lay.proofs.PlainWidths.{plain-inputs, plain-outputs}
 use Rattle.lay.proofs.laying.image_for.Goals as goal
 
@@ -13,3 +13,6 @@ drawn-requires-clause-inputs c = plain-inputs c.args.netlist.now c.in_ok-network
 
 pub drawn-requires-clause-outputs : goal.drawn-requires-clause-outputs
 drawn-requires-clause-outputs c = plain-outputs c.args.netlist.now c.in_ok-network.network c.in_ok-network.ensures.plain
+
+pub drawn-requires-clause-tables : goal.drawn-requires-clause-tables
+drawn-requires-clause-tables c = just-as-many c.args.netlist.now c.in_ok-network.network c.in_ok-network.ensures.plain

@@ -2,7 +2,7 @@ use Rattle.crossbar_route.proofs.Reading.{right_image}
 use Rattle.tenants.proofs.pairing.lay_pair.Goals as goal
 
 pub returns-in-Ok-split-clause-first_right : goal.returns-in-Ok-split-clause-first_right
-returns-in-Ok-split-clause-first_right c = λ netlist f has covers. right_image c.args.first.now netlist f c.in-Ok-split.pair.first has (c.in-Ok-split.ensures.first_right f covers)
+returns-in-Ok-split-clause-first_right c = λ netlist f has covers. right_image c.args.first.now netlist f c.in-Ok-split.pair.first has (c.in-Ok-split.ensures.parts.first_right f covers)
 
 pub returns-in-Ok-split-clause-second_right : goal.returns-in-Ok-split-clause-second_right
-returns-in-Ok-split-clause-second_right c = λ netlist f has covers. right_image c.args.second.now netlist f c.in-Ok-split.pair.second has (c.in-Ok-split.ensures.second_right f covers)
+returns-in-Ok-split-clause-second_right c = λ netlist f has covers. right_image c.args.second.now netlist f c.in-Ok-split.pair.second has (c.in-Ok-split.ensures.parts.second_right f covers)

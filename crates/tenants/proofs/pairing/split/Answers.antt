@@ -19,25 +19,25 @@ tenant-requires-clause-owners c =
 pub tenant-requires-clause-tables : goal.tenant-requires-clause-tables
 tenant-requires-clause-tables c =
     let stands = first_in c.args.first.now c.args.second.now c.requires.first c.requires.second c.args.network.now c.first_of-one.result c.requires.joint c.first_of-one.ensures in
-    seats_for c.args.defects.now.shape c.args.defects.now.list c.args.network.now c.args.placed.now.plan c.requires.plan c.first_of-one.result c.args.first.now stands
+    seats_for c.args.defects.now.shape c.args.defects.now.list c.args.network.now c.args.placed.now.plan c.requires.fits.plan c.first_of-one.result c.args.first.now stands
 
 pub tenant-requires-clause-inputs : goal.tenant-requires-clause-inputs
 tenant-requires-clause-inputs c =
     let stands = first_in c.args.first.now c.args.second.now c.requires.first c.requires.second c.args.network.now c.first_of-one.result c.requires.joint c.first_of-one.ensures in
-    inputs_for c.args.defects.now.shape c.args.defects.now.list c.args.network.now c.args.placed.now.plan c.requires.plan c.first_of-one.result c.args.first.now stands c.in_ok-whole.whole c.in_ok-whole.ensures.route
+    inputs_for c.args.defects.now.shape c.args.defects.now.list c.args.network.now c.args.placed.now.plan c.requires.fits.plan c.first_of-one.result c.args.first.now stands c.in_ok-whole.whole c.in_ok-whole.ensures.route
 
 pub tenant-requires-clause-outputs : goal.tenant-requires-clause-outputs
 tenant-requires-clause-outputs c =
     let stands = first_in c.args.first.now c.args.second.now c.requires.first c.requires.second c.args.network.now c.first_of-one.result c.requires.joint c.first_of-one.ensures in
-    outputs_for c.args.defects.now.shape c.args.defects.now.list c.args.network.now c.args.placed.now.plan c.requires.plan c.first_of-one.result c.args.first.now stands c.in_ok-whole.whole c.in_ok-whole.ensures.route
+    outputs_for c.args.defects.now.shape c.args.defects.now.list c.args.network.now c.args.placed.now.plan c.requires.fits.plan c.first_of-one.result c.args.first.now stands c.in_ok-whole.whole c.in_ok-whole.ensures.route
 
 pub tenant-requires-clause-within : goal.tenant-requires-clause-within
 tenant-requires-clause-within c =
     subst (λ (m : Shape). All (λ (t : Table). t.0 < tables_of m) c.args.placed.now.plan.tables) (sym c.in_ok-whole.ensures.route.routed.shape)
-    (seats_within c.args.defects.now.shape c.args.defects.now.list c.args.network.now c.args.placed.now.plan c.requires.plan)
+    (seats_within c.args.defects.now.shape c.args.defects.now.list c.args.network.now c.args.placed.now.plan c.requires.fits.plan)
 
 pub tenant-requires-clause-apart : goal.tenant-requires-clause-apart
-tenant-requires-clause-apart c = seats_apart c.args.defects.now.shape c.args.defects.now.list c.args.network.now c.args.placed.now.plan c.requires.plan
+tenant-requires-clause-apart c = seats_apart c.args.defects.now.shape c.args.defects.now.list c.args.network.now c.args.placed.now.plan c.requires.fits.plan
 
 pub tenant-requires-2-clause-owners : goal.tenant-requires-2-clause-owners
 tenant-requires-2-clause-owners c =
@@ -48,28 +48,28 @@ tenant-requires-2-clause-owners c =
 pub tenant-requires-2-clause-tables : goal.tenant-requires-2-clause-tables
 tenant-requires-2-clause-tables c =
     let stands = second_in c.args.first.now c.args.second.now c.requires.first c.requires.second c.args.network.now c.second_of-two.result c.requires.joint c.second_of-two.ensures in
-    seats_for c.args.defects.now.shape c.args.defects.now.list c.args.network.now c.args.placed.now.plan c.requires.plan c.second_of-two.result c.args.second.now stands
+    seats_for c.args.defects.now.shape c.args.defects.now.list c.args.network.now c.args.placed.now.plan c.requires.fits.plan c.second_of-two.result c.args.second.now stands
 
 pub tenant-requires-2-clause-inputs : goal.tenant-requires-2-clause-inputs
 tenant-requires-2-clause-inputs c =
     let stands = second_in c.args.first.now c.args.second.now c.requires.first c.requires.second c.args.network.now c.second_of-two.result c.requires.joint c.second_of-two.ensures in
-    inputs_for c.args.defects.now.shape c.args.defects.now.list c.args.network.now c.args.placed.now.plan c.requires.plan c.second_of-two.result c.args.second.now stands c.in_ok-whole.whole c.in_ok-whole.ensures.route
+    inputs_for c.args.defects.now.shape c.args.defects.now.list c.args.network.now c.args.placed.now.plan c.requires.fits.plan c.second_of-two.result c.args.second.now stands c.in_ok-whole.whole c.in_ok-whole.ensures.route
 
 pub tenant-requires-2-clause-outputs : goal.tenant-requires-2-clause-outputs
 tenant-requires-2-clause-outputs c =
     let stands = second_in c.args.first.now c.args.second.now c.requires.first c.requires.second c.args.network.now c.second_of-two.result c.requires.joint c.second_of-two.ensures in
-    outputs_for c.args.defects.now.shape c.args.defects.now.list c.args.network.now c.args.placed.now.plan c.requires.plan c.second_of-two.result c.args.second.now stands c.in_ok-whole.whole c.in_ok-whole.ensures.route
+    outputs_for c.args.defects.now.shape c.args.defects.now.list c.args.network.now c.args.placed.now.plan c.requires.fits.plan c.second_of-two.result c.args.second.now stands c.in_ok-whole.whole c.in_ok-whole.ensures.route
 
 pub tenant-requires-2-clause-within : goal.tenant-requires-2-clause-within
 tenant-requires-2-clause-within c =
     subst (λ (m : Shape). All (λ (t : Table). t.0 < tables_of m) c.args.placed.now.plan.tables) (sym c.in_ok-whole.ensures.route.routed.shape)
-    (seats_within c.args.defects.now.shape c.args.defects.now.list c.args.network.now c.args.placed.now.plan c.requires.plan)
+    (seats_within c.args.defects.now.shape c.args.defects.now.list c.args.network.now c.args.placed.now.plan c.requires.fits.plan)
 
 pub tenant-requires-2-clause-apart : goal.tenant-requires-2-clause-apart
-tenant-requires-2-clause-apart c = seats_apart c.args.defects.now.shape c.args.defects.now.list c.args.network.now c.args.placed.now.plan c.requires.plan
+tenant-requires-2-clause-apart c = seats_apart c.args.defects.now.shape c.args.defects.now.list c.args.network.now c.args.placed.now.plan c.requires.fits.plan
 
-pub returns : goal.returns
-returns c =
+pub returns-clause-parts : goal.returns-clause-parts
+returns-clause-parts c =
     let m : Shape = c.args.defects.now.shape in
     let d = c.args.defects.now.list in
     let n = c.args.first.now in
@@ -82,7 +82,7 @@ returns c =
       numbered = c.the_numbering_is_sound.ensures.numbered;
       tree = c.the_numbering_is_sound.ensures.tree;
       network = c.requires.network;
-      plan = c.requires.plan;
+      plan = c.requires.fits.plan;
       layout = c.requires.layout;
       owners_are = c.in_ok-owners.ensures;
       route = c.in_ok-whole.ensures.route;
@@ -92,3 +92,6 @@ returns c =
     let two : IsTenant (second_site n o) o p owners whole c.in_ok-second.second = subst (λ (z : Site). IsTenant z o p owners whole c.in_ok-second.second) c.second_of-two.ensures
     (subst (λ (z : List (Option ℕ)). IsTenant c.second_of-two.result o p z whole c.in_ok-second.second) c.deref-2.ensures.value c.in_ok-second.ensures) in
     split_of n o c.requires.first c.requires.second m d p l owners whole c.args.network.now c.requires.joint ground c.in_ok-first.first c.in_ok-second.second one two c.in_ok-whole.ensures.free c.in_ok-whole.ensures.rows c.networks_have_one_list_of_rows.ensures
+
+pub returns-clause-routed : goal.returns-clause-routed
+returns-clause-routed c = record { plan = c.args.placed.now.plan; fits = c.requires.fits; routed = c.in_ok-whole.ensures.routed c.requires.fits.fits }
