@@ -3,7 +3,6 @@ use Rattle.std.proofs.Common.{◌≡◌, ℕ, ◌+◌, ◌*◌, ◌≤◌, Bool,
 use Rattle.std.specs.Prelude.{◌==◌, if◌then◌else◌, is_some, IsTrue}
 use Rattle.std.specs.List.{count_by}
 use Rattle.tm_bits.specs.Numbers.{size_of}
-use Rattle.hierarchy.specs.declared.Shape.{Shape}
 use Rattle.hierarchy.specs.declared.Table.{Table}
 use Rattle.hierarchy.specs.Faults.{Faults}
 use Rattle.config_set.specs.Configuration.{setting_of}
