@@ -2,7 +2,7 @@ use Rattle.std.proofs.Common.{◌≡◌, length, All}
 use Rattle.hierarchy.specs.Shape.{tables_of}
 use Rattle.cycle_sim.specs.Gates.{Fits, IsClear}
 use Rattle.cycle_sim.specs.Cycles.{HaveTicked}
-use Rattle.cycle_sim.proofs.cycle.tick_times.Given as goal
+use Rattle.cycle_sim.proofs.cycle.tick_on.Given as goal
 
 abbrev pub invariant-ticks : goal.invariant-ticks
 invariant-ticks l = record {

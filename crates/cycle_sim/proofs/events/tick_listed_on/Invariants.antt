@@ -3,7 +3,7 @@ use Rattle.hierarchy.specs.Shape.{tables_of}
 use Rattle.cycle_sim.specs.Gates.{Fits, level_at}
 use Rattle.cycle_sim.specs.Cycles.{HaveTicked}
 use Rattle.cycle_sim.specs.Events.{AreStill, IsSound}
-use Rattle.cycle_sim.proofs.events.tick_listed_times.Given as goal
+use Rattle.cycle_sim.proofs.events.tick_listed_on.Given as goal
 
 abbrev pub invariant-ticks : goal.invariant-ticks
 invariant-ticks l = record {

@@ -4,7 +4,7 @@ use Rattle.cycle_sim.specs.Gates.{level_at}
 use Rattle.cycle_sim.specs.Cycles.{IsTick, HaveTicked, not_yet, once_more}
 use Rattle.cycle_sim.proofs.Twins.{all_further}
 use Rattle.cycle_sim.proofs.Eventing.{none_marked, all_still, tick_by_counts}
-use Rattle.cycle_sim.proofs.events.tick_listed_times.Goals as goal
+use Rattle.cycle_sim.proofs.events.tick_listed_on.Goals as goal
 
 pub ticks-init : goal.ticks-init
 ticks-init c = record {
@@ -19,13 +19,13 @@ ticks-init c = record {
 
 pub ticks-preserved : goal.ticks-preserved
 ticks-preserved c = record {
-  fits = c.tick_listed-count.ensures.fits;
-  tables = c.tick_listed-count.ensures.tables;
-  flips = c.tick_listed-count.ensures.flips;
-  sound = c.tick_listed-count.ensures.sound;
-  still = c.tick_listed-count.ensures.still;
-  ticked = subst (λ n. HaveTicked c.args.faults.now.faults c.args.knots.now c.args.low_pins.now c.args.gates.now n c.tick_listed-count.new.gates) (sym (add-one c.ticks._n)) (once_more c.ticks.invariant.ticked c.tick_listed-count.ensures.tick);
-  listed = c.tick_listed-count.ensures.listed ∙ c.ticks.invariant.listed;
+  fits = c.tick_listed.ensures.fits;
+  tables = c.tick_listed.ensures.tables;
+  flips = c.tick_listed.ensures.flips;
+  sound = c.tick_listed.ensures.sound;
+  still = c.tick_listed.ensures.still;
+  ticked = subst (λ n. HaveTicked c.args.faults.now.faults c.args.knots.now c.args.low_pins.now c.args.gates.now n c.tick_listed.new.gates) (sym (add-one c.ticks._n)) (once_more c.ticks.invariant.ticked c.tick_listed.ensures.tick);
+  listed = c.tick_listed.ensures.listed ∙ c.ticks.invariant.listed;
 }
 
 pub returns-then-events-eq0-clause-ticked : goal.returns-then-events-eq0-clause-ticked

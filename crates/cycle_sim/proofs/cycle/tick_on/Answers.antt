@@ -2,7 +2,7 @@ use Rattle.std.proofs.Common.{◌≡◌, ◌+◌, ◌-◌, List, sym, subst, add
 use Rattle.cycle_sim.specs.declared.gates.Gate.{Gate}
 use Rattle.cycle_sim.specs.Cycles.{IsTick, HaveTicked, not_yet, once_more}
 use Rattle.cycle_sim.proofs.Twins.{all_further}
-use Rattle.cycle_sim.proofs.cycle.tick_times.Goals as goal
+use Rattle.cycle_sim.proofs.cycle.tick_on.Goals as goal
 
 pub ticks-init : goal.ticks-init
 ticks-init c = record {
