@@ -17,12 +17,12 @@ use Rattle.cycle_sim.proofs.Twins.{twin_is}
 
 module _ {f : Faults} {knots : List Knot} {low : List Bool} where
   -- ticks are those of the same tables
-  ticked_alike : {n : ℕ} {old new : List Gate} → HaveTicked f knots low old n new → AreAlike old new
+  ticked_alike : {old : List Gate} {n : ℕ} {new : List Gate} → HaveTicked f knots low old n new → AreAlike old new
   ticked_alike {old = old} not_yet = alike_same old
   ticked_alike {old = old} (once_more {mid = mid} {new = new} h t) = alike_on old mid new (ticked_alike h) (alike_map (ticked f (level_at knots low t.marks)) (λ x. refl) mid new t.next)
 
   -- ticks after ticks
-  pub ticks_then : {m n : ℕ} {old mid new : List Gate} → HaveTicked f knots low old m mid → HaveTicked f knots low mid n new → HaveTicked f knots low old (n + m) new
+  pub ticks_then : {m : ℕ} {old mid : List Gate} {n : ℕ} {new : List Gate} → HaveTicked f knots low old m mid → HaveTicked f knots low mid n new → HaveTicked f knots low old (n + m) new
   ticks_then {m} {old = old} {mid = mid} h not_yet = subst (λ k. HaveTicked f knots low old k mid) (let e : m ≡ 0 + m = omega arith in e) h
   ticks_then {m} {old = old} h (once_more {n = n} {new = new} g t) = subst (λ k. HaveTicked f knots low old k new) (let e : suc (n + m) ≡ suc n + m = omega arith in e) (once_more (ticks_then h g) t)
 

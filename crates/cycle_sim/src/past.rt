@@ -1,6 +1,6 @@
 //! When tables give again what they gave some ticks before.
 
-ghost use Rattle.std.specs.Prelude.{◌≡◌, ◌⊎◌, ℕ, ◌≤◌, true, false, length, map, None, IfSome, IfOk, OnOk};
+ghost use Rattle.std.specs.Prelude.{◌≡◌, ◌⊎◌, ◌<◌, ◌≤◌, true, length, map, None, IfSome};
 ghost use Rattle.cycle_sim.specs.Pasts.{given_by, KeepsPast, SkipsTicks};
 
 use crate::gates::Gate;
@@ -91,13 +91,22 @@ fn first_other(outputs: &[bool], gates: &[Gate]) -> Option<usize>
     None
 }
 
-/// Whether the tables give what is kept.
-fn gives_again(past: &mut Past, gates: &[Gate]) -> bool
-    ensures again { result ≡ true → past.old.outputs.items ≡ map given_by gates.now }
+/// Whether the tables give what was kept after fewer ticks.
+fn gives_again(past: &mut Past, gates: &[Gate], made: u16) -> bool
+    ensures again { result ≡ true → (0 < past.old.at) × (past.old.at < made) × (past.old.outputs.items ≡ map given_by gates.now) }
     ensures outputs { past.new.outputs ≡ past.old.outputs }
     ensures at { past.new.at ≡ past.old.at }
 {
-    if past.outputs.len() != gates.len() || still_differs(past, gates) {
+    if past.at == 0 {
+        return false;
+    }
+    if past.at >= made {
+        return false;
+    }
+    if past.outputs.len() != gates.len() {
+        return false;
+    }
+    if still_differs(past, gates) {
         return false;
     }
     match first_other(&past.outputs, gates) {
@@ -120,7 +129,7 @@ pub fn look_back(past: &mut Past, gates: &[Gate], made: u16, ticks: u16) -> Opti
         return None;
     }
     let at = past.at;
-    if at > 0 && at < made && gives_again(past, gates) {
+    if gives_again(past, gates, made) {
         return Some((ticks - made) % (made - at));
     }
     if made / 2 >= at {
