@@ -19,7 +19,7 @@ pub struct Past {
     pub outputs: Vec<bool>,
     /// After how many ticks they gave it, and 0 where nothing is kept.
     pub at: u16,
-    /// Where a table gave something else at the last look: most looks need go no further.
+    /// Where a table gave something else at the last look: the next one begins there, and mostly needs to go no further.
     pub differs: usize,
 }
 
@@ -70,20 +70,12 @@ fn keep(past: &mut Past, gates: &[Gate], made: u16)
     past.at = made;
 }
 
-/// Whether the table that gave something else at the last look still does.
-fn still_differs(past: &Past, gates: &[Gate]) -> bool {
-    let place = past.differs;
-    place < past.outputs.len()
-        && place < gates.len()
-        && past.outputs[place] != gates[place].output
-}
-
-/// The first table that gives something else.
-fn first_other(outputs: &[bool], gates: &[Gate]) -> Option<usize>
+/// The first table, from a place on, that gives something else.
+fn other_from(outputs: &[bool], gates: &[Gate], from: usize) -> Option<usize>
     requires { length outputs.now ≡ length gates.now }
-    ensures { result ≡ None → outputs.now ≡ map given_by gates.now }
+    ensures { from ≡ 0 → result ≡ None → outputs.now ≡ map given_by gates.now }
 {
-    'gates: for k in 0..gates.len() {
+    'gates: for k in from..gates.len() {
         if outputs[k] != gates[k].output {
             return Some(k);
         }
@@ -106,10 +98,11 @@ fn gives_again(past: &mut Past, gates: &[Gate], made: u16) -> bool
     if past.outputs.len() != gates.len() {
         return false;
     }
-    if still_differs(past, gates) {
+    if let Some(place) = other_from(&past.outputs, gates, past.differs) {
+        past.differs = place;
         return false;
     }
-    match first_other(&past.outputs, gates) {
+    match other_from(&past.outputs, gates, 0) {
         None => true,
         Some(place) => {
             past.differs = place;
