@@ -27,7 +27,7 @@ ticks-preserved c =
       tables = c.tick.ensures.tables;
       clear = c.tick.ensures.clear;
       ticked = ticked;
-      past = c.look_back.ensures.kept c.in-default-look_back.is f knots low first ticked
+      past = c.in_default.ensures.kept refl f knots low first ticked
           (past_on f knots low first c.ticks.gates c.tick.new.gates c.ticks.past c.ticks.n c.ticks.invariant.past c.tick.ensures.tick);
     }
 

@@ -36,7 +36,7 @@ ticks-preserved c =
       still = c.tick_listed-count.ensures.still;
       ticked = ticked;
       listed = c.tick_listed-count.ensures.listed ∙ c.ticks.invariant.listed;
-      past = c.look_back.ensures.kept c.in-default-look_back.is f knots low first ticked
+      past = c.in_default.ensures.kept refl f knots low first ticked
           (past_on f knots low first c.ticks.gates new c.ticks.past c.ticks.n c.ticks.invariant.past c.tick_listed-count.ensures.tick);
     }
 
