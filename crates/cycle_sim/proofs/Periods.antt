@@ -10,7 +10,7 @@ use Rattle.cycle_sim.specs.declared.past.Past.{Past}
 use Rattle.cycle_sim.specs.Gates.{level_at, ticked}
 use Rattle.cycle_sim.specs.Cycles.{IsTick, HaveTicked, not_yet, once_more}
 use Rattle.cycle_sim.specs.Events.{AreAlike}
-use Rattle.cycle_sim.specs.Pasts.{given_by, AreGiven, HasCome, IsPast, KeepsPast, SkipsTicks}
+use Rattle.cycle_sim.specs.Pasts.{given_by, AreGiven, HasCome, HasComeIfKept, KeepsPast, SkipsTicks}
 use Rattle.cycle_sim.proofs.Eventing.{alike_same, alike_on, alike_map}
 use Rattle.cycle_sim.proofs.Levels.{no_gate}
 use Rattle.cycle_sim.proofs.Twins.{twin_is}
@@ -57,7 +57,7 @@ skips p made ticks now some before within again f knots low first end led past r
 
 -- what is kept now
 pub kept_now : (old new : Past) (made : ℕ) (now : List Gate) → (new ≡ old) ⊎ ((new.at ≡ made) × (new.outputs.items ≡ map given_by now)) → KeepsPast old new made now
-kept_now old new made now (inl same) f knots low first led past = subst (λ p. IsPast f knots low first p made now) (sym same) past
+kept_now old new made now (inl same) f knots low first led past = subst (λ p. HasComeIfKept f knots low first p made now) (sym same) past
 kept_now old new made now (inr is) f knots low first led past = λ some. record {
   tables = now;
   since = 0;
@@ -84,7 +84,7 @@ pub kept_then : (old mid new : Past) (made : ℕ) (now : List Gate) → KeepsPas
 kept_then old mid new made now a b f knots low first led past = b f knots low first led (a f knots low first led past)
 
 -- after a tick more
-pub past_on : (f : Faults) (knots : List Knot) (low : List Bool) (first mid new : List Gate) (p : Past) (made : ℕ) → IsPast f knots low first p made mid → IsTick f knots low mid new → IsPast f knots low first p (made + 1) new
+pub past_on : (f : Faults) (knots : List Knot) (low : List Bool) (first mid new : List Gate) (p : Past) (made : ℕ) → HasComeIfKept f knots low first p made mid → IsTick f knots low mid new → HasComeIfKept f knots low first p (made + 1) new
 past_on f knots low first mid new p made past t = λ some.
     let come = past some in
     record {
@@ -96,7 +96,7 @@ past_on f knots low first mid new p made past t = λ some.
       outputs = come.outputs;
     }
 
-pub past_none : (f : Faults) (knots : List Knot) (low : List Bool) (first : List Gate) (p : Past) (made : ℕ) (now : List Gate) → p.at ≡ 0 → IsPast f knots low first p made now
+pub past_none : (f : Faults) (knots : List Knot) (low : List Bool) (first : List Gate) (p : Past) (made : ℕ) (now : List Gate) → p.at ≡ 0 → HasComeIfKept f knots low first p made now
 past_none f knots low first p made now none = λ some. absurd (omega (arith, some, none))
 
 -- ---- what tables give, one after the other

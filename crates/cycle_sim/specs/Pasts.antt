@@ -25,16 +25,17 @@ pub record HasCome (f : Faults) (knots : List Knot) (low_pins : List Bool) (firs
   pub outputs : p.outputs.items ≡ map given_by tables
 
 -- so it is if something is kept
-abbrev pub IsPast : Faults → List Knot → List Bool → List Gate → Past → ℕ → List Gate → Type 0
-IsPast f knots low_pins first p made now = 0 < p.at → HasCome f knots low_pins first p made now
+abbrev pub HasComeIfKept : Faults → List Knot → List Bool → List Gate → Past → ℕ → List Gate → Type 0
+HasComeIfKept f knots low_pins first p made now = 0 < p.at → HasCome f knots low_pins first p made now
 
 -- whatever ticks led here, what is kept is theirs
 abbrev pub KeepsPast : Past → Past → ℕ → List Gate → Type 0
 KeepsPast old new made now = (f : Faults) (knots : List Knot) (low_pins : List Bool) (first : List Gate) →
-    HaveTicked f knots low_pins first made now → IsPast f knots low_pins first old made now → IsPast f knots low_pins first new made now
+    HaveTicked f knots low_pins first made now → HasComeIfKept f knots low_pins first old made now →
+    HasComeIfKept f knots low_pins first new made now
 
 -- whatever ticks led here, where those that are left lead, there all do
 abbrev pub SkipsTicks : Past → ℕ → ℕ → ℕ → List Gate → Type 0
 SkipsTicks p made ticks left now = (f : Faults) (knots : List Knot) (low_pins : List Bool) (first end : List Gate) →
-    HaveTicked f knots low_pins first made now → IsPast f knots low_pins first p made now → HaveTicked f knots low_pins now left end →
-    HaveTicked f knots low_pins first ticks end
+    HaveTicked f knots low_pins first made now → HasComeIfKept f knots low_pins first p made now →
+    HaveTicked f knots low_pins now left end → HaveTicked f knots low_pins first ticks end

@@ -3,7 +3,7 @@ use Rattle.hierarchy.specs.Shape.{tables_of}
 use Rattle.cycle_sim.specs.Gates.{Fits, level_at}
 use Rattle.cycle_sim.specs.Cycles.{HaveTicked}
 use Rattle.cycle_sim.specs.Events.{AreStill, IsSound}
-use Rattle.cycle_sim.specs.Pasts.{IsPast}
+use Rattle.cycle_sim.specs.Pasts.{HasComeIfKept}
 use Rattle.cycle_sim.proofs.events.tick_listed_times.Given as goal
 
 abbrev pub invariant-ticks : goal.invariant-ticks
@@ -15,5 +15,5 @@ invariant-ticks l = record {
   still : AreStill l.faults.faults (level_at l.knots l.low_pins l.low_tables) l.gates l.events.queue.marks.items;
   ticked : HaveTicked l.faults.faults l.knots l.low_pins l.fn.gates l.n l.gates;
   listed : l.events.listed ≡ l.fn.events.listed;
-  past : IsPast l.faults.faults l.knots l.low_pins l.fn.gates l.past l.n l.gates;
+  past : HasComeIfKept l.faults.faults l.knots l.low_pins l.fn.gates l.past l.n l.gates;
 }
