@@ -19,3 +19,4 @@ mod Queueing
 mod Reading
 mod Pulling
 mod Eventing
+mod Periods

@@ -9,6 +9,7 @@ pub mod Pulls
 pub mod Queues
 pub mod Readers
 pub mod Events
+pub mod Pasts
 pub mod Boards
 pub mod Tracks
 pub mod BitLogs

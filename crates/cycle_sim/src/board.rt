@@ -15,6 +15,7 @@ use crate::closing::close_all;
 use crate::events::{Events, list_tables, new_events};
 use crate::gates::Gate;
 use crate::known::{Closing, nothing_known};
+use crate::past::{MANY_TICKS, Past, make_past, no_past};
 use crate::ranks::{FEW_TICKS, Turn, order_gates};
 use config_set::{Config, Setting};
 use fault_model::FaultSet;
@@ -42,6 +43,8 @@ pub struct Board {
     pub ranked: bool,
     /// The readers of what tables give, where the tables aren't ranked.
     pub events: Events,
+    /// What the tables gave some ticks before, where ticks are many.
+    pub past: Past,
 }
 
 /// The root of a table's pin.
@@ -150,6 +153,7 @@ pub fn prepare(alloc: Global, faults: &FaultSet) -> Result<Board, AllocError>
         turns: Vec::new(alloc),
         ranked: false,
         events: new_events(alloc, wires)?,
+        past: no_past(alloc),
     })
 }
 
@@ -181,5 +185,7 @@ pub fn load(board: &mut Board, faults: &FaultSet, config: &Config) -> Result<(),
     )?;
     let is_worth = !board.ranked && config.ticks() >= FEW_TICKS;
     list_tables(&mut board.events, &board.gates, is_worth)?;
+    let looks_back = is_worth && config.ticks() >= MANY_TICKS;
+    make_past(&mut board.past, board.gates.len(), looks_back)?;
     Ok(())
 }

@@ -17,6 +17,7 @@ use crate::classes::Knot;
 use crate::events::{Events, give_up, settle_listed};
 use crate::gates::{Gate, clock_all, read_pins, tick_all};
 use crate::marks::{clear_pins, clear_tables, mark_pins, mark_tables};
+use crate::past::{Past, forget, look_back};
 use crate::ranks::Turn;
 use crate::sweeping::sweep;
 use fault_model::FaultSet;
@@ -47,7 +48,7 @@ fn tick(
 }
 
 /// Makes so many ticks. After one that changes nothing all further ones are the same, and are left out.
-fn tick_times(
+fn tick_on(
     faults: &FaultSet,
     knots: &[Knot],
     low_pins: &[bool],
@@ -71,6 +72,38 @@ fn tick_times(
     }
 }
 
+/// Makes so many ticks, or fewer that lead to the same: after one that changes nothing, and after those that lead back to
+/// what the tables gave before, which would do so over and over.
+fn tick_times(
+    faults: &FaultSet,
+    knots: &[Knot],
+    low_pins: &[bool],
+    low_tables: &mut [bool],
+    gates: &mut [Gate],
+    past: &mut Past,
+    ticks: u16,
+)
+    requires fits { All (Fits (tables_of faults.now.shape) (length knots.now)) gates.old }
+    requires pins { length low_pins.now ≡ length knots.now }
+    requires tables { length low_tables.old ≡ length knots.now }
+    requires clear { IsClear low_tables.old }
+    ensures fits { All (Fits (tables_of faults.now.shape) (length knots.now)) gates.new }
+    ensures tables { length low_tables.new ≡ length knots.now }
+    ensures clear { IsClear low_tables.new }
+    ensures ticked { HaveTicked faults.now.faults knots.now low_pins.now gates.old ticks gates.new }
+{
+    forget(past);
+    'ticks: for n in 0..ticks {
+        if !tick(faults, knots, low_pins, low_tables, gates) {
+            return;
+        }
+        if let Some(left) = look_back(past, gates, n + 1, ticks) {
+            tick_on(faults, knots, low_pins, low_tables, gates, left);
+            return;
+        }
+    }
+}
+
 /// Makes so many ticks. Where the readers are listed, each tick costs what changed, unless nearly everything does. Where
 /// what the combinational tables gave before doesn't matter after the ticks, all that is left to do is to come to rest,
 /// for which the tables are evaluated in their order first.
@@ -83,6 +116,7 @@ fn settle(
     turns: &[Turn],
     ranked: bool,
     events: &mut Events,
+    past: &mut Past,
     ticks: u16,
 )
     requires fits { All (Fits (tables_of faults.now.shape) (length knots.now)) gates.old }
@@ -102,16 +136,18 @@ fn settle(
         HaveTicked faults.now.faults knots.now low_pins.now gates.old ticks gates.new }
 {
     if events.listed {
-        let busy = settle_listed(events, faults, knots, low_pins, low_tables, gates, ticks);
+        let busy = settle_listed(
+            events, faults, knots, low_pins, low_tables, gates, past, ticks,
+        );
         give_up(events, busy);
         return;
     }
     if !ranked {
-        tick_times(faults, knots, low_pins, low_tables, gates, ticks);
+        tick_times(faults, knots, low_pins, low_tables, gates, past, ticks);
         return;
     }
     sweep(faults, knots, low_pins, low_tables, gates, turns);
-    tick_times(faults, knots, low_pins, low_tables, gates, ticks);
+    tick_times(faults, knots, low_pins, low_tables, gates, past, ticks);
 }
 
 /// Reads the pins, and makes the clock edge.
@@ -168,6 +204,7 @@ pub fn cycle(board: &mut Board, faults: &FaultSet, ticks: u16, drive: &PinBits, 
         &board.turns,
         board.ranked,
         &mut board.events,
+        &mut board.past,
         ticks,
     );
     clock(

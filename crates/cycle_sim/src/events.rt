@@ -12,6 +12,7 @@ ghost use Rattle.cycle_sim.specs.Events.{AreStill, AreFlips, HaveFlips, AreAlike
 use crate::classes::Knot;
 use crate::gates::{Gate, level_at, ticked};
 use crate::marks::clear_tables;
+use crate::past::{Past, forget, look_back};
 use crate::pulls::{clear_pulls, count_pulls, give};
 use crate::queue::{Queue, add_all, empty, make_room, place_at};
 use crate::readers::{Readers, add_readers, fill_readers};
@@ -238,9 +239,8 @@ fn tick_listed(
     count
 }
 
-/// Makes so many ticks. Once no table is to be evaluated all further ones change nothing, and are left out. How many ticks
-/// changed more than a quarter of the tables.
-fn tick_listed_times(
+/// Makes so many ticks. Once no table is to be evaluated all further ones change nothing, and are left out.
+fn tick_listed_on(
     events: &mut Events,
     faults: &FaultSet,
     knots: &[Knot],
@@ -248,7 +248,41 @@ fn tick_listed_times(
     low_tables: &mut [bool],
     gates: &mut [Gate],
     ticks: u16,
-) -> usize
+)
+    requires fits { All (Fits (tables_of faults.now.shape) (length knots.now)) gates.old }
+    requires pins { length low_pins.now ≡ length knots.now }
+    requires tables { length low_tables.old ≡ length knots.now }
+    requires flips { length events.old.flips.items ≡ length gates.old }
+    requires sound { IsSound gates.old events.old.readers events.old.queue events.old.pulls.items low_tables.old }
+    requires still { AreStill faults.now.faults (level_at knots.now low_pins.now low_tables.old) gates.old events.old.queue.marks.items }
+    ensures fits { All (Fits (tables_of faults.now.shape) (length knots.now)) gates.new }
+    ensures tables { length low_tables.new ≡ length knots.now }
+    ensures flips { length events.new.flips.items ≡ length gates.new }
+    ensures sound { IsSound gates.new events.new.readers events.new.queue events.new.pulls.items low_tables.new }
+    ensures ticked { HaveTicked faults.now.faults knots.now low_pins.now gates.old ticks gates.new }
+    ensures listed { events.new.listed ≡ events.old.listed }
+{
+    'ticks: for _n in 0..ticks {
+        if events.queue.count == 0 {
+            return;
+        }
+        tick_listed(events, faults, knots, low_pins, low_tables, gates);
+    }
+}
+
+/// Makes so many ticks, or fewer that lead to the same: until no table is to be evaluated, or they lead back to what the
+/// tables gave before, which they would do over and over. Whether more than half of them changed more than a quarter of
+/// the tables.
+fn tick_listed_times(
+    events: &mut Events,
+    faults: &FaultSet,
+    knots: &[Knot],
+    low_pins: &[bool],
+    low_tables: &mut [bool],
+    gates: &mut [Gate],
+    past: &mut Past,
+    ticks: u16,
+) -> bool
     requires fits { All (Fits (tables_of faults.now.shape) (length knots.now)) gates.old }
     requires pins { length low_pins.now ≡ length knots.now }
     requires tables { length low_tables.old ≡ length knots.now }
@@ -263,15 +297,20 @@ fn tick_listed_times(
     ensures listed { events.new.listed ≡ events.old.listed }
 {
     let few = gates.len() / 4;
-    let mut busy = 0usize;
-    'ticks: for _n in 0..ticks {
+    let mut busy = 0u16;
+    forget(past);
+    'ticks: for n in 0..ticks {
         if events.queue.count == 0 {
-            return busy;
+            return busy > ticks / 2;
         }
         let count = tick_listed(events, faults, knots, low_pins, low_tables, gates);
-        busy = busy.saturating_add(usize::from(count > few));
+        busy = busy.saturating_add(u16::from(count > few));
+        if let Some(left) = look_back(past, gates, n + 1, ticks) {
+            tick_listed_on(events, faults, knots, low_pins, low_tables, gates, left);
+            return busy > n / 2;
+        }
     }
-    busy
+    busy > ticks / 2
 }
 
 /// Makes so many ticks, of which the first evaluates all tables, and each further one those of which an input changed.
@@ -283,6 +322,7 @@ pub fn settle_listed(
     low_pins: &[bool],
     low_tables: &mut [bool],
     gates: &mut [Gate],
+    past: &mut Past,
     ticks: u16,
 ) -> bool
     requires fits { All (Fits (tables_of faults.now.shape) (length knots.now)) gates.old }
@@ -303,10 +343,12 @@ pub fn settle_listed(
 {
     count_pulls(gates, &mut events.pulls, low_tables);
     add_all(&mut events.queue);
-    let busy = tick_listed_times(events, faults, knots, low_pins, low_tables, gates, ticks);
+    let busy = tick_listed_times(
+        events, faults, knots, low_pins, low_tables, gates, past, ticks,
+    );
     clear_pulls(gates, &mut events.pulls);
     clear_tables(gates, low_tables);
-    busy > ticks as usize / 2
+    busy
 }
 
 /// Leaves it at evaluating all tables in each tick from now on, if so much changes that this is quicker.

@@ -20,6 +20,7 @@ mod gates;
 mod known;
 mod marks;
 mod named;
+mod past;
 mod pulls;
 mod queue;
 mod ranks;

@@ -18,18 +18,20 @@ use Rattle.place.specs.declared.short.Port.{Port}
 use Rattle.place.specs.declared.short.Visit.{Visit}
 use Rattle.place.specs.Choices.{AreWires}
 use Rattle.place.specs.Layouts.{AreHeld, AreVisits}
-use Rattle.place.specs.Room.{HasTerminal}
+use Rattle.place.specs.Room as room
+use Rattle.place.specs.Room.{HasTerminal, IsTapOf}
 use Rattle.place.specs.Strands.{Crosses}
 use Rattle.place.proofs.Upward.{up_of}
 use Rattle.crossbar_route.specs.Owners.{HasLine}
 use Rattle.crossbar_route.specs.Routed.{IsJoined, HasPortIn, AreWiresOf}
-use Rattle.crossbar_route.specs.Trees.{IsLaidOnTree, IsOfNet, as_terminal, as_line, as_port, AreTerminals}
+use Rattle.crossbar_route.specs.Trees.{IsNetTap, by_terminal, by_child, by_port, IsLaidOnTree, IsOfNet, as_terminal, as_line, as_port, AreTerminals}
 use Rattle.crossbar_route.proofs.Drawn.{Numbering, IsDrawnBy, drawn_wires, drawn_laid, drawn_free, visit, held}
 use Rattle.crossbar_route.proofs.Ported.{crossed_within}
 use Rattle.crossbar_route.proofs.OnTree.{one_net, net_joined, nets_apart, to_port}
 use Rattle.repair.specs.declared.seats.Seats.{Seats}
 use Rattle.repair.specs.Nets.{HangTogether, IsEnd, as_tap, as_line as line_end, HasWire, IsKept}
 use Rattle.repair.specs.Plans.{Nets, AreSeats, AreNets, PinSits, TableSits, IsTerminal, at_pin, at_table, IsMoving, IsStaying, IsKeptWire}
+use Rattle.repair.specs.Repairs.{IsKeptNets, IsOnLine}
 use Rattle.repair.proofs.Placed.{on_within}
 use Rattle.repair.proofs.Hanging.{has_end, one_net_has, walk_end}
 use Rattle.repair.proofs.Seating.{one_table_place, one_table_owner, one_pin_place, one_pin_owner, table_place_free, pin_place_free, table_stays_or, pin_stays_or, free_table_stays, free_pin_stays}
@@ -271,6 +273,24 @@ module _ (d : Defects) (i : ImageValue) (is : IsImage i) (laws : Numbering i.con
               let first : HasWire g n.lowest k w = has_before k w v p (has_along k (Joined-sym j) has) in
               let second : HasWire g n.lowest k x = has_before k x y q has in
               Joined-trans (Joined-sym first.1) second.1
+
+      -- ---- moving nets
+
+      pub terminals_joined : (k w u : ℕ) → terminal k w → terminal k u → Joined (plain_net m closed) w u
+      terminals_joined k w u t r = moved_too (net_joined m laws.tree terminal (is_closed moved) (HasLine visits) (HasPortIn ports) laid are_terminals k w u t r)
+
+      is_tap : (a k t : ℕ) → IsNetTap m terminal (HasPortIn ports) a k t → IsTapOf m n.rest (length n.lowest) terminal a k t
+      is_tap a k t (by_terminal is at) = room.by_terminal is at
+      is_tap a k t (by_child c e has) = room.by_child c e (held m n.rest (length n.lowest) terminal n.terminals ports visits laws drawn_by c k t has).2
+      is_tap a k t (by_port has) = room.by_port (held m n.rest (length n.lowest) terminal n.terminals ports visits laws drawn_by a k t has).2
+
+      -- nothing else is closed
+      pub closed_for : (x : ℕ) → closed x ≡ true → IsKeptNets i n x ⊎ IsOnLine i n visits x
+      closed_for x on = by (only x on)
+        where
+          by : (is_closed moved x ≡ true) ⊎ ((is_closed g x ≡ true) × IsKeptWire i n (ends_of m x).0) → IsKeptNets i n x ⊎ IsOnLine i n visits x
+          by (inl e) = let r = laid.only x e in inr (record { visit = record { node = r.0; net = r.1; line = r.2 }; is_one = r.4; tap = r.3; is_tap = is_tap r.0 r.1 r.3 r.5; ends = r.6 })
+          by (inr kept) = inl kept
 
       -- ---- ports
 

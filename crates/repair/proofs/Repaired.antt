@@ -39,7 +39,7 @@ use Rattle.repair.specs.Making.{IsPlanOf, AreTerminalsOf, IsPinTerminal, IsTable
 use Rattle.repair.proofs.Alike.{Moved, pin_at, table_at, Correspond, run_alike}
 use Rattle.repair.proofs.Hanging.{are_numbered}
 use Rattle.repair.proofs.Placed.{on_within}
-use Rattle.repair.proofs.Owning.{Spot, pin_spot, table_spot, drawn_by, draw_wires, hang_on, hung_before, crossing_within, port_joined, port_only, closed_free}
+use Rattle.repair.proofs.Owning.{Spot, pin_spot, table_spot, drawn_by, draw_wires, hang_on, hung_before, crossing_within, terminals_joined, closed_for, port_joined, port_only, closed_free}
 use Rattle.repair.proofs.Seating.{table_sits_at, pin_sits_at, one_table_place, one_table_owner, one_pin_place, one_pin_owner, table_place_free, pin_place_free, different_at, search_gone}
 
 none_is_some : {X : Type 0} {o : Option X} → o ≡ None → IsSome o → ⊥
@@ -346,6 +346,10 @@ module _ (d : Defects) (i : ImageValue) (is : IsImage i) (laws : Numbering i.con
           inputs = pins_at i.inputs new.inputs drawn.inputs (λ k has. Contains-append_left i.inputs i.outputs k has);
           outputs = pins_at i.outputs new.outputs drawn.outputs (λ k has. Contains-append_right i.inputs i.outputs k has);
           ports = port_at;
+          joined = λ k w u t r. hang_new (terminals_joined d i is laws s n seats nets_made ports visits wires held_are visited drawn.drawn.moved drawn.drawn.joined (is_closed closed) only drawn.drawn.closes.kept all_kept k w u t r);
+          lines = visits;
+          lines_are = visited;
+          only = λ x on. closed_for d i is laws s n seats nets_made ports visits wires held_are visited drawn.drawn.moved drawn.drawn.joined (is_closed closed) only drawn.drawn.closes.kept all_kept x (sym (closed_same x) ∙ on);
           kept = λ k x st on wire. closed_same x ∙ all_kept x on (k, st, wire);
         }
 

@@ -1,6 +1,7 @@
 -- When an image is a repair of another.
-use Rattle.std.specs.Prelude.{◌≡◌, ℕ, ◌<◌, true, List, Bool, map, length, IsSome}
-use Rattle.hierarchy.specs.Shape.{ends_of, IsPort}
+use Rattle.std.specs.Prelude.{◌≡◌, ◌⊎◌, ℕ, ◌<◌, true, List, Bool, map, length, IsSome}
+use Rattle.std.specs.List.{Contains}
+use Rattle.hierarchy.specs.Shape.{ends_of, nodes_of, IsPort}
 use Rattle.hierarchy.specs.Faults.{Faults, IsFaultless}
 use Rattle.hierarchy.specs.Circuit.{Pins}
 use Rattle.hierarchy.specs.Defects.{Defects, Covers}
@@ -9,11 +10,13 @@ use Rattle.config_set.specs.Faulty.{IsRun}
 use Rattle.config_image.specs.Images.{ImageValue, drive_of, image_row}
 use Rattle.place.specs.declared.short.PlaceFail.{PlaceFail}
 use Rattle.place.specs.declared.short.PlaceFail.TheVariants as fail
+use Rattle.place.specs.declared.short.Visit.{Visit}
+use Rattle.place.specs.Layouts.{AreVisits}
 use Rattle.place.specs.Lists.{nth_of}
-use Rattle.place.specs.Room.{HasTerminal, CrossesAt, HasPort}
+use Rattle.place.specs.Room.{HasTerminal, CrossesAt, HasPort, IsTapOf}
 use Rattle.repair.specs.declared.seats.Seats.{Seats}
 use Rattle.repair.specs.Nets.{HangTogether, HasWire}
-use Rattle.repair.specs.Plans.{AreSeats, AreNets, HasRoom, IsShortPlan, IsStaying, Nets, PinSits, TableSits}
+use Rattle.repair.specs.Plans.{AreSeats, AreNets, HasRoom, IsKeptWire, IsShortPlan, IsStaying, Nets, PinSits, TableSits}
 
 -- Under all faults that the list covers, the new image reads at its output pins what the old one reads without faults at its own, each
 -- with the vectors on its input pins and 1 on all others.
@@ -48,8 +51,22 @@ pub record IsPortAt (old new : ImageValue) (n : Nets) (node k : ℕ) : Type 0 wh
   pub only : (w other : ℕ) → HasTerminal n.terminals k w → IsPort old.config.shape node other → HangTogether new.config w other →
       other ≡ port
 
+-- the crosspoint is closed in the old image, and is one of a kept net's
+abbrev pub IsKeptNets : ImageValue → Nets → ℕ → Type 0
+IsKeptNets old n x = (is_closed old.config x ≡ true) × IsKeptWire old n (ends_of old.config.shape x).0
+
+-- at a node that a moving net visits, the crosspoint joins the net's line there to one of its taps there: to one of its terminals, or to a
+-- port that the plan gives it, of the node or of a child
+pub record IsOnLine (old : ImageValue) (n : Nets) (lines : List Visit) (x : ℕ) : Type 0 where
+  pub visit : Visit
+  pub is_one : Contains lines visit
+  pub tap : ℕ
+  pub is_tap : IsTapOf old.config.shape n.rest (length n.lowest) (HasTerminal n.terminals) visit.node visit.net tap
+  pub ends : ends_of old.config.shape x ≡ (tap, visit.line)
+
 -- The repair plan of the old image has room, and the new image follows it: tables and pins stand where it says, each net that moves has
--- its ports, and kept nets have all their closed crosspoints.
+-- its ports, kept nets have all their closed crosspoints, and nothing is closed besides but what joins moving nets to their lines. At each
+-- node that a moving net visits it has one line, which serves it there, and no two nets share one.
 pub record IsRepair (d : Defects) (old new : ImageValue) : Type 0 where
   pub seats : Seats
   pub nets : Nets
@@ -64,8 +81,12 @@ pub record IsRepair (d : Defects) (old new : ImageValue) : Type 0 where
   pub outputs : ArePinsAt d old seats old.outputs new.outputs
   pub ports : (node k : ℕ) → CrossesAt old.config.shape (length nets.lowest) (HasTerminal nets.terminals) node k →
       IsPortAt old new nets node k
+  pub joined : (k w u : ℕ) → HasTerminal nets.terminals k w → HasTerminal nets.terminals k u → HangTogether new.config w u
   pub kept : (k x : ℕ) → IsStaying nets k → is_closed old.config x ≡ true →
       HasWire old.config nets.lowest k (ends_of old.config.shape x).0 → is_closed new.config x ≡ true
+  pub lines : List Visit
+  pub lines_are : AreVisits old.config.shape nets.rest (length nets.lowest) (HasTerminal nets.terminals) (nodes_of old.config.shape) lines
+  pub only : (x : ℕ) → is_closed new.config x ≡ true → IsKeptNets old nets x ⊎ IsOnLine old nets lines x
 
 -- why there is none: the plan hasn't room, or memory is wanting, of which nothing is said
 abbrev pub IsRepairFail : Defects → ImageValue → PlaceFail → Type 0

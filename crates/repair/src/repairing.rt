@@ -102,7 +102,8 @@ fn laid(alloc: Global, image: &Image, defects: &Defects, seats: &Seats) -> Resul
 /// A switched-on table that isn't free goes: the k-th of them to the k-th free table that is off and has no used pin. So do pins, inputs
 /// before outputs, to free pins that aren't used. A net, that is a group of wires that closed crosspoints join, is kept where its wires and
 /// closed crosspoints are free and none of its tables and pins goes; all other nets are laid anew, on ports and lines that are free and
-/// that no kept net has. The j-th of them that crosses a node has the j-th of these ports there.
+/// that no kept net has. The j-th of them that crosses a node has the j-th of these ports there. Nothing else is closed: what a net leaves
+/// that is laid anew is open, but where another one needs it.
 ///
 /// The new image has the rows of the old one under each fault set that the list covers, and touches only what is free.
 ///

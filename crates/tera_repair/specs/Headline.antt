@@ -9,8 +9,8 @@ use Rattle.steps.specs.Outside.{Outside}
 use Rattle.steps.specs.Texts.{IsMachineText, IsDefectsText}
 use Rattle.tera_repair.specs.Repairing.{most_closed, IsRepairOf}
 
--- The bytes of a new image are written: it follows the repair plan of the image of the file on the list, touches only what the list
--- leaves free, and under all faults that the list covers reads what the old one reads without faults
+-- The bytes of a new image are written: it follows the repair plan of the image of the file on the list, closes nothing that no net
+-- needs, touches only what the list leaves free, and under all faults that the list covers reads what the old one reads without faults
 pub record IsRepaired (machine defects image : List ℕ) (old new : Outside) : Type 0 where
   pub list : DefectList
   pub given : ImageValue

@@ -33,8 +33,9 @@ takes_few i = record { stops = HasTooMany i; gives = λ _. set.len i.config.clos
 
 -- ---- it is repaired
 
--- The new image follows the repair plan of the old one, touches only what the list leaves free, and under all faults that the list
--- covers reads what the old one reads without faults. So what the old one is right for without faults, the new one is right for then
+-- The new image follows the repair plan of the old one, closes nothing that no net needs, touches only what the list leaves free, and
+-- under all faults that the list covers reads what the old one reads without faults. So what the old one is right for without faults,
+-- the new one is right for then
 pub record IsRepairOf (d : DefectList) (old new : ImageValue) : Type 0 where
   pub image : IsImage new
   pub repair : IsRepair d.list old new

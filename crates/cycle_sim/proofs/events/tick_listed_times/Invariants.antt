@@ -3,6 +3,7 @@ use Rattle.hierarchy.specs.Shape.{tables_of}
 use Rattle.cycle_sim.specs.Gates.{Fits, level_at}
 use Rattle.cycle_sim.specs.Cycles.{HaveTicked}
 use Rattle.cycle_sim.specs.Events.{AreStill, IsSound}
+use Rattle.cycle_sim.specs.Pasts.{HasComeIfKept}
 use Rattle.cycle_sim.proofs.events.tick_listed_times.Given as goal
 
 abbrev pub invariant-ticks : goal.invariant-ticks
@@ -12,6 +13,7 @@ invariant-ticks l = record {
   flips : length l.events.flips.items ≡ length l.gates;
   sound : IsSound l.gates l.events.readers l.events.queue l.events.pulls.items l.low_tables;
   still : AreStill l.faults.faults (level_at l.knots l.low_pins l.low_tables) l.gates l.events.queue.marks.items;
-  ticked : HaveTicked l.faults.faults l.knots l.low_pins l.fn.gates l._n l.gates;
+  ticked : HaveTicked l.faults.faults l.knots l.low_pins l.fn.gates l.n l.gates;
   listed : l.events.listed ≡ l.fn.events.listed;
+  past : HasComeIfKept l.faults.faults l.knots l.low_pins l.fn.gates l.past l.n l.gates;
 }
