@@ -14,6 +14,7 @@ pub mod Reading
 pub mod Machines
 pub mod Standing
 pub mod JobLemmas
+mod CutRows
 pub mod WrittenRows
 pub mod OpenedRows
 pub mod OpenedLaws
