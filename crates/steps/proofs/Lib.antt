@@ -16,6 +16,7 @@ pub mod Standing
 pub mod JobLemmas
 mod CutRows
 pub mod WrittenRows
+mod NextRead
 pub mod OpenedRows
 pub mod OpenedLaws
 pub mod Making

@@ -63,7 +63,8 @@ impl RowBlock {
             WaitsOrPuts lines self.new.text result (K.sink_state sink.old) (K.sink_state sink.new) }
     {
         let end = put_row(&mut self.text, self.count, row);
-        if self.text.len() - end <= row.len() + 1 {
+        let line = end - self.count;
+        if self.text.len() - end < line {
             self.count = 0;
             return write(sink, &self.text[..end]);
         }
