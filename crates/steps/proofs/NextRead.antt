@@ -12,6 +12,7 @@ use Rattle.steps.specs.Stops.{stop_of_vectors}
 use Rattle.steps.specs.Took.{Puts}
 use Rattle.steps.specs.declared.refusal.Stop.{Stop}
 use Rattle.steps.specs.declared.refusal.Stop.TheVariants.{Refused, Sink}
+use Rattle.steps.proofs.WriteLemmas.{Wrote-none}
 use Rattle.steps.proofs.WrittenRows.{held-up}
 
 module _ (vector : List Bool) (old new : VectorReading) (limit : old.limit ≡ most_vector_bytes) (same : new.limit ≡ old.limit) where
@@ -48,3 +49,7 @@ fails-next Failed old new block left before after sink sink' fails out = (fails,
 pub held-next : (stop : Stop) (old new : VectorReading) (block left : WaitingRows) (store : StoreState) (sink sink' : SinkState) → 0 < length block.text → Puts {T = Unit {0}} block.text (Err stop) sink sink' → NextStops stop (rows_at old block store sink) (rows_at new left store sink')
 held-next (Refused refusal) old new block left store sink sink' some puts = absurd puts.stops
 held-next (Sink fail) old new block left store sink sink' some puts = held-up block.text (Sink fail) store sink sink' some puts
+
+-- where nothing waits nothing is written
+pub none-put : (text : List ℕ) (sink : SinkState) → text ≡ [] → Puts {T = Unit {0}} text (Ok tt) sink sink
+none-put text sink none = rw none (record { kind = refl; later = omega arith; wrote = Wrote-none sink.written; stops = tt })

@@ -142,6 +142,27 @@ pub not-added : (lines left : List ℕ) (stop : Stop) (store : StoreState) (old 
 not-added lines left stop store old new some (inl h) = absurd h.2
 not-added lines left stop store old new some (inr h) = held-up lines stop store old new some h.1
 
+-- rows wait on, or were put out as a vector was read, and then they are put out
+pub put-after : (waiting mid left : List ℕ) (store store' : StoreState) (s0 s1 s2 : SinkState) → ((mid ≡ waiting) × (s1 ≡ s0) × (store' ≡ store)) ⊎ IsPutOut waiting mid s0 s1 → IsPutOut mid left s1 s2 → IsPutOut waiting left s0 s2
+put-after waiting mid left store store' s0 s1 s2 (inl same) out = rw (same.0, same.1) at out
+put-after waiting mid left store store' s0 s1 s2 (inr first) out =
+    let all : waiting ++ mid ≡ waiting = ap (λ t. waiting ++ t) first.empty ∙ append-nil waiting in
+    record {
+      empty = out.empty;
+      kind = out.kind ∙ first.kind;
+      later = omega (arith, first.later, out.later);
+      wrote = subst (λ t. Wrote s0.written s2.written t) all (Wrote-then _ _ _ _ _ first.wrote out.wrote);
+    }
+
+-- or they aren't
+pub held-after : (waiting mid : List ℕ) (stop : Stop) (store store' : StoreState) (s0 s1 s2 : SinkState) → ((mid ≡ waiting) × (s1 ≡ s0) × (store' ≡ store)) ⊎ IsPutOut waiting mid s0 s1 → IsHeldUp stop mid store' store' s1 s2 → IsHeldUp stop waiting store store' s0 s2
+held-after waiting mid stop store store' s0 s1 s2 (inl same) held =
+    let here = rw (same.0, same.1) at held in
+    record { some = here.some; still = same.2; kind = here.kind; later = here.later; stops = here.stops }
+held-after waiting mid stop store store' s0 s1 s2 (inr first) held =
+    let none : length mid ≡ 0 = ap length first.empty in
+    absurd (let never : ⊥ = omega (arith, none, held.some) in never)
+
 -- ---- one more vector, and its row
 
 module _ (width : ℕ) (begun now new : Outside) (reading reading' : VectorReading) (waiting : List ℕ) (vectors rows : List (List Bool)) (vector : List Bool) (so_far : AreWritten width begun reading waiting now vectors rows) (later : IsLater now new) (asked : new.store.asked ≡ now.store.asked) (read : IsRead vector reading reading' now.store new.store) where
@@ -215,7 +236,7 @@ module _ (w : RowWork) (begun now new : Outside) (reading : VectorReading) (wait
 
     pub vectors-follow : {U : Type 0} (fail : VectorsFail) → NextFails fail reading now.store new.store → Follows {T = U} ⊥ [] asks (all_rows w) (Err (stop_of_vectors fail)) begun new
     vectors-follow (Text line kind) fails =
-        let fault : AreBeforeFault w.width w.told line kind vectors = rw told (taken-fault w.width begun.store now.store new.store reading vectors line kind so_far.taking fails) in
+        let fault : AreBeforeFault w.width w.told w.place line kind vectors = rw (told, place) (taken-fault w.width begun.store now.store new.store reading vectors line kind so_far.taking fails) in
         rows-follow (Err (stop_of_vectors (Text line kind))) (text, (has-read, fault), all-wrote) tt
     vectors-follow VectorsFailed fails =
         rows-follow (Err (stop_of_vectors VectorsFailed)) (text, (has-read, place ∙ fails.closed), all-wrote) fails.rose
