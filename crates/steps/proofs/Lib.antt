@@ -14,9 +14,7 @@ pub mod Reading
 pub mod Machines
 pub mod Standing
 pub mod JobLemmas
-mod CutRows
 pub mod WrittenRows
-mod NextRead
 pub mod OpenedRows
 pub mod OpenedLaws
 pub mod Making
@@ -31,5 +29,6 @@ pub mod Values
 pub mod ListFiles
 -- For the proofs of this crate alone.
 mod TextLemmas
+mod CutRows
 mod AttachLemmas
 mod TookLemmas
