@@ -64,13 +64,13 @@ cut-last row n = record {
 
 cut-in : (row : List Bool) (rows : List (List Bool)) (n : ℕ) → IsCutAt (row ∷ rows) n
 cut-in row [] n = cut-last row n
-cut-in row (next ∷ rows) n = by (dec_lt (length (row_line row)) n)
+cut-in row (next ∷ rows) n = by (cut-in next rows (n - length (row_line row))) (dec_lt (length (row_line row)) n)
   where
-    by : Dec (length (row_line row) < n) → IsCutAt (row ∷ next ∷ rows) n
-    by (no few) = cut-first row (next ∷ rows) n (omega arith)
-    by (yes many) =
+    by : IsCutAt (next ∷ rows) (n - length (row_line row)) → Dec (length (row_line row) < n) → IsCutAt (row ∷ next ∷ rows) n
+    by later (no few) = cut-first row (next ∷ rows) n (omega arith)
+    by later (yes many) =
         let behind : length (row_line row) + (n - length (row_line row)) ≡ n = omega arith in
-        subst (λ k. IsCutAt (row ∷ next ∷ rows) k) behind (cut-later row (next ∷ rows) (n - length (row_line row)) (cut-in next rows (n - length (row_line row))))
+        subst (λ k. IsCutAt (row ∷ next ∷ rows) k) behind (cut-later row (next ∷ rows) (n - length (row_line row)) later)
 
 pub cut-of : (rows : List (List Bool)) (n : ℕ) → 0 < length (flat_map row_line rows) → IsCutAt rows n
 cut-of [] n some = absurd (let never : ⊥ = omega (arith, some) in never)

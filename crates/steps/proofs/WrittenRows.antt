@@ -139,7 +139,7 @@ held-up lines stop store old new some puts =
     record { some = some; still = refl; kind = puts.kind; later = puts.later; stops = puts.stops }
 
 pub not-added : (lines left : List ℕ) (stop : Stop) (store : StoreState) (old new : SinkState) → 0 < length lines → WaitsOrPuts lines left (Err stop) old new → IsHeldUp stop lines store store old new
-not-added lines left stop store old new some (inl h) = absurd h.2
+not-added lines left stop store old new some (inl h) = absurd (let ok = h.2 in cc)
 not-added lines left stop store old new some (inr h) = held-up lines stop store old new some h.1
 
 -- rows wait on, or were put out as a vector was read, and then they are put out
