@@ -99,7 +99,7 @@ module _ (d : Draft) (is : IsChecked d) where
           p.combinational (start_of d.covers i + k) (cover_combinational d is i k li l) ∙ ap (λ t. truth vector h t) (cover_table d is i k li l)))
           ∙ valuation.same_truth (λ s. bit_of vector h (source_of d s)) value (cover_at d.covers i) (λ k lk. sym (value_is (slice_index_or (cover_at d.covers i).ins k 0) (input_driven d is i k li lk)))
 
-      right_too : netlist.IsRight d st vector value
+      right_too : netlist.IsRightValuation d st vector value
       right_too = record { inputs = inputs_right; latches = latches_right; truths = truths_right; others = value_none }
 
     outputs_too : outputs_in (plain_network d) vector h ≡ netlist.outputs_in d value
