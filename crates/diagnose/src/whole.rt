@@ -130,7 +130,7 @@ fn diagnose_with(
 /// Finds what is wrong with the machine that is attached, and lists it. Where the rig tells the machine's faults, the list covers
 /// them and is tight to them: nothing can be taken off it. So it is fair: of served nodes it holds no sound part, but lines with
 /// fewer than two sound crosspoints. At every end it took at most 16 loads for each crosspoint, 20 for each wire and 130 for each
-/// table, and where the machine is told to have no faults, 2, 3 and 130.
+/// table, and where the machine is told to have no faults, 2, 3 and 130. The count of loads didn't fall.
 ///
 /// # Errors
 ///
@@ -142,6 +142,7 @@ pub fn diagnose(alloc: Global, rig: &mut Box<dyn Rig>, shape: &Shape) -> Result<
     ensures right { IfOk result (λ d. IsDiagnosis (rig_state rig.old).machine.faults shape.now d.list) }
     ensures machine { (rig_state rig.new).machine ≡ (rig_state rig.old).machine }
     ensures later { (rig_state rig.old).failures ≤ (rig_state rig.new).failures }
+    ensures counted { (rig_state rig.old).loads ≤ (rig_state rig.new).loads }
     ensures loads { TakesFewLoads (rig_state rig.old).machine.faults shape.now (rig_state rig.old).loads (rig_state rig.new).loads }
     ensures cause { IsErrOf result RigFail.Failed → Rose (rig_state rig.old).failures (rig_state rig.new).failures }
 {

@@ -1,5 +1,6 @@
 -- What tests read, and where they are bound to pass. `told` is the faults of the machine, where they are told.
-use Rattle.std.specs.Prelude.{◌≡◌, ◌≢◌, ◌↔◌, ℕ, Bool, true, false, Option, Some, IsTrue, List, [], ◌∷◌, All, flat_map, slice_index_or}
+use Rattle.std.specs.Prelude.{◌≡◌, ◌≢◌, ◌↔◌, ◌⊎◌, ℕ, Bool, true, false, Option, Some, None, IsTrue, List, [], ◌∷◌}
+use Rattle.std.specs.Prelude.{All, flat_map, slice_index_or}
 use Rattle.hierarchy.specs.Circuit.{Pins}
 use Rattle.hierarchy.specs.Faults.{Faults}
 use Rattle.hierarchy.specs.Shape.{pin_wire}
@@ -16,6 +17,10 @@ use Rattle.evidence.specs.Kept.{Kept, keeps_cross}
 pub record HasCycled (g : Configuration) (drives : List Pins) (rig : RigState) : Type 0 where
   pub config : config_of rig ≡ Some g
   pub cycles : drives_of (cycles_of rig) ≡ drives
+
+-- Memory was wanting before a session began: the rig is as it was, or its last load was refused and there is no session.
+abbrev pub WantsBefore : RigState → RigState → Type 0
+WantsBefore old new = (new ≡ old) ⊎ (new.session ≡ None)
 
 -- the first reading after a load, where the faults are told
 pub record ReadsOnce (told : Option Faults) (g : Configuration) (drive reading : Pins) : Type 0 where

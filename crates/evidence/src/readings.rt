@@ -1,10 +1,10 @@
 //! Readings of a rig.
-ghost use Rattle.std.specs.Prelude.{◌≡◌, ◌≢◌, ◌≤◌, ◌<◌, ◌+◌, true, false, Some, [], ◌∷◌, All, length, slice_index_or, IfOk, OnOk, IsTrue};
-ghost use Rattle.std.specs.Prelude.{IsErrOf};
+ghost use Rattle.std.specs.Prelude.{◌≡◌, ◌≢◌, ◌≤◌, ◌<◌, ◌+◌, true, false, Some, None, [], ◌∷◌, All, length, slice_index_or, IfOk};
+ghost use Rattle.std.specs.Prelude.{OnOk, OnErr, IsTrue, IsErrOf};
 ghost use Rattle.tm_outside.specs.Counts.{Rose};
 ghost use Rattle.hierarchy.specs.Shape.{pins_of};
 ghost use Rattle.rig.specs.Rig.{shape_of, Begins};
-ghost use Rattle.evidence.specs.Readings.{HasCycled, ReadsOnce, Reads, ReadsPins, ReadsTwice};
+ghost use Rattle.evidence.specs.Readings.{HasCycled, ReadsOnce, Reads, ReadsPins, ReadsTwice, WantsBefore};
 
 use crate::pins::Pins;
 use config_set::Config;
@@ -20,6 +20,7 @@ fn begin(rig: &mut Box<dyn Rig>, config: &Config, room: u32) -> Result<(), RigFa
     ensures loads { (rig_state rig.new).loads ≤ (rig_state rig.old).loads + 1 }
     ensures cause { IsErrOf result RigFail.Failed → Rose (rig_state rig.old).failures (rig_state rig.new).failures }
     ensures begins { OnOk result (Begins config.now.config room (rig_state rig.new)) }
+    ensures ended { OnErr result ((rig_state rig.new).session ≡ None) }
 {
     let _loads = rig.loads();
     load(rig, config, room)
@@ -40,6 +41,7 @@ fn read_once(
     ensures counted { (rig_state rig.old).loads ≤ (rig_state rig.new).loads }
     ensures loads { (rig_state rig.new).loads ≤ (rig_state rig.old).loads + 1 }
     ensures cause { IsErrOf result RigFail.Failed → Rose (rig_state rig.old).failures (rig_state rig.new).failures }
+    ensures wanting { IsErrOf result RigFail.Memory → (rig_state rig.new).session ≡ None }
     ensures length { length read.new ≡ length read.old }
     ensures session { OnOk result (HasCycled config.now.config (drive.now ∷ []) (rig_state rig.new)) }
     ensures run { OnOk result (ReadsOnce (rig_state rig.old).machine.faults config.now.config drive.now read.new) }
@@ -64,6 +66,7 @@ pub(crate) fn read_all(
     ensures counted { (rig_state rig.old).loads ≤ (rig_state rig.new).loads }
     ensures loads { (rig_state rig.new).loads ≤ (rig_state rig.old).loads + 1 }
     ensures cause { IsErrOf result RigFail.Failed → Rose (rig_state rig.old).failures (rig_state rig.new).failures }
+    ensures wanting { IsErrOf result RigFail.Memory → WantsBefore (rig_state rig.old) (rig_state rig.new) }
     ensures session { OnOk result (HasCycled config.now.config (drive.now ∷ []) (rig_state rig.new)) }
     ensures length { IfOk result (λ read. length read ≡ pins_of config.now.config.shape) }
     ensures reads { IfOk result (λ read. ReadsOnce (rig_state rig.old).machine.faults config.now.config drive.now read) }
@@ -93,32 +96,28 @@ pub(crate) fn all_differ(read: &PinBits, pin: u32, routes: &[Route]) -> bool
 
 // What a pin reads after a load.
 pub(crate) fn read_pin(
-    pins: &mut Pins,
     rig: &mut Box<dyn Rig>,
     config: &Config,
     drive: &PinBits,
+    read: &mut PinBits,
     at: u32,
 ) -> Result<bool, RigFail>
-    requires pins { pins.old ≡ pins_of config.now.config.shape }
     requires attached { shape_of (rig_state rig.old) ≡ Some config.now.config.shape }
     requires drive { length drive.now ≡ pins_of config.now.config.shape }
+    requires read { length read.old ≡ pins_of config.now.config.shape }
     requires at { at < pins_of config.now.config.shape }
-    ensures pins { pins.new ≡ pins.old }
     ensures machine { (rig_state rig.new).machine ≡ (rig_state rig.old).machine }
     ensures later { (rig_state rig.old).failures ≤ (rig_state rig.new).failures }
     ensures counted { (rig_state rig.old).loads ≤ (rig_state rig.new).loads }
     ensures loads { (rig_state rig.new).loads ≤ (rig_state rig.old).loads + 1 }
     ensures cause { IsErrOf result RigFail.Failed → Rose (rig_state rig.old).failures (rig_state rig.new).failures }
+    ensures wanting { IsErrOf result RigFail.Memory → (rig_state rig.new).session ≡ None }
+    ensures length { length read.new ≡ length read.old }
     ensures session { OnOk result (HasCycled config.now.config (drive.now ∷ []) (rig_state rig.new)) }
     ensures reads { IfOk result (λ bit. Reads (rig_state rig.old).machine.faults config.now.config drive.now at bit) }
 {
-    let Ok(mut read) = pins.take() else {
-        return Err(RigFail::Memory);
-    };
-    read_once(rig, config, drive, &mut read)?;
-    let bit = read.get(at);
-    pins.put(read);
-    Ok(bit)
+    read_once(rig, config, drive, read)?;
+    Ok(read.get(at))
 }
 
 // What two pins read at one time after a load.
@@ -141,6 +140,7 @@ pub(crate) fn read_pins(
     ensures counted { (rig_state rig.old).loads ≤ (rig_state rig.new).loads }
     ensures loads { (rig_state rig.new).loads ≤ (rig_state rig.old).loads + 1 }
     ensures cause { IsErrOf result RigFail.Failed → Rose (rig_state rig.old).failures (rig_state rig.new).failures }
+    ensures wanting { IsErrOf result RigFail.Memory → WantsBefore (rig_state rig.old) (rig_state rig.new) }
     ensures session { OnOk result (HasCycled config.now.config (drive.now ∷ []) (rig_state rig.new)) }
     ensures reads { IfOk result (λ bits. ReadsPins
         (rig_state rig.old).machine.faults config.now.config drive.now first second bits.0 bits.1) }
@@ -174,6 +174,7 @@ pub(crate) fn read_twice(
     ensures counted { (rig_state rig.old).loads ≤ (rig_state rig.new).loads }
     ensures loads { (rig_state rig.new).loads ≤ (rig_state rig.old).loads + 1 }
     ensures cause { IsErrOf result RigFail.Failed → Rose (rig_state rig.old).failures (rig_state rig.new).failures }
+    ensures wanting { IsErrOf result RigFail.Memory → WantsBefore (rig_state rig.old) (rig_state rig.new) }
     ensures session { OnOk result (HasCycled config.now.config (low.now ∷ high.now ∷ []) (rig_state rig.new)) }
     ensures reads { IfOk result (λ bits. ReadsTwice
         (rig_state rig.old).machine.faults config.now.config low.now high.now at bits.0 bits.1) }

@@ -6,7 +6,7 @@ ghost use Rattle.config_set.specs.Groups.{among};
 ghost use Rattle.rig.specs.Rig.{shape_of};
 ghost use Rattle.evidence.specs.Kept.{Gains, Advances, these_wires, these_pairs};
 ghost use Rattle.evidence.specs.Readings.{HasCycled, IsReady, TellsSwing, TellsPins, TellsFromAll, SwingPasses, ApartPasses};
-ghost use Rattle.evidence.specs.Readings.{AllApartPasses, wires_over};
+ghost use Rattle.evidence.specs.Readings.{AllApartPasses, WantsBefore, wires_over};
 
 use crate::Proof;
 use crate::readings::{all_differ, read_all, read_pins, read_twice};
@@ -40,6 +40,7 @@ impl Proof {
         ensures loads { (rig_state rig.new).loads ≤ (rig_state rig.old).loads + 1 }
         ensures session { OnOk result (HasCycled config.now.config (low.now ∷ high.now ∷ []) (rig_state rig.new)) }
         ensures cause { IsErrOf result RigFail.Failed → Rose (rig_state rig.old).failures (rig_state rig.new).failures }
+        ensures wanting { IsErrOf result RigFail.Memory → WantsBefore (rig_state rig.old) (rig_state rig.new) }
     {
         let (first, second) = read_twice(&mut self.pins, rig, config, low, high, route.pin())?;
         if first == second {
@@ -76,6 +77,7 @@ impl Proof {
         ensures loads { (rig_state rig.new).loads ≤ (rig_state rig.old).loads + 1 }
         ensures session { OnOk result (HasCycled config.now.config (drive.now ∷ []) (rig_state rig.new)) }
         ensures cause { IsErrOf result RigFail.Failed → Rose (rig_state rig.old).failures (rig_state rig.new).failures }
+        ensures wanting { IsErrOf result RigFail.Memory → WantsBefore (rig_state rig.old) (rig_state rig.new) }
     {
         let (near, far) = read_pins(&mut self.pins, rig, config, drive, left.pin(), right.pin())?;
         if near == far {
@@ -110,6 +112,7 @@ impl Proof {
         ensures loads { (rig_state rig.new).loads ≤ (rig_state rig.old).loads + 1 }
         ensures session { OnOk result (HasCycled config.now.config (drive.now ∷ []) (rig_state rig.new)) }
         ensures cause { IsErrOf result RigFail.Failed → Rose (rig_state rig.old).failures (rig_state rig.new).failures }
+        ensures wanting { IsErrOf result RigFail.Memory → WantsBefore (rig_state rig.old) (rig_state rig.new) }
     {
         let read = read_all(&mut self.pins, rig, config, drive)?;
         let apart = all_differ(&read, left.pin(), rights);

@@ -1,15 +1,14 @@
 //! Tests that read a pin twice, with one thing changed between.
-ghost use Rattle.std.specs.Prelude.{◌≡◌, ◌≤◌, ◌<◌, ◌+◌, true, false, Some, [], ◌∷◌, length, IfOk, OnOk, IsTrue, IfSome, IsSome, OnErr};
-ghost use Rattle.std.specs.Prelude.{IsErrOf};
+ghost use Rattle.std.specs.Prelude.{◌≡◌, ◌≤◌, ◌<◌, ◌+◌, true, false, Some, None, [], ◌∷◌, length, IfOk, OnOk, IsTrue, IfSome, IsSome};
+ghost use Rattle.std.specs.Prelude.{OnErr, IsErrOf};
 ghost use Rattle.tm_outside.specs.Counts.{Rose};
 ghost use Rattle.hierarchy.specs.Shape.{pins_of, crosses_of, tables_of};
 ghost use Rattle.config_set.specs.Configuration.{is_closed, setting_of, with_open, with_setting, with_cell, with_init};
 ghost use Rattle.rig.specs.Rig.{shape_of};
 ghost use Rattle.evidence.specs.Kept.{Gains, Advances, one_cross, one_cell, one_register};
-ghost use Rattle.evidence.specs.Readings.{HasCycled, Reads, TellsApart, CrossPasses, CellPasses, RegisterPasses};
+ghost use Rattle.evidence.specs.Readings.{HasCycled, Reads, TellsApart, CrossPasses, CellPasses, RegisterPasses, WantsBefore};
 
 use crate::Proof;
-use crate::pins::Pins;
 use crate::readings::read_pin;
 use config_set::{Config, Setting};
 use hierarchy::{Cross, Table};
@@ -17,31 +16,32 @@ use rig::{PinBits, Rig, RigFail};
 
 // What a pin reads with a closed crosspoint open. It is closed again after it.
 fn read_without(
-    pins: &mut Pins,
     rig: &mut Box<dyn Rig>,
     config: &mut Config,
     c: Cross,
     drive: &PinBits,
+    read: &mut PinBits,
     at: u32,
 ) -> Result<bool, RigFail>
-    requires pins { pins.old ≡ pins_of config.old.config.shape }
     requires attached { shape_of (rig_state rig.old) ≡ Some config.old.config.shape }
     requires cross { c.0 < crosses_of config.old.config.shape }
     requires closed { is_closed config.old.config c.0 ≡ true }
     requires drive { length drive.now ≡ pins_of config.old.config.shape }
+    requires read { length read.old ≡ pins_of config.old.config.shape }
     requires at { at < pins_of config.old.config.shape }
-    ensures pins { pins.new ≡ pins.old }
     ensures machine { (rig_state rig.new).machine ≡ (rig_state rig.old).machine }
     ensures later { (rig_state rig.old).failures ≤ (rig_state rig.new).failures }
     ensures counted { (rig_state rig.old).loads ≤ (rig_state rig.new).loads }
     ensures loads { (rig_state rig.new).loads ≤ (rig_state rig.old).loads + 1 }
     ensures cause { IsErrOf result RigFail.Failed → Rose (rig_state rig.old).failures (rig_state rig.new).failures }
+    ensures wanting { IsErrOf result RigFail.Memory → (rig_state rig.new).session ≡ None }
+    ensures length { length read.new ≡ length read.old }
     ensures session { OnOk result (HasCycled (with_open config.old.config c.0) (drive.now ∷ []) (rig_state rig.new)) }
     ensures reads { IfOk result (λ bit. Reads (rig_state rig.old).machine.faults (with_open config.old.config c.0) drive.now at bit) }
     ensures config { config.new.config ≡ config.old.config }
 {
     config.open_cross(c);
-    let bit = read_pin(pins, rig, config, drive, at);
+    let bit = read_pin(rig, config, drive, read, at);
     let _ = config.close_cross(c);
     bit
 }
@@ -61,39 +61,47 @@ fn with_cell(s: Setting, address: u8, bit: bool) -> Setting
     }
 }
 
+// A table, and a setting to read it with.
+#[derive(Clone, Copy)]
+struct Switch {
+    table: Table,
+    setting: Setting,
+}
+
 // What a pin reads with a table that is on at another setting. It is set back after it.
 fn read_with(
-    pins: &mut Pins,
     rig: &mut Box<dyn Rig>,
     config: &mut Config,
-    t: Table,
-    s: Setting,
+    switch: Switch,
     drive: &PinBits,
+    read: &mut PinBits,
     at: u32,
 ) -> Result<bool, RigFail>
-    requires pins { pins.old ≡ pins_of config.old.config.shape }
     requires attached { shape_of (rig_state rig.old) ≡ Some config.old.config.shape }
-    requires table { t.0 < tables_of config.old.config.shape }
-    requires on { IsSome (setting_of config.old.config t.0) }
+    requires table { switch.table.0 < tables_of config.old.config.shape }
+    requires on { IsSome (setting_of config.old.config switch.table.0) }
     requires drive { length drive.now ≡ pins_of config.old.config.shape }
+    requires read { length read.old ≡ pins_of config.old.config.shape }
     requires at { at < pins_of config.old.config.shape }
-    ensures pins { pins.new ≡ pins.old }
     ensures machine { (rig_state rig.new).machine ≡ (rig_state rig.old).machine }
     ensures later { (rig_state rig.old).failures ≤ (rig_state rig.new).failures }
     ensures counted { (rig_state rig.old).loads ≤ (rig_state rig.new).loads }
     ensures loads { (rig_state rig.new).loads ≤ (rig_state rig.old).loads + 1 }
     ensures cause { IsErrOf result RigFail.Failed → Rose (rig_state rig.old).failures (rig_state rig.new).failures }
-    ensures session { OnOk result (HasCycled (with_setting config.old.config t.0 (Some s)) (drive.now ∷ []) (rig_state rig.new)) }
+    ensures wanting { IsErrOf result RigFail.Memory → (rig_state rig.new).session ≡ None }
+    ensures length { length read.new ≡ length read.old }
+    ensures session { OnOk result (HasCycled (with_setting config.old.config switch.table.0 (Some switch.setting)) (drive.now ∷ [])
+        (rig_state rig.new)) }
     ensures reads { IfOk result (λ bit. Reads (rig_state rig.old).machine.faults
-        (with_setting config.old.config t.0 (Some s)) drive.now at bit) }
+        (with_setting config.old.config switch.table.0 (Some switch.setting)) drive.now at bit) }
     ensures config { config.new.config ≡ config.old.config }
 {
-    let Some(was) = config.setting(t) else {
+    let Some(was) = config.setting(switch.table) else {
         return Ok(false);
     };
-    config.switch_on(t, s);
-    let bit = read_pin(pins, rig, config, drive, at);
-    config.switch_on(t, was);
+    config.switch_on(switch.table, switch.setting);
+    let bit = read_pin(rig, config, drive, read, at);
+    config.switch_on(switch.table, was);
     bit
 }
 
@@ -125,10 +133,15 @@ impl Proof {
         ensures loads { (rig_state rig.new).loads ≤ (rig_state rig.old).loads + 2 }
         ensures session { OnOk result (HasCycled (with_open config.old.config c.0) (drive.now ∷ []) (rig_state rig.new)) }
         ensures cause { IsErrOf result RigFail.Failed → Rose (rig_state rig.old).failures (rig_state rig.new).failures }
+        ensures wanting { IsErrOf result RigFail.Memory → WantsBefore (rig_state rig.old) (rig_state rig.new) }
         ensures config { config.new.config ≡ config.old.config }
     {
-        let closed = read_pin(&mut self.pins, rig, config, drive, at)?;
-        let open = read_without(&mut self.pins, rig, config, c, drive, at)?;
+        let Ok(mut read) = self.pins.take() else {
+            return Err(RigFail::Memory);
+        };
+        let closed = read_pin(rig, config, drive, &mut read, at)?;
+        let open = read_without(rig, config, c, drive, &mut read, at)?;
+        self.pins.put(read);
         if closed == open {
             return Ok(false);
         }
@@ -167,15 +180,26 @@ impl Proof {
         ensures session { OnOk result (IfSome (setting_of config.old.config t.0)
             (λ s. HasCycled (with_setting config.old.config t.0 (Some (with_cell s address true))) (drive.now ∷ []) (rig_state rig.new))) }
         ensures cause { IsErrOf result RigFail.Failed → Rose (rig_state rig.old).failures (rig_state rig.new).failures }
+        ensures wanting { IsErrOf result RigFail.Memory → WantsBefore (rig_state rig.old) (rig_state rig.new) }
         ensures config { config.new.config ≡ config.old.config }
     {
         let Some(setting) = config.setting(t) else {
             return Ok(false);
         };
-        let off = with_cell(setting, address, false);
-        let low = read_with(&mut self.pins, rig, config, t, off, drive, at)?;
-        let on = with_cell(setting, address, true);
-        let high = read_with(&mut self.pins, rig, config, t, on, drive, at)?;
+        let Ok(mut read) = self.pins.take() else {
+            return Err(RigFail::Memory);
+        };
+        let off = Switch {
+            table: t,
+            setting: with_cell(setting, address, false),
+        };
+        let low = read_with(rig, config, off, drive, &mut read, at)?;
+        let on = Switch {
+            table: t,
+            setting: with_cell(setting, address, true),
+        };
+        let high = read_with(rig, config, on, drive, &mut read, at)?;
+        self.pins.put(read);
         if low == high {
             return Ok(false);
         }
@@ -214,21 +238,32 @@ impl Proof {
         ensures session { OnOk result (IfSome (setting_of config.old.config t.0)
             (λ s. HasCycled (with_setting config.old.config t.0 (Some (with_init s true))) (drive.now ∷ []) (rig_state rig.new))) }
         ensures cause { IsErrOf result RigFail.Failed → Rose (rig_state rig.old).failures (rig_state rig.new).failures }
+        ensures wanting { IsErrOf result RigFail.Memory → WantsBefore (rig_state rig.old) (rig_state rig.new) }
         ensures config { config.new.config ≡ config.old.config }
     {
         let Some(setting) = config.setting(t) else {
             return Ok(false);
         };
-        let off = Setting {
-            init: false,
-            ..setting
+        let Ok(mut read) = self.pins.take() else {
+            return Err(RigFail::Memory);
         };
-        let low = read_with(&mut self.pins, rig, config, t, off, drive, at)?;
-        let on = Setting {
-            init: true,
-            ..setting
+        let off = Switch {
+            table: t,
+            setting: Setting {
+                init: false,
+                ..setting
+            },
         };
-        let high = read_with(&mut self.pins, rig, config, t, on, drive, at)?;
+        let low = read_with(rig, config, off, drive, &mut read, at)?;
+        let on = Switch {
+            table: t,
+            setting: Setting {
+                init: true,
+                ..setting
+            },
+        };
+        let high = read_with(rig, config, on, drive, &mut read, at)?;
+        self.pins.put(read);
         if low == high {
             return Ok(false);
         }

@@ -1,6 +1,6 @@
 -- The defects of the machine that is attached are listed, as a step, and the list is written.
 use Rattle.std.specs.Prelude.{◌≡◌, ◌⊎◌, ℕ, List, [], Some, Result, Ok, Err}
-use Rattle.tm_outside.specs.Told.{IfTold}
+use Rattle.tm_outside.specs.Told.{Told, IfTold}
 use Rattle.hierarchy.specs.declared.Shape.{Shape}
 use Rattle.defect_db.specs.Lists.{DefectList, IsDefectList}
 use Rattle.defect_db.specs.Text.{text_of}
@@ -38,6 +38,12 @@ lists_now m old new = record {
   stops = λ refusal. FailsOnRig refusal × TakesFewLoads old.machine.faults m old.loads new.loads;
   gives = λ d. IsListed m old.loads new (record { list = d; loads = new.loads });
 }
+
+-- The list is one of the machine of this text, where it is told, and this machine is attached under the name
+pub record ListsMachine (name : List ℕ) (text : Told) (old new : RigState) (d : DefectList) : Type 0 where
+  pub machine_is : IfTold text (λ bytes. IsMachineText bytes d.shape)
+  pub attached : new.machine.attached ≡ Some (record { shape = d.shape; name = name })
+  pub is_listed : IsListed d.shape old.loads new (record { list = d; loads = new.loads })
 
 -- the list is made, and nothing of it is written yet
 abbrev pub Makes : (m : Shape) → DefectList → Outside → Outside → Type 0

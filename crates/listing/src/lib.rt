@@ -3,4 +3,4 @@
 
 mod listing;
 
-pub use listing::{list_of, write_list};
+pub use listing::{list_machine, list_of, write_list};

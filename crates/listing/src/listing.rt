@@ -1,20 +1,20 @@
 //! Lists of defects that are made and written.
-ghost use Rattle.std.specs.Prelude.{◌≡◌, [], Some};
+ghost use Rattle.std.specs.Prelude.{◌≡◌, [], Some, IfOk};
 ghost use Rattle.tm_outside.specs.Store.{StoreState};
 ghost use Rattle.tm_outside.specs.Sink.{SinkState};
 ghost use Rattle.rig.specs.Rig.{shape_of};
 ghost use Rattle.diagnose.specs.Diagnosis.{TakesFewLoads};
 ghost use Rattle.steps.specs.Outside.{outside};
 ghost use Rattle.steps.specs.Took.{Took};
-ghost use Rattle.listing.specs.Lists.{lists_now, WritesList};
+ghost use Rattle.listing.specs.Lists.{lists_now, ListsMachine, WritesList};
 
 use defect_db::{Defects, defects_text};
 use diagnose::diagnose;
 use hierarchy::Shape;
 use rig::Rig;
 use std::alloc::Global;
-use steps::{Stop, write};
-use tm_outside::Sink;
+use steps::{Stop, attach, read_shape, write};
+use tm_outside::{Sink, Store};
 
 /// Lists the defects of the machine that is attached. Whatever it answers, it took few loads.
 ///
@@ -38,6 +38,29 @@ pub fn list_of(alloc: Global, shape: &Shape, rig: &mut Box<dyn Rig>) -> Result<D
         }
         Err(fail) => Err(Stop::from(fail)),
     }
+}
+
+/// Reads a machine, attaches it under a name, and lists its defects.
+///
+/// # Errors
+///
+/// The first step that refuses: the machine is read and attached, and its defects are listed.
+// The condition always holds: see `attach` of `steps`.
+pub fn list_machine<S: Store>(
+    alloc: Global,
+    machine: &str,
+    name: &str,
+    store: &mut S,
+    rig: &mut Box<dyn Rig>,
+) -> Result<Defects, Stop>
+    requires always { name.now ≡ name.now }
+
+    ensures listed { IfOk result (λ list. ListsMachine name.now ((S.store_state store.old).contents machine.now)
+        (rig_state rig.old) (rig_state rig.new) list) }
+{
+    let shape = read_shape(alloc, store, machine)?;
+    attach(rig, &shape, name)?;
+    list_of(alloc, &shape, rig)
 }
 
 /// Lists the defects of the machine that is attached, and writes the list.

@@ -6,10 +6,10 @@ use crate::line::put_line;
 use crate::listed::{listed_crosses, listed_tables, listed_wires};
 use crate::plans::put_plans;
 use defect_db::Defects;
-use listing::list_of;
+use listing::list_machine;
 use rig::Rig;
 use std::alloc::{AllocError, Global};
-use steps::{DesignFile, Refusal, Stop, attach, finish, read_design, read_shape, write};
+use steps::{DesignFile, Refusal, Stop, finish, read_design, write};
 use tm_outside::{Sink, Store};
 
 /// The names of the levels, from the root down.
@@ -69,10 +69,8 @@ fn diagnosed<S: Store>(
     store: &mut S,
     rig: &mut Box<dyn Rig>,
 ) -> Result<Diagnosis, Stop> {
-    let shape = read_shape(alloc, store, machine)?;
-    attach(rig, &shape, name)?;
     let before = loads_of(rig);
-    let list = list_of(alloc, &shape, rig)?;
+    let list = list_machine(alloc, machine, name, store, rig)?;
     let loads = loads_of(rig).saturating_sub(before);
     Ok(Diagnosis { list, loads })
 }
