@@ -1,4 +1,7 @@
-mod Places
+-- What is cited above.
+pub mod Places
+pub mod Getting
+-- For the proofs of this crate alone.
 mod Ranking
 mod Rising
 mod Besides

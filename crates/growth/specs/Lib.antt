@@ -1,8 +1,10 @@
--- What crates above cite: known wires, routes over them, when they are closed in a field, and what tests of tables keep.
+-- What crates above cite: known wires, routes over them, when they are closed in a field, what tests of tables keep, and what
+-- marks gain.
 pub mod Known
 pub mod Routes
 pub mod Field
 pub mod Tables
+pub mod Gains
 -- For this crate's bodies alone.
 pub mod Ranks
 pub mod Descents

@@ -1,10 +1,11 @@
 //! What growth may look at.
-ghost use Rattle.std.specs.Prelude.{◌≡◌, ◌<◌, ℕ, true, IfOk, length};
+ghost use Rattle.std.specs.Prelude.{◌≡◌, ◌<◌, ℕ, true, All, IfOk, length};
 ghost use Rattle.tm_bits.specs.Numbers.{has_number};
 ghost use Rattle.hierarchy.specs.Shape.{wires_of, crosses_of};
 ghost use Rattle.growth.specs.Field.{IsFieldOf};
+ghost use Rattle.growth.specs.Gains.{Gets, IsWireBefore};
 
-use hierarchy::Shape;
+use hierarchy::{Shape, Wire};
 use std::alloc::{AllocError, Global};
 use tm_bits::BitSet;
 
@@ -38,5 +39,15 @@ impl Field {
             wires: all_below(alloc, shape.wires())?,
             crosses: all_below(alloc, shape.crosses())?,
         })
+    }
+}
+
+/// Marks these wires, as some of a field.
+pub fn add_wires(marks: &mut BitSet, wires: &Vec<Wire>)
+    requires { All (λ w. w.0 < length marks.old) wires.now.items }
+    ensures { Gets (IsWireBefore wires.now.items (length wires.now.items)) (length wires.now.items) marks.old marks.new }
+{
+    'wires: for j in 0..wires.len() {
+        marks.insert(wires[j].0);
     }
 }

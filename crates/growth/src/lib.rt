@@ -30,7 +30,7 @@ mod toggles;
 mod tour;
 mod ways;
 
-pub use field::Field;
+pub use field::{Field, add_wires};
 pub use halving::part_wire;
 pub use known::Known;
 pub use rounds::grow;

@@ -22,7 +22,7 @@ use Rattle.growth.specs.declared.field.Field.{Field}
 use Rattle.growth.specs.declared.step.Step.{Step}
 use Rattle.self_test.specs.Looks.{AreRoutesKnown}
 use Rattle.self_test.specs.Skeleton.{IsMet, IsOwn, own_pin, own_port, HasSkeleton}
-use Rattle.self_test.proofs.Getting.{marked_within}
+use Rattle.growth.proofs.Getting.{marked_within}
 
 -- what is above a node is above those below it
 pub above_too : {m : Shape} {k n c : ℕ} → IsAbove m k n → IsAbove m n c → IsAbove m k c

@@ -1,13 +1,15 @@
--- Marks that are put in one by one.
-use Rattle.std.proofs.Common.{◌≡◌, ◌≢◌, ◌⊎◌, ℕ, ◌+◌, ◌<◌, ◌≤◌, Bool, true, false, cond, List, length, refl, sym, ap, ◌∙◌, subst, inl, inr, arith}
-use Rattle.std.specs.Prelude.{replicate}
+-- Marks that are put in one by one, and how many they are.
+use Rattle.std.proofs.Common.{◌≡◌, ◌⊎◌, ℕ, ◌+◌, ◌<◌, ◌≤◌, Bool, true, false, Some, cond, List, length, get_or, refl, sym, ap, ◌∙◌, subst, inl, inr, arith}
+use Rattle.std.specs.Prelude.{replicate, slice_get}
 use Rattle.std.proofs.Math.ListN.{set}
 use Rattle.std.proofs.lemmas.Bool.{cases_eq, cases_lt, false≢true}
 use Rattle.std.proofs.lemmas.List.{get_or-set_same, get_or-set_other, get_or-replicate, get_or_past, length-replicate, length-set}
 use Rattle.std.proofs.lemmas.List.Sums.{sum_by-set}
+use Rattle.std.proofs.lemmas.Option.{slice_get-get_or}
 use Rattle.tm_bits.specs.Numbers.{has_number, size_of}
-use Rattle.self_test.specs.Marks.{Adds}
-use Rattle.self_test.specs.Fields.{Gets}
+use Rattle.hierarchy.specs.declared.Wire.{Wire}
+use Rattle.growth.specs.Gains.{Gets, IsWireBefore}
+use Rattle.growth.proofs.Places.{some_same}
 
 -- a number that is marked is below the length
 pub marked_within : (marks : List Bool) (x : ℕ) → has_number marks x ≡ true → x < length marks
@@ -44,57 +46,17 @@ none_marked len x h =
     let within : x < len = omega (arith, marked_within (replicate len false) x h, length-replicate {A = Bool} len false) in
     false≢true (sym (get_or-replicate len x false false within) ∙ h)
 
--- ---- marks of which each is told
-
-pub adds_none : {P : ℕ → Type 0} {marks : List Bool} → ((x : ℕ) → P x → ⊥) → Adds P marks marks
-adds_none never = record { len = refl; stays = λ x h. h; all = λ x p. absurd (never x p); only = λ x h. inl h }
-
-pub adds_one : {P Q : ℕ → Type 0} {old mid : List Bool} (x : ℕ) → Adds P old mid → x < length mid → ((y : ℕ) → P y → Q y) → Q x → ((y : ℕ) → Q y → P y ⊎ (y ≡ x)) → Adds Q old (set mid x true)
-adds_one {P} {Q} {old} {mid} x a within more here from = record {
-  len = length-set mid x true ∙ a.len;
-  stays = λ y h. marked_still mid x within y (a.stays y h);
-  all = λ y q. by_all y (from y q);
-  only = λ y h. by_only y (marked_from mid x y h);
-}
+-- a number below n + 1 is below n, or n
+pub below_or : (n k : ℕ) → k < n + 1 → (k < n) ⊎ (k ≡ n)
+below_or n k l = by (cases_eq k n)
   where
-    by_all : (y : ℕ) → P y ⊎ (y ≡ x) → has_number (set mid x true) y ≡ true
-    by_all y (inl p) = marked_still mid x within y (a.all y p)
-    by_all y (inr e) = ap (has_number (set mid x true)) e ∙ marked_here mid x within
+    by : (k ≡ n) ⊎ (k ≡ n → ⊥) → (k < n) ⊎ (k ≡ n)
+    by (inl e) = inr e
+    by (inr other) = inl (omega arith)
 
-    by_more : (y : ℕ) → (has_number old y ≡ true) ⊎ P y → (has_number old y ≡ true) ⊎ Q y
-    by_more y (inl h) = inl h
-    by_more y (inr p) = inr (more y p)
-
-    by_only : (y : ℕ) → (has_number mid y ≡ true) ⊎ (y ≡ x) → (has_number old y ≡ true) ⊎ Q y
-    by_only y (inl h) = by_more y (a.only y h)
-    by_only y (inr e) = inr (subst Q (sym e) here)
-
-pub adds_more : {P R Q : ℕ → Type 0} {old mid new : List Bool} → Adds P old mid → Adds R mid new → ((y : ℕ) → P y → Q y) → ((y : ℕ) → R y → Q y) → ((y : ℕ) → Q y → P y ⊎ R y) → Adds Q old new
-adds_more {P} {R} {Q} {old} {mid} {new} a b left right from = record {
-  len = b.len ∙ a.len;
-  stays = λ y h. b.stays y (a.stays y h);
-  all = λ y q. by_all y (from y q);
-  only = λ y h. by_only y (b.only y h);
-}
-  where
-    by_all : (y : ℕ) → P y ⊎ R y → has_number new y ≡ true
-    by_all y (inl p) = b.stays y (a.all y p)
-    by_all y (inr r) = b.all y r
-
-    by_left : (y : ℕ) → (has_number old y ≡ true) ⊎ P y → (has_number old y ≡ true) ⊎ Q y
-    by_left y (inl h) = inl h
-    by_left y (inr p) = inr (left y p)
-
-    by_only : (y : ℕ) → (has_number mid y ≡ true) ⊎ R y → (has_number old y ≡ true) ⊎ Q y
-    by_only y (inl h) = by_left y (a.only y h)
-    by_only y (inr r) = inr (right y r)
-
-pub adds_same : {P Q : ℕ → Type 0} {old new : List Bool} → Adds P old new → ((y : ℕ) → P y → Q y) → ((y : ℕ) → Q y → P y) → Adds Q old new
-adds_same {P} {Q} {old} {new} a to from = record { len = a.len; stays = a.stays; all = λ y q. a.all y (from y q); only = λ y h. by y (a.only y h) }
-  where
-    by : (y : ℕ) → (has_number old y ≡ true) ⊎ P y → (has_number old y ≡ true) ⊎ Q y
-    by y (inl h) = inl h
-    by y (inr p) = inr (to y p)
+-- what is read at a place stands there
+pub at_index : {A : Type 0} (xs : List A) (i : ℕ) (x : A) → i < length xs → x ≡ get_or xs i x → slice_get xs i ≡ Some x
+at_index xs i x l e = slice_get-get_or xs i x l ∙ ap Some (sym e)
 
 -- ---- marks that are counted
 
@@ -127,3 +89,16 @@ gets_more {P} {R} {Q} {n} {k} {m} {old} {mid} {new} a b from fits = record {
 
 pub gets_fewer : {P Q : ℕ → Type 0} {n m : ℕ} {old new : List Bool} → Gets P n old new → ((y : ℕ) → Q y → P y) → n ≤ m → Gets Q m old new
 gets_fewer {P} {Q} {n} {m} a from fits = record { len = a.len; stays = a.stays; all = λ y q. a.all y (from y q); few = let few = a.few in omega (arith, few, fits) }
+
+-- ---- wires of a list
+
+module _ (ws : List Wire) where
+  pub wires_next : (n : ℕ) (w : Wire) {old mid : List Bool} → Gets (IsWireBefore ws n) n old mid → slice_get ws n ≡ Some w → w.0 < length mid → Gets (IsWireBefore ws (n + 1)) (n + 1) old (set mid w.0 true)
+  wires_next n w g here within = gets_one w.0 g within from (omega arith)
+    where
+      from : (y : ℕ) → IsWireBefore ws (n + 1) y → IsWireBefore ws n y ⊎ (y ≡ w.0)
+      from y p = by (below_or n p.place p.early)
+        where
+          by : (p.place < n) ⊎ (p.place ≡ n) → IsWireBefore ws n y ⊎ (y ≡ w.0)
+          by (inl l) = inl (record { place = p.place; wire = p.wire; early = l; here = p.here; is = p.is })
+          by (inr e) = inr (sym p.is ∙ ap (λ (z : Wire). z.0) (some_same (sym p.here ∙ ap (slice_get ws) e ∙ here)))

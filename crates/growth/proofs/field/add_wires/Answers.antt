@@ -1,7 +1,7 @@
 use Rattle.std.proofs.Common.{◌<◌, length, sym, subst, arith, rules}
 use Rattle.hierarchy.specs.declared.Wire.{Wire}
-use Rattle.self_test.proofs.Fielding.{at_index, wires_next}
-use Rattle.self_test.proofs.fields.add_wires.Goals as goal
+use Rattle.growth.proofs.Getting.{at_index, wires_next}
+use Rattle.growth.proofs.field.add_wires.Goals as goal
 
 pub wires-preserved : goal.wires-preserved
 wires-preserved c =
