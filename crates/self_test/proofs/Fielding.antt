@@ -12,12 +12,12 @@ use Rattle.hierarchy.specs.declared.Cross.{Cross}
 use Rattle.hierarchy.specs.declared.Wire.{Wire}
 use Rattle.hierarchy.specs.Laws.{HasCrosses}
 use Rattle.hierarchy.specs.Shape.{crosses_of, ends_of, node_of, parent_of}
-use Rattle.growth.specs.Gains.{Gets, IsWireBefore}
+use Rattle.known.specs.Gains.{Gets, IsWireBefore}
 use Rattle.self_test.specs.Fields.{IsCrossOf, IsBetween, IsCrossBefore, IsPicksOf, IsOfEither, of_own, of_lines, IsPickOf, IsJointOf, own_joint, up_joint, OfMarked, IsHungAt, IsHungOn}
 use Rattle.self_test.specs.Picked.{IsAmong}
 use Rattle.self_test.specs.declared.picks.Frame.{Frame}
 use Rattle.self_test.specs.declared.picks.Picks.{Picks}
-use Rattle.growth.proofs.Getting.{below_or, gets_none, gets_one, gets_more, gets_fewer}
+use Rattle.known.proofs.Getting.{below_or, gets_none, gets_one, gets_more, gets_fewer}
 use Rattle.self_test.proofs.Adding.{some_same}
 
 -- what holds of each element holds of that at a place

@@ -4,7 +4,7 @@ use Rattle.std.proofs.Math.ListN.{set}
 use Rattle.std.proofs.lemmas.List.{length-set}
 use Rattle.tm_bits.specs.Numbers.{has_number}
 use Rattle.self_test.specs.Marks.{Adds}
-use Rattle.growth.proofs.Getting.{marked_here, marked_still, marked_from}
+use Rattle.known.proofs.Getting.{marked_here, marked_still, marked_from}
 
 pub adds_none : {P : ℕ → Type 0} {marks : List Bool} → ((x : ℕ) → P x → ⊥) → Adds P marks marks
 adds_none never = record { len = refl; stays = λ x h. h; all = λ x p. absurd (never x p); only = λ x h. inl h }

@@ -7,7 +7,7 @@ use Rattle.hierarchy.specs.declared.Wire.{Wire}
 use Rattle.hierarchy.specs.Shape.{wires_of, crosses_of, nodes_of, ends_of, node_of, parent_of}
 use Rattle.config_set.specs.Configuration.{is_closed}
 use Rattle.config_image.specs.Images.{ImageValue}
-use Rattle.growth.specs.declared.field.Field.{Field}
+use Rattle.known.specs.declared.field.Field.{Field}
 use Rattle.self_test.specs.Picked.{IsAmong}
 use Rattle.self_test.specs.declared.picks.Frame.{Frame}
 use Rattle.self_test.specs.declared.picks.Picks.{Picks}

@@ -1,5 +1,5 @@
 use Rattle.std.proofs.Common.{◌<◌, length, arith}
-use Rattle.growth.proofs.Getting.{at_index}
+use Rattle.known.proofs.Getting.{at_index}
 use Rattle.self_test.proofs.Fielding.{pick_wires, root_joints, up_joints}
 use Rattle.self_test.proofs.fields.join_node.Goals as goal
 

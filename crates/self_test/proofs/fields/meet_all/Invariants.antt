@@ -1,5 +1,5 @@
 use Rattle.std.proofs.Common.{◌*◌, length}
-use Rattle.growth.specs.Gains.{Gets}
+use Rattle.known.specs.Gains.{Gets}
 use Rattle.self_test.specs.Fields.{IsBetween}
 use Rattle.self_test.proofs.fields.meet_all.Given as goal
 

@@ -1,4 +1,4 @@
-use Rattle.growth.specs.Gains.{Gets}
+use Rattle.known.specs.Gains.{Gets}
 use Rattle.self_test.specs.Fields.{IsOnLines}
 use Rattle.self_test.proofs.fields.meet_lines.Given as goal
 

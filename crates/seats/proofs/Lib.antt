@@ -1,0 +1,5 @@
+-- For the proofs of this crate alone.
+mod Outsides
+mod Placing
+mod Searching
+mod Testing
