@@ -2,4 +2,5 @@
 mod Outsides
 mod Placing
 mod Searching
+mod Choosing
 mod Testing

@@ -2,3 +2,4 @@
 pub mod Tables
 -- For this crate's bodies alone.
 pub mod Seating
+pub mod Choices

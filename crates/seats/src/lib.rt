@@ -4,7 +4,9 @@
 //! its pins over kept crosspoints.
 #![tactic(auto)]
 
+mod choices;
 mod outside;
+mod search;
 mod seats;
 mod tables;
 

@@ -4,8 +4,12 @@ use Rattle.hierarchy.specs.Shape.{hextant_of, port_at, own_ports_of, IsLine}
 use Rattle.known.specs.Known.{HasWire}
 use Rattle.seats.specs.Seating.{IsPlaceAt}
 use Rattle.known.proofs.Places.{one_more}
+use Rattle.seats.proofs.Choosing.{none_near}
 use Rattle.seats.proofs.Searching.{no_port_of, port_of}
 use Rattle.seats.proofs.seats.find_place.Goals as goal
+
+pub place_near-requires-clause-port : goal.place_near-requires-clause-port
+place_near-requires-clause-port c = port_of c.args.t.0 c.shape-shape.ensures (c.ports_and_lines_ascend.ensures c.args.proof.now.shape) c.hextant_of-hextant.ensures.node c.hextant_of-hextant.ensures.within (let t = c.ports-test.true in let l = c.ports-k-end.ensures in omega (arith, t, l)) c.port-near.ensures.wire
 
 pub ports-init : goal.ports-init
 ports-init c = record { none = λ i line less. absurd (let no : ⊥ = omega (arith, less) in no) }

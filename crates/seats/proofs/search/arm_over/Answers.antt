@@ -1,5 +1,5 @@
 use Rattle.seats.proofs.Searching.{it_meets}
-use Rattle.seats.proofs.seats.arm_over.Goals as goal
+use Rattle.seats.proofs.search.arm_over.Goals as goal
 
 pub returns-then-not-has-clause-none : goal.returns-then-not-has-clause-none
 returns-then-not-has-clause-none c = λ j. c.has.ensures.unknown c.if-not-has.true j.known

@@ -4,7 +4,7 @@ use Rattle.hierarchy.specs.Shape.{line_at, lines_of}
 use Rattle.seats.specs.Seating.{IsFreeArm}
 use Rattle.known.proofs.Places.{one_more}
 use Rattle.seats.proofs.Searching.{no_line_of, line_there, arm_there, no_arm_beside, no_arm_over}
-use Rattle.seats.proofs.seats.find_arm.Goals as goal
+use Rattle.seats.proofs.search.find_arm.Goals as goal
 
 pub lines-init : goal.lines-init
 lines-init c = record { none = λ i less. absurd (let no : ⊥ = omega (arith, less) in no) }

@@ -1,7 +1,7 @@
 use Rattle.std.proofs.Common.{◌<◌, ℕ}
 use Rattle.hierarchy.specs.Shape.{port_at}
 use Rattle.seats.specs.Seating.{IsFarPort}
-use Rattle.seats.proofs.seats.find_far.Given as goal
+use Rattle.seats.proofs.search.find_far.Given as goal
 
 abbrev pub invariant-ports : goal.invariant-ports
 invariant-ports l = record {

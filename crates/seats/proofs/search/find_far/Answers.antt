@@ -4,7 +4,7 @@ use Rattle.hierarchy.specs.Shape.{port_at, own_ports_of}
 use Rattle.seats.specs.Seating.{IsFarPort}
 use Rattle.known.proofs.Places.{one_more}
 use Rattle.seats.proofs.Searching.{no_port_of, port_there, far_there, no_far_near, no_far_out, no_far_apart}
-use Rattle.seats.proofs.seats.find_far.Goals as goal
+use Rattle.seats.proofs.search.find_far.Goals as goal
 
 pub ports-init : goal.ports-init
 ports-init c = record { none = λ i less. absurd (let no : ⊥ = omega (arith, less) in no) }

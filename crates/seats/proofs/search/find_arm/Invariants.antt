@@ -1,7 +1,7 @@
 use Rattle.std.proofs.Common.{◌<◌, ℕ}
 use Rattle.hierarchy.specs.Shape.{line_at}
 use Rattle.seats.specs.Seating.{IsFreeArm}
-use Rattle.seats.proofs.seats.find_arm.Given as goal
+use Rattle.seats.proofs.search.find_arm.Given as goal
 
 abbrev pub invariant-lines : goal.invariant-lines
 invariant-lines l = record {

@@ -1,6 +1,6 @@
 use Rattle.std.proofs.Common.{sym, ◌∙◌}
 use Rattle.seats.proofs.Searching.{meets_none, meets_lost, meets_kept}
-use Rattle.seats.proofs.seats.meeting.Goals as goal
+use Rattle.seats.proofs.search.meeting.Goals as goal
 
 pub returns-in_default-clause-none : goal.returns-in_default-clause-none
 returns-in_default-clause-none c = meets_none c.args.proof.now c.args.tap.0 c.args.line.0 c.shape.ensures c.in_default.ensures.none
