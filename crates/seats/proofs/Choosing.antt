@@ -29,9 +29,9 @@ no_far_at {k} {h = h} tree is none near far f =
     none far (record { port = f.port; differs = λ e. tree.no_line_is_port h h far (subst (IsLine k.shape h) (sym e) is) f.port; stands = f.stands; meets = f.meets })
 
 -- the arm that is chosen beside a line, and the port that is chosen beside another one
-pub arm_chosen : {k : Kept} {ss : List Step} {h near input line : ℕ} {a : Arms} (r : Option Arm) → AreArmsOf k ss h near input a → (a.first.line.0 ≢ line → r ≡ Some a.first) → (a.first.line.0 ≡ line → r ≡ a.second) →
+pub arm_chosen : {k : Kept} {ss : List Step} {h near input line : ℕ} {a : Arms} {r : Option Arm} → AreArmsOf k ss h near input a → (a.first.line.0 ≢ line → r ≡ Some a.first) → (a.first.line.0 ≡ line → r ≡ a.second) →
     IfSome r (IsArmTo k ss h near input line) × IfNone r ((l : ℕ) → ¬ IsFreeArm k ss h near input line l)
-arm_chosen {k} {ss} {h} {near} {input} {line} {a} r two first second = by (ℕ_discrete a.first.line.0 line)
+arm_chosen {k} {ss} {h} {near} {input} {line} {a} {r} two first second = by (ℕ_discrete a.first.line.0 line)
   where
     again : a.first.line.0 ≢ line → IsArmTo k ss h near input line a.first
     again d = record {
@@ -45,9 +45,9 @@ arm_chosen {k} {ss} {h} {near} {input} {line} {a} r two first second = by (ℕ_d
         (subst (λ b. IfSome a.second (IsArmTo k ss h near input b) × IfNone a.second ((l : ℕ) → ¬ IsFreeArm k ss h near input b l)) e (two.second, two.none))
     by (no d) = subst (λ (o : Option Arm). IfSome o (IsArmTo k ss h near input line) × IfNone o ((l : ℕ) → ¬ IsFreeArm k ss h near input line l)) (sym (first d)) (again d, tt)
 
-pub far_chosen : {k : Kept} {without : List Step} {h line near : ℕ} {f : Fars} (r : Option (Wire × Cross)) → AreFarsOf k without h line f → (f.first.0.0 ≢ near → r ≡ Some f.first) → (f.first.0.0 ≡ near → r ≡ f.second) →
+pub far_chosen : {k : Kept} {without : List Step} {h line near : ℕ} {f : Fars} {r : Option (Wire × Cross)} → AreFarsOf k without h line f → (f.first.0.0 ≢ near → r ≡ Some f.first) → (f.first.0.0 ≡ near → r ≡ f.second) →
     IfSome r (λ g. IsFarPort k without h near line g.0.0 × IsMeeting k g.0.0 line g.1.0) × IfNone r ((far : ℕ) → ¬ IsFarPort k without h near line far)
-far_chosen {k} {without} {h} {line} {near} {f} r two first second = by (ℕ_discrete f.first.0.0 near)
+far_chosen {k} {without} {h} {line} {near} {f} {r} two first second = by (ℕ_discrete f.first.0.0 near)
   where
     again : f.first.0.0 ≢ near → IsFarPort k without h near line f.first.0.0
     again d = record { port = two.first.port; differs = d; stands = two.first.stands; meets = two.first.meets }
@@ -121,4 +121,4 @@ none_near {k} {ss} {without} {near} {outs} t told none line is = by (told line i
   where
     by : IsTold k ss without t outs line → ¬ IsPlaceAt k ss without t near line
     by (inl l) = none line l
-    by (inr no) = no near
+    by (inr never) = never near

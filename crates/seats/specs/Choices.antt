@@ -1,5 +1,5 @@
 -- What a search for a place of a table chooses from.
-use Rattle.std.specs.Prelude.{◌≡◌, ◌⊎◌, ℕ, Option, Some, List, IfSome, IfNone, length, slice_get}
+use Rattle.std.specs.Prelude.{◌≡◌, ◌⊎◌, ℕ, Some, List, IfSome, IfNone, length, slice_get}
 use Rattle.hierarchy.specs.Shape.{table_wire, hextant_of, IsLine}
 use Rattle.evidence.specs.Kept.{Kept}
 use Rattle.known.specs.Known.{HasWire}

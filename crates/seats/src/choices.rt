@@ -1,6 +1,6 @@
 //! The first two of the arms to an input and of the ports that a line meets: the second serves where the first is barred.
 ghost use Rattle.std.specs.Prelude.{◌≡◌, ◌≢◌, ◌<◌, ℕ, IfOk, IfSome, IfNone, Some};
-ghost use Rattle.hierarchy.specs.Shape.{hextant_of, nodes_of, tables_of, table_wire, wires_of, IsLine, IsPort};
+ghost use Rattle.hierarchy.specs.Shape.{hextant_of, nodes_of, tables_of, wires_of, IsLine, IsPort};
 ghost use Rattle.known.specs.Known.{IsKnown};
 ghost use Rattle.seats.specs.Choices.{AreArmsOf, AreFarsOf, AreInputArms};
 ghost use Rattle.seats.specs.Seating.{AreArmsTo, IsFarPort, IsFreeArm, MissesArm};

@@ -4,7 +4,7 @@ ghost use Rattle.tm_bits.specs.Numbers.{size_of};
 ghost use Rattle.hierarchy.specs.Shape.{wires_of, crosses_of, nodes_of};
 ghost use Rattle.config_image.specs.Parts.{IsWideEnough};
 ghost use Rattle.known.specs.Field.{IsFieldOf};
-ghost use Rattle.known.specs.Gains.{Gets, IsWireBefore};
+ghost use Rattle.known.specs.Gains.{Gets};
 ghost use Rattle.self_test.specs.Fields.{ArePicksOf, IsBetween, IsCrossBefore, IsCrossOf, IsFewFor, IsHungAt, IsHungOn, IsJointOf};
 ghost use Rattle.self_test.specs.Fields.{IsOfEither, IsOnLines, IsOnTaps, IsPickOf, OfMarked};
 ghost use Rattle.self_test.specs.Skeleton.{HasSkeleton};

@@ -1,4 +1,4 @@
-use Rattle.std.proofs.Common.{◌≡◌, ◌<◌, Some, None, List, length, sym, subst, arith}
+use Rattle.std.proofs.Common.{◌≡◌, ◌<◌, List, length, sym, subst, arith}
 use Rattle.known.proofs.Getting.{at_index}
 use Rattle.seats.specs.Seating.{AreArmsTo}
 use Rattle.seats.proofs.Choosing.{arm_chosen}
@@ -18,7 +18,7 @@ returns-in_default-clause-none c =
     let a = c.index.result.now in
     let early : c.inputs.input < length arms = (let t = c.inputs-test.true in let count = c.requires.arms.count in omega (arith, t, count)) in
     let two = c.requires.arms.each c.inputs.input a (at_index arms c.inputs.input a early c.index.ensures) in
-    record { input = c.inputs.input; within = c.inputs-test.true; none = (arm_chosen None two c.in_default.ensures.first c.in_default.ensures.second).1 }
+    record { input = c.inputs.input; within = c.inputs-test.true; none = (arm_chosen two c.in_default.ensures.first c.in_default.ensures.second).1 }
 
 pub inputs-preserved : goal.inputs-preserved
 inputs-preserved c =
@@ -26,7 +26,7 @@ inputs-preserved c =
     let a = c.index.result.now in
     let early : c.inputs.input < length arms = (let t = c.inputs-test.true in let count = c.requires.arms.count in omega (arith, t, count)) in
     let two = c.requires.arms.each c.inputs.input a (at_index arms c.inputs.input a early c.index.ensures) in
-    record { arms = arms_next c.inputs.invariant.arms (arm_chosen (Some c.in-Some.arm) two c.in-Some.ensures.first c.in-Some.ensures.second).0 c.in_ok-push.ensures.items }
+    record { arms = arms_next c.inputs.invariant.arms (arm_chosen two c.in-Some.ensures.first c.in-Some.ensures.second).0 c.in_ok-push.ensures.items }
 
 pub returns-clause-arms : goal.returns-clause-arms
 returns-clause-arms c =

@@ -47,7 +47,8 @@ ports-preserved c =
       none = λ i line less has is. one_more
           (λ i. (line : ℕ) → HasWire c.args.without.now.steps (port_at k.shape h i) → IsLine k.shape h line → ¬ IsPlaceAt k c.args.known.now.steps c.args.without.now.steps c.args.t.0 (port_at k.shape h i) line) c.ports.k
           (λ i less line. c.ports.invariant.none i line less)
-          (λ line has is. subst (λ w. ¬ IsPlaceAt k c.args.known.now.steps c.args.without.now.steps c.args.t.0 w line) there (none line is)) i less line has is;
+          (λ line has is. subst (λ w. ¬ IsPlaceAt k c.args.known.now.steps c.args.without.now.steps c.args.t.0 w line) there
+          (none_near c.args.t.0 c.in_ok-outs.ensures.whole none line is)) i less line has is;
     }
 
 pub returns-clause-none : goal.returns-clause-none
