@@ -102,9 +102,9 @@ told_still : {k : Kept} {ss without : List Step} {t line : ℕ} {outs more : Lis
 told_still {outs = outs} o push (inl l) = inl (record { place = l.place; out = l.out; here = subst (λ xs. slice_get xs l.place ≡ Some l.out) (sym push) (get_before outs (o ∷ []) l.place l.out l.here); is = l.is })
 told_still o push (inr none) = inr none
 
-pub told_next : {k : Kept} {ss without : List Step} {t n : ℕ} {outs more : List Out} {o : Out} (at : ℕ → ℕ) → ((i : ℕ) → i < n → IsTold k ss without t outs (at i)) → o.line.0 ≡ at n → more ≡ outs ++ o ∷ [] →
+pub told_next : {k : Kept} {ss without : List Step} {t n : ℕ} {outs more : List Out} (o : Out) (at : ℕ → ℕ) → ((i : ℕ) → i < n → IsTold k ss without t outs (at i)) → o.line.0 ≡ at n → more ≡ outs ++ o ∷ [] →
     (i : ℕ) → i < n + 1 → IsTold k ss without t more (at i)
-told_next {k} {ss} {without} {t} {n} {outs} {more} {o} at old is push i less = by (ℕ_discrete i n)
+told_next {k} {ss} {without} {t} {n} {outs} {more} o at old is push i less = by (ℕ_discrete i n)
   where
     by : Dec (i ≡ n) → IsTold k ss without t more (at i)
     by (yes e) = inl (record { place = length outs; out = o; here = subst (λ xs. slice_get xs (length outs) ≡ Some o) (sym push) (get_last outs o); is = is ∙ ap at (sym e) })

@@ -41,7 +41,7 @@ lines-preserved c =
     let there : c.line.result.0 ≡ line_at k.shape h c.lines.k = at ∙ ap (λ n. line_at k.shape n c.lines.k) node in
     record {
       outs = outs_next c.lines.invariant.outs c.in-Some.ensures.out c.in_ok-push.ensures.items;
-      told = told_next (line_at k.shape h) c.lines.invariant.told (c.in-Some.ensures.line ∙ there) c.in_ok-push.ensures.items;
+      told = told_next _ (line_at k.shape h) c.lines.invariant.told (c.in-Some.ensures.line ∙ there) c.in_ok-push.ensures.items;
     }
 
 pub returns-clause-whole : goal.returns-clause-whole
