@@ -116,7 +116,7 @@ impl Known {
         self.place_of(w).is_some()
     }
 
-    /// A further wire is known.
+    /// A further wire is known. Wants memory; where that is wanting, nothing is learnt.
     pub fn learn(&mut self, step: Step) -> Result<(), AllocError>
         requires wire { step.wire.0 < wires_of self.old.shape }
         requires new { ¬ HasWire self.old.steps step.wire.0 }

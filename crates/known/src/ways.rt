@@ -13,8 +13,8 @@ use std::alloc::AllocError;
 use test_configs::{Route, route_at};
 
 impl Known {
-    // Two ways to a wire over two feet.
-    pub(crate) fn ways_over(
+    /// Two ways to a wire over two feet. Wants memory for them.
+    pub fn ways_over(
         &self,
         proof: &Proof,
         w: Wire,
@@ -32,8 +32,8 @@ impl Known {
         Ok((left, right))
     }
 
-    // The ways to a pin of the machine, which are the pin alone.
-    pub(crate) fn ways_at(&self, pin: u32) -> Result<(Route, Route), AllocError>
+    /// The ways to a pin of the machine, which are the pin alone. Wants memory for them.
+    pub fn ways_at(&self, pin: u32) -> Result<(Route, Route), AllocError>
         requires { pin < pins_of self.now.shape }
         ensures { IfOk result (λ ways. (k : Kept) → k.shape ≡ self.now.shape →
             AreWays k self.now.steps (pin_wire k.shape pin) ways.0 ways.1) }
@@ -44,7 +44,7 @@ impl Known {
         Ok((left, right))
     }
 
-    /// Two ways to a known wire.
+    /// Two ways to a known wire. Wants memory for them.
     pub fn ways_to(&self, proof: &Proof, w: Wire) -> Result<(Route, Route), AllocError>
         requires known { IsKnown proof.now self.now }
         requires wire { HasWire self.now.steps w.0 }
