@@ -12,7 +12,7 @@ use Rattle.hierarchy.specs.Standing.{IsSeated}
 use Rattle.hierarchy.specs.Tight.{IsFreeWireOf, IsFreeCrossOf, IsAlone, HasFeet, two, HasFreeFeet, IsRightTable, IsTight}
 use Rattle.hierarchy.proofs.Seats.{seated_also}
 use Rattle.evidence.specs.Kept.{Kept, HoldsFor, IsMore}
-use Rattle.growth.specs.Known.{KnownWires, HasWire, IsKnown, IsKeptCrossOf}
+use Rattle.known.specs.Known.{KnownWires, HasWire, IsKnown, IsKeptCrossOf}
 use Rattle.table_test.specs.Seats.{AddsOnlyTableFacts, KeepsTable}
 use Rattle.diagnose.specs.Listing.{IsListOf}
 use Rattle.diagnose.specs.Stages.{IsReached}

@@ -7,10 +7,10 @@ use Rattle.hierarchy.specs.Shape.{wires_of}
 use Rattle.hierarchy.proofs.JoinedLemmas.{Ends-swap}
 use Rattle.evidence.specs.Kept.{Kept, IsMore, keeps_wire, keeps_pair}
 use Rattle.evidence.proofs.Keeping.{pair_turned}
-use Rattle.growth.specs.Known.{KnownWires, HasWire, IsFoot, IsKnown, Stands, on_pin, on_feet}
-use Rattle.growth.specs.declared.step.Foot.{Foot}
-use Rattle.growth.specs.declared.step.Stand.{Stand}
-use Rattle.growth.specs.declared.step.Step.{Step}
+use Rattle.known.specs.Known.{KnownWires, HasWire, IsFoot, IsKnown, Stands, on_pin, on_feet}
+use Rattle.known.specs.declared.step.Foot.{Foot}
+use Rattle.known.specs.declared.step.Stand.{Stand}
+use Rattle.known.specs.declared.step.Step.{Step}
 
 some_same : {x y : Step} → Some x ≡ Some y → x ≡ y
 some_same e = cc

@@ -12,8 +12,8 @@ use Rattle.hierarchy.specs.Defects.{IsFreeWire, IsFreeTable}
 use Rattle.defect_db.specs.Lists.{DefectList, IsDefectList, IsWithWire, no_defects, with_cross, with_table, has_free_ends, has_free_pins, all_below}
 use Rattle.tm_bits.proofs.SetsLemmas.{contains_more}
 use Rattle.evidence.specs.Kept.{Kept, keeps_cross, keeps_cell, keeps_register}
-use Rattle.growth.specs.Known.{HasWire}
-use Rattle.growth.specs.declared.step.Step.{Step}
+use Rattle.known.specs.Known.{HasWire}
+use Rattle.known.specs.declared.step.Step.{Step}
 use Rattle.table_test.specs.Seats.{KeepsTable}
 use Rattle.diagnose.specs.Listing.{IsListing, IsListOf}
 

@@ -12,8 +12,8 @@ use Rattle.hierarchy.proofs.Faultless.{all_sound}
 use Rattle.rig.specs.Rig.{RigState}
 use Rattle.evidence.specs.Kept.{Kept, IsMore, Advances, keeps_cross, keeps_wire, keeps_pair}
 use Rattle.evidence.proofs.Keeping.{pair_turned}
-use Rattle.growth.specs.Known.{KnownWires, HasWire, IsKnown, AreApart}
-use Rattle.growth.specs.declared.step.Step.{Step}
+use Rattle.known.specs.Known.{KnownWires, HasWire, IsKnown, AreApart}
+use Rattle.known.specs.declared.step.Step.{Step}
 use Rattle.diagnose.specs.Choice.{AreBeside, IsKnownFoot, IsLeftOut}
 use Rattle.diagnose.specs.Stages.{IsReached, IfReached}
 use Rattle.diagnose.proofs.Knowing.{known_wire, known_pair}

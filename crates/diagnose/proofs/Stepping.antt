@@ -15,11 +15,11 @@ use Rattle.hierarchy.specs.Tight.{HasFeet, two, IsTight}
 use Rattle.rig.specs.Rig.{RigState}
 use Rattle.evidence.specs.Kept.{Kept, HoldsFor, IsMore, Advances}
 use Rattle.evidence.proofs.Keeping.{holds_earlier}
-use Rattle.growth.specs.Field.{IsFieldOf, ClosedIf, TakesFew}
-use Rattle.growth.specs.Known.{KnownWires, HasWire, IsKnown}
-use Rattle.growth.specs.Tables.{SeatedIsKept, SeatedAreKept}
-use Rattle.growth.specs.declared.field.Field.{Field}
-use Rattle.growth.specs.declared.step.Step.{Step}
+use Rattle.known.specs.Field.{IsFieldOf, ClosedIf, TakesFew}
+use Rattle.known.specs.Known.{KnownWires, HasWire, IsKnown}
+use Rattle.seats.specs.Tables.{SeatedIsKept, SeatedAreKept}
+use Rattle.known.specs.declared.field.Field.{Field}
+use Rattle.known.specs.declared.step.Step.{Step}
 use Rattle.table_test.specs.Seats.{AddsOnlyTableFacts}
 use Rattle.diagnose.specs.Diagnosis.{IsDiagnosis}
 use Rattle.diagnose.specs.Listing.{IsListOf}

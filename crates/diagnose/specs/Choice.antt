@@ -4,8 +4,8 @@ use Rattle.hierarchy.specs.Shape.{wires_of}
 use Rattle.hierarchy.specs.Sound.{HasTwo}
 use Rattle.hierarchy.specs.Standing.{Meets}
 use Rattle.evidence.specs.Kept.{Kept, keeps_wire, keeps_pair}
-use Rattle.growth.specs.Known.{HasWire, InSet, IsKeptCrossOf}
-use Rattle.growth.specs.declared.step.Step.{Step}
+use Rattle.known.specs.Known.{HasWire, InSet, IsKeptCrossOf}
+use Rattle.known.specs.declared.step.Step.{Step}
 
 -- the pin is joined by a kept crosspoint to a known line
 pub record IsKnownFoot (k : Kept) (ss : List Step) (pin line : ℕ) : Type 0 where

@@ -6,9 +6,9 @@ use Rattle.hierarchy.specs.Faults.{Faults, IsFaultless, stuck_cross}
 use Rattle.hierarchy.specs.Defects.{IsClear}
 use Rattle.hierarchy.specs.Tight.{IsAlone, HasFeet}
 use Rattle.evidence.specs.Kept.{Kept, HoldsFor, keeps_cross}
-use Rattle.growth.specs.Known.{HasWire}
-use Rattle.growth.specs.Tables.{SeatedIsKept}
-use Rattle.growth.specs.declared.step.Step.{Step}
+use Rattle.known.specs.Known.{HasWire}
+use Rattle.seats.specs.Tables.{SeatedIsKept}
+use Rattle.known.specs.declared.step.Step.{Step}
 
 -- All is known that can be reached: each wire that is clear and shorted to no known one, and is a pin of the machine or has feet;
 -- and each crosspoint between known wires that isn't stuck is kept.

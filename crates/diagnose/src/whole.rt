@@ -4,7 +4,7 @@ ghost use Rattle.tm_outside.specs.Counts.{Rose};
 ghost use Rattle.hierarchy.specs.Shape.{tables_of};
 ghost use Rattle.rig.specs.Rig.{shape_of};
 ghost use Rattle.evidence.specs.Kept.{Advances, KeepsNothing};
-ghost use Rattle.growth.specs.Known.{IsKnown};
+ghost use Rattle.known.specs.Known.{IsKnown};
 ghost use Rattle.table_test.specs.Seats.{AddsOnlyTableFacts};
 ghost use Rattle.diagnose.specs.Diagnosis.{IsDiagnosis, TakesFewLoads};
 ghost use Rattle.diagnose.specs.Stages.{HasTable, IfFaultless, ReachedIf, TablesIf, loads_for};

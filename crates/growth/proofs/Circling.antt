@@ -9,20 +9,21 @@ use Rattle.hierarchy.specs.Faults.{Faults}
 use Rattle.hierarchy.specs.Laws.{IsTree, HasMeetings}
 use Rattle.hierarchy.specs.Shape.{pins_of, wires_of, crosses_of, pin_wire}
 use Rattle.evidence.specs.Kept.{Kept, HoldsFor, IsMore}
-use Rattle.growth.specs.Field.{IsFieldOf, ClosedIf, GrowsIn, TakesFew}
-use Rattle.growth.specs.Grown.{AreLinks, IsGrown, IsOneMore}
-use Rattle.growth.specs.Known.{KnownWires, HasWire, IsKnown}
-use Rattle.growth.specs.Looks.{AreAllMarks, AreOutside, AreTried, Grows, IsLinking}
-use Rattle.growth.specs.Marked.{is_spent, AreMarks, Spends}
-use Rattle.growth.specs.declared.field.Field.{Field}
-use Rattle.growth.specs.declared.links.Near.{Near}
-use Rattle.growth.specs.declared.marks.Marks.{Marks}
-use Rattle.growth.specs.declared.step.Step.{Step}
-use Rattle.growth.proofs.Counting.{none_has, set_has}
+use Rattle.known.specs.Field.{IsFieldOf, ClosedIf, GrowsIn, TakesFew}
+use Rattle.known.specs.Linked.{AreLinks}
+use Rattle.growth.specs.Grown.{IsGrown, IsOneMore}
+use Rattle.known.specs.Known.{KnownWires, HasWire, IsKnown}
+use Rattle.growth.specs.Looks.{AreAllMarks, AreTried, Grows, IsLinking}
+use Rattle.reach.specs.Marked.{AreOutside, is_spent, AreMarks, Spends}
+use Rattle.known.specs.declared.field.Field.{Field}
+use Rattle.known.specs.declared.links.Near.{Near}
+use Rattle.reach.specs.declared.marks.Marks.{Marks}
+use Rattle.known.specs.declared.step.Step.{Step}
+use Rattle.reach.proofs.Counting.{none_has, set_has}
 use Rattle.growth.proofs.Ending.{closed, grows_in}
 use Rattle.growth.proofs.Leaving.{all_later}
-use Rattle.growth.proofs.Marking.{by_three, spends_then}
-use Rattle.growth.proofs.Places.{has_later}
+use Rattle.reach.proofs.Marking.{by_three, spends_then}
+use Rattle.known.proofs.Places.{has_later}
 use Rattle.growth.proofs.Stages.{grows_one, grows_then, tried_then}
 use Rattle.growth.proofs.Taken.{takes_most, takes_few}
 

@@ -11,17 +11,19 @@ use Rattle.hierarchy.specs.Faults.{Faults, stuck_cross}
 use Rattle.hierarchy.specs.Defects.{IsClear}
 use Rattle.hierarchy.specs.Tight.{IsAlone, HasFeet, two}
 use Rattle.evidence.specs.Kept.{Kept, HoldsFor, keeps_cross}
-use Rattle.growth.specs.Field.{IsFieldOf, IsClosed, ClosedIf, GrowsIn}
-use Rattle.growth.specs.Grown.{Links, AreLinks, IsGrown}
-use Rattle.growth.specs.Known.{KnownWires, IsBefore, HasWire}
-use Rattle.growth.specs.Looks.{AreOutside, AreTried, Grows}
-use Rattle.growth.specs.Offers.{AreLost}
-use Rattle.growth.specs.Trials.{IsFit, IsTried}
-use Rattle.growth.specs.declared.field.Field.{Field}
-use Rattle.growth.specs.declared.links.Near.{Near}
-use Rattle.growth.specs.declared.step.Step.{Step}
-use Rattle.growth.proofs.Counting.{number_within}
-use Rattle.growth.proofs.Places.{at_within, has_later}
+use Rattle.known.specs.Field.{IsFieldOf, IsClosed, ClosedIf, GrowsIn}
+use Rattle.known.specs.Linked.{Links, AreLinks}
+use Rattle.growth.specs.Grown.{IsGrown}
+use Rattle.known.specs.Known.{KnownWires, IsBefore, HasWire}
+use Rattle.reach.specs.Marked.{AreOutside}
+use Rattle.growth.specs.Looks.{AreTried, Grows}
+use Rattle.reach.specs.Offers.{AreLost}
+use Rattle.reach.specs.Trials.{IsFit, IsTried}
+use Rattle.known.specs.declared.field.Field.{Field}
+use Rattle.known.specs.declared.links.Near.{Near}
+use Rattle.known.specs.declared.step.Step.{Step}
+use Rattle.reach.proofs.Counting.{number_within}
+use Rattle.known.proofs.Places.{at_within, has_later}
 
 -- a crosspoint's two ends are different wires
 pub ends_apart : {m : Shape} → IsTree m → HasMeetings m → (x : ℕ) → x < crosses_of m → (ends_of m x).0 ≢ (ends_of m x).1

@@ -1,40 +1,21 @@
 -- What growth has found stays found, and grows from one known wire to the next.
 use Rattle.std.proofs.Common.{◌≡◌, ◌≢◌, ◌⊎◌, ℕ, zero, suc, ◌+◌, ◌<◌, ◌≤◌, Bool, true, Some, Option, List, [], ◌∷◌, ◌++◌, length, sym, ◌∙◌, subst, inl, inr, arith}
 use Rattle.std.specs.Prelude.{slice_get}
-use Rattle.std.proofs.lemmas.Option.{slice_get_within}
 use native.Mathlib.Decide.{ℕ_discrete}
 use Rattle.tm_bits.specs.Numbers.{has_number}
 use Rattle.hierarchy.specs.declared.Shape.{Shape}
 use Rattle.hierarchy.specs.Faults.{Faults}
 use Rattle.evidence.specs.Kept.{Kept, IsMore}
-use Rattle.evidence.proofs.Keeping.{holds_earlier}
-use Rattle.growth.specs.Grown.{Links, AreLinked, IsGrown}
-use Rattle.growth.specs.Known.{IsAt, IsBefore, HasWire}
+use Rattle.known.specs.Linked.{Links, AreLinked}
+use Rattle.growth.specs.Grown.{IsGrown}
+use Rattle.known.specs.Known.{IsAt, IsBefore, HasWire}
 use Rattle.growth.specs.Looks.{IsLooked, StayBarred}
-use Rattle.growth.specs.Offers.{AreLost}
-use Rattle.growth.specs.Trials.{IsFit, IsLost, IsKeptUnlessStuck, IsTried}
-use Rattle.growth.specs.declared.links.Near.{Near}
-use Rattle.growth.specs.declared.step.Step.{Step}
-use Rattle.growth.proofs.Places.{at_one, has_later}
-
-pub kept_later : {told : Option Faults} {k l : Kept} {x : ℕ} → IsMore k l → IsKeptUnlessStuck told k x → IsKeptUnlessStuck told l x
-kept_later {x = x} more p = record { at = λ f told holds free. more.crosses x (p.at f told (holds_earlier more holds) free) }
-
-fit_before : {m n : Shape} {f : Faults} {ss : List Step} {w : ℕ} (ts : List Step) → n ≡ m → IsFit n f (ss ++ ts) w → IsFit m f ss w
-fit_before {m} {n} {f} {ss} {w} ts same fit = subst (λ s. IsFit s f ss w) same (record { clear = fit.clear; alone = λ u h. fit.alone u (has_later ts h) })
-
-pub lost_later : {told : Option Faults} {k l : Kept} {ss : List Step} {w x y : ℕ} (ts : List Step) → IsMore k l → AreLost told k ss w x y → AreLost told l (ss ++ ts) w x y
-lost_later ts more p = record { at = λ f told holds fit one other. p.at f told (holds_earlier more holds) (fit_before ts more.shape fit) one other }
-
-pub lost_one_later : {told : Option Faults} {k l : Kept} {ss : List Step} {w x : ℕ} (ts : List Step) → IsMore k l → IsLost told k ss w x → IsLost told l (ss ++ ts) w x
-lost_one_later ts more p = record { at = λ f told holds fit free. p.at f told (holds_earlier more holds) (fit_before ts more.shape fit) free }
-
-pub lost_turned : {told : Option Faults} {k : Kept} {ss : List Step} {w x y : ℕ} → AreLost told k ss w x y → AreLost told k ss w y x
-lost_turned p = record { at = λ f told holds fit one other. p.at f told holds fit other one }
-
-pub tried_later : {told : Option Faults} {k l : Kept} {ss : List Step} {w : ℕ} (ts : List Step) → IsMore k l → IsTried told k ss w → IsTried told l (ss ++ ts) w
-tried_later ts more (inl h) = inl (has_later ts h)
-tried_later ts more (inr b) = inr (record { at = λ f told holds fit. b.at f told (holds_earlier more holds) (fit_before ts more.shape fit) })
+use Rattle.reach.specs.Offers.{AreLost}
+use Rattle.reach.specs.Trials.{IsKeptUnlessStuck}
+use Rattle.known.specs.declared.links.Near.{Near}
+use Rattle.known.specs.declared.step.Step.{Step}
+use Rattle.known.proofs.Places.{at_one, has_later}
+use Rattle.reach.proofs.Losing.{lost_later, lost_turned, kept_later}
 
 get_old : {A : Type 0} (xs ys : List A) (i : ℕ) (x : A) → i < length xs → slice_get (xs ++ ys) i ≡ Some x → slice_get xs i ≡ Some x
 get_old [] ys i x h e = absurd (let no : ⊥ = omega (arith, h) in no)

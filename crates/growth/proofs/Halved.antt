@@ -13,20 +13,20 @@ use Rattle.test_configs.specs.Configs.{IsLoopConfig}
 use Rattle.evidence.specs.Kept.{Kept, IsMore}
 use Rattle.evidence.specs.Readings.{IsReady, wires_over}
 use Rattle.evidence.proofs.Lists.{or_first, or_third}
-use Rattle.growth.specs.Grounds.{IsFootTo, AreAllLinks}
+use Rattle.known.specs.Grounds.{IsFootTo, AreAllLinks}
 use Rattle.growth.specs.Halves.{IsBesideRoute}
-use Rattle.growth.specs.Known.{KnownWires, IsAt, HasWire, InSet}
-use Rattle.growth.specs.Offers.{InSome, IsOn}
-use Rattle.growth.specs.Reaches.{IsReached}
-use Rattle.growth.specs.Trials.{IsKeptRoute}
-use Rattle.growth.specs.Ways.{IsWay, AreFeetOf}
-use Rattle.growth.specs.declared.links.Near.{Near}
-use Rattle.growth.specs.declared.step.Foot.{Foot}
-use Rattle.growth.specs.declared.step.Step.{Step}
-use Rattle.growth.proofs.Grounding.{foot_is}
-use Rattle.growth.proofs.Hung.{at_over, reached_off}
+use Rattle.known.specs.Known.{KnownWires, IsAt, HasWire, InSet}
+use Rattle.reach.specs.Offers.{InSome, IsOn}
+use Rattle.reach.specs.Reaches.{IsReached}
+use Rattle.reach.specs.Trials.{IsKeptRoute}
+use Rattle.known.specs.Ways.{IsWay, AreFeetOf}
+use Rattle.known.specs.declared.links.Near.{Near}
+use Rattle.known.specs.declared.step.Foot.{Foot}
+use Rattle.known.specs.declared.step.Step.{Step}
+use Rattle.known.proofs.Grounding.{foot_is}
+use Rattle.reach.proofs.Hung.{at_over, reached_off}
 use Rattle.growth.proofs.Parting.{all_of}
-use Rattle.growth.proofs.Rising.{not_true}
+use Rattle.known.proofs.Rising.{not_true}
 
 -- two feet of a wire that isn't known
 pub two_feet : {k : Kept} (n : KnownWires) {w : ℕ} {a b : Foot} → ¬ HasWire n.steps w → IsFootTo k n.steps w a → IsFootTo k n.steps w b → a.wire.0 ≢ b.wire.0 → AreFeetOf k n.steps w a b

@@ -5,14 +5,13 @@ use Rattle.tm_bits.specs.Numbers.{has_number}
 use Rattle.hierarchy.specs.Faults.{Faults}
 use Rattle.evidence.specs.Kept.{Kept, IsMore}
 use Rattle.growth.specs.Grown.{IsLearnt, IsOneMore}
-use Rattle.growth.specs.Known.{KnownWires, HasWire, IsKnown, Stands}
-use Rattle.growth.specs.Marked.{AreMarks, OffersOnly}
-use Rattle.growth.specs.Partings.{IsGood}
-use Rattle.growth.specs.declared.marks.Marks.{Marks}
-use Rattle.growth.specs.declared.step.Step.{Step}
-use Rattle.growth.proofs.Later.{learnt}
-use Rattle.growth.proofs.Places.{get_last}
-use Rattle.growth.proofs.Settling.{marks_later}
+use Rattle.known.specs.Known.{KnownWires, HasWire, IsKnown, Stands, IsGood}
+use Rattle.reach.specs.Marked.{AreMarks, OffersOnly}
+use Rattle.reach.specs.declared.marks.Marks.{Marks}
+use Rattle.known.specs.declared.step.Step.{Step}
+use Rattle.known.proofs.Later.{learnt}
+use Rattle.known.proofs.Places.{get_last}
+use Rattle.reach.proofs.Settling.{marks_later}
 
 -- what follows from both kinds of answer
 pub by_result : {T E A B C : Type 0} (r : Result T E) → OnOk r A → OnErr r B → (A → C) → (B → C) → C

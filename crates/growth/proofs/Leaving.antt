@@ -10,22 +10,22 @@ use Rattle.hierarchy.specs.Shape.{Ends, ends_of, crosses_of}
 use Rattle.hierarchy.specs.Faults.{Faults}
 use Rattle.hierarchy.proofs.JoinedLemmas.{Ends-swap}
 use Rattle.evidence.specs.Kept.{Kept, IsMore}
-use Rattle.growth.specs.Grown.{Links, AreLinked, list_at}
-use Rattle.growth.specs.Known.{KnownWires, IsAt, IsBefore, HasWire, IsKnown}
+use Rattle.known.specs.Linked.{Links, AreLinked, list_at}
+use Rattle.known.specs.Known.{KnownWires, IsAt, IsBefore, HasWire, IsKnown}
 use Rattle.growth.specs.Looks.{IsLook, IsLookAt, IsLooked, IsLookedOver, IsOfferOf, IsOfferedMark, AreAllMarks, AreTried, Grows, IsLinking}
-use Rattle.growth.specs.Marked.{AreMarks, Spends, IsOfOffer, JoinsAtMost, OffersOnly, HasTried, barred, lost}
-use Rattle.growth.specs.declared.links.Near.{Near}
+use Rattle.reach.specs.Marked.{AreMarks, Spends, IsOfOffer, JoinsAtMost, OffersOnly, HasTried, barred, lost}
+use Rattle.known.specs.declared.links.Near.{Near}
 use Rattle.growth.specs.declared.look.Look.{Look}
-use Rattle.growth.specs.declared.marks.Marks.{Marks}
-use Rattle.growth.specs.declared.offers.Offer.{Offer}
-use Rattle.growth.specs.declared.step.Foot.{Foot}
-use Rattle.growth.specs.declared.step.Step.{Step}
-use Rattle.growth.proofs.Counting.{set_has}
+use Rattle.reach.specs.declared.marks.Marks.{Marks}
+use Rattle.reach.specs.declared.offers.Offer.{Offer}
+use Rattle.known.specs.declared.step.Foot.{Foot}
+use Rattle.known.specs.declared.step.Step.{Step}
+use Rattle.reach.proofs.Counting.{set_has}
 use Rattle.growth.proofs.Growing.{before_old}
 use Rattle.growth.proofs.Looking.{look_within, look_ends, looked_barred, looked_lost}
-use Rattle.growth.proofs.Marking.{spends_none, spends_between}
-use Rattle.growth.proofs.Places.{at_within, at_later, before_has, one_place, some_same}
-use Rattle.growth.proofs.Settling.{ends_same}
+use Rattle.reach.proofs.Marking.{spends_none, spends_between}
+use Rattle.known.proofs.Places.{at_within, at_later, before_has, one_place, some_same}
+use Rattle.reach.proofs.Settling.{ends_same}
 use Rattle.growth.proofs.Stages.{tried_none, tried_one, looked_on}
 
 -- a look in plain words

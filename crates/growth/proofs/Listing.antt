@@ -6,15 +6,15 @@ use native.Mathlib.Decide.{ℕ_discrete}
 use Rattle.hierarchy.specs.declared.Wire.{Wire}
 use Rattle.hierarchy.specs.Circuit.{Pins}
 use Rattle.test_configs.specs.Routes.{Walk}
-use Rattle.growth.specs.declared.step.Foot.{Foot}
-use Rattle.growth.proofs.Adding.{InFirst}
-use Rattle.growth.proofs.Places.{get_before, get_last, some_same}
+use Rattle.known.specs.declared.step.Foot.{Foot}
+use Rattle.reach.proofs.Adding.{InFirst}
+use Rattle.known.proofs.Places.{get_before, get_last, some_same}
 use Rattle.hierarchy.specs.Shape.{crosses_of}
 use Rattle.config_set.specs.Groups.{among}
 use Rattle.evidence.specs.Kept.{Kept}
-use Rattle.growth.specs.Offers.{InSome, IsOn}
+use Rattle.reach.specs.Offers.{InSome, IsOn}
 use Rattle.growth.specs.Partings.{IsParting}
-use Rattle.growth.specs.declared.step.Step.{Step}
+use Rattle.known.specs.declared.step.Step.{Step}
 use Rattle.std.proofs.lemmas.Bool.{false≢true}
 
 -- the known ends of links

@@ -10,18 +10,18 @@ use Rattle.hierarchy.specs.Shape.{Ends, ends_of, wires_of, crosses_of}
 use Rattle.hierarchy.specs.Faults.{Faults}
 use Rattle.hierarchy.proofs.JoinedLemmas.{Ends-swap}
 use Rattle.evidence.specs.Kept.{Kept, keeps_cross}
-use Rattle.growth.specs.Grown.{Links, AreLinked, list_at}
-use Rattle.growth.specs.Known.{KnownWires, IsAt, IsBefore, HasWire, IsKnown}
+use Rattle.known.specs.Linked.{Links, AreLinked, list_at}
+use Rattle.known.specs.Known.{KnownWires, IsAt, IsBefore, HasWire, IsKnown}
 use Rattle.growth.specs.Looks.{IsLook, IsOfferOf, IsLooked, AreEarlier, AreEarlierUpTo, TakesEarlier}
-use Rattle.growth.specs.Offers.{IsOffer, IsPlaced, AreLost, HasNoSecond}
-use Rattle.growth.specs.Trials.{IsKeptUnlessStuck}
-use Rattle.growth.specs.declared.links.Near.{Near}
+use Rattle.reach.specs.Offers.{IsOffer, IsPlaced, AreLost, HasNoSecond}
+use Rattle.reach.specs.Trials.{IsKeptUnlessStuck}
+use Rattle.known.specs.declared.links.Near.{Near}
 use Rattle.growth.specs.declared.look.Look.{Look}
-use Rattle.growth.specs.declared.offers.Offer.{Offer}
-use Rattle.growth.specs.declared.step.Foot.{Foot}
-use Rattle.growth.specs.declared.step.Step.{Step}
+use Rattle.reach.specs.declared.offers.Offer.{Offer}
+use Rattle.known.specs.declared.step.Foot.{Foot}
+use Rattle.known.specs.declared.step.Step.{Step}
 use Rattle.growth.proofs.Growing.{before_old}
-use Rattle.growth.proofs.Places.{get_before, get_last, get_pushed, some_same, one_place, before_has}
+use Rattle.known.proofs.Places.{get_before, get_last, get_pushed, some_same, one_place, before_has}
 
 -- links that came before
 pub takes_none : {ss : List Step} {place : ℕ} {link : Foot} (others : List Foot) → (IsBefore ss place link.wire.0 → ⊥) → TakesEarlier ss place link others others

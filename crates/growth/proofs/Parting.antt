@@ -16,25 +16,25 @@ use Rattle.config_set.specs.Configuration.{Configuration, is_closed}
 use Rattle.config_set.specs.Groups.{among, IsWithin, AreGroups}
 use Rattle.config_set.specs.Tests.{IsDrivenAlone}
 use Rattle.config_set.proofs.Grouped.{LeadsTo-start, LeadsTo-end, LeadsTo-within}
-use Rattle.test_configs.specs.Routes.{Walk, IsRoute}
+use Rattle.test_configs.specs.Routes.{Walk}
 use Rattle.test_configs.specs.Configs.{IsLoopConfig}
 use Rattle.evidence.specs.Kept.{Kept, HoldsFor, IsMore, Gains, these_wires, these_pairs, keeps_wire, keeps_pair}
 use Rattle.evidence.specs.Loops.{RoutePasses}
 use Rattle.evidence.specs.Readings.{AllApartPasses, IsReady, wires_over}
 use Rattle.evidence.proofs.Keeping.{pair_turned, holds_earlier}
 use Rattle.evidence.proofs.Lists.{grown, laid_cases, or_first, or_third}
-use Rattle.growth.specs.Known.{KnownWires, IsAt, HasWire, IsKnown}
-use Rattle.growth.specs.Offers.{InSome, IsOn}
-use Rattle.growth.specs.Partings.{IsListed, AreLeft, LeavesAt, IsParting, IsApartBeside, IsGood}
-use Rattle.growth.specs.Reaches.{IsReached, IsOnWalk}
-use Rattle.growth.specs.Trials.{IsFit, IsBad}
-use Rattle.growth.specs.Ways.{IsWay, AreWays}
-use Rattle.growth.specs.declared.step.Step.{Step}
-use Rattle.growth.proofs.Besides.{beside}
-use Rattle.growth.proofs.Hung.{over_at, at_over, reached_known, reached_off}
-use Rattle.growth.proofs.Passing.{rests_known, known_clear, known_unshorted}
-use Rattle.growth.proofs.Places.{at_within}
-use Rattle.growth.proofs.Rising.{not_true}
+use Rattle.known.specs.Known.{KnownWires, IsAt, HasWire, IsKnown, IsGood}
+use Rattle.reach.specs.Offers.{InSome, IsOn}
+use Rattle.growth.specs.Partings.{IsListed, AreLeft, LeavesAt, IsParting, IsApartBeside}
+use Rattle.reach.specs.Reaches.{IsReached, IsOnWalk}
+use Rattle.reach.specs.Trials.{IsFit, IsBad}
+use Rattle.known.specs.Ways.{IsWay, AreWays}
+use Rattle.known.specs.declared.step.Step.{Step}
+use Rattle.reach.proofs.Besides.{beside}
+use Rattle.reach.proofs.Hung.{over_at, at_over, reached_known, reached_off}
+use Rattle.reach.proofs.Passing.{rests_known, known_clear, known_unshorted}
+use Rattle.known.proofs.Places.{at_within}
+use Rattle.known.proofs.Rising.{not_true}
 
 -- what holds of each element by its place
 pub all_of : {X : Type 0} (P : X → Type 0) (xs : List X) → ((j : ℕ) (x : X) → slice_get xs j ≡ Some x → P x) → All P xs
@@ -50,18 +50,6 @@ on_way {w = w} way P one others u on = by_test (u == w) refl
 
 pub end_on : {k : Kept} {ss : List Step} {w : ℕ} {q : Walk} → IsWay k ss w q → among q.wires w ≡ true
 end_on {q = q} way = subst (λ u. among q.wires u ≡ true) way.end (LeadsTo-end way.route.leads)
-
--- ways stay ways
-pub way_later : {k l : Kept} {ss : List Step} {w : ℕ} {q : Walk} → IsMore k l → IsWay k ss w q → IsWay l ss w q
-way_later {q = q} more way = record {
-  route = subst (λ (m : Shape). IsRoute m q) (sym more.shape) way.route;
-  crosses = λ x on. more.crosses x (way.crosses x on);
-  end = way.end;
-  wires = way.wires;
-}
-
-pub ways_later : {k l : Kept} {ss : List Step} {w : ℕ} {p q : Walk} → IsMore k l → AreWays k ss w p q → AreWays l ss w p q
-ways_later more a = record { first = way_later more a.first; second = way_later more a.second; meet = a.meet }
 
 -- a wire that isn't fit stays so
 pub bad_later : {told : Option Faults} {k l : Kept} {ss : List Step} {w : ℕ} → IsMore k l → IsBad told k ss w → IsBad told l ss w

@@ -7,16 +7,17 @@ use Rattle.tm_bits.specs.Numbers.{has_number}
 use Rattle.hierarchy.specs.Faults.{Faults}
 use Rattle.evidence.specs.Kept.{Kept, IsMore}
 use Rattle.growth.specs.Grown.{IsGrown, IsOneMore}
-use Rattle.growth.specs.Trials.{IsTried}
-use Rattle.growth.specs.Known.{KnownWires, HasWire, IsKnown}
+use Rattle.reach.specs.Trials.{IsTried}
+use Rattle.known.specs.Known.{KnownWires, HasWire, IsKnown}
 use Rattle.growth.specs.Looks.{IsLooked, StayBarred, AreTried, Grows}
-use Rattle.growth.specs.Marked.{BarsAtMost}
-use Rattle.growth.specs.declared.links.Near.{Near}
-use Rattle.growth.specs.declared.step.Step.{Step}
-use Rattle.growth.proofs.Counting.{set_only, set_stays}
-use Rattle.growth.proofs.Growing.{grown_later, looked_later, tried_later}
-use Rattle.growth.proofs.Later.{known_later}
-use Rattle.growth.proofs.Places.{get_pushed}
+use Rattle.reach.specs.Marked.{BarsAtMost}
+use Rattle.known.specs.declared.links.Near.{Near}
+use Rattle.known.specs.declared.step.Step.{Step}
+use Rattle.reach.proofs.Counting.{set_only, set_stays}
+use Rattle.growth.proofs.Growing.{grown_later, looked_later}
+use Rattle.reach.proofs.Losing.{tried_later}
+use Rattle.known.proofs.Later.{known_later}
+use Rattle.known.proofs.Places.{get_pushed}
 
 -- what was barred without a cause, and with one
 pub tried_none : {told : Option Faults} {k : Kept} {ss : List Step} {old new : List Bool} → new ≡ old → AreTried told k ss old new

@@ -4,15 +4,15 @@ use Rattle.tm_bits.specs.Numbers.{has_number, size_of}
 use Rattle.hierarchy.specs.Shape.{wires_of, crosses_of}
 use Rattle.hierarchy.specs.Faults.{Faults}
 use Rattle.evidence.specs.Kept.{Kept}
-use Rattle.growth.specs.Field.{IsFieldOf, TakesFew}
-use Rattle.growth.specs.Grown.{AreLinks}
-use Rattle.growth.specs.Looks.{AreOutside, IsLinking}
-use Rattle.growth.specs.Marked.{how_many, is_spent, Spends}
-use Rattle.growth.specs.declared.field.Field.{Field}
-use Rattle.growth.specs.declared.links.Near.{Near}
-use Rattle.growth.specs.declared.marks.Marks.{Marks}
-use Rattle.growth.proofs.Counting.{many_all, many_more, many_either, many_size}
-use Rattle.growth.proofs.Marking.{first_of, second_of, third_of}
+use Rattle.known.specs.Field.{IsFieldOf, TakesFew}
+use Rattle.known.specs.Linked.{AreLinks}
+use Rattle.reach.specs.Marked.{AreOutside, how_many, is_spent, Spends}
+use Rattle.growth.specs.Looks.{IsLinking}
+use Rattle.known.specs.declared.field.Field.{Field}
+use Rattle.known.specs.declared.links.Near.{Near}
+use Rattle.reach.specs.declared.marks.Marks.{Marks}
+use Rattle.reach.proofs.Counting.{many_all, many_more, many_either, many_size}
+use Rattle.reach.proofs.Marking.{first_of, second_of, third_of}
 
 module _ {told : Option Faults} {k : Kept} {a : Field} {near : List Near} {s t : Marks} {before after : ℕ} (field : IsFieldOf k.shape a) (links : AreLinks k.shape a near) (outside : AreOutside a.wires s.barred)
     (unspent : (x : ℕ) → is_spent s x ≡ true → ⊥) (spends : Spends told k (IsLinking near) s t before after) where

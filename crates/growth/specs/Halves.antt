@@ -3,10 +3,10 @@ use Rattle.std.specs.Prelude.{◌≡◌, ℕ, ◌≤◌, true, Some, List, [], s
 use Rattle.config_set.specs.Groups.{among}
 use Rattle.test_configs.specs.Routes.{Walk}
 use Rattle.evidence.specs.Kept.{Kept}
-use Rattle.growth.specs.Offers.{Adds, InSome, IsOn}
-use Rattle.growth.specs.Reaches.{reach_at, IsTreeWalk}
-use Rattle.growth.specs.declared.beside.Reach.{Reach}
-use Rattle.growth.specs.declared.beside.Reach.TheVariants as reach
+use Rattle.reach.specs.Offers.{Adds, InSome, IsOn}
+use Rattle.reach.specs.Reaches.{reach_at, IsTreeWalk}
+use Rattle.reach.specs.declared.beside.Reach.{Reach}
+use Rattle.reach.specs.declared.beside.Reach.TheVariants as reach
 use Rattle.growth.specs.declared.halving.Part.{Part}
 
 -- walks over what is reached beside the route, and their crosspoints

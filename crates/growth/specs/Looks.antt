@@ -5,17 +5,17 @@ use Rattle.hierarchy.specs.Faults.{Faults}
 use Rattle.hierarchy.specs.declared.Shape.{Shape}
 use Rattle.hierarchy.specs.Shape.{Ends, ends_of, crosses_of}
 use Rattle.evidence.specs.Kept.{Kept}
-use Rattle.growth.specs.Grown.{Links, list_at}
-use Rattle.growth.specs.Known.{KnownWires, IsKnown, IsAt, IsBefore, HasWire}
-use Rattle.growth.specs.Marked.{AreMarks}
-use Rattle.growth.specs.Offers.{IsPlaced, AreLost}
-use Rattle.growth.specs.Trials.{IsKeptUnlessStuck, IsTried}
-use Rattle.growth.specs.declared.links.Near.{Near}
+use Rattle.known.specs.Linked.{Links, list_at}
+use Rattle.known.specs.Known.{KnownWires, IsKnown, IsAt, IsBefore, HasWire}
+use Rattle.reach.specs.Marked.{AreMarks}
+use Rattle.reach.specs.Offers.{IsPlaced, AreLost}
+use Rattle.reach.specs.Trials.{IsKeptUnlessStuck, IsTried}
+use Rattle.known.specs.declared.links.Near.{Near}
 use Rattle.growth.specs.declared.look.Look.{Look}
-use Rattle.growth.specs.declared.marks.Marks.{Marks}
-use Rattle.growth.specs.declared.offers.Offer.{Offer}
-use Rattle.growth.specs.declared.step.Foot.{Foot}
-use Rattle.growth.specs.declared.step.Step.{Step}
+use Rattle.reach.specs.declared.marks.Marks.{Marks}
+use Rattle.reach.specs.declared.offers.Offer.{Offer}
+use Rattle.known.specs.declared.step.Foot.{Foot}
+use Rattle.known.specs.declared.step.Step.{Step}
 
 -- the wire stands at this place, and this is a link from it
 pub record IsLook (near : List Near) (ss : List Step) (l : Look) : Type 0 where
@@ -94,8 +94,3 @@ pub record AreAllMarks (told : Option Faults) (k : Kept) (near : List Near) (ss 
 -- a linking crosspoint
 abbrev pub IsLinking : List Near → ℕ → Type 0
 IsLinking near x = (u : ℕ) × (w : ℕ) × Links near x u w
-
--- the wires that aren't of a field
-pub record AreOutside (wires barred : List Bool) : Type 0 where
-  pub free : (w : ℕ) → has_number wires w ≡ true → has_number barred w ≡ false
-  pub field : (w : ℕ) → w < length wires → has_number barred w ≡ false → has_number wires w ≡ true

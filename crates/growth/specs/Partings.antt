@@ -3,14 +3,14 @@ use Rattle.std.specs.Prelude.{◌≡◌, ◌⊎◌, ℕ, true, Some, List, [], s
 use Rattle.hierarchy.specs.declared.Wire.{Wire}
 use Rattle.config_set.specs.Groups.{among}
 use Rattle.test_configs.specs.Routes.{Walk}
-use Rattle.evidence.specs.Kept.{Kept, keeps_wire, keeps_pair}
-use Rattle.growth.specs.Known.{IsAt, HasWire}
-use Rattle.growth.specs.Offers.{Adds, InSome, IsOn}
-use Rattle.growth.specs.Reaches.{reach_at, IsReached, AreTrees, AreWalks}
-use Rattle.growth.specs.Ways.{ReachesAll}
-use Rattle.growth.specs.declared.beside.Reach.{Reach}
-use Rattle.growth.specs.declared.beside.Reach.TheVariants as reach
-use Rattle.growth.specs.declared.step.Step.{Step}
+use Rattle.evidence.specs.Kept.{Kept, keeps_pair}
+use Rattle.known.specs.Known.{IsAt, HasWire}
+use Rattle.reach.specs.Offers.{Adds, InSome, IsOn}
+use Rattle.reach.specs.Reaches.{reach_at, IsReached, AreTrees, AreWalks}
+use Rattle.known.specs.Ways.{ReachesAll}
+use Rattle.reach.specs.declared.beside.Reach.{Reach}
+use Rattle.reach.specs.declared.beside.Reach.TheVariants as reach
+use Rattle.known.specs.declared.step.Step.{Step}
 
 -- the wire is one of these
 pub record IsListed (ends : List Wire) (u : ℕ) : Type 0 where
@@ -43,8 +43,3 @@ pub record IsApartBeside (k : Kept) (ss : List Step) (w : ℕ) (q : Walk) : Type
   pub rs : List Reach
   pub all : ReachesAll ss q (IsReached rs)
   pub apart : (u : ℕ) → HasWire ss u → IsReached rs u → keeps_pair k w u ≡ true
-
--- the wire is kept, and kept apart from each known one
-pub record IsGood (k : Kept) (ss : List Step) (w : ℕ) : Type 0 where
-  pub kept : keeps_wire k w ≡ true
-  pub apart : (u : ℕ) → HasWire ss u → keeps_pair k u w ≡ true

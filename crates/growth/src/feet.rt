@@ -5,18 +5,14 @@ ghost use Rattle.tm_outside.specs.Counts.{Rose};
 ghost use Rattle.hierarchy.specs.Shape.{crosses_of};
 ghost use Rattle.rig.specs.Rig.{shape_of};
 ghost use Rattle.evidence.specs.Kept.{Advances, keeps_cross};
-ghost use Rattle.growth.specs.Known.{IsKnown};
-ghost use Rattle.growth.specs.Marked.{AreMarks, SpendsOn};
-ghost use Rattle.growth.specs.Offers.{IsOffer, IsPlaced, IsKeptOther, IsSecond, AreLost, HasNoSecond};
-ghost use Rattle.growth.specs.declared.step.Foot.{Foot};
+ghost use Rattle.known.specs.Known.{IsKnown};
+ghost use Rattle.reach.specs.Marked.{AreMarks, SpendsOn};
+ghost use Rattle.reach.specs.Offers.{IsOffer, IsPlaced, IsKeptOther, IsSecond, AreLost, HasNoSecond};
+ghost use Rattle.known.specs.declared.step.Foot.{Foot};
 
-use crate::hang::toggle_first;
-use crate::known::Known;
-use crate::marks::Marks;
-use crate::offers::Offer;
-use crate::step::Foot;
-use crate::toggles::toggle_over;
 use evidence::Proof;
+use known::{Foot, Known};
+use reach::{Marks, Offer, toggle_first, toggle_over};
 use rig::{Rig, RigFail};
 
 // The first of some links that is kept.

@@ -6,18 +6,16 @@ ghost use Rattle.hierarchy.specs.Shape.{pins_of, pin_wire, wires_of};
 ghost use Rattle.rig.specs.Rig.{shape_of};
 ghost use Rattle.evidence.specs.Kept.{Advances};
 ghost use Rattle.growth.specs.Grown.{IsLearnt, IsOneMore};
-ghost use Rattle.growth.specs.Trials.{IsTried};
-ghost use Rattle.growth.specs.Known.{IsKnown, HasWire};
-ghost use Rattle.growth.specs.Marked.{AreMarks, IsOfOffer, OffersOnly, Spends, BarsAtMost, HasTried};
-ghost use Rattle.growth.specs.Offers.{IsOffer, IsSecond};
+ghost use Rattle.reach.specs.Trials.{IsTried};
+ghost use Rattle.known.specs.Known.{IsKnown, HasWire};
+ghost use Rattle.reach.specs.Marked.{AreMarks, IsOfOffer, OffersOnly, Spends, BarsAtMost, HasTried};
+ghost use Rattle.reach.specs.Offers.{IsOffer, IsSecond};
 
 use crate::feet::second_foot;
-use crate::known::Known;
-use crate::marks::Marks;
-use crate::offers::Offer;
 use crate::parts::is_good;
-use crate::step::{Foot, Stand, Step};
 use evidence::Proof;
+use known::{Foot, Known, Stand, Step};
+use reach::{Marks, Offer};
 use rig::{Rig, RigFail};
 
 // A further wire is known.

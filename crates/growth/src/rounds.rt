@@ -5,20 +5,19 @@ ghost use Rattle.tm_outside.specs.Counts.{Rose};
 ghost use Rattle.hierarchy.specs.Shape.{pins_of, pin_wire};
 ghost use Rattle.rig.specs.Rig.{shape_of};
 ghost use Rattle.evidence.specs.Kept.{Advances};
-ghost use Rattle.growth.specs.Field.{IsFieldOf, ClosedIf, GrowsIn, TakesFew};
-ghost use Rattle.growth.specs.Grown.{AreLinked, IsGrown};
-ghost use Rattle.growth.specs.Known.{IsKnown, HasWire};
+ghost use Rattle.known.specs.Field.{IsFieldOf, ClosedIf, GrowsIn, TakesFew};
+ghost use Rattle.known.specs.Linked.{AreLinked};
+ghost use Rattle.growth.specs.Grown.{IsGrown};
+ghost use Rattle.known.specs.Known.{IsKnown, HasWire};
 ghost use Rattle.growth.specs.Looks.{AreAllMarks, AreTried, Grows, IsLinking};
-ghost use Rattle.growth.specs.Marked.{Spends};
+ghost use Rattle.reach.specs.Marked.{Spends};
 
-use crate::field::Field;
-use crate::known::Known;
 use crate::learn::try_pin;
-use crate::links::{Near, links_of};
 use crate::look::look_at;
-use crate::marks::Marks;
 use evidence::Proof;
 use hierarchy::{the_crosspoints_are_sound, the_numbering_is_sound};
+use known::{Field, Known, Near, links_of};
+use reach::Marks;
 use rig::{Rig, RigFail};
 
 // Looks at all known wires from a place on, also at those that come to be known by it.

@@ -2,26 +2,16 @@
 use Rattle.std.proofs.Common.{◌≡◌, ◌⊎◌, ℕ, ◌+◌, ◌<◌, Bool, true, Some, List, length, get_or, refl, sym, ap, ◌∙◌, subst, inl, inr, arith}
 use Rattle.std.specs.Prelude.{slice_get}
 use Rattle.std.proofs.Math.ListN.{set}
-use Rattle.std.proofs.lemmas.Bool.{cases_eq}
 use Rattle.std.proofs.lemmas.List.{length-set}
-use Rattle.tm_bits.specs.Numbers.{has_number}
 use Rattle.hierarchy.specs.declared.Shape.{Shape}
 use Rattle.hierarchy.specs.declared.Cross.{Cross}
 use Rattle.hierarchy.specs.declared.Table.{Table}
 use Rattle.hierarchy.specs.Shape.{pin_wire, table_wire, ends_of}
 use Rattle.self_test.specs.Marks.{Adds, IsPinAmong, IsEndAmong, tap_among, line_among, IsPinOfTable, IsTablePinAmong}
-use Rattle.self_test.proofs.Getting.{adds_none, adds_one, adds_more}
+use Rattle.self_test.proofs.Marking.{adds_none, adds_one, adds_more}
 
 pub some_same : {A : Type 0} {x y : A} → Some x ≡ Some y → x ≡ y
 some_same e = cc
-
--- a number below n + 1 is below n, or n
-pub below_or : (n k : ℕ) → k < n + 1 → (k < n) ⊎ (k ≡ n)
-below_or n k l = by (cases_eq k n)
-  where
-    by : (k ≡ n) ⊎ (k ≡ n → ⊥) → (k < n) ⊎ (k ≡ n)
-    by (inl e) = inr e
-    by (inr other) = inl (omega arith)
 
 module _ (m : Shape) where
   module _ (pins : List ℕ) where

@@ -13,8 +13,9 @@ use Rattle.hierarchy.specs.Shape.{wires_of, nodes_of, node_of, parent_of, IsLine
 use Rattle.config_set.specs.Configuration.{is_closed}
 use Rattle.config_image.specs.Images.{ImageValue}
 use Rattle.config_image.specs.Parts.{Uses, IsInvolved, by_wire, IsWideEnough}
-use Rattle.growth.specs.declared.field.Field.{Field}
-use Rattle.self_test.specs.Fields.{Gets, IsFewFor, IsCrossBefore, IsBetween, IsPicksOf, ArePicksOf, of_own, of_lines, IsPickOf, IsJointOf, own_joint, up_joint, OfMarked, IsCrossOf, IsHungAt, on_line, on_port, IsHungOn}
+use Rattle.known.specs.declared.field.Field.{Field}
+use Rattle.known.specs.Gains.{Gets}
+use Rattle.self_test.specs.Fields.{IsFewFor, IsCrossBefore, IsBetween, IsPicksOf, ArePicksOf, of_own, of_lines, IsPickOf, IsJointOf, own_joint, up_joint, OfMarked, IsCrossOf, IsHungAt, on_line, on_port, IsHungOn}
 use Rattle.self_test.specs.Picked.{width_of, IsAmong, IsOfSide, HasFirstTwo, IsPickedAt, ArePickedUpTo}
 use Rattle.self_test.specs.Skeleton.{IsMet, AreMet, IsOwn, own_pin, own_port, HasSkeleton}
 use Rattle.self_test.specs.Used.{AreUsed, AreInvolved}
@@ -23,7 +24,7 @@ use Rattle.self_test.specs.declared.picks.Picks.{Picks}
 use Rattle.self_test.specs.declared.picks.Side.TheVariants.{Own, Lines}
 use Rattle.config_image.proofs.Keyed.{to_set}
 use Rattle.self_test.proofs.Counting.{list_fits}
-use Rattle.self_test.proofs.Getting.{marked_within}
+use Rattle.known.proofs.Getting.{marked_within}
 use Rattle.self_test.proofs.Wholly.{involved_too}
 
 -- the numbers of the first two wires of a list

@@ -8,10 +8,10 @@ use Rattle.hierarchy.specs.Faults.{Faults}
 use Rattle.config_set.specs.Configuration.{setting_of}
 use Rattle.config_image.specs.Images.{ImageValue, IsImage}
 use Rattle.evidence.specs.Kept.{Kept, HoldsFor, IsMore}
-use Rattle.growth.specs.Field.{IsFieldOf, ClosedIf}
-use Rattle.growth.specs.Tables.{SeatedAreKept}
-use Rattle.growth.specs.declared.field.Field.{Field}
-use Rattle.growth.specs.declared.step.Step.{Step}
+use Rattle.known.specs.Field.{IsFieldOf, ClosedIf}
+use Rattle.seats.specs.Tables.{SeatedAreKept}
+use Rattle.known.specs.declared.field.Field.{Field}
+use Rattle.known.specs.declared.step.Step.{Step}
 use Rattle.self_test.specs.Fields.{IsFewFor}
 use Rattle.self_test.specs.Looks.{AreRoutesKnown, KeepsTableOf, AreSeated, RoutesIf, TablesIf, WholeIf, TakesInField, TakesAtMost, HasClosed, HasTablesOn}
 use Rattle.self_test.specs.Skeleton.{HasSkeleton}

@@ -18,7 +18,7 @@ use Rattle.config_image.specs.Parts.{Part, WirePart, CrossPart, TablePart}
 use Rattle.self_test.specs.Looks.{TakesAtMost}
 use Rattle.self_test.specs.Soundly.{AreAllOf, TakesForParts}
 use Rattle.self_test.specs.Used.{AreUsed, AreInvolved}
-use Rattle.self_test.proofs.Getting.{marked_within}
+use Rattle.known.proofs.Getting.{marked_within}
 
 -- ---- marks
 

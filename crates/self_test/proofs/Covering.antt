@@ -25,7 +25,7 @@ use Rattle.config_image.specs.Parts.{IsFreeImage, Uses, at_pin, at_tap, at_line,
 use Rattle.evidence.specs.Kept.{Kept, HoldsFor}
 use Rattle.self_test.specs.Soundly.{KeepsParts}
 use Rattle.self_test.specs.Used.{AreUsed}
-use Rattle.self_test.proofs.Getting.{marked_within}
+use Rattle.known.proofs.Getting.{marked_within}
 
 -- the numbers below n that are bad
 abbrev listed : (ℕ → Bool) → ℕ → set.FinSet nat_cmp

@@ -1,45 +1,32 @@
 -- The field of an image, as it is marked.
-use Rattle.std.proofs.Common.{◌≡◌, ◌≢◌, ◌⊎◌, ℕ, ◌+◌, ◌*◌, ◌<◌, ◌≤◌, Bool, true, false, Some, None, List, All, length, get_or, take, sym, ap, ◌∙◌, subst, inl, inr, arith}
+use Rattle.std.proofs.Common.{◌≡◌, ◌≢◌, ◌⊎◌, ℕ, ◌+◌, ◌*◌, ◌<◌, ◌≤◌, Bool, true, false, Some, None, List, All, length, take, sym, ap, ◌∙◌, subst, inl, inr, arith}
 use Rattle.std.specs.Prelude.{slice_get}
 use Rattle.std.proofs.Math.ListN.{set}
 use Rattle.std.proofs.Math.Nat.{mul-le-mul_left, mul-le-mul_right}
 use Rattle.std.proofs.lemmas.Bool.{false≢true}
 use Rattle.std.proofs.lemmas.List.Sums.{count_by_more_yes, count_by_more_no}
-use Rattle.std.proofs.lemmas.Option.{slice_get_within, slice_get-get_or, get_or_from_slice_get}
+use Rattle.std.proofs.lemmas.Option.{slice_get_within, get_or_from_slice_get}
 use Rattle.tm_bits.specs.Numbers.{has_number, size_of}
 use Rattle.hierarchy.specs.declared.Shape.{Shape}
 use Rattle.hierarchy.specs.declared.Cross.{Cross}
 use Rattle.hierarchy.specs.declared.Wire.{Wire}
 use Rattle.hierarchy.specs.Laws.{HasCrosses}
 use Rattle.hierarchy.specs.Shape.{crosses_of, ends_of, node_of, parent_of}
-use Rattle.self_test.specs.Fields.{Gets, IsCrossOf, IsBetween, IsWireBefore, IsCrossBefore, IsPicksOf, IsOfEither, of_own, of_lines, IsPickOf, IsJointOf, own_joint, up_joint, OfMarked, IsHungAt, IsHungOn}
+use Rattle.known.specs.Gains.{Gets, IsWireBefore}
+use Rattle.self_test.specs.Fields.{IsCrossOf, IsBetween, IsCrossBefore, IsPicksOf, IsOfEither, of_own, of_lines, IsPickOf, IsJointOf, own_joint, up_joint, OfMarked, IsHungAt, IsHungOn}
 use Rattle.self_test.specs.Picked.{IsAmong}
 use Rattle.self_test.specs.declared.picks.Frame.{Frame}
 use Rattle.self_test.specs.declared.picks.Picks.{Picks}
-use Rattle.self_test.proofs.Adding.{some_same, below_or}
-use Rattle.self_test.proofs.Getting.{gets_none, gets_one, gets_more, gets_fewer}
+use Rattle.known.proofs.Getting.{below_or, gets_none, gets_one, gets_more, gets_fewer}
+use Rattle.self_test.proofs.Adding.{some_same}
 
 -- what holds of each element holds of that at a place
 pub all_at : {A : Type 0} (P : A → Type 0) (xs : List A) (i : ℕ) (x : A) → All P xs → slice_get xs i ≡ Some x → P x
 all_at P xs i x all e = subst P (get_or_from_slice_get xs i x x e) (all i x (slice_get_within xs i x e))
 
--- what is read at a place stands there
-pub at_index : {A : Type 0} (xs : List A) (i : ℕ) (x : A) → i < length xs → x ≡ get_or xs i x → slice_get xs i ≡ Some x
-at_index xs i x l e = slice_get-get_or xs i x l ∙ ap Some (sym e)
-
 -- ---- wires and crosspoints of lists
 
 module _ (ws : List Wire) where
-  pub wires_next : (n : ℕ) (w : Wire) {old mid : List Bool} → Gets (IsWireBefore ws n) n old mid → slice_get ws n ≡ Some w → w.0 < length mid → Gets (IsWireBefore ws (n + 1)) (n + 1) old (set mid w.0 true)
-  wires_next n w g here within = gets_one w.0 g within from (omega arith)
-    where
-      from : (y : ℕ) → IsWireBefore ws (n + 1) y → IsWireBefore ws n y ⊎ (y ≡ w.0)
-      from y p = by (below_or n p.place p.early)
-        where
-          by : (p.place < n) ⊎ (p.place ≡ n) → IsWireBefore ws n y ⊎ (y ≡ w.0)
-          by (inl l) = inl (record { place = p.place; wire = p.wire; early = l; here = p.here; is = p.is })
-          by (inr e) = inr (sym p.is ∙ ap (λ (z : Wire). z.0) (some_same (sym p.here ∙ ap (slice_get ws) e ∙ here)))
-
   pub among_before : {w : ℕ} → IsAmong ws w → IsWireBefore ws (length ws) w
   among_before a = record { place = a.place; wire = a.wire; early = slice_get_within ws a.place a.wire a.here; here = a.here; is = a.is }
 

@@ -1,5 +1,5 @@
 -- For the proofs of this crate alone.
-mod Getting
+mod Marking
 mod Adding
 mod Using
 mod Involving

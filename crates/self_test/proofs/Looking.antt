@@ -13,9 +13,9 @@ use Rattle.config_set.specs.declared.Setting.{Setting}
 use Rattle.config_set.specs.Configuration.{setting_of}
 use Rattle.config_image.specs.Images.{ImageValue}
 use Rattle.evidence.specs.Kept.{Kept, HoldsFor, IsMore, keeps_wire, keeps_pair}
-use Rattle.growth.specs.Known.{KnownWires, HasWire, IsAt, IsKnown}
-use Rattle.growth.specs.Tables.{SeatedAreKept}
-use Rattle.growth.specs.declared.step.Step.{Step}
+use Rattle.known.specs.Known.{KnownWires, HasWire, IsAt, IsKnown}
+use Rattle.seats.specs.Tables.{SeatedAreKept}
+use Rattle.known.specs.declared.step.Step.{Step}
 use Rattle.table_test.specs.Seats.{KeepsTable}
 use Rattle.self_test.specs.Looks.{KeepsTableOf, AreSeated}
 use Rattle.self_test.specs.Soundly.{KeepsRoutes, KeepsTables, PartsAreSound}

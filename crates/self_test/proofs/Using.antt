@@ -18,7 +18,7 @@ use Rattle.self_test.specs.Used.{AreUsed}
 use Rattle.config_image.proofs.Keyed.{of_set, to_set}
 use Rattle.self_test.proofs.Covering.{on_within}
 use Rattle.self_test.proofs.Fielding.{all_at}
-use Rattle.self_test.proofs.Getting.{none_marked}
+use Rattle.known.proofs.Getting.{none_marked}
 use Rattle.self_test.proofs.Looking.{on_of, true_of}
 
 module _ (i : ImageValue) (closed : List Cross) (tables : List Table)

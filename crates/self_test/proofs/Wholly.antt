@@ -19,14 +19,14 @@ use Rattle.config_set.specs.Configuration.{setting_of}
 use Rattle.config_image.specs.Images.{ImageValue}
 use Rattle.config_image.specs.Parts.{Uses, at_tap, at_line, at_table, IsInvolved, by_wire, by_cross, IsSurroundingWire, used_wire, node_line, node_port, root_pin}
 use Rattle.evidence.specs.Kept.{Kept, keeps_cross}
-use Rattle.growth.specs.Field.{IsFieldOf, IsClosed}
-use Rattle.growth.specs.Known.{HasWire, IsKeptCrossOf}
-use Rattle.growth.specs.declared.field.Field.{Field}
-use Rattle.growth.specs.declared.step.Step.{Step}
+use Rattle.known.specs.Field.{IsFieldOf, IsClosed}
+use Rattle.known.specs.Known.{HasWire, IsKeptCrossOf}
+use Rattle.known.specs.declared.field.Field.{Field}
+use Rattle.known.specs.declared.step.Step.{Step}
 use Rattle.self_test.specs.Looks.{AreRoutesKnown}
 use Rattle.self_test.specs.Skeleton.{IsMet, IsOwn, own_pin, own_port, HasSkeleton}
 use Rattle.self_test.specs.Soundly.{IsUnharmed}
-use Rattle.self_test.proofs.Getting.{marked_within}
+use Rattle.known.proofs.Getting.{marked_within}
 
 -- what is above a node is above those below it
 pub above_too : {m : Shape} {k n c : ℕ} → IsAbove m k n → IsAbove m n c → IsAbove m k c

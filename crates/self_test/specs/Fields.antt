@@ -7,17 +7,10 @@ use Rattle.hierarchy.specs.declared.Wire.{Wire}
 use Rattle.hierarchy.specs.Shape.{wires_of, crosses_of, nodes_of, ends_of, node_of, parent_of}
 use Rattle.config_set.specs.Configuration.{is_closed}
 use Rattle.config_image.specs.Images.{ImageValue}
-use Rattle.growth.specs.declared.field.Field.{Field}
+use Rattle.known.specs.declared.field.Field.{Field}
 use Rattle.self_test.specs.Picked.{IsAmong}
 use Rattle.self_test.specs.declared.picks.Frame.{Frame}
 use Rattle.self_test.specs.declared.picks.Picks.{Picks}
-
--- what was marked still is, and so is each of these numbers; no more than so many are new
-pub record Gets (these : ℕ → Type 0) (most : ℕ) (old new : List Bool) : Type 0 where
-  pub len : length new ≡ length old
-  pub stays : (x : ℕ) → has_number old x ≡ true → has_number new x ≡ true
-  pub all : (x : ℕ) → these x → has_number new x ≡ true
-  pub few : size_of new ≤ size_of old + most
 
 -- a crosspoint of this tap and this line
 pub record IsCrossOf (m : Shape) (t l x : ℕ) : Type 0 where
@@ -49,14 +42,7 @@ pub record IsBetween (m : Shape) (taps lines : List Wire) (n x : ℕ) : Type 0 w
   pub here : slice_get taps place ≡ Some tap
   pub cross : IsOnLines m tap.0 lines (length lines) x
 
--- one of the first n of these wires, or of these crosspoints
-pub record IsWireBefore (ws : List Wire) (n w : ℕ) : Type 0 where
-  pub place : ℕ
-  pub wire : Wire
-  pub early : place < n
-  pub here : slice_get ws place ≡ Some wire
-  pub is : wire.0 ≡ w
-
+-- one of the first n of these crosspoints
 pub record IsCrossBefore (crosses : List Cross) (n x : ℕ) : Type 0 where
   pub place : ℕ
   pub cross : Cross

@@ -8,9 +8,9 @@ use Rattle.config_set.specs.Configuration.{is_closed, setting_of}
 use Rattle.config_image.specs.Images.{ImageValue}
 use Rattle.config_image.specs.Parts.{Uses}
 use Rattle.evidence.specs.Kept.{Kept, HoldsFor, keeps_cross, keeps_cell, keeps_register}
-use Rattle.growth.specs.Known.{HasWire, IsKeptCrossOf}
-use Rattle.growth.specs.declared.field.Field.{Field}
-use Rattle.growth.specs.declared.step.Step.{Step}
+use Rattle.known.specs.Known.{HasWire, IsKeptCrossOf}
+use Rattle.known.specs.declared.field.Field.{Field}
+use Rattle.known.specs.declared.step.Step.{Step}
 use Rattle.self_test.specs.Skeleton.{HasSkeleton}
 use Rattle.self_test.specs.Soundly.{PartsAreSound, IsUnharmed}
 

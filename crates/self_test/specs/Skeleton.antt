@@ -6,7 +6,7 @@ use Rattle.hierarchy.specs.Shape.{node_of, parent_of, pins_of, pin_wire, ends_of
 use Rattle.config_set.specs.Configuration.{is_closed}
 use Rattle.config_image.specs.Images.{ImageValue}
 use Rattle.config_image.specs.Parts.{Uses, IsInvolved}
-use Rattle.growth.specs.declared.field.Field.{Field}
+use Rattle.known.specs.declared.field.Field.{Field}
 
 -- a tap and a line whose crosspoint is marked
 pub record IsMet (m : Shape) (crosses : List Bool) (tap line : ℕ) : Type 0 where

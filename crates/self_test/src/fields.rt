@@ -3,32 +3,23 @@ ghost use Rattle.std.specs.Prelude.{◌≡◌, ◌<◌, ◌≤◌, ◌+◌, ◌*
 ghost use Rattle.tm_bits.specs.Numbers.{size_of};
 ghost use Rattle.hierarchy.specs.Shape.{wires_of, crosses_of, nodes_of};
 ghost use Rattle.config_image.specs.Parts.{IsWideEnough};
-ghost use Rattle.growth.specs.Field.{IsFieldOf};
-ghost use Rattle.self_test.specs.Fields.{ArePicksOf, Gets, IsBetween, IsCrossBefore, IsCrossOf, IsFewFor, IsHungAt, IsHungOn, IsJointOf};
-ghost use Rattle.self_test.specs.Fields.{IsOfEither, IsOnLines, IsOnTaps, IsPickOf, IsWireBefore, OfMarked};
+ghost use Rattle.known.specs.Field.{IsFieldOf};
+ghost use Rattle.known.specs.Gains.{Gets};
+ghost use Rattle.self_test.specs.Fields.{ArePicksOf, IsBetween, IsCrossBefore, IsCrossOf, IsFewFor, IsHungAt, IsHungOn, IsJointOf};
+ghost use Rattle.self_test.specs.Fields.{IsOfEither, IsOnLines, IsOnTaps, IsPickOf, OfMarked};
 ghost use Rattle.self_test.specs.Skeleton.{HasSkeleton};
 ghost use Rattle.self_test.specs.Used.{AreInvolved, AreUsed};
 
 use crate::marks::Parts;
 use crate::picks::{Frame, Picks, frame_of};
 use config_image::Image;
-use growth::Field;
+use growth::{Field, add_wires};
 use hierarchy::{
     Cross, Node, Shape, Wire, ports_and_lines_ascend, the_crosspoints_are_sound,
     the_numbering_is_sound,
 };
 use std::alloc::{AllocError, Global};
 use tm_bits::BitSet;
-
-// Marks these wires.
-fn add_wires(marks: &mut BitSet, wires: &Vec<Wire>)
-    requires { All (λ w. w.0 < length marks.old) wires.now.items }
-    ensures { Gets (IsWireBefore wires.now.items (length wires.now.items)) (length wires.now.items) marks.old marks.new }
-{
-    'wires: for j in 0..wires.len() {
-        marks.insert(wires[j].0);
-    }
-}
 
 // Marks the crosspoint of a tap and a line, if they have one.
 fn meet(crosses: &mut BitSet, shape: &Shape, tap: Wire, line: Wire)

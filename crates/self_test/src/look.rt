@@ -4,7 +4,7 @@ ghost use Rattle.tm_bits.specs.Numbers.{has_number};
 ghost use Rattle.hierarchy.specs.Shape.{wires_of, crosses_of, tables_of};
 ghost use Rattle.config_image.specs.Images.{IsImage};
 ghost use Rattle.evidence.specs.Kept.{keeps_cell, keeps_cross, keeps_pair, keeps_wire};
-ghost use Rattle.growth.specs.Known.{HasWire, IsKnown};
+ghost use Rattle.known.specs.Known.{HasWire, IsKnown};
 ghost use Rattle.self_test.specs.Looks.{AreRoutesKnown, KeepsTableOf};
 ghost use Rattle.self_test.specs.Soundly.{KeepsRoutes, KeepsTables};
 ghost use Rattle.self_test.specs.Used.{AreUsed};

@@ -1,7 +1,7 @@
 use Rattle.std.proofs.Common.{◌<◌, ◌∙◌, sym, subst}
 use Rattle.hierarchy.specs.declared.Shape.{Shape}
 use Rattle.hierarchy.specs.Shape.{wires_of}
-use Rattle.growth.specs.Known.{HasWire}
+use Rattle.known.specs.Known.{HasWire}
 use Rattle.diagnose.proofs.Preferring.{beside_next}
 use Rattle.diagnose.proofs.choose.beside.Goals as goal
 use Rattle.diagnose.proofs.choose.beside.Goals.{then-keeps_pair, else-keeps_pair+else-is_pin}

@@ -1,6 +1,6 @@
 use Rattle.std.proofs.Common.{◌≡◌, ◌≤◌, ◌+◌, ◌*◌, false}
 use Rattle.evidence.specs.Kept.{Advances}
-use Rattle.growth.specs.Known.{IsKnown}
+use Rattle.known.specs.Known.{IsKnown}
 use Rattle.diagnose.specs.Stages.{IfReached}
 use Rattle.diagnose.proofs.choose.prefer_pins.Given as goal
 

@@ -1,12 +1,12 @@
 use Rattle.std.proofs.Common.{◌≡◌, List, Option, Some, sym, ap, subst}
 use Rattle.std.specs.Prelude.{IfOk, OnOk, IfNone, slice_get}
 use Rattle.hierarchy.specs.Faults.{Faults}
-use Rattle.growth.specs.Marked.{AreMarks}
-use Rattle.growth.specs.Offers.{HasNoSecond}
-use Rattle.growth.specs.declared.step.Foot.{Foot}
-use Rattle.growth.proofs.Later.{known_later}
-use Rattle.growth.proofs.Offering.{spends_on_then, spends_on_told}
-use Rattle.growth.proofs.Seconds.{offer_still}
+use Rattle.reach.specs.Marked.{AreMarks}
+use Rattle.reach.specs.Offers.{HasNoSecond}
+use Rattle.known.specs.declared.step.Foot.{Foot}
+use Rattle.known.proofs.Later.{known_later}
+use Rattle.reach.proofs.Offering.{spends_on_then, spends_on_told}
+use Rattle.reach.proofs.Seconds.{offer_still}
 use Rattle.growth.proofs.feet.second_foot.Goals as goal
 
 pub try_others-requires-clause-known : goal.try_others-requires-clause-known

@@ -1,8 +1,8 @@
 use Rattle.std.proofs.Common.{◌∙◌, refl, sym, subst, ◌<◌}
 use Rattle.std.proofs.lemmas.Result.{IfOk-weaker}
-use Rattle.growth.proofs.Offering.{spends_on_none, spends_other}
-use Rattle.growth.proofs.Seconds.{lost_one}
-use Rattle.growth.proofs.Settling.{kept_by, second_lost, second_mark_by, marks_second, link_still, lost_faulty, on_both}
+use Rattle.reach.proofs.Offering.{spends_on_none, spends_other}
+use Rattle.reach.proofs.Seconds.{lost_one}
+use Rattle.reach.proofs.Settling.{kept_by, second_lost, second_mark_by, marks_second, link_still, lost_faulty, on_both}
 use Rattle.growth.proofs.feet.try_other.Goals as goal
 
 pub keeps_cross-requires : goal.keeps_cross-requires

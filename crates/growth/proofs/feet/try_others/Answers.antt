@@ -3,11 +3,11 @@ use Rattle.std.specs.Prelude.{slice_get}
 use Rattle.std.proofs.lemmas.Option.{slice_get_within, slice_get_read}
 use Rattle.hierarchy.specs.Faults.{Faults}
 use Rattle.evidence.proofs.Keeping.{advances_itself, advances_then}
-use Rattle.growth.specs.Marked.{AreMarks}
-use Rattle.growth.specs.Offers.{AreLost}
-use Rattle.growth.proofs.Later.{known_later}
-use Rattle.growth.proofs.Offering.{spends_on_none, spends_on_then, spends_on_told}
-use Rattle.growth.proofs.Seconds.{offer_still, lost_next}
+use Rattle.reach.specs.Marked.{AreMarks}
+use Rattle.reach.specs.Offers.{AreLost}
+use Rattle.known.proofs.Later.{known_later}
+use Rattle.reach.proofs.Offering.{spends_on_none, spends_on_then, spends_on_told}
+use Rattle.reach.proofs.Seconds.{offer_still, lost_next}
 use Rattle.growth.proofs.feet.try_others.Goals as goal
 
 pub others-init : goal.others-init

@@ -1,9 +1,9 @@
 use Rattle.std.proofs.Common.{◌≡◌, ◌<◌, ℕ, Some}
 use Rattle.std.specs.Prelude.{slice_get}
 use Rattle.evidence.specs.Kept.{Advances}
-use Rattle.growth.specs.Marked.{AreMarks, SpendsOn}
-use Rattle.growth.specs.Offers.{AreLost}
-use Rattle.growth.specs.declared.step.Foot.{Foot}
+use Rattle.reach.specs.Marked.{AreMarks, SpendsOn}
+use Rattle.reach.specs.Offers.{AreLost}
+use Rattle.known.specs.declared.step.Foot.{Foot}
 use Rattle.growth.proofs.feet.try_others.Given as goal
 
 abbrev pub invariant-others : goal.invariant-others

@@ -1,7 +1,7 @@
 use Rattle.std.proofs.Common.{◌∙◌, refl, sym}
-use Rattle.growth.proofs.Offering.{spends_on_none, spends_own}
-use Rattle.growth.proofs.Seconds.{lost_all}
-use Rattle.growth.proofs.Settling.{marks_offered, lost_faulty}
+use Rattle.reach.proofs.Offering.{spends_on_none, spends_own}
+use Rattle.reach.proofs.Seconds.{lost_all}
+use Rattle.reach.proofs.Settling.{marks_offered, lost_faulty}
 use Rattle.growth.proofs.feet.try_over.Goals as goal
 
 pub returns-then-keeps_cross-clause-some : goal.returns-then-keeps_cross-clause-some

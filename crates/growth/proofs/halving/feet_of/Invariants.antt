@@ -1,5 +1,5 @@
 use Rattle.std.specs.Prelude.{IfSome}
-use Rattle.growth.specs.Grounds.{IsFootTo}
+use Rattle.known.specs.Grounds.{IsFootTo}
 use Rattle.growth.proofs.halving.feet_of.Given as goal
 
 abbrev pub invariant-links : goal.invariant-links

@@ -1,7 +1,7 @@
 use Rattle.std.proofs.Common.{◌<◌, ◌∙◌, sym, subst}
 use Rattle.hierarchy.specs.declared.Shape.{Shape}
 use Rattle.hierarchy.specs.Shape.{wires_of}
-use Rattle.growth.proofs.Stood.{link_within}
+use Rattle.known.proofs.Stood.{link_within}
 use Rattle.growth.proofs.halving.foot_at.Goals as goal
 
 pub is_foot-requires-clause-cross : goal.is_foot-requires-clause-cross

@@ -1,7 +1,7 @@
 use Rattle.std.proofs.Common.{arith}
 use Rattle.evidence.proofs.Keeping.{advances_itself, advances_then}
 use Rattle.growth.proofs.Halved.{kept_later}
-use Rattle.growth.proofs.Later.{known_later}
+use Rattle.known.proofs.Later.{known_later}
 use Rattle.growth.proofs.halving.halved.Goals as goal
 
 pub halves-init : goal.halves-init

@@ -1,6 +1,6 @@
 use Rattle.std.proofs.Common.{◌≡◌, ℕ, length}
 use Rattle.hierarchy.specs.Shape.{wires_of}
-use Rattle.growth.specs.Known.{HasWire, InSet}
+use Rattle.known.specs.Known.{HasWire, InSet}
 use Rattle.growth.proofs.halving.known_set.Given as goal
 
 abbrev pub invariant-places : goal.invariant-places

@@ -1,7 +1,7 @@
 use Rattle.std.proofs.Common.{◌∙◌, ap}
 use Rattle.std.proofs.lemmas.Result.{IfOk-weaker}
 use Rattle.hierarchy.specs.Shape.{wires_of}
-use Rattle.growth.proofs.Outsides.{known_apart}
+use Rattle.known.proofs.Apart.{known_apart}
 use Rattle.growth.proofs.halving.known_without.Goals as goal
 
 pub stand_on-requires-clause-apart : goal.stand_on-requires-clause-apart

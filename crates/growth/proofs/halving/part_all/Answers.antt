@@ -1,5 +1,5 @@
 use Rattle.growth.proofs.Halved.{kept_later, wire_later}
-use Rattle.growth.proofs.Later.{known_later}
+use Rattle.known.proofs.Later.{known_later}
 use Rattle.growth.proofs.halving.part_all.Goals as goal
 
 pub part_rest-requires-clause-way : goal.part_rest-requires-clause-way

@@ -1,7 +1,7 @@
 use Rattle.std.proofs.Common.{sym, ◌∙◌}
 use Rattle.growth.proofs.Halved.{links_later, wire_later}
-use Rattle.growth.proofs.Later.{known_later}
-use Rattle.growth.proofs.Testing.{links_same}
+use Rattle.known.proofs.Later.{known_later}
+use Rattle.known.proofs.Linking.{links_same}
 use Rattle.growth.proofs.halving.part_wire.Goals as goal
 
 pub ways_of-requires-clause-links : goal.ways_of-requires-clause-links

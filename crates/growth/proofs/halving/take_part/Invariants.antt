@@ -1,5 +1,5 @@
 use Rattle.std.proofs.Common.{◌≡◌, ℕ, length}
-use Rattle.growth.specs.Known.{InSet}
+use Rattle.known.specs.Known.{InSet}
 use Rattle.growth.proofs.halving.take_part.Given as goal
 
 abbrev pub invariant-places : goal.invariant-places

@@ -6,7 +6,7 @@ use Rattle.test_configs.specs.Configs.{IsLoopConfig}
 use Rattle.test_configs.specs.Routes.{Walk, cross_numbers}
 use Rattle.evidence.specs.Kept.{Kept}
 use Rattle.evidence.specs.Readings.{IsReady}
-use Rattle.growth.proofs.Adding.{all_numbers}
+use Rattle.reach.proofs.Adding.{all_numbers}
 use Rattle.growth.proofs.Halved.{beside_within, beside_off, beside_ready, route_ready}
 use Rattle.growth.proofs.halving.tell_apart.Goals as goal
 

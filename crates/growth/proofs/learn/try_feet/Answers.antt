@@ -1,10 +1,10 @@
 use Rattle.std.proofs.Common.{◌<◌, refl, sym, subst, inl, inr}
 use Rattle.std.proofs.lemmas.Result.{on_ok_weaker}
-use Rattle.growth.specs.Known.{KnownWires, IsKnown}
-use Rattle.growth.proofs.Later.{known_later, stands_later}
+use Rattle.known.specs.Known.{KnownWires, IsKnown}
+use Rattle.known.proofs.Later.{known_later, stands_later}
 use Rattle.growth.proofs.Learning.{by_result, none_more, learnt_more, learnt_has, learnt_known, learnt_marks}
-use Rattle.growth.proofs.Seconds.{offer_feet, offer_stands}
-use Rattle.growth.proofs.Settling.{marks_barred, marks_still}
+use Rattle.reach.proofs.Seconds.{offer_feet, offer_stands}
+use Rattle.reach.proofs.Settling.{marks_barred, marks_still}
 use Rattle.growth.proofs.learn.try_feet.Goals as goal
 
 pub bar-requires : goal.bar-requires

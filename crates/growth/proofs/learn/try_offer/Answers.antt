@@ -5,12 +5,12 @@ use Rattle.tm_bits.specs.Numbers.{has_number}
 use Rattle.hierarchy.specs.declared.Shape.{Shape}
 use Rattle.hierarchy.specs.Shape.{wires_of}
 use Rattle.hierarchy.specs.Faults.{Faults}
-use Rattle.growth.specs.Marked.{AreMarks, barred, lost}
-use Rattle.growth.specs.Trials.{IsTried}
-use Rattle.growth.proofs.Later.{known_later}
+use Rattle.reach.specs.Marked.{AreMarks, barred, lost}
+use Rattle.reach.specs.Trials.{IsTried}
+use Rattle.known.proofs.Later.{known_later}
 use Rattle.growth.proofs.Learning.{none_more, offers_barred, barred_twice}
-use Rattle.growth.proofs.Marking.{spends_then, spends_barred}
-use Rattle.growth.proofs.Seconds.{offer_still}
+use Rattle.reach.proofs.Marking.{spends_then, spends_barred}
+use Rattle.reach.proofs.Seconds.{offer_still}
 use Rattle.growth.proofs.learn.try_offer.Goals as goal
 
 pub returns-in_err-second-clause-known : goal.returns-in_err-second-clause-known

@@ -3,13 +3,13 @@ use Rattle.std.specs.Prelude.{slice_set}
 use Rattle.std.proofs.lemmas.Result.{on_ok_weaker}
 use Rattle.hierarchy.specs.declared.Shape.{Shape}
 use Rattle.hierarchy.specs.Shape.{pins_of, pin_wire, wires_of}
-use Rattle.growth.specs.Known.{KnownWires, HasWire, IsKnown, on_pin}
+use Rattle.known.specs.Known.{KnownWires, HasWire, IsKnown, on_pin}
 use Rattle.growth.specs.Grown.{IsOneMore}
-use Rattle.growth.specs.Trials.{IsBad}
-use Rattle.growth.specs.Ways.{AreWays}
-use Rattle.growth.proofs.Later.{known_later, stands_later}
+use Rattle.reach.specs.Trials.{IsBad}
+use Rattle.known.specs.Ways.{AreWays}
+use Rattle.known.proofs.Later.{known_later, stands_later}
 use Rattle.growth.proofs.Learning.{by_result, none_more, learnt_more, learnt_has, learnt_known, learnt_marks}
-use Rattle.growth.proofs.Settling.{marks_barred, marks_still}
+use Rattle.reach.proofs.Settling.{marks_barred, marks_still}
 use Rattle.growth.proofs.learn.try_pin.Goals as goal
 
 pub bar-requires : goal.bar-requires

@@ -2,7 +2,7 @@ use Rattle.std.proofs.Common.{List, sym, subst, ◌∙◌, ◌<◌, arith}
 use Rattle.hierarchy.specs.declared.Shape.{Shape}
 use Rattle.hierarchy.specs.Shape.{wires_of}
 use Rattle.growth.specs.Looks.{AreEarlierUpTo}
-use Rattle.growth.specs.declared.step.Foot.{Foot}
+use Rattle.known.specs.declared.step.Foot.{Foot}
 use Rattle.growth.proofs.Looking.{earlier_none, earlier_past, earlier_next, earlier_all, link_leads, link_wire}
 use Rattle.growth.proofs.look.earlier_links.Goals as goal
 

@@ -3,14 +3,14 @@ use Rattle.hierarchy.specs.declared.Shape.{Shape}
 use Rattle.hierarchy.specs.Faults.{Faults}
 use Rattle.evidence.proofs.Keeping.{advances_itself, advances_then}
 use Rattle.evidence.proofs.KeptLemmas.{more_itself}
-use Rattle.growth.specs.Grown.{AreLinked}
-use Rattle.growth.specs.Known.{IsAt}
+use Rattle.known.specs.Linked.{AreLinked}
+use Rattle.known.specs.Known.{IsAt}
 use Rattle.growth.specs.Looks.{AreAllMarks, AreTried, IsLooked}
 use Rattle.growth.proofs.Growing.{grown_next}
 use Rattle.growth.proofs.Leaving.{looks_next, looks_past, looks_all, spends_told}
 use Rattle.growth.proofs.Looking.{link_leads}
-use Rattle.growth.proofs.Marking.{spends_none, spends_then}
-use Rattle.growth.proofs.Places.{at_later}
+use Rattle.reach.proofs.Marking.{spends_none, spends_then}
+use Rattle.known.proofs.Places.{at_later}
 use Rattle.growth.proofs.Stages.{grows_itself, grows_then, grown_on, longer, tried_none, tried_then}
 use Rattle.growth.proofs.look.look_at.Goals as goal
 

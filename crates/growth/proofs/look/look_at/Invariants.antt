@@ -1,10 +1,10 @@
 use Rattle.std.proofs.Common.{◌≡◌, ◌<◌, ℕ, Some}
 use Rattle.std.specs.Prelude.{slice_get}
 use Rattle.evidence.specs.Kept.{Advances}
-use Rattle.growth.specs.Grown.{list_at}
+use Rattle.known.specs.Linked.{list_at}
 use Rattle.growth.specs.Looks.{AreAllMarks, AreTried, Grows, IsLinking, IsLooked}
-use Rattle.growth.specs.Marked.{Spends}
-use Rattle.growth.specs.declared.step.Foot.{Foot}
+use Rattle.reach.specs.Marked.{Spends}
+use Rattle.known.specs.declared.step.Foot.{Foot}
 use Rattle.growth.proofs.look.look_at.Given as goal
 
 abbrev pub invariant-links : goal.invariant-links

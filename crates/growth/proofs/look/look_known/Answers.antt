@@ -1,8 +1,8 @@
 use Rattle.std.proofs.Common.{◌∙◌, ◌<◌, sym, subst, inr, arith}
 use Rattle.std.proofs.lemmas.Result.{on_ok_weaker}
-use Rattle.growth.specs.Known.{IsBefore}
+use Rattle.known.specs.Known.{IsBefore}
 use Rattle.growth.proofs.Looking.{kept_already, not_earlier}
-use Rattle.growth.proofs.Settling.{marks_between}
+use Rattle.reach.proofs.Settling.{marks_between}
 use Rattle.growth.proofs.look.look_known.Goals as goal
 
 pub returns-then-keeps_cross-clause-kept : goal.returns-then-keeps_cross-clause-kept

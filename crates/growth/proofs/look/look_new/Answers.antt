@@ -3,11 +3,11 @@ use Rattle.std.proofs.lemmas.Result.{on_ok_weaker}
 use Rattle.tm_bits.specs.Numbers.{has_number}
 use Rattle.hierarchy.specs.declared.Shape.{Shape}
 use Rattle.evidence.proofs.KeptLemmas.{more_itself}
-use Rattle.growth.specs.Grown.{AreLinked}
+use Rattle.known.specs.Linked.{AreLinked}
 use Rattle.growth.proofs.Leaving.{look_plain, looked_offered, looked_tried, tried_tried, offered_marks, offer_links}
 use Rattle.growth.proofs.Looking.{look_within, look_other}
-use Rattle.growth.proofs.Marking.{spends_none, spends_in}
-use Rattle.growth.proofs.Settling.{on_both}
+use Rattle.reach.proofs.Marking.{spends_none, spends_in}
+use Rattle.reach.proofs.Settling.{on_both}
 use Rattle.growth.proofs.Stages.{grows_itself, grows_one, tried_none}
 use Rattle.growth.proofs.look.look_new.Goals as goal
 

@@ -6,8 +6,8 @@ use Rattle.hierarchy.specs.Shape.{wires_of}
 use Rattle.evidence.proofs.KeptLemmas.{more_itself}
 use Rattle.growth.proofs.Leaving.{look_plain, all_later, joins_spent, joins_barred, joins_offered}
 use Rattle.growth.proofs.Looking.{look_within, look_other, looked_barred, looked_known, not_earlier}
-use Rattle.growth.proofs.Marking.{spends_none}
-use Rattle.growth.proofs.Places.{before_has}
+use Rattle.reach.proofs.Marking.{spends_none}
+use Rattle.known.proofs.Places.{before_has}
 use Rattle.growth.proofs.Stages.{grows_itself, tried_none}
 use Rattle.growth.proofs.look.look_over.Goals as goal
 

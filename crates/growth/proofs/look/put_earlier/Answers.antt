@@ -1,6 +1,6 @@
 use Rattle.std.proofs.Common.{arith}
 use Rattle.growth.proofs.Looking.{takes_none, takes_one, not_earlier}
-use Rattle.growth.proofs.Places.{before_has}
+use Rattle.known.proofs.Places.{before_has}
 use Rattle.growth.proofs.look.put_earlier.Goals as goal
 
 pub returns-in_default : goal.returns-in_default

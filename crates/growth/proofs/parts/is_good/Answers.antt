@@ -1,9 +1,9 @@
 use Rattle.std.proofs.Common.{◌∙◌, Option, ap, subst}
 use Rattle.std.proofs.lemmas.Result.{IfOk-weaker}
 use Rattle.hierarchy.specs.Faults.{Faults}
-use Rattle.growth.specs.Trials.{IsBad}
-use Rattle.growth.proofs.Later.{known_later}
-use Rattle.growth.proofs.Parting.{ways_later, apart_later, good}
+use Rattle.reach.specs.Trials.{IsBad}
+use Rattle.known.proofs.Later.{known_later, ways_later}
+use Rattle.growth.proofs.Parting.{apart_later, good}
 use Rattle.growth.proofs.parts.is_good.Goals as goal
 
 pub part-requires-clause-known : goal.part-requires-clause-known

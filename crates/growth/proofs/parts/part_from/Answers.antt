@@ -8,7 +8,7 @@ use Rattle.test_configs.specs.Configs.{IsLoopConfig}
 use Rattle.test_configs.specs.Routes.{Walk, cross_numbers}
 use Rattle.evidence.specs.Kept.{Kept, IsMore, Gains, these_pairs}
 use Rattle.evidence.specs.Readings.{IsReady, wires_over}
-use Rattle.growth.proofs.Adding.{all_numbers}
+use Rattle.reach.proofs.Adding.{all_numbers}
 use Rattle.growth.proofs.Listing.{parting_within}
 use Rattle.growth.proofs.Parting.{walk_off, walks_ready, way_ready, parted, part_bad}
 use Rattle.growth.proofs.parts.part_from.Goals as goal

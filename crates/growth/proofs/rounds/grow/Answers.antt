@@ -3,13 +3,14 @@ use Rattle.hierarchy.specs.declared.Shape.{Shape}
 use Rattle.hierarchy.specs.Faults.{Faults}
 use Rattle.hierarchy.specs.Shape.{pins_of}
 use Rattle.evidence.proofs.Keeping.{advances_then}
-use Rattle.growth.specs.Field.{IsFieldOf}
-use Rattle.growth.specs.Grown.{AreLinked, AreLinks, IsGrown}
+use Rattle.known.specs.Field.{IsFieldOf}
+use Rattle.known.specs.Linked.{AreLinked, AreLinks}
+use Rattle.growth.specs.Grown.{IsGrown}
 use Rattle.growth.specs.Looks.{AreAllMarks, AreTried}
 use Rattle.growth.proofs.Circling.{first_marks, first_unspent, grows_nothing, growing_first, growing_next, growing_closed, growing_in, growing_most, growing_few}
 use Rattle.growth.proofs.Ending.{grows_in}
 use Rattle.growth.proofs.Leaving.{spends_told}
-use Rattle.growth.proofs.Linking.{linked_of}
+use Rattle.known.proofs.Linking.{linked_of}
 use Rattle.growth.proofs.Taken.{takes_none, takes_most, takes_few}
 use Rattle.growth.proofs.rounds.grow.Goals as goal
 

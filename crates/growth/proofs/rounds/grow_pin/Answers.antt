@@ -6,13 +6,14 @@ use Rattle.hierarchy.specs.declared.Shape.{Shape}
 use Rattle.hierarchy.specs.Faults.{Faults}
 use Rattle.hierarchy.specs.Shape.{pin_wire, wires_of}
 use Rattle.evidence.proofs.KeptLemmas.{more_itself}
-use Rattle.growth.specs.Grown.{AreLinked, IsGrown}
-use Rattle.growth.specs.Known.{HasWire}
+use Rattle.known.specs.Linked.{AreLinked}
+use Rattle.growth.specs.Grown.{IsGrown}
+use Rattle.known.specs.Known.{HasWire}
 use Rattle.growth.specs.Looks.{AreAllMarks, AreTried}
-use Rattle.growth.specs.declared.marks.Marks.{Marks}
+use Rattle.reach.specs.declared.marks.Marks.{Marks}
 use Rattle.growth.proofs.Circling.{grown_at, pin_grows, pin_marks, pin_has}
 use Rattle.growth.proofs.Leaving.{spends_told}
-use Rattle.growth.proofs.Marking.{spends_none, spends_then, spends_barred}
+use Rattle.reach.proofs.Marking.{spends_none, spends_then, spends_barred}
 use Rattle.growth.proofs.Stages.{grows_itself, grows_then, grown_on, longer, tried_none, tried_one, tried_then}
 use Rattle.growth.proofs.rounds.grow_pin.Goals as goal
 

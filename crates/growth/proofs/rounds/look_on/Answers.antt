@@ -4,11 +4,12 @@ use Rattle.hierarchy.specs.Faults.{Faults}
 use Rattle.hierarchy.specs.Shape.{wires_of}
 use Rattle.evidence.proofs.Keeping.{advances_itself, advances_then}
 use Rattle.evidence.proofs.KeptLemmas.{more_itself}
-use Rattle.growth.specs.Grown.{AreLinked, IsGrown}
+use Rattle.known.specs.Linked.{AreLinked}
+use Rattle.growth.specs.Grown.{IsGrown}
 use Rattle.growth.specs.Looks.{AreAllMarks, AreTried}
 use Rattle.growth.proofs.Circling.{grown_at}
 use Rattle.growth.proofs.Leaving.{spends_told}
-use Rattle.growth.proofs.Marking.{spends_none, spends_then}
+use Rattle.reach.proofs.Marking.{spends_none, spends_then}
 use Rattle.growth.proofs.Stages.{grows_itself, grows_then, longer, tried_none, tried_then}
 use Rattle.growth.proofs.rounds.look_on.Goals as goal
 

@@ -3,7 +3,7 @@ use Rattle.hierarchy.specs.Shape.{wires_of}
 use Rattle.evidence.specs.Kept.{Advances}
 use Rattle.growth.specs.Grown.{IsGrown}
 use Rattle.growth.specs.Looks.{AreAllMarks, AreTried, Grows, IsLinking}
-use Rattle.growth.specs.Marked.{Spends}
+use Rattle.reach.specs.Marked.{Spends}
 use Rattle.growth.proofs.rounds.look_on.Given as goal
 
 abbrev pub invariant-places : goal.invariant-places

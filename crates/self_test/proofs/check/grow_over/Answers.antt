@@ -1,6 +1,6 @@
 use Rattle.std.proofs.Common.{sym, ◌∙◌, subst}
 use Rattle.hierarchy.specs.declared.Shape.{Shape}
-use Rattle.growth.specs.Field.{IsFieldOf}
+use Rattle.known.specs.Field.{IsFieldOf}
 use Rattle.self_test.proofs.Checking.{routes_if}
 use Rattle.self_test.proofs.check.grow_over.Goals as goal
 

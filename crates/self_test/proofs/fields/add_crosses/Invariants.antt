@@ -1,4 +1,5 @@
-use Rattle.self_test.specs.Fields.{Gets, IsCrossBefore}
+use Rattle.known.specs.Gains.{Gets}
+use Rattle.self_test.specs.Fields.{IsCrossBefore}
 use Rattle.self_test.proofs.fields.add_crosses.Given as goal
 
 abbrev pub invariant-crosses : goal.invariant-crosses

@@ -1,7 +1,7 @@
 use Rattle.std.proofs.Common.{◌<◌, All, sym, ap, ◌∙◌, subst}
 use Rattle.hierarchy.specs.declared.Cross.{Cross}
 use Rattle.config_set.specs.Configuration.{Configuration}
-use Rattle.growth.specs.declared.field.Field.{Field}
+use Rattle.known.specs.declared.field.Field.{Field}
 use Rattle.self_test.proofs.Building.{picks_few, picked_over, built_of, built_few, built_skeleton}
 use Rattle.self_test.proofs.Using.{closed_counts, closed_within}
 use Rattle.self_test.proofs.fields.field_of.Goals as goal

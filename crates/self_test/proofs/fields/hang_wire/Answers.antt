@@ -1,6 +1,7 @@
 use Rattle.std.proofs.Common.{◌≡◌, ◌<◌, Some, length, subst, arith}
 use Rattle.std.specs.Prelude.{slice_get}
-use Rattle.self_test.proofs.Fielding.{at_index, hung_on}
+use Rattle.known.proofs.Getting.{at_index}
+use Rattle.self_test.proofs.Fielding.{hung_on}
 use Rattle.self_test.proofs.fields.hang_wire.Goals as goal
 
 pub returns-clause-crosses : goal.returns-clause-crosses

@@ -1,5 +1,6 @@
 use Rattle.std.proofs.Common.{◌<◌, length, arith}
-use Rattle.self_test.proofs.Fielding.{at_index, pick_wires, root_joints, up_joints}
+use Rattle.known.proofs.Getting.{at_index}
+use Rattle.self_test.proofs.Fielding.{pick_wires, root_joints, up_joints}
 use Rattle.self_test.proofs.fields.join_node.Goals as goal
 
 pub returns-in_default-clause-wires : goal.returns-in_default-clause-wires

@@ -1,7 +1,8 @@
 use Rattle.std.proofs.Common.{◌*◌, take}
 use Rattle.tm_bits.specs.Numbers.{size_of}
-use Rattle.growth.specs.Field.{IsFieldOf}
-use Rattle.self_test.specs.Fields.{Gets, IsJointOf, IsPickOf, OfMarked}
+use Rattle.known.specs.Field.{IsFieldOf}
+use Rattle.known.specs.Gains.{Gets}
+use Rattle.self_test.specs.Fields.{IsJointOf, IsPickOf, OfMarked}
 use Rattle.self_test.proofs.fields.join_nodes.Given as goal
 
 abbrev pub invariant-nodes : goal.invariant-nodes

@@ -1,5 +1,6 @@
 use Rattle.std.proofs.Common.{◌*◌, length}
-use Rattle.self_test.specs.Fields.{Gets, IsBetween}
+use Rattle.known.specs.Gains.{Gets}
+use Rattle.self_test.specs.Fields.{IsBetween}
 use Rattle.self_test.proofs.fields.meet_all.Given as goal
 
 abbrev pub invariant-taps : goal.invariant-taps

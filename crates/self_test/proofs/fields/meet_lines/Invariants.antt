@@ -1,4 +1,5 @@
-use Rattle.self_test.specs.Fields.{Gets, IsOnLines}
+use Rattle.known.specs.Gains.{Gets}
+use Rattle.self_test.specs.Fields.{IsOnLines}
 use Rattle.self_test.proofs.fields.meet_lines.Given as goal
 
 abbrev pub invariant-lines : goal.invariant-lines

@@ -1,4 +1,5 @@
-use Rattle.self_test.specs.Fields.{Gets, IsOnTaps}
+use Rattle.known.specs.Gains.{Gets}
+use Rattle.self_test.specs.Fields.{IsOnTaps}
 use Rattle.self_test.proofs.fields.meet_taps.Given as goal
 
 abbrev pub invariant-taps : goal.invariant-taps

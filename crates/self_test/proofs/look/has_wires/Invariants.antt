@@ -1,6 +1,6 @@
 use Rattle.std.proofs.Common.{◌≡◌, ◌<◌, ℕ, true}
 use Rattle.tm_bits.specs.Numbers.{has_number}
-use Rattle.growth.specs.Known.{HasWire}
+use Rattle.known.specs.Known.{HasWire}
 use Rattle.self_test.proofs.look.has_wires.Given as goal
 
 abbrev pub invariant-wires : goal.invariant-wires

@@ -1,5 +1,0 @@
-use Rattle.growth.specs.Seating.{AreArmsTo}
-use Rattle.growth.proofs.seats.arms_of.Given as goal
-
-abbrev pub invariant-inputs : goal.invariant-inputs
-invariant-inputs l = record { arms : AreArmsTo l.proof l.known.steps l.t.0 l.near.0 l.beside.0 l.input l.arms.items }

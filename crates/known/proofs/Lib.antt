@@ -1,0 +1,12 @@
+-- What is cited above.
+pub mod Places
+pub mod Getting
+pub mod Rising
+pub mod Later
+pub mod Apart
+pub mod Linking
+pub mod Grounding
+pub mod Stood
+-- For the proofs of this crate alone.
+mod Ranking
+mod TwoWays

@@ -1,0 +1,23 @@
+//! Wires that are known: each is a pin of the machine, or stands on two feet, kept crosspoints to two different known wires
+//! that came before it; and each two of them are kept apart.
+//!
+//! So any two known wires have routes from two pins without a common wire: the one that came later steps down to a foot at
+//! which the other doesn't stand, until two pins are reached. Which of some wires are known by kept crosspoints alone, over
+//! the links of the machine, is found without a load.
+#![tactic(auto)]
+
+mod descents;
+mod field;
+mod known;
+mod links;
+mod routes;
+mod stands;
+mod step;
+mod ways;
+
+pub use descents::Down;
+pub use field::{Field, add_wires};
+pub use known::Known;
+pub use links::{Near, link_at, link_count, links_of};
+pub use stands::{all_links, stand_on, standing};
+pub use step::{Foot, Stand, Step};

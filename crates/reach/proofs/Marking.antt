@@ -1,0 +1,205 @@
+-- Marks, and the loads that they stand for.
+use Rattle.std.proofs.Common.{◌≡◌, ◌≢◌, ◌⊎◌, ℕ, ◌+◌, ◌*◌, ◌<◌, ◌≤◌, Bool, true, false, Some, Option, List, length, refl, sym, ap, ◌∙◌, subst, inl, inr, arith}
+use Rattle.std.specs.Prelude.{◌||◌, slice_get, slice_set}
+use Rattle.std.proofs.lemmas.Bool.{false≢true}
+use Rattle.tm_bits.specs.Numbers.{has_number}
+use Rattle.hierarchy.specs.declared.Shape.{Shape}
+use Rattle.hierarchy.specs.Shape.{wires_of, crosses_of}
+use Rattle.hierarchy.specs.Faults.{Faults, IsFaultless}
+use Rattle.hierarchy.proofs.Clear.{clear_of_sound}
+use Rattle.hierarchy.proofs.Faultless.{all_sound}
+use Rattle.evidence.specs.Kept.{Kept, HoldsFor, keeps_cross}
+use Rattle.known.specs.Known.{HasWire}
+use Rattle.reach.specs.Marked.{how_many, is_spent, most_loads, few_loads, Spends, AreMarks}
+use Rattle.reach.specs.Trials.{IsFit}
+use Rattle.reach.specs.declared.marks.Marks.{Marks}
+use Rattle.known.specs.declared.step.Step.{Step}
+use Rattle.reach.proofs.Counting.{many_one, set_has, set_only, set_stays, set_one}
+
+-- without faults each wire that isn't known is fit
+pub fit_faultless : {m : Shape} {f : Faults} {ss : List Step} {w : ℕ} → IsFaultless f → ¬ HasWire ss w → IsFit m f ss w
+fit_faultless {ss = ss} {w = w} none new = record {
+  clear = clear_of_sound (all_sound none w);
+  alone = λ u has s. new (subst (HasWire ss) ((all_sound none w).alone u s) has);
+}
+
+-- what was toggled
+pub by_three : (a b c : Bool) {P : Type 0} → (a || (b || c)) ≡ true → (a ≡ true → P) → (b ≡ true → P) → (c ≡ true → P) → P
+by_three true b c on f g h = f refl
+by_three false true c on f g h = g refl
+by_three false false c on f g h = h on
+
+pub first_of : (a b c : Bool) → a ≡ true → (a || (b || c)) ≡ true
+first_of a b c e = rw e refl
+
+pub second_of : (a b c : Bool) → b ≡ true → (a || (b || c)) ≡ true
+second_of true b c e = refl
+second_of false b c e = rw e refl
+
+pub third_of : (a b c : Bool) → c ≡ true → (a || (b || c)) ≡ true
+third_of true b c e = refl
+third_of false true c e = refl
+third_of false false c e = e
+
+none_of : (a b c : Bool) → (a || (b || c)) ≡ false → (a ≡ false) × ((b ≡ false) × (c ≡ false))
+none_of true b c e = absurd (false≢true (sym e))
+none_of false true c e = absurd (false≢true (sym e))
+none_of false false c e = (refl, (refl, e))
+
+-- one crosspoint more is marked
+pub record MarksOne (x : ℕ) (old new : Marks) : Type 0 where
+  pub more : (y : ℕ) → is_spent old y ≡ true → is_spent new y ≡ true
+  pub only : (y : ℕ) → is_spent new y ≡ true → (is_spent old y ≡ true) ⊎ (x ≡ y)
+  pub this : is_spent new x ≡ true
+  pub barred : new.barred ≡ old.barred
+
+module _ (s : Marks) (x : ℕ) where
+  abbrev o : ℕ → Bool
+  o = has_number s.offered
+
+  abbrev t : ℕ → Bool
+  t = has_number s.second
+
+  abbrev b : ℕ → Bool
+  b = has_number s.between
+
+  pub offered_one : x < length s.offered → MarksOne x s (record s { offered = slice_set s.offered x true })
+  offered_one within = record {
+    more = λ y on. by_three (o y) (t y) (b y) on (λ e. first_of _ (t y) (b y) (set_stays s.offered x y e)) (second_of _ (t y) (b y)) (third_of _ (t y) (b y));
+    only = λ y on. by_three _ (t y) (b y) on (λ e. put y (set_only s.offered x y e)) (λ e. inl (second_of (o y) (t y) (b y) e)) (λ e. inl (third_of (o y) (t y) (b y) e));
+    this = first_of _ (t x) (b x) (set_has s.offered x within);
+    barred = refl;
+  }
+    where
+      put : (y : ℕ) → (o y ≡ true) ⊎ (x ≡ y) → (is_spent s y ≡ true) ⊎ (x ≡ y)
+      put y (inl e) = inl (first_of (o y) (t y) (b y) e)
+      put y (inr e) = inr e
+
+  pub second_one : x < length s.second → MarksOne x s (record s { second = slice_set s.second x true })
+  second_one within = record {
+    more = λ y on. by_three (o y) (t y) (b y) on (first_of (o y) _ (b y)) (λ e. second_of (o y) _ (b y) (set_stays s.second x y e)) (third_of (o y) _ (b y));
+    only = λ y on. by_three (o y) _ (b y) on (λ e. inl (first_of (o y) (t y) (b y) e)) (λ e. put y (set_only s.second x y e)) (λ e. inl (third_of (o y) (t y) (b y) e));
+    this = second_of (o x) _ (b x) (set_has s.second x within);
+    barred = refl;
+  }
+    where
+      put : (y : ℕ) → (t y ≡ true) ⊎ (x ≡ y) → (is_spent s y ≡ true) ⊎ (x ≡ y)
+      put y (inl e) = inl (second_of (o y) (t y) (b y) e)
+      put y (inr e) = inr e
+
+  pub between_one : x < length s.between → MarksOne x s (record s { between = slice_set s.between x true })
+  between_one within = record {
+    more = λ y on. by_three (o y) (t y) (b y) on (first_of (o y) (t y) _) (second_of (o y) (t y) _) (λ e. third_of (o y) (t y) _ (set_stays s.between x y e));
+    only = λ y on. by_three (o y) (t y) _ on (λ e. inl (first_of (o y) (t y) (b y) e)) (λ e. inl (second_of (o y) (t y) (b y) e)) (λ e. put y (set_only s.between x y e));
+    this = third_of (o x) (t x) _ (set_has s.between x within);
+    barred = refl;
+  }
+    where
+      put : (y : ℕ) → (b y ≡ true) ⊎ (x ≡ y) → (is_spent s y ≡ true) ⊎ (x ≡ y)
+      put y (inl e) = inl (third_of (o y) (t y) (b y) e)
+      put y (inr e) = inr e
+
+-- loads, one part after the other
+pub spends_none : {told : Option Faults} {k : Kept} {these : ℕ → Type 0} {s t : Marks} {before after : ℕ} → t ≡ s → after ≡ before → Spends told k these s t before after
+spends_none {told} {k} {these} {s} {t} {before} {after} same loads = subst (λ u. Spends told k these s u before after) (sym same) (record {
+  only = λ x on. inl on;
+  most = (let n = most_loads k.shape s in omega (arith, loads));
+  few = λ f is none holds. (let n = few_loads k.shape s in omega (arith, loads));
+})
+
+pub spends_in : {told : Option Faults} {k : Kept} {these those : ℕ → Type 0} {s t : Marks} {before after : ℕ} → ((x : ℕ) → these x → those x) → Spends told k these s t before after → Spends told k those s t before after
+spends_in {these = these} {those = those} {s = s} put p = record { only = λ x on. by_old x (p.only x on); most = p.most; few = p.few }
+  where
+    by_old : (x : ℕ) → (is_spent s x ≡ true) ⊎ these x → (is_spent s x ≡ true) ⊎ those x
+    by_old x (inl e) = inl e
+    by_old x (inr h) = inr (put x h)
+
+pub spends_then : {told : Option Faults} {k l : Kept} {these : ℕ → Type 0} {s t u : Marks} {a b c : ℕ} → l.shape ≡ k.shape → ((f : Faults) → told ≡ Some f → HoldsFor k f → HoldsFor l f) →
+    Spends told k these s t a b → Spends told l these t u b c → Spends told k these s u a c
+spends_then {told} {k} {l} {these} {s} {t} {u} {a} {b} {c} shape later p q = record {
+  only = λ x on. by_mid x (q.only x on);
+  most = (let one = p.most in let two = subst (λ (m : Shape). c + most_loads m t ≤ b + most_loads m u) shape q.most in chain a b c (most_loads k.shape s) (most_loads k.shape t) (most_loads k.shape u) one two);
+  few = λ f is none holds.
+      (let one = p.few f is none holds in let two = subst (λ (m : Shape). c + few_loads m t ≤ b + few_loads m u) shape (q.few f is none (later f is holds)) in
+      chain a b c (few_loads k.shape s) (few_loads k.shape t) (few_loads k.shape u) one two);
+}
+  where
+    by_mid : (x : ℕ) → (is_spent t x ≡ true) ⊎ these x → (is_spent s x ≡ true) ⊎ these x
+    by_mid x (inl e) = p.only x e
+    by_mid x (inr h) = inr h
+
+    chain : (a b c x y z : ℕ) → b + x ≤ a + y → c + y ≤ b + z → c + x ≤ a + z
+    chain a b c x y z one two = omega (arith, one, two)
+
+-- a crosspoint that wasn't kept is marked, and two loads are made
+unspent : {told : Option Faults} {k : Kept} {ss : List Step} {s : Marks} {f : Faults} (x : ℕ) → AreMarks told k ss s → keeps_cross k x ≡ false → told ≡ Some f → IsFaultless f → HoldsFor k f → is_spent s x ≡ false
+unspent {k = k} {s = s} {f = f} x are fresh is none holds = by_bit (is_spent s x) refl
+  where
+    by_bit : (b : Bool) → is_spent s x ≡ b → b ≡ false
+    by_bit true e = absurd (false≢true (sym fresh ∙ are.spent f is none holds x e))
+    by_bit false e = refl
+
+few_one : {told : Option Faults} {k : Kept} {ss : List Step} {s t : Marks} {x : ℕ} {f : Faults} (before after : ℕ) → AreMarks told k ss s → x < crosses_of k.shape → keeps_cross k x ≡ false → MarksOne x s t → after ≤ before + 2 →
+    told ≡ Some f → IsFaultless f → HoldsFor k f → after + few_loads k.shape s ≤ before + few_loads k.shape t
+few_one {k = k} {s = s} {t = t} {x = x} before after are within fresh one loads is none holds =
+    sums _ _ _ _ (many_one (is_spent s) (is_spent t) (crosses_of k.shape) x within (unspent x are fresh is none holds) one.this (λ y less on. one.more y on)) (ap (λ bits. how_many (has_number bits) (wires_of k.shape)) one.barred)
+  where
+    sums : (p q v w : ℕ) → p + 1 ≤ q → w ≡ v → after + (2 * p + 3 * v) ≤ before + (2 * q + 3 * w)
+    sums p q v w less same = omega (arith, less, same, loads)
+
+spends_one : {told : Option Faults} {k : Kept} {ss : List Step} {these : ℕ → Type 0} {s t : Marks} {x : ℕ} (before after : ℕ) → AreMarks told k ss s → x < crosses_of k.shape → these x → keeps_cross k x ≡ false → MarksOne x s t → after ≤ before + 2 →
+    after + most_loads k.shape s ≤ before + most_loads k.shape t → Spends told k these s t before after
+spends_one {these = these} {s = s} {x = x} before after are within this fresh one loads most = record {
+  only = λ y on. by_this y (one.only y on);
+  most = most;
+  few = λ f is none holds. few_one before after are within fresh one loads is none holds;
+}
+  where
+    by_this : (y : ℕ) → (is_spent s y ≡ true) ⊎ (x ≡ y) → (is_spent s y ≡ true) ⊎ these y
+    by_this y (inl e) = inl e
+    by_this y (inr e) = inr (subst these e this)
+
+four_parts : (a b c d e f g h before after : ℕ) → after ≤ before + 4 → a + 1 ≤ e → b ≤ f → c ≤ g → d ≤ h → after + (4 * a + 2 * b + 2 * c + 3 * d) ≤ before + (4 * e + 2 * f + 2 * g + 3 * h)
+four_parts a b c d e f g h before after loads p q r s = omega (arith, loads, p, q, r, s)
+
+two_parts : (a b c d e f g h before after : ℕ) → after ≤ before + 2 → a ≤ e → (b + c) + 1 ≤ f + g → d ≤ h → after + (4 * a + 2 * b + 2 * c + 3 * d) ≤ before + (4 * e + 2 * f + 2 * g + 3 * h)
+two_parts a b c d e f g h before after loads p q s = omega (arith, loads, p, q, s)
+
+itself : (n : ℕ) → n ≤ n
+itself n = omega arith
+
+one_at : (bits : List Bool) {n x : ℕ} → length bits ≡ n → x < n → has_number bits x ≡ false → how_many (has_number bits) n + 1 ≤ how_many (has_number (slice_set bits x true)) n
+one_at bits {n} {x} len within off = subst (λ m. how_many (has_number bits) m + 1 ≤ how_many (has_number (slice_set bits x true)) m) len (set_one bits x (subst (λ m. x < m) (sym len) within) off)
+
+module _ {told : Option Faults} {k : Kept} {ss : List Step} {s : Marks} {x : ℕ} (before after : ℕ) (are : AreMarks told k ss s) (within : x < crosses_of k.shape) where
+  pub most_offered : has_number s.offered x ≡ false → after ≤ before + 4 → after + most_loads k.shape s ≤ before + most_loads k.shape (record s { offered = slice_set s.offered x true })
+  most_offered off loads = four_parts _ _ _ _ _ _ _ _ before after loads (one_at s.offered are.offered within off) (itself _) (itself _) (itself _)
+
+  pub spends_offered : {these : ℕ → Type 0} {t : Marks} → these x → keeps_cross k x ≡ false → has_number s.offered x ≡ false → t ≡ record s { offered = slice_set s.offered x true } → after ≤ before + 2 → Spends told k these s t before after
+  spends_offered {these} {t} this fresh off marks loads = subst (λ u. Spends told k these s u before after) (sym marks)
+      (spends_one before after are within this fresh (offered_one s x (subst (λ n. x < n) (sym are.offered) within)) loads (most_offered off (omega (arith, loads))))
+
+  pub spends_second : {these : ℕ → Type 0} {t : Marks} → these x → keeps_cross k x ≡ false → has_number s.second x ≡ false → t ≡ record s { second = slice_set s.second x true } → after ≤ before + 2 → Spends told k these s t before after
+  spends_second {these} {t} this fresh off marks loads = subst (λ u. Spends told k these s u before after) (sym marks)
+      (spends_one before after are within this fresh (second_one s x (subst (λ n. x < n) (sym are.second) within)) loads
+      (two_parts _ _ _ _ _ _ _ _ before after loads (itself _) (let less = one_at s.second are.second within off in omega (arith, less)) (itself _)))
+
+  pub spends_between : {these : ℕ → Type 0} {t : Marks} → these x → keeps_cross k x ≡ false → has_number s.between x ≡ false → t ≡ record s { between = slice_set s.between x true } → after ≤ before + 2 → Spends told k these s t before after
+  spends_between {these} {t} this fresh off marks loads = subst (λ u. Spends told k these s u before after) (sym marks)
+      (spends_one before after are within this fresh (between_one s x (subst (λ n. x < n) (sym are.between) within)) loads
+      (two_parts _ _ _ _ _ _ _ _ before after loads (itself _) (let less = one_at s.between are.between within off in omega (arith, less)) (itself _)))
+
+-- a wire is barred, and three loads are made
+pub spends_barred : {told : Option Faults} {k : Kept} {ss : List Step} {s t : Marks} {these : ℕ → Type 0} {w : ℕ} (before after : ℕ) → AreMarks told k ss s → w < wires_of k.shape → has_number s.barred w ≡ false →
+    t ≡ record s { barred = slice_set s.barred w true } → after ≤ before + 3 → Spends told k these s t before after
+spends_barred {told} {k} {ss} {s} {t} {these} {w} before after are within off marks loads = subst (λ u. Spends told k these s u before after) (sym marks) (record {
+  only = λ x on. inl on;
+  most = most_sum _ _ _ _ _ (one_at s.barred are.barred within off);
+  few = λ f is none holds. few_sum _ _ _ (one_at s.barred are.barred within off);
+})
+  where
+    most_sum : (a b c d e : ℕ) → d + 1 ≤ e → after + (4 * a + 2 * b + 2 * c + 3 * d) ≤ before + (4 * a + 2 * b + 2 * c + 3 * e)
+    most_sum a b c d e less = omega (arith, loads, less)
+
+    few_sum : (a d e : ℕ) → d + 1 ≤ e → after + (2 * a + 3 * d) ≤ before + (2 * a + 3 * e)
+    few_sum a d e less = omega (arith, loads, less)

@@ -1,0 +1,6 @@
+-- For the proofs of this crate alone.
+mod Outsides
+mod Placing
+mod Searching
+mod Choosing
+mod Testing

@@ -1,0 +1,21 @@
+use Rattle.std.proofs.lemmas.Result.{on_ok_weaker}
+use Rattle.seats.proofs.Testing.{kept_over, kept_unseated, only_none}
+use Rattle.seats.proofs.tables.test_seated.Goals as goal
+
+pub returns-in_default-clause-only : goal.returns-in_default-clause-only
+returns-in_default-clause-only g c = only_none
+
+pub returns-in_default-found-clause-table : goal.returns-in_default-found-clause-table
+returns-in_default-found-clause-table g c = kept_unseated (rw c.in_default-found.is at c.in-Ok.ensures.none)
+
+pub returns-in_default-found-clause-only : goal.returns-in_default-found-clause-only
+returns-in_default-found-clause-only g c = only_none
+
+pub test_table-requires-clause-seat : goal.test_table-requires-clause-seat
+test_table-requires-clause-seat g c = let s = rw c.in-Some.is at c.in-Ok.ensures.seat in s.0
+
+pub returns-clause-table : goal.returns-clause-table
+returns-clause-table g c = on_ok_weaker c.test_table.result (λ table. let s = rw c.in-Some.is at c.in-Ok.ensures.seat in kept_over s.1 table) c.test_table.ensures.table
+
+pub returns-clause-stands : goal.returns-clause-stands
+returns-clause-stands g c = on_ok_weaker c.test_table.result (λ table. c.in-Ok.ensures.stands) c.test_table.ensures.table
