@@ -3,6 +3,7 @@ pub mod Places
 pub mod Getting
 -- For the proofs of this crate alone.
 mod Ranking
+mod Once
 mod Rising
 mod Besides
 mod Reaching

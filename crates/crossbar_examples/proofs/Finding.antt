@@ -1,0 +1,64 @@
+-- Tested crossbars stay as more is kept, and one more is found.
+use Rattle.std.proofs.Common.{All, ◌≡◌, ◌<◌, ◌≤◌, ◌+◌, ℕ, Option, List, [], ◌∷◌, ◌++◌, length, get_or, Some, arith, subst, sym}
+use native.Mathlib.Decide.{dec_lt}
+use Rattle.std.proofs.lemmas.List.{get_or_append_left, length-append}
+use Rattle.std.proofs.Math.Seq.{get_or-append_seam}
+use Rattle.hierarchy.specs.declared.Shape.{Shape}
+use Rattle.hierarchy.specs.Shape.{nodes_of, parent_of}
+use Rattle.hierarchy.specs.Laws.{HasParents}
+use Rattle.hierarchy.specs.Faults.{Faults}
+use Rattle.evidence.specs.Kept.{Kept, IsMore}
+use Rattle.evidence.proofs.Keeping.{holds_earlier}
+use Rattle.growth.specs.Known.{KnownWires, IsKnown}
+use Rattle.crossbar_test.specs.Held.{Findings, IsHeld, FullIf, IsLater}
+use Rattle.crossbar_test.proofs.Staying.{held_later, full_later}
+use Rattle.crossbar_examples.specs.Found.{IsFoundAt, AreFound}
+
+-- none are found at first
+pub none_found : (told : Option Faults) (k : Kept) (known : KnownWires) → IsKnown k known → AreFound told k known []
+none_found told k known is = record { known = is; each = λ n d below. absurd (let no : ⊥ = omega (arith, below) in no) }
+
+-- those found stay as more is kept and known
+pub found_later : {told : Option Faults} {k l : Kept} {old new : KnownWires} {found : List Findings} → IsLater k l old new → IsKnown l new → AreFound told k old found → AreFound told l new found
+found_later {told} {k} {l} {old} {new} {found} later is p = record {
+  known = is;
+  each = λ n d below. at n (get_or found n d) (p.each n d below);
+}
+  where
+    at : (n : ℕ) (t : Findings) → IsFoundAt told k old n t → IsFoundAt told l new n t
+    at n t a = record {
+      node = a.node;
+      held = held_later later t a.held;
+      full = record { at = λ f told holds. full_later later.kept (a.full.at f told (holds_earlier later.kept holds)) };
+    }
+
+-- what is full of what was kept before is full of what is kept
+pub full_now : {told : Option Faults} {k l : Kept} {t : Findings} → IsMore k l → FullIf told k l t → FullIf told l l t
+full_now more full = record { at = λ f is holds. full.at f is (holds_earlier more holds) }
+
+-- one more is found
+pub found_next : {told : Option Faults} {k l : Kept} {old new : KnownWires} {found : List Findings} (t : Findings) → IsLater k l old new → IsKnown l new → AreFound told k old found → t.node ≡ length found → IsHeld l new t → FullIf told k l t →
+    AreFound told l new (found ++ t ∷ [])
+found_next {told} {k} {l} {old} {new} {found} t later is p node held full = record {
+  known = is;
+  each = λ n d below. at n d below (dec_lt n (length found));
+}
+  where
+    at : (n : ℕ) (d : Findings) → n < length (found ++ t ∷ []) → Dec (n < length found) → IsFoundAt told l new n (get_or (found ++ t ∷ []) n d)
+    at n d below (yes within) = rw (get_or_append_left found (t ∷ []) d n within) ((found_later later is p).each n d within)
+    at n d below (no past) =
+        let last : n ≡ length found = omega (arith, below, past, length-append found (t ∷ [])) in
+        subst (λ i. IsFoundAt told l new i (get_or (found ++ t ∷ []) i d)) (sym last)
+        (rw (get_or-append_seam found t [] d) (record { node = node; held = held; full = full_now later.kept full }))
+
+-- all of them are held
+pub all_held : {told : Option Faults} {k : Kept} {known : KnownWires} {found : List Findings} → AreFound told k known found → All (IsHeld k known) found
+all_held p = λ n d below. (p.each n d below).held
+
+-- below the root each node of the machine has a node above it, with a smaller number
+pub has_one_above : (m : Shape) (n : ℕ) → HasParents m → 0 < n → n < nodes_of m → ((i : ℕ) → parent_of m n ≡ Some i → n ≤ i) → ⊥
+has_one_above m n parents below_root within none =
+    let above = parents.others n below_root within in
+    let before = parents.before n above.0 above.1 in
+    let past = none above.0 above.1 in
+    omega (arith, before, past)
