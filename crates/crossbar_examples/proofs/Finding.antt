@@ -1,16 +1,18 @@
 -- Tested crossbars stay as more is kept, and one more is found.
-use Rattle.std.proofs.Common.{All, ◌≡◌, ◌<◌, ◌≤◌, ◌+◌, ℕ, Option, List, [], ◌∷◌, ◌++◌, length, get_or, Some, arith, subst, sym}
+use Rattle.std.proofs.Common.{All, ◌≡◌, ◌<◌, ◌≤◌, ◌+◌, ℕ, Option, List, [], ◌∷◌, ◌++◌, length, get_or, Some, arith, subst, sym, ap, ◌∙◌}
 use native.Mathlib.Decide.{dec_lt}
 use Rattle.std.proofs.lemmas.List.{get_or_append_left, length-append}
 use Rattle.std.proofs.Math.Seq.{get_or-append_seam}
 use Rattle.hierarchy.specs.declared.Shape.{Shape}
-use Rattle.hierarchy.specs.Shape.{nodes_of, parent_of}
+use Rattle.hierarchy.specs.Shape.{nodes_of, node_of, parent_of}
 use Rattle.hierarchy.specs.Laws.{HasParents}
 use Rattle.hierarchy.specs.Faults.{Faults}
-use Rattle.evidence.specs.Kept.{Kept, IsMore}
-use Rattle.evidence.proofs.Keeping.{holds_earlier}
+use Rattle.rig.specs.Rig.{RigState, Machine}
+use Rattle.test_configs.specs.Routes.{Walk}
+use Rattle.evidence.specs.Kept.{Kept, IsMore, Advances}
+use Rattle.evidence.proofs.Keeping.{holds_earlier, more_then}
 use Rattle.growth.specs.Known.{KnownWires, IsKnown}
-use Rattle.crossbar_test.specs.Held.{Findings, IsHeld, FullIf, IsLater}
+use Rattle.crossbar_test.specs.Held.{Findings, IsHeld, IsHeldTrunk, FullIf, IsLater}
 use Rattle.crossbar_test.proofs.Staying.{held_later, full_later}
 use Rattle.crossbar_examples.specs.Found.{IsFoundAt, AreFound}
 
@@ -35,6 +37,17 @@ found_later {told} {k} {l} {old} {new} {found} later is p = record {
 -- what is full of what was kept before is full of what is kept
 pub full_now : {told : Option Faults} {k l : Kept} {t : Findings} → IsMore k l → FullIf told k l t → FullIf told l l t
 full_now more full = record { at = λ f is holds. full.at f is (holds_earlier more holds) }
+
+-- one step after the other
+pub later_then : {k l n : Kept} {a b c : KnownWires} → IsLater k l a b → IsLater l n b c → IsLater k n a c
+later_then p q = record { kept = more_then p.kept q.kept; known = λ w h. q.known w (p.known w h) }
+
+pub full_since : {a b : RigState} {k l n : Kept} {t : Findings} → Advances a b k l → FullIf b.machine.faults l n t → FullIf a.machine.faults k n t
+full_since adv full = record { at = λ f told holds. full.at f (ap (λ (m : Machine). m.faults) adv.machine ∙ told) (adv.holds f told holds) }
+
+-- a trunk of the node at which it ends
+pub trunk_at : {k : Kept} {known : KnownWires} {n : ℕ} {left right : Walk} (m : Shape) → k.shape ≡ m → node_of m left.end ≡ n → IsHeldTrunk k known n left right → IsHeldTrunk k known (node_of k.shape left.end) left right
+trunk_at {k} {known} {n} {left} {right} m same e held = subst (λ i. IsHeldTrunk k known i left right) (sym (ap (λ s. node_of s left.end) same ∙ e)) held
 
 -- one more is found
 pub found_next : {told : Option Faults} {k l : Kept} {old new : KnownWires} {found : List Findings} (t : Findings) → IsLater k l old new → IsKnown l new → AreFound told k old found → t.node ≡ length found → IsHeld l new t → FullIf told k l t →

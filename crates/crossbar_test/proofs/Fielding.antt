@@ -33,7 +33,7 @@ range_next first x low within g = gets_one {Q = IsFrom first (x + 1)} x g within
     by y p (inl l) = inl (p.0, l)
     by y p (inr e) = inr e
 
-pub range_end : (first end x : ℕ) {old new : List Bool} → x ≤ end → (x < end → ⊥) → Gets (IsFrom first x) (x - first) old new → Gets (IsFrom first end) (end - first) old new
+pub range_end : (first end x : ℕ) {old new : List Bool} → x ≤ end → end ≤ x → Gets (IsFrom first x) (x - first) old new → Gets (IsFrom first end) (end - first) old new
 range_end first end x {old} {new} high past g = subst (λ y. Gets (IsFrom first y) (y - first) old new) (let e : x ≡ end = omega (arith, high, past) in e) g
 
 -- ---- the crosspoints of a node
@@ -88,11 +88,11 @@ module _ (m : Shape) (laws : AreLaws m) (n : ℕ) where
 
 pub before_of : (ws : List Wire) (v : ℕ) → among (wire_numbers ws) v ≡ true → IsWireBefore ws (length ws) v
 before_of [] v is = absurd (false≢true is)
-before_of (w ∷ ws) v is = by (or_cases (w.0 == v) (among (wire_numbers ws) v) is)
+before_of (w ∷ ws) v is = by (λ h. before_of ws v h) (or_cases (w.0 == v) (among (wire_numbers ws) v) is)
   where
-    by : ((w.0 == v) ≡ true) ⊎ (among (wire_numbers ws) v ≡ true) → IsWireBefore (w ∷ ws) (length (w ∷ ws)) v
-    by (inl e) = record { place = 0; wire = w; early = omega arith; here = refl; is = grind (arith, nat_tests, e) }
-    by (inr h) = let p = before_of ws v h in record { place = suc p.place; wire = p.wire; early = (let early = p.early in omega (arith, early)); here = p.here; is = p.is }
+    by : (among (wire_numbers ws) v ≡ true → IsWireBefore ws (length ws) v) → ((w.0 == v) ≡ true) ⊎ (among (wire_numbers ws) v ≡ true) → IsWireBefore (w ∷ ws) (length (w ∷ ws)) v
+    by again (inl e) = record { place = 0; wire = w; early = omega arith; here = refl; is = grind (arith, nat_tests, e) }
+    by again (inr h) = let p = again h in record { place = suc p.place; wire = p.wire; early = (let early = p.early in omega (arith, early)); here = p.here; is = p.is }
 
 -- as many more wires of the machine may be marked
 pub within_marks : (m : Shape) (ws : List Wire) (marks : List Bool) → length marks ≡ wires_of m → All (λ w. w.0 < wires_of m) ws → All (λ w. w.0 < length marks) ws

@@ -56,11 +56,11 @@ none_among (w ∷ ws) v e is = let no : ⊥ = omega (arith, e) in no
 pub none_within : (m : ℕ) → All (λ (w : Wire). w.0 < m) []
 none_within m = λ i d below. absurd (let no : ⊥ = omega (arith, below) in no)
 
-pub pushed_within : (m : ℕ) {ws vs : List Wire} {w : Wire} → vs ≡ ws ++ w ∷ [] → All (λ (w : Wire). w.0 < m) ws → w.0 < m → All (λ (w : Wire). w.0 < m) vs
-pushed_within m {ws} {vs} {w} e all h = subst (All (λ (w : Wire). w.0 < m)) (sym e) (All-push (λ (w : Wire). w.0 < m) ws w all h)
+pub pushed_within : (m : ℕ) (ws : List Wire) {vs : List Wire} {w : Wire} → vs ≡ ws ++ w ∷ [] → All (λ (w : Wire). w.0 < m) ws → w.0 < m → All (λ (w : Wire). w.0 < m) vs
+pushed_within m ws {vs} {w} e all h = subst (All (λ (w : Wire). w.0 < m)) (sym e) (All-push (λ (w : Wire). w.0 < m) ws w all h)
 
-pub pushed_count : {n : ℕ} {ws vs : List Wire} {w : Wire} → vs ≡ ws ++ w ∷ [] → length ws ≡ n → length vs ≡ n + 1
-pushed_count {n} {ws} {vs} {w} e count = let l = ap (λ (us : List Wire). length us) e ∙ length-append ws (w ∷ []) in omega (arith, l, count)
+pub pushed_count : {n : ℕ} (ws : List Wire) {vs : List Wire} (w : Wire) → vs ≡ ws ++ w ∷ [] → length ws ≡ n → length vs ≡ n + 1
+pushed_count {n} ws {vs} w e count = let l = ap (λ (us : List Wire). length us) e ∙ length-append ws (w ∷ []) in omega (arith, l, count)
 
 -- ---- lists of the wires with a property
 
@@ -97,8 +97,8 @@ at_next at n ws w list e = list_more (IsAtOneOf at n) (IsAtOneOf at (n + 1)) ws 
     by v p (inl l) = inl (record { position = p.position; early = l; is = p.is })
     by v p (inr s) = inr (p.is ∙ ap at s ∙ sym e)
 
-pub at_pushed : (at : ℕ → ℕ) (n : ℕ) {ws vs : List Wire} {w : Wire} → vs ≡ ws ++ w ∷ [] → IsListOf (IsAtOneOf at n) (wire_numbers ws) → w.0 ≡ at n → IsListOf (IsAtOneOf at (n + 1)) (wire_numbers vs)
-at_pushed at n {ws} {vs} {w} is list e = subst (λ (us : List Wire). IsListOf (IsAtOneOf at (n + 1)) (wire_numbers us)) (sym is) (at_next at n ws w list e)
+pub at_pushed : (at : ℕ → ℕ) (n : ℕ) (ws : List Wire) {vs : List Wire} {w : Wire} → vs ≡ ws ++ w ∷ [] → IsListOf (IsAtOneOf at n) (wire_numbers ws) → w.0 ≡ at n → IsListOf (IsAtOneOf at (n + 1)) (wire_numbers vs)
+at_pushed at n ws {vs} {w} is list e = subst (λ (us : List Wire). IsListOf (IsAtOneOf at (n + 1)) (wire_numbers us)) (sym is) (at_next at n ws w list e)
 
 pub at_end : (at : ℕ → ℕ) (n i : ℕ) (ws : List ℕ) → n ≡ i → IsListOf (IsAtOneOf at i) ws → IsListOf (IsAtOneOf at n) ws
 at_end at n i ws e list = subst (λ j. IsListOf (IsAtOneOf at j) ws) (sym e) list
@@ -126,9 +126,9 @@ module _ (R : ℕ → Type 0) (ws : List Wire) (i : ℕ) (d : Wire) (h : i < len
       by v p (inl is) = (is, p)
       by v p (inr s) = absurd (never (subst R s p))
 
-pub some_pushed : (R : ℕ → Type 0) (ws : List Wire) (i : ℕ) (d : Wire) → i < length ws → {those vs : List Wire} {w : Wire} → vs ≡ those ++ w ∷ [] → IsListOf (IsSome R (wire_numbers (take i ws))) (wire_numbers those) → w.0 ≡ (get_or ws i d).0 → R w.0 →
+pub some_pushed : (R : ℕ → Type 0) (ws : List Wire) (i : ℕ) (d : Wire) → i < length ws → (those : List Wire) {vs : List Wire} {w : Wire} → vs ≡ those ++ w ∷ [] → IsListOf (IsSome R (wire_numbers (take i ws))) (wire_numbers those) → w.0 ≡ (get_or ws i d).0 → R w.0 →
     IsListOf (IsSome R (wire_numbers (take (i + 1) ws))) (wire_numbers vs)
-some_pushed R ws i d h {those} {vs} {w} is list e r = subst (λ (us : List Wire). IsListOf (IsSome R (wire_numbers (take (i + 1) ws))) (wire_numbers us)) (sym is) (some_more R ws i d h those list w e r)
+some_pushed R ws i d h those {vs} {w} is list e r = subst (λ (us : List Wire). IsListOf (IsSome R (wire_numbers (take (i + 1) ws))) (wire_numbers us)) (sym is) (some_more R ws i d h those list w e r)
 
 pub some_end : (R : ℕ → Type 0) (ws : List Wire) (i : ℕ) (those : List ℕ) → length ws ≤ i → IsListOf (IsSome R (wire_numbers (take i ws))) those → IsListOf (IsSome R (wire_numbers ws)) those
 some_end R ws i those past list = subst (λ (us : List ℕ). IsListOf (IsSome R us) those) (numbers_all ws i past) list

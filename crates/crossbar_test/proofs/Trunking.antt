@@ -183,11 +183,11 @@ unserved_child k known t n ws laws up held list one f full served = ports.differ
 
 -- ---- answers
 
-pub trunks_end : {E : Type 0} {k : Kept} {known : KnownWires} {n : ℕ} (r : Result (Option Trunk) E) (m : Shape) → AreLaws m → k.shape ≡ m → IfOk r (λ found. IfSome found (λ t. IsHeldTrunk k known n t.left t.right)) →
+pub trunks_end : {E : Type 0} (k : Kept) (known : KnownWires) (n : ℕ) (r : Result (Option Trunk) E) (m : Shape) → AreLaws m → k.shape ≡ m → IfOk r (λ found. IfSome found (λ t. IsHeldTrunk k known n t.left t.right)) →
     IfOk r (λ found. IfSome found (λ t. node_of m t.left.end ≡ n))
-trunks_end (Err e) m laws same h = tt
-trunks_end (Ok None) m laws same h = tt
-trunks_end {n = n} (Ok (Some t)) m laws same h = end_node m laws n t.left.end (subst (λ s. IsTrunkEnd s n t.left.end) same h.left_end)
+trunks_end k known n (Err e) m laws same h = tt
+trunks_end k known n (Ok None) m laws same h = tt
+trunks_end k known n (Ok (Some t)) m laws same h = end_node m laws n t.left.end (subst (λ s. IsTrunkEnd s n t.left.end) same h.left_end)
 
 pub unserved_if : {E : Type 0} (r : Result (Option Trunk) E) (told : Option Faults) (k : Kept) (t : Findings) (n : ℕ) → FullIf told k k t → IfOk r (λ found. IfNone found ((f : Faults) → IsFull k f t → ¬ IsServed k.shape f n)) →
     IfOk r (λ found. IfNone found (UnservedIf told k n))

@@ -1,5 +1,5 @@
 //! A trunk of the root, and of other nodes where their ports are known.
-ghost use Rattle.std.specs.Prelude.{◌≡◌, ◌≢◌, ◌<◌, ◌≤◌, ◌+◌, ◌*◌, ℕ, All, true, Some, IfOk, IfSome, IfNone, OnOk, IsErrOf};
+ghost use Rattle.std.specs.Prelude.{◌≡◌, ◌≢◌, ◌<◌, ◌≤◌, ◌+◌, ◌*◌, ℕ, All, true, Some, IfOk, IfSome, IfNone, OnOk, IsErrOf, length};
 ghost use Rattle.tm_bits.specs.Numbers.{size_of};
 ghost use Rattle.tm_outside.specs.Counts.{Rose};
 ghost use Rattle.hierarchy.specs.Shape.{wires_of, pins_of, pin_wire};

@@ -4,7 +4,7 @@ use Rattle.hierarchy.specs.declared.Wire.{Wire}
 use Rattle.hierarchy.specs.Shape.{nodes_of, wires_of}
 use Rattle.crossbar_test.specs.Bars.{AreBarOf, IsBarField}
 use Rattle.crossbar_test.specs.Held.{wire_numbers}
-use Rattle.crossbar_test.proofs.Filling.{full_is, bar_loads, bar_few, no_loads, no_few, trunk_node, trunk_taps}
+use Rattle.crossbar_test.proofs.Filling.{bar_at, full_is, bar_loads, bar_few, no_loads, no_few, trunk_node, trunk_taps}
 use Rattle.crossbar_test.proofs.Staying.{trunk_later}
 use Rattle.crossbar_test.proofs.crossbar.test_node.Goals as goal
 
@@ -41,8 +41,7 @@ returns-in_err-grow-clause-loads g c = bar_loads c.args.node.0 c.in-Ok.field _ _
 pub returns-in_err-grow-clause-few : goal.returns-in_err-grow-clause-few
 returns-in_err-grow-clause-few g c = bar_few c.args.node.0 c.in-Ok.field _ _ _ c.args.proof.now c.in-Ok.ensures.field c.in_err-grow.ensures.few
 
-pub returns-in-Ok-clause-loads : goal.returns-in-Ok-clause-loads
-returns-in-Ok-clause-loads g c = bar_loads c.args.node.0 c.in-Ok.field _ _ c.args.proof.now.shape c.in-Ok.ensures.field c.in_ok-grow.ensures.loads
-
-pub returns-in-Ok-clause-few : goal.returns-in-Ok-clause-few
-returns-in-Ok-clause-few g c = bar_few c.args.node.0 c.in-Ok.field _ _ _ c.args.proof.now c.in-Ok.ensures.field c.in_ok-grow.ensures.few
+pub returns-in-Ok-found_in-clause-full : goal.returns-in-Ok-found_in-clause-full
+returns-in-Ok-found_in-clause-full g c = full_is _ _ c.args.proof.now c.grow.new.proof c.grow.new.known c.in-Ok.field c.in-Ok-found_in.tested (c.the_laws_hold.ensures c.grow.new.proof.shape) c.in_ok-grow.ensures.advances
+    (bar_at (sym c.in_ok-grow.ensures.advances.more.shape) (sym (rw c.in-Ok-found_in.is at c.found_in.ensures.node)) c.in-Ok.ensures.field) c.in_ok-grow.ensures.closed
+    (rw c.in-Ok-found_in.is at c.found_in.ensures.held) (rw c.in-Ok-found_in.is at c.found_in.ensures.all)

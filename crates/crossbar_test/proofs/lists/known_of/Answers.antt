@@ -20,6 +20,6 @@ pub wires-preserved : goal.wires-preserved
 wires-preserved c =
     let is = c.in_ok-push.ensures.items in
     record {
-      list = some_pushed (HasWire c.args.known.now.steps) c.args.wires.now c.wires.wire-index _ c.wires-test.true is c.wires.invariant.list refl (c.has.ensures.known c.if-not-has.false);
-      within = pushed_within (wires_of c.args.known.now.shape) is c.wires.invariant.within (c.requires c.wires.wire-index _ c.wires-test.true);
+      list = some_pushed (HasWire c.args.known.now.steps) c.args.wires.now c.wires.wire-index _ c.wires-test.true c.wires.those.items is c.wires.invariant.list refl (c.has.ensures.known c.if-not-has.false);
+      within = pushed_within (wires_of c.args.known.now.shape) c.wires.those.items is c.wires.invariant.within (c.requires c.wires.wire-index _ c.wires-test.true);
     }

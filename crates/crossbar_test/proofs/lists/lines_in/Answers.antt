@@ -15,7 +15,7 @@ lines-preserved c =
     let old = c.lines.invariant in
     let is = c.in_ok-push.ensures.items in
     record {
-      list = at_pushed (line_at c.args.shape.now c.args.node.0) c.lines.k is old.list c.line.ensures.wire;
-      count = pushed_count is old.count;
-      within = pushed_within (wires_of c.args.shape.now) is old.within c.line.ensures.within;
+      list = at_pushed (line_at c.args.shape.now c.args.node.0) c.lines.k c.lines.lines.items is old.list c.line.ensures.wire;
+      count = pushed_count c.lines.lines.items c.line.result is old.count;
+      within = pushed_within (wires_of c.args.shape.now) c.lines.lines.items is old.within c.line.ensures.within;
     }

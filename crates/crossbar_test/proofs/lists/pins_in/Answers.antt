@@ -15,7 +15,7 @@ pins-preserved c =
     let old = c.pins.invariant in
     let is = c.in_ok-push.ensures.items in
     record {
-      list = at_pushed (pin_wire c.args.shape.now) c.pins.k is old.list c.pin.ensures.wire;
-      count = pushed_count is old.count;
-      within = pushed_within (wires_of c.args.shape.now) is old.within c.pin.ensures.within;
+      list = at_pushed (pin_wire c.args.shape.now) c.pins.k c.pins.pins.items is old.list c.pin.ensures.wire;
+      count = pushed_count c.pins.pins.items c.pin.result is old.count;
+      within = pushed_within (wires_of c.args.shape.now) c.pins.pins.items is old.within c.pin.ensures.within;
     }

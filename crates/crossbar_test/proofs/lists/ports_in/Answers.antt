@@ -15,7 +15,7 @@ ports-preserved c =
     let old = c.ports.invariant in
     let is = c.in_ok-push.ensures.items in
     record {
-      list = at_pushed (port_at c.args.shape.now c.args.node.0) c.ports.k is old.list c.port.ensures.wire;
-      count = pushed_count is old.count;
-      within = pushed_within (wires_of c.args.shape.now) is old.within c.port.ensures.within;
+      list = at_pushed (port_at c.args.shape.now c.args.node.0) c.ports.k c.ports.ports.items is old.list c.port.ensures.wire;
+      count = pushed_count c.ports.ports.items c.port.result is old.count;
+      within = pushed_within (wires_of c.args.shape.now) c.ports.ports.items is old.within c.port.ensures.within;
     }

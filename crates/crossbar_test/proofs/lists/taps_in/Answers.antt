@@ -15,7 +15,7 @@ taps-preserved c =
     let old = c.taps.invariant in
     let is = c.in_ok-push.ensures.items in
     record {
-      list = at_pushed (tap_at c.args.shape.now c.args.node.0) c.taps.k is old.list c.tap.ensures.wire;
-      count = pushed_count is old.count;
-      within = pushed_within (wires_of c.args.shape.now) is old.within c.tap.ensures.within;
+      list = at_pushed (tap_at c.args.shape.now c.args.node.0) c.taps.k c.taps.taps.items is old.list c.tap.ensures.wire;
+      count = pushed_count c.taps.taps.items c.tap.result is old.count;
+      within = pushed_within (wires_of c.args.shape.now) c.taps.taps.items is old.within c.tap.ensures.within;
     }

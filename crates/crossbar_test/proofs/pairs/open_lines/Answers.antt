@@ -12,5 +12,5 @@ lines-preserved-then-not-keeps_all c = some_same (KeepsAll c.args.proof.now (wir
     (λ all. let is = c.keeps_all.ensures.1 all in let not = c.if-not-keeps_all.true in cc (is, not))
 
 pub lines-preserved : goal.lines-preserved
-lines-preserved c = some_pushed (KeepsAll c.args.proof.now (wire_numbers c.args.taps.now)) c.args.lines.now c.lines.line-index _ c.lines-test.true c.in_ok-push.ensures.items c.lines.invariant refl
+lines-preserved c = some_pushed (KeepsAll c.args.proof.now (wire_numbers c.args.taps.now)) c.args.lines.now c.lines.line-index _ c.lines-test.true c.lines.those.items c.in_ok-push.ensures.items c.lines.invariant refl
     (c.keeps_all.ensures.0 c.if-not-keeps_all.false)
