@@ -1,6 +1,7 @@
 -- Tested crossbars stay as more is kept, and one more is found.
 use Rattle.std.proofs.Common.{All, ◌≡◌, ◌<◌, ◌≤◌, ◌+◌, ℕ, Option, List, [], ◌∷◌, ◌++◌, length, get_or, Some, arith, subst, sym, ap, ◌∙◌}
 use native.Mathlib.Decide.{dec_lt}
+use Rattle.std.specs.Prelude.{slice_get}
 use Rattle.std.proofs.lemmas.List.{get_or_append_left, length-append}
 use Rattle.std.proofs.Math.Seq.{get_or-append_seam}
 use Rattle.hierarchy.specs.declared.Shape.{Shape}
@@ -12,13 +13,20 @@ use Rattle.test_configs.specs.Routes.{Walk}
 use Rattle.evidence.specs.Kept.{Kept, IsMore, Advances}
 use Rattle.evidence.proofs.Keeping.{holds_earlier, more_then}
 use Rattle.growth.specs.Known.{KnownWires, IsKnown}
+use Rattle.growth.specs.declared.step.Step.{Step}
 use Rattle.crossbar_test.specs.Held.{Findings, IsHeld, IsHeldTrunk, FullIf, IsLater}
 use Rattle.crossbar_test.proofs.Staying.{held_later, full_later}
 use Rattle.crossbar_examples.specs.Found.{IsFoundAt, AreFound}
 
--- none are found at first
-pub none_found : (told : Option Faults) (k : Kept) (known : KnownWires) → IsKnown k known → AreFound told k known []
-none_found told k known is = record { known = is; each = λ n d below. absurd (let no : ⊥ = omega (arith, below) in no) }
+-- nothing is known and found at first
+pub none_found : (told : Option Faults) (k : Kept) (known : KnownWires) (found : List Findings) → known.shape ≡ k.shape → known.steps ≡ [] → found ≡ [] → AreFound told k known found
+none_found told k known found shape none empty = record {
+  known = record { shape = shape; steps = λ i s here. absurd (at_none i s (subst (λ (ss : List Step). slice_get ss i ≡ Some s) none here)) };
+  each = λ n d below. absurd (let e = ap (λ (ts : List Findings). length ts) empty in let no : ⊥ = omega (arith, below, e) in no);
+}
+  where
+    at_none : (i : ℕ) (s : Step) → slice_get [] i ≡ Some s → ⊥
+    at_none i s e = cc
 
 -- those found stay as more is kept and known
 pub found_later : {told : Option Faults} {k l : Kept} {old new : KnownWires} {found : List Findings} → IsLater k l old new → IsKnown l new → AreFound told k old found → AreFound told l new found

@@ -1,6 +1,7 @@
 -- What is cited above.
 pub mod Places
 pub mod Getting
+pub mod Later
 -- For the proofs of this crate alone.
 mod Ranking
 mod Once
@@ -13,7 +14,6 @@ mod Passing
 mod Adding
 mod Hung
 mod Parting
-mod Later
 mod Linking
 mod Counting
 mod Growing
