@@ -1,5 +1,5 @@
 -- The field that is a crossbar, as it is marked.
-use Rattle.std.proofs.Common.{◌≡◌, ◌≢◌, ◌⊎◌, ℕ, zero, suc, ◌+◌, ◌*◌, ◌-◌, ◌<◌, ◌≤◌, Bool, true, false, Some, List, [], ◌∷◌, All, length, get_or, refl, sym, ap, ◌∙◌, subst, inl, inr, arith}
+use Rattle.std.proofs.Common.{◌≡◌, ◌≢◌, ◌⊎◌, ℕ, zero, suc, ◌+◌, ◌*◌, ◌-◌, ◌<◌, ◌≤◌, Bool, true, false, List, [], ◌∷◌, All, length, refl, sym, ap, ◌∙◌, subst, inl, inr, arith}
 use Rattle.std.specs.Prelude.{◌==◌, slice_get}
 use Rattle.std.proofs.Math.ListN.{set}
 use Rattle.std.proofs.Math.Nat.{mul_comm, suc-mul}
@@ -10,9 +10,8 @@ use Rattle.tm_bits.specs.Numbers.{has_number, size_of}
 use Rattle.hierarchy.specs.declared.Shape.{Shape}
 use Rattle.hierarchy.specs.declared.Wire.{Wire}
 use Rattle.hierarchy.specs.Rows.{HasRows, first_cross_of}
-use Rattle.hierarchy.specs.Shape.{crosses_of, wires_of, nodes_of, taps_of, lines_of, own_ports_of, tap_at, line_at, port_at, cross_at, node_of_cross, tap_position, line_position, IsTap, IsLine, IsPort}
+use Rattle.hierarchy.specs.Shape.{crosses_of, wires_of, nodes_of, taps_of, lines_of, own_ports_of, tap_at, line_at, port_at, cross_at, tap_position, line_position, IsTap, IsLine, IsPort}
 use Rattle.config_set.specs.Groups.{among}
-use Rattle.growth.specs.Field.{IsFieldOf}
 use Rattle.growth.specs.Gains.{Gets, IsWireBefore}
 use Rattle.growth.specs.declared.field.Field.{Field}
 use Rattle.growth.proofs.Getting.{below_or, gets_none, gets_one, gets_fewer}

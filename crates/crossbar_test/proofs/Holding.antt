@@ -1,5 +1,5 @@
 -- What is known of a crossbar is held.
-use Rattle.std.proofs.Common.{◌≡◌, ◌≢◌, ◌⊎◌, ℕ, ◌<◌, Bool, true, false, Some, None, Option, List, refl, sym, ap, ◌∙◌, subst, inl, inr, arith}
+use Rattle.std.proofs.Common.{◌≡◌, ◌≢◌, ◌⊎◌, ℕ, ◌<◌, true, Some, None, Option, List, refl, sym, ap, ◌∙◌, subst, inl, inr, arith}
 use Rattle.std.specs.Prelude.{IfSome, IfNone, IsSome, slice_get}
 use Rattle.hierarchy.specs.declared.Shape.{Shape}
 use Rattle.hierarchy.specs.declared.Wire.{Wire}
@@ -10,13 +10,12 @@ use Rattle.config_set.proofs.Grouped.{LeadsTo-end}
 use Rattle.test_configs.specs.Routes.{Walk}
 use Rattle.evidence.specs.Kept.{Kept, keeps_cross, keeps_pair}
 use Rattle.evidence.proofs.Keeping.{pair_turned}
-use Rattle.growth.specs.Known.{KnownWires, HasWire, IsAt, IsBefore, IsFoot, IsKnown, IsKnownStep, Stands, on_pin, on_feet}
+use Rattle.growth.specs.Known.{KnownWires, HasWire, IsAt, IsFoot, IsKnown, Stands, on_pin, on_feet}
 use Rattle.growth.specs.declared.step.Foot.{Foot}
 use Rattle.growth.specs.declared.step.Stand.{Stand}
-use Rattle.growth.specs.declared.step.Step.{Step}
 use Rattle.growth.proofs.Places.{at_one, before_has}
 use Rattle.crossbar_test.specs.Bars.{IsListOf, IsKnownOf, IsOpenOf, AreTwoOf, AreBarOf, HasKnown}
-use Rattle.crossbar_test.specs.Held.{Findings, IsTrunkEnd, at_pin, at_port, IsHeldRoute, IsHeldTrunk, IsHeld, IsOpenPair, IsWireOf, of_tap, of_line, of_left, of_right, IsWireOfSome, pair_numbers}
+use Rattle.crossbar_test.specs.Held.{Findings, IsTrunkEnd, at_pin, at_port, IsHeldRoute, IsHeldTrunk, IsHeld, IsOpenPair, IsWireOf, of_tap, of_line, of_left, of_right, pair_numbers}
 use Rattle.crossbar_test.specs.Laws.{AreLaws}
 use native.Mathlib.Decide.{dec_lt}
 

@@ -5,14 +5,14 @@ use Rattle.std.proofs.lemmas.Bool.{cases_eq, false≢true}
 use Rattle.tm_bits.specs.Numbers.{has_number, size_of}
 use Rattle.hierarchy.specs.declared.Shape.{Shape}
 use Rattle.hierarchy.specs.declared.Wire.{Wire}
-use Rattle.hierarchy.specs.Shape.{pin_wire, port_at, pins_of, wires_of, own_ports_of, parent_of, node_of, IsPort, tap_child, itself}
+use Rattle.hierarchy.specs.Shape.{pin_wire, pins_of, parent_of, node_of, IsPort, tap_child, itself}
 use Rattle.hierarchy.specs.Faults.{Faults, IsFaultless}
 use Rattle.hierarchy.specs.Sound.{IsSoundWire, HasTwo, IsServed}
 use Rattle.hierarchy.specs.Defects.{IsClear}
 use Rattle.hierarchy.specs.Tight.{IsAlone}
 use Rattle.hierarchy.proofs.Clear.{clear_of_sound}
 use Rattle.config_set.specs.Groups.{among}
-use Rattle.config_set.proofs.Grouped.{LeadsTo-start, LeadsTo-end}
+use Rattle.config_set.proofs.Grouped.{LeadsTo-start}
 use Rattle.test_configs.specs.Routes.{Walk}
 use Rattle.test_configs.specs.declared.trunk.Trunk.{Trunk}
 use Rattle.rig.specs.Rig.{RigState, Machine}

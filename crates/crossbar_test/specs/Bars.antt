@@ -1,8 +1,8 @@
 -- The wires of a crossbar, and its field.
-use Rattle.std.specs.Prelude.{◌≡◌, ◌≢◌, ◌⊎◌, ℕ, ◌+◌, ◌*◌, ◌<◌, ◌≤◌, true, Option, Some, None, IsSome, IfNone, List, length}
+use Rattle.std.specs.Prelude.{◌≡◌, ◌≢◌, ◌⊎◌, ℕ, ◌+◌, ◌*◌, ◌<◌, ◌≤◌, true, Option, Some, IsSome, List}
 use Rattle.tm_bits.specs.Numbers.{has_number, size_of}
 use Rattle.hierarchy.specs.declared.Shape.{Shape}
-use Rattle.hierarchy.specs.Shape.{ends_of, pin_wire, pins_of, crosses_of, node_of_cross, taps_of, lines_of, IsTap, IsLine}
+use Rattle.hierarchy.specs.Shape.{ends_of, pin_wire, crosses_of, node_of_cross, taps_of, lines_of, IsTap, IsLine}
 use Rattle.hierarchy.specs.Faults.{Faults}
 use Rattle.hierarchy.specs.Sound.{IsSoundWire, HasTwo}
 use Rattle.config_set.specs.Groups.{among}

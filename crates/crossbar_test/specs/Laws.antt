@@ -1,5 +1,4 @@
 -- The laws of the numbering, and of sound wires, that this crate rests on.
-use Rattle.std.specs.Prelude.{ℕ}
 use Rattle.hierarchy.specs.declared.Shape.{Shape}
 use Rattle.hierarchy.specs.Laws.{IsNumbered, IsTree, HasParents, HasTaps, HasCrosses, HasMeetings}
 use Rattle.hierarchy.specs.Rows.{HasRows}

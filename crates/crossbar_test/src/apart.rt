@@ -14,5 +14,4 @@ pub fn separate_all(proof: &Proof, known: &Known, tested: &[Tested])
     requires known { IsKnown proof.now known.now }
     requires held { All (IsHeld proof.now known.now) tested.now }
     ensures pairs { (w u : ℕ) → IsWireOfSome tested.now w → IsWireOfSome tested.now u → w ≢ u → keeps_pair proof.now w u ≡ true }
-{
-}
+{}

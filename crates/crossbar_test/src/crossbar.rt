@@ -120,7 +120,8 @@ pub fn test_crossbar(
     ensures node { IfOk result (λ tested. tested.node ≡ node_of proof.old.shape trunk.left.end) }
     ensures held { IfOk result (IsHeld proof.new known.new) }
     ensures full { IfOk result (FullIf (rig_state rig.old).machine.faults proof.old proof.new) }
-    ensures loads { LoadsForBar proof.old.shape (node_of proof.old.shape trunk.left.end) (rig_state rig.old).loads (rig_state rig.new).loads }
+    ensures loads { LoadsForBar proof.old.shape (node_of proof.old.shape trunk.left.end) (rig_state rig.old).loads
+        (rig_state rig.new).loads }
     ensures few { FewLoadsForBar (rig_state rig.old).machine.faults proof.old (node_of proof.old.shape trunk.left.end)
         (rig_state rig.old).loads (rig_state rig.new).loads }
     ensures advances { Advances (rig_state rig.old) (rig_state rig.new) proof.old proof.new }

@@ -26,7 +26,8 @@ pub(crate) fn taps_in(alloc: Global, shape: &Shape, node: Node) -> Result<Vec<Wi
 /// The lines of a node's crossbar, ascending.
 pub(crate) fn lines_in(alloc: Global, shape: &Shape, node: Node) -> Result<Vec<Wire>, AllocError>
     requires { node.0 < nodes_of shape.now }
-    ensures lines { IfOk result (λ ws. IsListOf (IsAtOneOf (line_at shape.now node.0) (lines_of shape.now node.0)) (wire_numbers ws.items)) }
+    ensures lines { IfOk result (λ ws. IsListOf (IsAtOneOf (line_at shape.now node.0) (lines_of shape.now node.0))
+        (wire_numbers ws.items)) }
     ensures count { IfOk result (λ ws. length ws.items ≡ lines_of shape.now node.0) }
     ensures within { IfOk result (λ ws. All (λ w. w.0 < wires_of shape.now) ws.items) }
 {
@@ -40,7 +41,8 @@ pub(crate) fn lines_in(alloc: Global, shape: &Shape, node: Node) -> Result<Vec<W
 /// The ports of a node, ascending.
 pub(crate) fn ports_in(alloc: Global, shape: &Shape, node: Node) -> Result<Vec<Wire>, AllocError>
     requires { node.0 < nodes_of shape.now }
-    ensures ports { IfOk result (λ ws. IsListOf (IsAtOneOf (port_at shape.now node.0) (own_ports_of shape.now node.0)) (wire_numbers ws.items)) }
+    ensures ports { IfOk result (λ ws. IsListOf (IsAtOneOf (port_at shape.now node.0) (own_ports_of shape.now node.0))
+        (wire_numbers ws.items)) }
     ensures within { IfOk result (λ ws. All (λ w. w.0 < wires_of shape.now) ws.items) }
 {
     let mut ports = Vec::new(alloc);

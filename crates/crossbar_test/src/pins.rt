@@ -1,9 +1,7 @@
 //! A trunk of the root, and of other nodes where their ports are known.
-ghost use Rattle.std.specs.Prelude.{◌≡◌, ◌≢◌, ◌<◌, ◌≤◌, ◌+◌, ◌*◌, ℕ, All, true, Some, IfOk, IfSome, IfNone, OnOk, IsErrOf, length};
-ghost use Rattle.tm_bits.specs.Numbers.{size_of};
+ghost use Rattle.std.specs.Prelude.{◌≡◌, ◌≢◌, ◌<◌, ◌≤◌, ◌*◌, ℕ, All, Some, IfOk, IfSome, IfNone, OnOk, IsErrOf, length};
 ghost use Rattle.tm_outside.specs.Counts.{Rose};
 ghost use Rattle.hierarchy.specs.Shape.{wires_of, pins_of, pin_wire};
-ghost use Rattle.config_set.specs.Groups.{among};
 ghost use Rattle.rig.specs.Rig.{shape_of};
 ghost use Rattle.evidence.specs.Kept.{Advances};
 ghost use Rattle.growth.specs.Known.{IsKnown, HasWire};
@@ -73,7 +71,8 @@ fn grow_pins(
     ensures known { IsKnown proof.new known.new }
     ensures stays { (w : ℕ) → HasWire known.old.steps w → HasWire known.new.steps w }
     ensures found { OnOk result (SoundPinsAreKnown (rig_state rig.old).machine.faults proof.old known.new count) }
-    ensures loads { LoadsAtMost (rig_state rig.old).machine.faults proof.old (rig_state rig.old).loads (rig_state rig.new).loads (3 * count) }
+    ensures loads { LoadsAtMost (rig_state rig.old).machine.faults proof.old (rig_state rig.old).loads
+        (rig_state rig.new).loads (3 * count) }
     ensures advances { Advances (rig_state rig.old) (rig_state rig.new) proof.old proof.new }
     ensures cause { IsErrOf result RigFail.Failed → Rose (rig_state rig.old).failures (rig_state rig.new).failures }
 {
@@ -102,7 +101,8 @@ fn try_pins(
     ensures stays { (w : ℕ) → HasWire known.old.steps w → HasWire known.new.steps w }
     ensures held { IfOk result (λ found. IfSome found (λ t. IsHeldTrunk proof.new known.new 0 t.left t.right)) }
     ensures none { IfOk result (λ found. IfNone found (FewPins (rig_state rig.old).machine.faults proof.old count)) }
-    ensures loads { LoadsAtMost (rig_state rig.old).machine.faults proof.old (rig_state rig.old).loads (rig_state rig.new).loads (3 * count) }
+    ensures loads { LoadsAtMost (rig_state rig.old).machine.faults proof.old (rig_state rig.old).loads
+        (rig_state rig.new).loads (3 * count) }
     ensures advances { Advances (rig_state rig.old) (rig_state rig.new) proof.old proof.new }
     ensures cause { IsErrOf result RigFail.Failed → Rose (rig_state rig.old).failures (rig_state rig.new).failures }
 {

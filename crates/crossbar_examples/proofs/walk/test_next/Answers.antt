@@ -1,4 +1,4 @@
-use Rattle.std.proofs.Common.{sym, ◌∙◌}
+use Rattle.std.proofs.Common.{◌∙◌}
 use Rattle.crossbar_examples.proofs.Finding.{found_later, found_next, later_then, trunk_at, full_since}
 use Rattle.crossbar_examples.proofs.walk.test_next.Goals as goal
 

@@ -1,4 +1,4 @@
-use Rattle.std.proofs.Common.{◌≡◌, ◌<◌, length, arith}
+use Rattle.std.proofs.Common.{◌<◌, length, arith}
 use Rattle.crossbar_test.proofs.Fielding.{range_none, range_next, range_end}
 use Rattle.crossbar_test.proofs.bars.add_range.Goals as goal
 

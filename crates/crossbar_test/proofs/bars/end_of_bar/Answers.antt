@@ -1,6 +1,4 @@
-use Rattle.std.proofs.Common.{◌≡◌, ◌≤◌, ◌+◌, ◌*◌, sym, ◌∙◌, arith}
-use Rattle.hierarchy.specs.Rows.{first_cross_of}
-use Rattle.hierarchy.specs.Shape.{crosses_of, taps_of, lines_of}
+use Rattle.std.proofs.Common.{sym, arith}
 use Rattle.crossbar_test.proofs.Fielding.{end_within}
 use Rattle.crossbar_test.proofs.bars.end_of_bar.Goals as goal
 

@@ -2,9 +2,9 @@ use Rattle.std.proofs.Common.{◌<◌, All, sym, subst}
 use Rattle.hierarchy.specs.declared.Shape.{Shape}
 use Rattle.hierarchy.specs.declared.Wire.{Wire}
 use Rattle.hierarchy.specs.Shape.{nodes_of, wires_of}
-use Rattle.crossbar_test.specs.Bars.{AreBarOf, IsBarField}
+use Rattle.crossbar_test.specs.Bars.{AreBarOf}
 use Rattle.crossbar_test.specs.Held.{wire_numbers}
-use Rattle.crossbar_test.proofs.Filling.{bar_at, full_is, bar_loads, bar_few, no_loads, no_few, trunk_node, trunk_taps}
+use Rattle.crossbar_test.proofs.Filling.{bar_at, full_is, bar_loads, bar_few, no_few, trunk_node, trunk_taps}
 use Rattle.crossbar_test.proofs.Staying.{trunk_later}
 use Rattle.crossbar_test.proofs.crossbar.test_node.Goals as goal
 

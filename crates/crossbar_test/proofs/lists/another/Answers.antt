@@ -1,4 +1,3 @@
-use Rattle.std.proofs.Common.{arith}
 use Rattle.crossbar_test.proofs.Listing.{wire_at}
 use Rattle.crossbar_test.proofs.lists.another.Goals as goal
 

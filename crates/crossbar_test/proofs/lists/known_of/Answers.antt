@@ -1,7 +1,7 @@
-use Rattle.std.proofs.Common.{refl, arith}
+use Rattle.std.proofs.Common.{refl}
 use Rattle.hierarchy.specs.Shape.{wires_of}
 use Rattle.growth.specs.Known.{HasWire}
-use Rattle.crossbar_test.proofs.Listing.{some_none, some_pushed, some_same, some_end, none_within, pushed_within}
+use Rattle.crossbar_test.proofs.Listing.{some_none, some_pushed, some_same, none_within, pushed_within}
 use Rattle.crossbar_test.proofs.lists.known_of.Goals as goal
 
 pub wires-init : goal.wires-init

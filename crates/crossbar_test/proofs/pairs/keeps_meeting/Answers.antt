@@ -1,4 +1,3 @@
-use Rattle.std.proofs.Common.{sym}
 use Rattle.crossbar_test.proofs.Pairing.{meeting_some, meeting_none}
 use Rattle.crossbar_test.proofs.pairs.keeps_meeting.Goals as goal
 

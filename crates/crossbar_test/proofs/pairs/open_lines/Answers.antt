@@ -1,4 +1,4 @@
-use Rattle.std.proofs.Common.{refl, arith}
+use Rattle.std.proofs.Common.{refl}
 use Rattle.crossbar_test.specs.Bars.{KeepsAll}
 use Rattle.crossbar_test.specs.Held.{wire_numbers}
 use Rattle.crossbar_test.proofs.Listing.{some_none, some_pushed, some_same}

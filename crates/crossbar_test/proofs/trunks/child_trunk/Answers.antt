@@ -1,7 +1,7 @@
-use Rattle.std.proofs.Common.{◌<◌, All, subst, sym, ◌∙◌}
+use Rattle.std.proofs.Common.{◌<◌, All, subst, sym}
 use Rattle.hierarchy.specs.declared.Shape.{Shape}
 use Rattle.hierarchy.specs.declared.Wire.{Wire}
-use Rattle.hierarchy.specs.Shape.{IsPort, nodes_of, wires_of, port_at, own_ports_of}
+use Rattle.hierarchy.specs.Shape.{nodes_of, wires_of, port_at, own_ports_of}
 use Rattle.crossbar_test.specs.Bars.{IsAtOneOf, IsListOf}
 use Rattle.crossbar_test.specs.Held.{wire_numbers}
 use Rattle.crossbar_test.proofs.Fielding.{ports_are}
@@ -20,7 +20,7 @@ returns-in-Ok-trunk_of-clause-held c =
     let laws = c.the_laws_hold.ensures c.args.proof.now.shape in
     let node = laws.parents.within c.args.node.0 c.args.parent.now.node c.requires.child in
     let ports = ports_are c.args.proof.now.shape laws c.args.node.0 (wire_numbers c.in-Ok.ports.items) node
-        (subst (λ (m : Shape). IsListOf (IsAtOneOf (port_at m c.args.node.0) (own_ports_of m c.args.node.0)) (wire_numbers c.in-Ok.ports.items)) c.shape-shape.ensures c.in-Ok.ensures.ports) in
+    (subst (λ (m : Shape). IsListOf (IsAtOneOf (port_at m c.args.node.0) (own_ports_of m c.args.node.0)) (wire_numbers c.in-Ok.ports.items)) c.shape-shape.ensures c.in-Ok.ensures.ports) in
     if_some _ (rw (c.in-Ok-trunk_of.is, c.deref.ensures.value) at c.trunk_of.ensures.trunk) (λ t trunk. trunk.held c.args.node.0 (port_end c.args.proof.now.shape c.args.node.0 (wire_numbers c.in-Ok.ports.items) ports))
 
 pub returns-in-Ok-trunk_of-clause-none : goal.returns-in-Ok-trunk_of-clause-none
@@ -28,5 +28,5 @@ returns-in-Ok-trunk_of-clause-none c =
     let laws = c.the_laws_hold.ensures c.args.proof.now.shape in
     let node = laws.parents.within c.args.node.0 c.args.parent.now.node c.requires.child in
     let ports = ports_are c.args.proof.now.shape laws c.args.node.0 (wire_numbers c.in-Ok.ports.items) node
-        (subst (λ (m : Shape). IsListOf (IsAtOneOf (port_at m c.args.node.0) (own_ports_of m c.args.node.0)) (wire_numbers c.in-Ok.ports.items)) c.shape-shape.ensures c.in-Ok.ensures.ports) in
+    (subst (λ (m : Shape). IsListOf (IsAtOneOf (port_at m c.args.node.0) (own_ports_of m c.args.node.0)) (wire_numbers c.in-Ok.ports.items)) c.shape-shape.ensures c.in-Ok.ensures.ports) in
     if_none _ (rw (c.in-Ok-trunk_of.is, c.deref.ensures.value) at c.trunk_of.ensures.none) (λ one. unserved_child c.args.proof.now c.args.known.now c.args.parent.now c.args.node.0 (wire_numbers c.in-Ok.ports.items) laws c.requires.child c.requires.held ports one)
