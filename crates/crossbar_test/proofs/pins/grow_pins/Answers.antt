@@ -1,7 +1,6 @@
-use Rattle.std.proofs.Common.{◌≡◌, length, subst, ◌∙◌}
+use Rattle.std.proofs.Common.{◌≡◌, length, subst, ap, ◌∙◌}
 use Rattle.hierarchy.specs.declared.Shape.{Shape}
-use Rattle.hierarchy.specs.Shape.{wires_of}
-use Rattle.growth.specs.Field.{IsFieldOf}
+use Rattle.hierarchy.specs.Shape.{wires_of, crosses_of}
 use Rattle.crossbar_test.proofs.Fielding.{within_marks}
 use Rattle.crossbar_test.proofs.Laid.{on_ok}
 use Rattle.crossbar_test.proofs.Trunking.{pins_grown, few_loads}
@@ -11,7 +10,7 @@ pub add_wires-requires : goal.add_wires-requires
 add_wires-requires g c = within_marks c.args.proof.now.shape c.args.pins.now.items _ (subst (λ (m : Shape). length c.in-Ok.field.wires ≡ wires_of m) c.shape-shape.ensures c.in-Ok.ensures.field.wires) c.requires.within
 
 pub grow-requires-clause-field : goal.grow-requires-clause-field
-grow-requires-clause-field g c = subst (λ (m : Shape). IsFieldOf m _) c.shape-shape.ensures (record { wires = c.add_wires.ensures.len ∙ c.in-Ok.ensures.field.wires; crosses = c.in-Ok.ensures.field.crosses })
+grow-requires-clause-field g c = record { wires = c.add_wires.ensures.len ∙ c.in-Ok.ensures.field.wires ∙ ap wires_of c.shape-shape.ensures; crosses = c.in-Ok.ensures.field.crosses ∙ ap crosses_of c.shape-shape.ensures }
 
 pub returns-clause-found : goal.returns-clause-found
 returns-clause-found g c = on_ok c.grow.result c.grow.ensures.closed (λ closed. pins_grown _ _ _ _ _ c.args.count c.args.pins.now.items _ _ c.grow.ensures.advances c.requires.count c.requires.pins c.add_wires.ensures closed)

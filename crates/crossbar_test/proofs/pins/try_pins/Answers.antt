@@ -2,7 +2,8 @@ use Rattle.std.proofs.Common.{◌<◌, All, sym, subst, ◌∙◌}
 use Rattle.hierarchy.specs.declared.Shape.{Shape}
 use Rattle.hierarchy.specs.declared.Wire.{Wire}
 use Rattle.hierarchy.specs.Shape.{pin_wire, wires_of}
-use Rattle.crossbar_test.specs.Bars.{IsAtOneOf, IsListOf}
+use Rattle.test_configs.specs.declared.trunk.Trunk.{Trunk}
+use Rattle.crossbar_test.specs.Bars.{IsAtOneOf, IsListOf, IsTrunkOf}
 use Rattle.crossbar_test.specs.Held.{wire_numbers}
 use Rattle.crossbar_test.proofs.Laid.{if_some, if_none}
 use Rattle.crossbar_test.proofs.Trunking.{pin_end, few_pins}
@@ -20,7 +21,7 @@ trunk_of-requires-clause-within g c = rw c.deref.ensures.value (subst (λ (m : S
 pub returns-in-Ok-trunk_of-clause-held : goal.returns-in-Ok-trunk_of-clause-held
 returns-in-Ok-trunk_of-clause-held g c =
     let same = c.shape-shape.ensures ∙ sym c.in_ok-grow_pins.ensures.advances.more.shape in
-    if_some _ (rw (c.in-Ok-trunk_of.is, c.deref.ensures.value) at c.trunk_of.ensures.trunk) (λ t trunk. trunk.held 0
+    if_some _ (rw (c.in-Ok-trunk_of.is, c.deref.ensures.value) at c.trunk_of.ensures.trunk) (λ (t : Trunk) (trunk : IsTrunkOf c.grow_pins.new.proof c.grow_pins.new.known (wire_numbers c.in-Ok.pins.items) t.left t.right). trunk.held 0
     (pin_end c.grow_pins.new.proof.shape c.args.count (wire_numbers c.in-Ok.pins.items) (rw (sym c.in_ok-grow_pins.ensures.advances.more.shape) c.requires.count)
     (subst (λ (m : Shape). IsListOf (IsAtOneOf (pin_wire m) c.args.count) (wire_numbers c.in-Ok.pins.items)) same c.in-Ok.ensures.pins)))
 
