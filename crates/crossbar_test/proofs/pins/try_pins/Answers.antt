@@ -22,7 +22,7 @@ pub returns-in-Ok-trunk_of-clause-held : goal.returns-in-Ok-trunk_of-clause-held
 returns-in-Ok-trunk_of-clause-held g c =
     let same = c.shape-shape.ensures ∙ sym c.in_ok-grow_pins.ensures.advances.more.shape in
     if_some _ (rw (c.in-Ok-trunk_of.is, c.deref.ensures.value) at c.trunk_of.ensures.trunk) (λ (t : Trunk) (trunk : IsTrunkOf c.grow_pins.new.proof c.grow_pins.new.known (wire_numbers c.in-Ok.pins.items) t.left t.right). trunk.held 0
-    (pin_end c.grow_pins.new.proof.shape c.args.count (wire_numbers c.in-Ok.pins.items) (rw (sym c.in_ok-grow_pins.ensures.advances.more.shape) c.requires.count)
+    (pin_end c.grow_pins.new.proof.shape c.args.count (wire_numbers c.in-Ok.pins.items) (rw c.in_ok-grow_pins.ensures.advances.more.shape c.requires.count)
     (subst (λ (m : Shape). IsListOf (IsAtOneOf (pin_wire m) c.args.count) (wire_numbers c.in-Ok.pins.items)) same c.in-Ok.ensures.pins)))
 
 pub returns-in-Ok-trunk_of-clause-none : goal.returns-in-Ok-trunk_of-clause-none
