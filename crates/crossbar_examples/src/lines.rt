@@ -9,7 +9,7 @@ use crate::bench::Bench;
 use crate::book::{Case, Line};
 use crate::machine::rig_of;
 use crate::routes::seen;
-use crate::walk::{Loads, Walk, are_separated, test_next};
+use crate::walk::{Loads, Progress, are_separated, test_next};
 use crate::words::{numbers_of, text_of, word, yes_or_no};
 use crossbar_test::Tested;
 use evidence::Proof;
@@ -145,7 +145,7 @@ fn next(
     alloc: Global,
     rig: &mut Box<dyn Rig>,
     proof: &mut Proof,
-    walk: &mut Walk,
+    walk: &mut Progress,
     bench: &mut Bench,
     words: &[String],
 ) -> Result<Option<String>, AllocError>
@@ -188,7 +188,7 @@ fn came_of(
     alloc: Global,
     rig: &mut Box<dyn Rig>,
     proof: &mut Proof,
-    walk: &mut Walk,
+    walk: &mut Progress,
     bench: &mut Bench,
     words: &[String],
 ) -> Result<Option<String>, AllocError>
@@ -238,7 +238,7 @@ fn try_lines(
     requires attached { shape_of (rig_state rig.old) ≡ Some proof.old.shape }
 {
     let mut bench = Bench::new(alloc);
-    let mut walk = Walk::new(alloc, &proof.shape())?;
+    let mut walk = Progress::new(alloc, &proof.shape())?;
     let mut right = true;
     'lines: for line in case.lines.iter() {
         let words = line.words.as_slice();

@@ -28,20 +28,20 @@ pub struct Loads {
 
 /// What is known, and the crossbars that were tested, each at the place that is the number of its node.
 #[derive(Drop)]
-pub struct Walk {
+pub struct Progress {
     pub known: Known,
     pub found: Vec<Tested>,
     pub loads: Loads,
 }
 
-impl Walk {
+impl Progress {
     /// Nothing is known.
-    pub fn new(alloc: Global, shape: &Shape) -> Result<Walk, AllocError>
+    pub fn new(alloc: Global, shape: &Shape) -> Result<Progress, AllocError>
         ensures shape { IfOk result (λ walk. walk.known.shape ≡ shape.now) }
         ensures known { IfOk result (λ walk. walk.known.steps ≡ []) }
         ensures found { IfOk result (λ walk. walk.found.items ≡ []) }
     {
-        Ok(Walk {
+        Ok(Progress {
             known: Known::new(alloc, shape)?,
             found: Vec::new(alloc),
             loads: Loads { trunk: 0, rest: 0 },
@@ -68,7 +68,7 @@ fn next_trunk(
     alloc: Global,
     rig: &mut Box<dyn Rig>,
     proof: &mut Proof,
-    walk: &mut Walk,
+    walk: &mut Progress,
     node: Node,
 ) -> Result<Option<Trunk>, RigFail>
     requires attached { shape_of (rig_state rig.old) ≡ Some proof.old.shape }
@@ -120,7 +120,7 @@ pub fn test_next(
     alloc: Global,
     rig: &mut Box<dyn Rig>,
     proof: &mut Proof,
-    walk: &mut Walk,
+    walk: &mut Progress,
     node: Node,
 ) -> Result<bool, RigFail>
     requires attached { shape_of (rig_state rig.old) ≡ Some proof.old.shape }
@@ -178,7 +178,7 @@ fn is_separated(proof: &Proof, found: &[Tested], wire: Wire) -> bool
 }
 
 /// Whether each two different wires of the tested crossbars are kept apart.
-pub fn are_separated(proof: &Proof, walk: &Walk) -> bool
+pub fn are_separated(proof: &Proof, walk: &Progress) -> bool
     requires known { IsKnown proof.now walk.now.known }
     requires held { All (IsHeld proof.now walk.now.known) walk.now.found.items }
 {
