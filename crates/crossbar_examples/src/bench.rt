@@ -1,6 +1,6 @@
 //! What a case has at hand besides its machine.
 use crate::setup::Setup;
-use crossbar_walk::Loads;
+use crate::walk::Loads;
 use std::alloc::{AllocError, Global};
 
 /// What was set, and how many loads the last question took.

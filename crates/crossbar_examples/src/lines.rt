@@ -2,17 +2,18 @@
 ghost use Rattle.std.specs.Prelude.{◌≡◌, Some};
 ghost use Rattle.rig.specs.Rig.{shape_of};
 ghost use Rattle.evidence.specs.Kept.{Advances};
-ghost use Rattle.crossbar_walk.specs.Found.{AreFound};
+ghost use Rattle.crossbar_examples.specs.Found.{AreFound};
 
 use crate::answers::{answer, keeps};
 use crate::bench::Bench;
 use crate::book::{Case, Line};
 use crate::machine::rig_of;
 use crate::routes::seen;
+use crate::walk::{Loads, Progress, are_separated, test_next};
 use crate::words::{numbers_of, text_of, word, yes_or_no};
-use crossbar_walk::{Loads, test_next};
+use crossbar_test::Tested;
+use evidence::Proof;
 use evidence::laws::tests_add_up;
-use evidence::{Proof, Tested};
 use hierarchy::{Node, Wire};
 use rig::{Rig, RigFail};
 use std::alloc::{AllocError, Global};
@@ -144,14 +145,14 @@ fn next(
     alloc: Global,
     rig: &mut Box<dyn Rig>,
     proof: &mut Proof,
-    found: &mut Vec<Tested>,
+    walk: &mut Progress,
     bench: &mut Bench,
     words: &[String],
 ) -> Result<Option<String>, AllocError>
     requires attached { shape_of (rig_state rig.old) ≡ Some proof.old.shape }
-    requires found { AreFound (rig_state rig.old).machine.faults proof.old found.old.items }
+    requires found { AreFound (rig_state rig.old).machine.faults proof.old walk.old.known walk.old.found.items }
     ensures advances { Advances (rig_state rig.old) (rig_state rig.new) proof.old proof.new }
-    ensures found { AreFound (rig_state rig.old).machine.faults proof.new found.new.items }
+    ensures found { AreFound (rig_state rig.old).machine.faults proof.new walk.new.known walk.new.found.items }
 {
     tests_add_up();
     let [node] = words else {
@@ -160,10 +161,12 @@ fn next(
     let Ok(node) = node.as_str().parse::<u32>() else {
         return Ok(None);
     };
-    if node as usize != found.len() {
+    if node as usize != walk.found.len() {
         return Ok(None);
     }
-    match test_next(alloc, rig, proof, found, Node(node), &mut bench.loads) {
+    let answer = test_next(alloc, rig, proof, walk, Node(node));
+    bench.loads = walk.loads;
+    match answer {
         Ok(true) => word(alloc, "tested"),
         Ok(false) => word(alloc, "none"),
         Err(RigFail::Failed) => word(alloc, "failed"),
@@ -171,19 +174,28 @@ fn next(
     }
 }
 
+// Whether no more loads were made than words say. None where they say no number.
+fn took(loads: u64, words: &[String]) -> Option<bool> {
+    let [most] = words else {
+        return None;
+    };
+    let most = most.as_str().parse::<u64>().ok()?;
+    Some(loads <= most)
+}
+
 // What comes of a line. None where it says nothing.
 fn came_of(
     alloc: Global,
     rig: &mut Box<dyn Rig>,
     proof: &mut Proof,
-    found: &mut Vec<Tested>,
+    walk: &mut Progress,
     bench: &mut Bench,
     words: &[String],
 ) -> Result<Option<String>, AllocError>
     requires attached { shape_of (rig_state rig.old) ≡ Some proof.old.shape }
-    requires found { AreFound (rig_state rig.old).machine.faults proof.old found.old.items }
+    requires found { AreFound (rig_state rig.old).machine.faults proof.old walk.old.known walk.old.found.items }
     ensures advances { Advances (rig_state rig.old) (rig_state rig.new) proof.old proof.new }
-    ensures found { AreFound (rig_state rig.old).machine.faults proof.new found.new.items }
+    ensures found { AreFound (rig_state rig.old).machine.faults proof.new walk.new.known walk.new.found.items }
 {
     tests_add_up();
     let [key, words @ ..] = words else {
@@ -191,11 +203,13 @@ fn came_of(
     };
     let key = key.as_str();
     match key {
-        "crossbar" => next(alloc, rig, proof, found, bench, words),
+        "crossbar" => next(alloc, rig, proof, walk, bench, words),
+        "took" => yes_or_no(alloc, took(rig.loads(), words)),
+        "separated" => yes_or_no(alloc, Some(are_separated(proof, walk))),
         "toggle" | "cell" | "register" | "swing" | "apart" => {
             asked(alloc, rig, proof, bench, key, words)
         }
-        _ => unasked(alloc, proof, found, bench, key, words),
+        _ => unasked(alloc, proof, &walk.found, bench, key, words),
     }
 }
 
@@ -224,11 +238,11 @@ fn try_lines(
     requires attached { shape_of (rig_state rig.old) ≡ Some proof.old.shape }
 {
     let mut bench = Bench::new(alloc);
-    let mut found = Vec::new(alloc);
+    let mut walk = Progress::new(alloc, &proof.shape())?;
     let mut right = true;
     'lines: for line in case.lines.iter() {
         let words = line.words.as_slice();
-        let came = came_of(alloc, rig, proof, &mut found, &mut bench, words)?;
+        let came = came_of(alloc, rig, proof, &mut walk, &mut bench, words)?;
         if !is_right(rt, case.name.as_str(), line, &came) {
             right = false;
         }

@@ -10,6 +10,7 @@ mod lines;
 mod machine;
 mod routes;
 mod setup;
+mod walk;
 mod words;
 
 use book::{Book, Trouble};

@@ -1,164 +1,157 @@
-//! A trunk of the root: two pins.
-ghost use Rattle.std.specs.Prelude.{◌≡◌, ◌≢◌, ◌≤◌, ◌<◌, ◌+◌, ◌*◌, true, Some, IfOk, IfSome, IfNone, OnOk, IsTrue, IsErrOf, is_some};
+//! A trunk of the root, and of other nodes where their ports are known.
+ghost use Rattle.std.specs.Prelude.{◌≡◌, ◌≢◌, ◌<◌, ◌≤◌, ◌*◌, ℕ, All, Some, IfOk, IfSome, IfNone, OnOk, IsErrOf, length};
 ghost use Rattle.tm_outside.specs.Counts.{Rose};
-ghost use Rattle.hierarchy.specs.Shape.{pin_wire, pins_of};
+ghost use Rattle.hierarchy.specs.Shape.{wires_of, pins_of, pin_wire};
 ghost use Rattle.rig.specs.Rig.{shape_of};
-ghost use Rattle.evidence.specs.Held.{IsHeldTrunk};
-ghost use Rattle.evidence.specs.Kept.{Advances, keeps_wire};
-ghost use Rattle.crossbar_test.specs.Pins.{PinIf, NoPin, PinsIf, NoSecond, ArePins, ServedIf, FewLoads};
+ghost use Rattle.evidence.specs.Kept.{Advances};
+ghost use Rattle.known.specs.Known.{IsKnown, HasWire};
+ghost use Rattle.crossbar_test.specs.Bars.{FewPins, IsAtOneOf, IsKnownOf, IsListOf, IsTrunkOf, IsTrunkTo, SoundPinsAreKnown};
+ghost use Rattle.crossbar_test.specs.Held.{IsHeldTrunk, LoadsAtMost, UnservedIf, wire_numbers};
 
+use crate::bars::no_field;
 use crate::laws::the_laws_hold;
-use crate::routes::{are_apart, swings};
+use crate::lists::{known_of, pins_in, two_of};
 use evidence::Proof;
+use evidence::laws::tests_add_up;
+use growth::{Known, add_wires, grow};
+use hierarchy::{Wire, without_faults_all_is_sound};
 use rig::{Rig, RigFail};
-use std::alloc::Global;
-use test_configs::{Trunk, route_at};
+use std::alloc::{AllocError, Global};
+use test_configs::Trunk;
 
-// Whether a pin swings.
-fn swings_pin(
-    alloc: Global,
-    rig: &mut Box<dyn Rig>,
-    proof: &mut Proof,
-    pin: u32,
-) -> Result<bool, RigFail>
-    requires attached { shape_of (rig_state rig.old) ≡ Some proof.old.shape }
-    requires pin { pin < pins_of proof.old.shape }
-
-    ensures keeps { IfOk result (λ answer. IsTrue answer → keeps_wire proof.new (pin_wire proof.old.shape pin) ≡ true) }
-    ensures passes { IfOk result (PinIf (rig_state rig.old).machine.faults proof.old pin) }
-    ensures advances { Advances (rig_state rig.old) (rig_state rig.new) proof.old proof.new }
-    ensures loads { (rig_state rig.new).loads ≤ (rig_state rig.old).loads + 1 }
-    ensures cause { IsErrOf result RigFail.Failed → Rose (rig_state rig.old).failures (rig_state rig.new).failures }
+// The trunk to two known wires.
+fn trunk_to(proof: &Proof, known: &Known, a: Wire, b: Wire) -> Result<Trunk, AllocError>
+    requires known { IsKnown proof.now known.now }
+    requires a { HasWire known.now.steps a.0 }
+    requires b { HasWire known.now.steps b.0 }
+    requires differ { a.0 ≢ b.0 }
+    ensures { IfOk result (λ t. IsTrunkTo proof.now known.now a.0 b.0 t.left t.right) }
 {
-    let shape = proof.shape();
-    let Ok(route) = route_at(alloc, &shape, pin) else {
-        return Err(RigFail::Memory);
-    };
-    swings(rig, proof, &route)
+    let (left, right) = known.routes(proof, a, b)?;
+    Ok(Trunk { left, right })
 }
 
-/// The first pin that swings: none below it is clear.
-pub(crate) fn first_pin(
+/// The trunk to two of some wires that are known. None where there aren't two.
+pub(crate) fn trunk_of(
     alloc: Global,
-    rig: &mut Box<dyn Rig>,
-    proof: &mut Proof,
-) -> Result<Option<u32>, RigFail>
-    requires attached { shape_of (rig_state rig.old) ≡ Some proof.old.shape }
-
-    ensures kept { IfOk result (λ found. IfSome found (λ pin. keeps_wire proof.new (pin_wire proof.old.shape pin) ≡ true)) }
-    ensures within { IfOk result (λ found. IfSome found (λ pin. pin < pins_of proof.old.shape)) }
-    ensures before { IfOk result (λ found. IfSome found (NoPin (rig_state rig.old).machine.faults proof.old)) }
-    ensures none { IfOk result (λ found. IfNone found (NoPin (rig_state rig.old).machine.faults proof.old (pins_of proof.old.shape))) }
-    ensures advances { Advances (rig_state rig.old) (rig_state rig.new) proof.old proof.new }
-    ensures loads { IfOk result (λ found. IfSome found (λ pin. (rig_state rig.new).loads ≤ (rig_state rig.old).loads + (pin + 1))) }
-    ensures cause { IsErrOf result RigFail.Failed → Rose (rig_state rig.old).failures (rig_state rig.new).failures }
-{
-    let shape = proof.shape();
-    'pins: for pin in 0..shape.pins() {
-        let good = swings_pin(alloc, rig, proof, pin)?;
-        if good {
-            return Ok(Some(pin));
-        }
-    }
-    Ok(None)
-}
-
-// Whether a further pin swings and is apart from the first.
-fn joins_pin(
-    alloc: Global,
-    rig: &mut Box<dyn Rig>,
-    proof: &mut Proof,
-    first: u32,
-    pin: u32,
-) -> Result<bool, RigFail>
-    requires attached { shape_of (rig_state rig.old) ≡ Some proof.old.shape }
-    requires first { first < pins_of proof.old.shape }
-    requires kept { keeps_wire proof.old (pin_wire proof.old.shape first) ≡ true }
-    requires pin { pin < pins_of proof.old.shape }
-    requires differ { first ≢ pin }
-
-    ensures pins { IfOk result (λ answer. IsTrue answer → ArePins proof.new first pin) }
-    ensures passes { IfOk result (PinsIf (rig_state rig.old).machine.faults proof.old first pin) }
-    ensures advances { Advances (rig_state rig.old) (rig_state rig.new) proof.old proof.new }
-    ensures loads { (rig_state rig.new).loads ≤ (rig_state rig.old).loads + 2 }
-    ensures cause { IsErrOf result RigFail.Failed → Rose (rig_state rig.old).failures (rig_state rig.new).failures }
-{
-    the_laws_hold();
-    if !swings_pin(alloc, rig, proof, pin)? {
-        return Ok(false);
-    }
-    let shape = proof.shape();
-    let Ok(left) = route_at(alloc, &shape, first) else {
-        return Err(RigFail::Memory);
-    };
-    let Ok(right) = route_at(alloc, &shape, pin) else {
-        return Err(RigFail::Memory);
-    };
-    are_apart(rig, proof, &left, &right)
-}
-
-/// The next pin that swings and is apart from the first.
-pub(crate) fn second_pin(
-    alloc: Global,
-    rig: &mut Box<dyn Rig>,
-    proof: &mut Proof,
-    first: u32,
-) -> Result<Option<u32>, RigFail>
-    requires attached { shape_of (rig_state rig.old) ≡ Some proof.old.shape }
-    requires first { first < pins_of proof.old.shape }
-    requires kept { keeps_wire proof.old (pin_wire proof.old.shape first) ≡ true }
-
-    ensures pins { IfOk result (λ found. IfSome found (ArePins proof.new first)) }
-    ensures before { IfOk result (λ found. IfSome found (NoSecond (rig_state rig.old).machine.faults proof.old first)) }
+    proof: &Proof,
+    known: &Known,
+    wires: &[Wire],
+) -> Result<Option<Trunk>, AllocError>
+    requires known { IsKnown proof.now known.now }
+    requires within { All (λ w. w.0 < wires_of proof.now.shape) wires.now }
+    ensures trunk { IfOk result (λ found. IfSome found (λ t. IsTrunkOf proof.now known.now (wire_numbers wires.now) t.left t.right)) }
     ensures none { IfOk result (λ found. IfNone found
-        (NoSecond (rig_state rig.old).machine.faults proof.old first (pins_of proof.old.shape))) }
+        ((w u : ℕ) → IsKnownOf known.now (wire_numbers wires.now) w → IsKnownOf known.now (wire_numbers wires.now) u → w ≡ u)) }
+{
+    let those = known_of(alloc, known, wires)?;
+    let Some((a, b)) = two_of(&those) else {
+        return Ok(None);
+    };
+    let trunk = trunk_to(proof, known, a, b)?;
+    Ok(Some(trunk))
+}
+
+// Known wires grow among some pins of the machine.
+fn grow_pins(
+    alloc: Global,
+    rig: &mut Box<dyn Rig>,
+    proof: &mut Proof,
+    known: &mut Known,
+    pins: &Vec<Wire>,
+    count: u32,
+) -> Result<(), RigFail>
+    requires attached { shape_of (rig_state rig.old) ≡ Some proof.old.shape }
+    requires known { IsKnown proof.old known.old }
+    requires count { count ≤ pins_of proof.old.shape }
+    requires pins { IsListOf (IsAtOneOf (pin_wire proof.old.shape) count) (wire_numbers pins.now.items) }
+    requires length { length pins.now.items ≡ count }
+    requires within { All (λ w. w.0 < wires_of proof.old.shape) pins.now.items }
+
+    ensures known { IsKnown proof.new known.new }
+    ensures stays { (w : ℕ) → HasWire known.old.steps w → HasWire known.new.steps w }
+    ensures found { OnOk result (SoundPinsAreKnown (rig_state rig.old).machine.faults proof.old known.new count) }
+    ensures loads { LoadsAtMost (rig_state rig.old).machine.faults proof.old (rig_state rig.old).loads
+        (rig_state rig.new).loads (3 * count) }
     ensures advances { Advances (rig_state rig.old) (rig_state rig.new) proof.old proof.new }
-    ensures loads { IfOk result (λ found. IfSome found
-        (λ pin. (rig_state rig.new).loads + 2 * first ≤ (rig_state rig.old).loads + 2 * pin)) }
+    ensures cause { IsErrOf result RigFail.Failed → Rose (rig_state rig.old).failures (rig_state rig.new).failures }
+{
+    tests_add_up();
+    let shape = proof.shape();
+    let Ok(mut field) = no_field(alloc, &shape) else {
+        return Err(RigFail::Memory);
+    };
+    add_wires(&mut field.wires, pins);
+    grow(rig, proof, known, &field)
+}
+
+// A trunk of the root to two of the first pins, so many of them.
+fn try_pins(
+    alloc: Global,
+    rig: &mut Box<dyn Rig>,
+    proof: &mut Proof,
+    known: &mut Known,
+    count: u32,
+) -> Result<Option<Trunk>, RigFail>
+    requires attached { shape_of (rig_state rig.old) ≡ Some proof.old.shape }
+    requires known { IsKnown proof.old known.old }
+    requires count { count ≤ pins_of proof.old.shape }
+
+    ensures known { IsKnown proof.new known.new }
+    ensures stays { (w : ℕ) → HasWire known.old.steps w → HasWire known.new.steps w }
+    ensures held { IfOk result (λ found. IfSome found (λ t. IsHeldTrunk proof.new known.new 0 t.left t.right)) }
+    ensures none { IfOk result (λ found. IfNone found (FewPins (rig_state rig.old).machine.faults proof.old count)) }
+    ensures loads { LoadsAtMost (rig_state rig.old).machine.faults proof.old (rig_state rig.old).loads
+        (rig_state rig.new).loads (3 * count) }
+    ensures advances { Advances (rig_state rig.old) (rig_state rig.new) proof.old proof.new }
     ensures cause { IsErrOf result RigFail.Failed → Rose (rig_state rig.old).failures (rig_state rig.new).failures }
 {
     the_laws_hold();
+    tests_add_up();
     let shape = proof.shape();
-    let count = shape.pins();
-    'pins: for pin in first + 1..count {
-        let good = joins_pin(alloc, rig, proof, first, pin)?;
-        if good {
-            return Ok(Some(pin));
-        }
+    let Ok(pins) = pins_in(alloc, &shape, count) else {
+        return Err(RigFail::Memory);
+    };
+    grow_pins(alloc, rig, proof, known, &pins, count)?;
+    match trunk_of(alloc, proof, known, &pins) {
+        Ok(found) => Ok(found),
+        Err(_) => Err(RigFail::Memory),
     }
-    Ok(None)
 }
 
-/// A trunk of the root: two pins that swing and are apart.
+// Two pins, or fewer where the machine has no more.
+fn two_at_most(pins: u32) -> u32
+    ensures few { result ≤ 2 }
+    ensures within { result ≤ pins }
+    ensures all { result < 2 → result ≡ pins }
+{
+    if pins < 2 { pins } else { 2 }
+}
+
+/// A trunk of the root: to the first two pins, if both can be known, which saves loads, and else to any two.
 pub(crate) fn root_trunk(
     alloc: Global,
     rig: &mut Box<dyn Rig>,
     proof: &mut Proof,
+    known: &mut Known,
 ) -> Result<Option<Trunk>, RigFail>
     requires attached { shape_of (rig_state rig.old) ≡ Some proof.old.shape }
+    requires known { IsKnown proof.old known.old }
 
-    ensures held { IfOk result (λ found. IfSome found (λ trunk. IsHeldTrunk proof.new 0 trunk.left trunk.right)) }
-    ensures served { IfOk result (λ found. ServedIf (rig_state rig.old).machine.faults proof.old 0 (is_some found)) }
+    ensures known { IsKnown proof.new known.new }
+    ensures stays { (w : ℕ) → HasWire known.old.steps w → HasWire known.new.steps w }
+    ensures held { IfOk result (λ found. IfSome found (λ t. IsHeldTrunk proof.new known.new 0 t.left t.right)) }
+    ensures none { IfOk result (λ found. IfNone found (UnservedIf (rig_state rig.old).machine.faults proof.old 0)) }
+    ensures loads { LoadsAtMost (rig_state rig.old).machine.faults proof.old (rig_state rig.old).loads (rig_state rig.new).loads 6 }
     ensures advances { Advances (rig_state rig.old) (rig_state rig.new) proof.old proof.new }
-    ensures loads { OnOk result (FewLoads (rig_state rig.old).machine.faults proof.old 0 (rig_state rig.old).loads
-        (rig_state rig.new).loads 3) }
     ensures cause { IsErrOf result RigFail.Failed → Rose (rig_state rig.old).failures (rig_state rig.new).failures }
 {
-    the_laws_hold();
-    let first = first_pin(alloc, rig, proof)?;
-    let Some(first) = first else {
-        return Ok(None);
-    };
-    let second = second_pin(alloc, rig, proof, first)?;
-    let Some(second) = second else {
-        return Ok(None);
-    };
-    let shape = proof.shape();
-    let Ok(left) = route_at(alloc, &shape, first) else {
-        return Err(RigFail::Memory);
-    };
-    let Ok(right) = route_at(alloc, &shape, second) else {
-        return Err(RigFail::Memory);
-    };
-    Ok(Some(Trunk { left, right }))
+    without_faults_all_is_sound();
+    tests_add_up();
+    let pins = proof.shape().pins();
+    let found = try_pins(alloc, rig, proof, known, two_at_most(pins))?;
+    match found {
+        Some(trunk) => Ok(Some(trunk)),
+        None => try_pins(alloc, rig, proof, known, pins),
+    }
 }

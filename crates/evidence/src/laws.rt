@@ -10,7 +10,6 @@ ghost use Rattle.config_set.specs.declared.Setting.{Setting};
 ghost use Rattle.rig.specs.Rig.{RigState};
 ghost use Rattle.test_configs.specs.Configs.{IsLoopConfig, IsCellConfig};
 ghost use Rattle.test_configs.specs.Routes.{Walk, IsRoute};
-ghost use Rattle.evidence.specs.Held.{Findings, IsHeldTrunk, IsHeld, IsFull};
 ghost use Rattle.evidence.specs.Kept.{Kept, HoldsFor, KeepsNothing, IsMore, Advances, keeps_cross, keeps_pair};
 ghost use Rattle.evidence.specs.Loops.{LoopPasses, RoutePasses, RoutesPass};
 ghost use Rattle.evidence.specs.Readings.{CrossPasses, CellPasses, RegisterPasses, SwingPasses, ApartPasses};
@@ -23,14 +22,10 @@ pub fn kept_facts_are_sound()
     ensures turned { (k : Kept) (a b : ℕ) → keeps_pair k a b ≡ keeps_pair k b a }
 {}
 
-/// What two calls leave, one after the other. What was held stays held, what was full stays full, and what is kept later
-/// is true only of faults of which it was true before.
+/// What two calls leave, one after the other. What is kept later is true only of faults of which it was true before.
 pub fn tests_add_up()
     ensures itself { (s : RigState) (k : Kept) → Advances s s k k }
     ensures onward { (a b c : RigState) (k l n : Kept) → Advances a b k l → Advances b c l n → Advances a c k n }
-    ensures trunk { (k l : Kept) (n : ℕ) (left right : Walk) → IsMore k l → IsHeldTrunk k n left right → IsHeldTrunk l n left right }
-    ensures tested { (k l : Kept) (t : Findings) → IsMore k l → IsHeld k t → IsHeld l t }
-    ensures full { (k l : Kept) (f : Faults) (t : Findings) → IsMore k l → IsFull k f t → IsFull l f t }
     ensures earlier { (k l : Kept) (f : Faults) → IsMore k l → HoldsFor l f → HoldsFor k f }
 {}
 

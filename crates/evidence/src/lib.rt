@@ -11,8 +11,6 @@ mod pins;
 mod proof;
 mod readings;
 mod routes;
-mod tested;
 mod toggles;
 
 pub use proof::Proof;
-pub use tested::Tested;

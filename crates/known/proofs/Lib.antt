@@ -9,4 +9,5 @@ pub mod Grounding
 pub mod Stood
 -- For the proofs of this crate alone.
 mod Ranking
+mod Once
 mod TwoWays

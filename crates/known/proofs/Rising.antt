@@ -1,6 +1,6 @@
 -- Routes from two pins up along a descent.
 use Rattle.std.proofs.Common.{◌≡◌, ◌≢◌, ◌⊎◌, ℕ, ◌+◌, ◌<◌, Bool, true, false, Some, List, [], ◌∷◌, ◌++◌, refl, sym, ap, ◌∙◌, subst, inl, inr, arith}
-use Rattle.std.specs.Prelude.{slice_get, ◌==◌}
+use Rattle.std.specs.Prelude.{slice_get, ◌==◌, AllPairs}
 use Rattle.std.proofs.lemmas.Bool.{false≢true}
 use Rattle.std.proofs.lemmas.Bool.Decides.{nat_tests}
 use Rattle.hierarchy.specs.declared.Shape.{Shape}
@@ -18,6 +18,7 @@ use Rattle.known.specs.declared.step.Foot.{Foot}
 use Rattle.known.specs.declared.step.Stand.{Stand}
 use Rattle.known.specs.declared.step.Stand.TheVariants as stand
 use Rattle.known.specs.declared.step.Step.{Step}
+use Rattle.known.proofs.Once.{once_alone, once_more}
 use Rattle.known.proofs.Places.{one_place, some_same, at_one}
 
 -- one step more, and one less
@@ -60,6 +61,8 @@ routes_to_turned {p = p} {q = q} r = record {
   routes = routes_turned r.routes;
   left_end = r.right_end;
   right_end = r.left_end;
+  left_once = r.right_once;
+  right_once = r.left_once;
   early = λ n x y w on. r.early n y x w (other w on);
 }
   where
@@ -95,6 +98,8 @@ module _ {k : Kept} {known : KnownWires} (is : IsKnown k known) where
     };
     left_end = refl;
     right_end = refl;
+    left_once = once_alone (pin_wire k.shape left);
+    right_once = once_alone (pin_wire k.shape right);
     early = λ n a b w on. early_one n w a b on;
   }
     where
@@ -200,6 +205,8 @@ module _ {k : Kept} {known : KnownWires} (is : IsKnown k known) where
       };
       left_end = end_is;
       right_end = routes.right_end;
+      left_once = subst (λ (ws : List ℕ). AllPairs (λ v u. v ≢ u) ws) (sym wires_are) (once_more p.wires x routes.left_once (not_true (among p.wires x) (λ on. off x (inl on) refl)));
+      right_once = routes.right_once;
       early = λ n a b. early_more n a b;
     }
       where

@@ -1,5 +1,5 @@
 -- Routes over known wires.
-use Rattle.std.specs.Prelude.{◌≡◌, ◌⊎◌, ℕ, ◌<◌, true, false, List}
+use Rattle.std.specs.Prelude.{◌≡◌, ◌≢◌, ◌⊎◌, ℕ, ◌<◌, true, false, List, AllPairs}
 use Rattle.config_set.specs.Groups.{among}
 use Rattle.test_configs.specs.Routes.{Walk, IsRoute}
 use Rattle.evidence.specs.Kept.{Kept, keeps_cross}
@@ -42,9 +42,11 @@ pub record AreRoutes (k : Kept) (ss : List Step) (p q : Walk) : Type 0 where
   pub right : IsKnownRoute k ss q
   pub apart : (w : ℕ) → among p.wires w ≡ true → among q.wires w ≡ false
 
--- Two such routes, to these wires. But for pins, no wire on them came later than both of these.
+-- Two such routes, to these wires. No wire stands in one of them twice and, but for pins, none came later than both of these.
 pub record AreRoutesTo (k : Kept) (ss : List Step) (a b : ℕ) (p q : Walk) : Type 0 where
   pub routes : AreRoutes k ss p q
   pub left_end : p.end ≡ a
   pub right_end : q.end ≡ b
+  pub left_once : AllPairs (λ w u. w ≢ u) p.wires
+  pub right_once : AllPairs (λ w u. w ≢ u) q.wires
   pub early : (n : ℕ) → IsEarly ss n a → IsEarly ss n b → (w : ℕ) → (among p.wires w ≡ true) ⊎ (among q.wires w ≡ true) → IsEarly ss n w

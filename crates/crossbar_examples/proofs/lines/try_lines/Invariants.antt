@@ -1,5 +1,5 @@
 use Rattle.std.proofs.Common.{◌≡◌}
-use Rattle.crossbar_walk.specs.Found.{AreFound}
+use Rattle.crossbar_examples.specs.Found.{AreFound}
 use Rattle.crossbar_examples.proofs.lines.try_lines.Given as goal
 
 abbrev pub invariant-lines : goal.invariant-lines
@@ -9,5 +9,5 @@ invariant-lines g l =
     record {
       machine : rig.machine ≡ rig0.machine;
       shape : l.proof.shape ≡ l.fn.proof.shape;
-      found : AreFound rig0.machine.faults l.proof l.found.items;
+      found : AreFound rig0.machine.faults l.proof l.walk.known l.walk.found.items;
     }
