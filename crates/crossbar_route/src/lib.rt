@@ -6,6 +6,7 @@
 //! The first holds also of a network that is no netlist's, such as two designs joined. Its ticks are the network's depth, at
 //! least 1, its pins the plan's, in order (`route`). `route_laid` does the same of a plan whose layout is at hand, and seeks no
 //! room.
+//! It is routed: no table is on and no crosspoint closed that no net of the network needs (`routed`).
 #![tactic(auto)]
 
 mod close;

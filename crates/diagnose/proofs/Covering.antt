@@ -1,4 +1,4 @@
--- A list of what isn't known or kept covers, and nothing can be taken off it.
+-- A list of what isn't known or kept covers, and is tight: nothing on it both works and can be reached over what is free.
 use Rattle.std.proofs.Common.{◌≡◌, ◌≢◌, ◌⊎◌, ◌<◌, ℕ, Bool, true, false, None, refl, sym, ◌∙◌, subst, inl, inr, arith, nat_eq}
 use Rattle.std.specs.FinSet as set
 use Rattle.std.proofs.lemmas.Bool.{false≢true}

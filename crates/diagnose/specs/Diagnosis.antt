@@ -6,7 +6,8 @@ use Rattle.hierarchy.specs.Faults.{Faults, IsFaultless}
 use Rattle.hierarchy.specs.Defects.{Defects, Covers, IsFair}
 use Rattle.hierarchy.specs.Tight.{IsTight}
 
--- where the faults are told, the list covers them, is fair to them, and is tight to them: nothing can be taken off it
+-- where the faults are told, the list covers them, is fair to them, and is tight to them: nothing on it both works and
+-- can be reached over what is free
 pub record IsDiagnosis (told : Option Faults) (m : Shape) (d : Defects) : Type 0 where
   pub covers : (f : Faults) → told ≡ Some f → Covers m d f
   pub fair : (f : Faults) → told ≡ Some f → IsFair m d f

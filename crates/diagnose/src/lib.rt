@@ -4,8 +4,13 @@
 //! can be known: pins of tables take the place of lines and ports, and what is known grows again. Then the tables are tested
 //! over known wires. What isn't known or kept in the end is listed.
 //!
-//! Promised, where the rig tells its faults: the list covers them, and nothing can be taken off it, so it lists no sound part of
-//! a served node, except a line with fewer than two sound crosspoints. The loads are within a bound on every machine.
+//! Promised, where the rig tells its faults: the list covers them, is tight to them and so is fair, whatever they are (`right`).
+//! It covers: no free crosspoint is stuck, no free table has a wrong cell or a stuck register, no free wire is shorted to a stuck
+//! one and no two free wires are shorted. Tight: nothing on it both works and can be reached over what is free. Fair: it holds no
+//! sound part of a served node, except a line with fewer than two sound crosspoints. The machine is left as it was, whatever the
+//! answer (`machine`); `Failed` comes only where the rig's count rose (`cause`). At every end it has made at most 16 loads for
+//! each crosspoint, 20 for each wire and 130 for each table, without faults 2, 3 and 130 (`loads`), and the number of loads never
+//! falls (`counted`).
 #![tactic(auto)]
 
 mod choose;

@@ -2,6 +2,9 @@
 //!
 //! The in-order plan of the plain network alone decides whether there is room. Where there is, a network with fewer tables and
 //! a plan with fewer crossings are tried too; nothing rests on them, since any image that is routed is right for the design.
+//!
+//! Promised (`lay`): an image of a design on what a list leaves free, right for it under all faults that the list covers, exactly
+//! where the in-order plan of its plain network fits the list. `no_place` makes the refusal of what a network is short of.
 #![tactic(auto)]
 
 mod laying;

@@ -1,4 +1,7 @@
 //! Lists of the defects of a machine of the rig.
+//!
+//! Promised: `list_of` lists the defects of the attached machine, as `diagnose` does, and says how many loads it took;
+//! `write_list` writes the list besides.
 #![tactic(auto)]
 
 mod listing;

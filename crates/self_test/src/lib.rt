@@ -4,6 +4,15 @@
 //! few ports and lines of each node that has one of them, or is above such a node. Then one look decides: each used wire has
 //! to be known, each closed crosspoint kept, and each cell and latched register of the image's tables. What is kept then
 //! leaves no room for a fault that the image could meet.
+//!
+//! Promised (`quick_check`): where the rig tells the machine's faults, true means that for every list of vectors on its input
+//! pins, with 1 on all other pins, the image reads under them what it reads without faults (`sound`). Where the machine is wide
+//! enough for the image, its parts are sound, and so are its surroundings, the answer is true, whatever is broken elsewhere
+//! (`whole`); wide enough means two pins, and in each involved node two lines and, below the root, two ports. At every end it has
+//! made at most 256 loads for each part of the image and each involved node (`loads`, `counted`), and the machine is as it was
+//! (`machine`); `Failed` comes only where the rig's count rose (`cause`). An image on free parts alone runs soundly under all
+//! faults that the list covers (`free_images_run_soundly`), and one whose parts are kept under all of which what is kept is true
+//! (`kept_images_run_soundly`).
 #![tactic(auto)]
 
 mod check;

@@ -1,4 +1,9 @@
 //! What commands are made of: steps, why one stops, and how the program ends then.
+//!
+//! Promised: each reader gives the one value of its file's text, or the text's first fault, with the file read up to one byte
+//! beyond its limit; `finish` writes the line of a refusal and answers its status. `attach`, and `run`, `diagnose`, `go`,
+//! `check`, `pair` and `bench` of the crates of these commands, have a condition that holds of every call (`always`): the
+//! toolchain refuses callers in another crate of a function that takes a boxed rig and has none.
 #![tactic(auto)]
 
 mod attaching;

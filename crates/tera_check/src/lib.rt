@@ -1,4 +1,8 @@
 //! The command that tells whether an image still runs on a machine of the rig.
+//!
+//! Promised (`check`): it does its job to every end (`does`), and the job is lawful (`lawful`). Its course says how its answer
+//! came: by the test alone, or by a list that was made behind it, with few loads for both, of which none follows on the answer.
+//! What the answer means: `Promises`.
 #![tactic(auto)]
 
 mod answer;

@@ -1,4 +1,8 @@
 //! The command that lists the defects of a machine of the rig.
+//!
+//! Promised (`diagnose`): it does its job to every end (`does`), and the job is lawful (`lawful`). At status 0 the text of a list
+//! is written that covers the told faults and is tight to them; at every end few loads were made, and none but those of the list
+//! (`Promises`).
 #![tactic(auto)]
 
 mod command;

@@ -2,6 +2,8 @@
 //! and the sizes of a table.
 //!
 //! Public types of the other crates that a definition speaks of keep their lists as [`Items`].
+//!
+//! A vector that contracts see as a list.
 #![tactic(auto)]
 
 ghost use Rattle.std.specs.Prelude.{◌≡◌, ◌++◌, ◌∷◌, [], OnOk, IfErr};

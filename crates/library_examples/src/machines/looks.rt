@@ -53,7 +53,7 @@ fn tables_are_tight(alloc: Global, sight: &Sight) -> Result<bool, AllocError> {
     Ok(true)
 }
 
-/// Nothing can be taken off the list.
+/// Nothing on the list both works and can be reached over what is free.
 pub fn is_tight(alloc: Global, sight: &Sight) -> Result<bool, AllocError> {
     Ok(
         wires_are_tight(alloc, sight)?
