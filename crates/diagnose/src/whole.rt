@@ -128,9 +128,10 @@ fn diagnose_with(
 }
 
 /// Finds what is wrong with the machine that is attached, and lists it. Where the rig tells the machine's faults, the list covers
-/// them and is tight to them: nothing on it both works and can be reached over what is free. So it is fair: of served nodes it holds no sound part, but lines with
-/// fewer than two sound crosspoints. At every end it took at most 16 loads for each crosspoint, 20 for each wire and 130 for each
-/// table, and where the machine is told to have no faults, 2, 3 and 130. The count of loads didn't fall.
+/// them and is tight to them: nothing on it both works and can be reached over what is free. So it is fair: of served nodes it
+/// holds no sound part, but lines with fewer than two sound crosspoints. At every end it took at most 16 loads for each
+/// crosspoint, 20 for each wire and 130 for each table, and where the machine is told to have no faults, 2, 3 and 130. The count
+/// of loads didn't fall.
 ///
 /// # Errors
 ///
