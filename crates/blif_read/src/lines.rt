@@ -83,10 +83,10 @@ fn are_lits(text: &[u8]) -> bool
     text.iter().all(|b| *b == b'0' || *b == b'1' || *b == b'-')
 }
 
-fn is_output(nth_word: &[u8]) -> bool
-    ensures { result ≡ is_output nth_word.now }
+fn is_output(word: &[u8]) -> bool
+    ensures { result ≡ is_output word.now }
 {
-    nth_word.len() == 1 && (nth_word[0] == b'0' || nth_word[0] == b'1')
+    word.len() == 1 && (word[0] == b'0' || word[0] == b'1')
 }
 
 fn lits(alloc: Global, text: &[u8]) -> Result<Vec<Lit>, AllocError>
@@ -137,10 +137,10 @@ pub fn push_row(alloc: Global, cover: &mut Cover, words: &[&[u8]]) -> Result<(),
     Ok(())
 }
 
-fn is_init(nth_word: &[u8]) -> bool
-    ensures { result ≡ is_init nth_word.now }
+fn is_init(word: &[u8]) -> bool
+    ensures { result ≡ is_init word.now }
 {
-    nth_word.len() == 1 && nth_word[0] >= b'0' && nth_word[0] < b'4'
+    word.len() == 1 && word[0] >= b'0' && word[0] < b'4'
 }
 
 /// What a `.latch` line says beside its input and output.
@@ -236,20 +236,20 @@ pub fn new_latch<'a>(
     })
 }
 
-/// A formal and its actual, if the nth_word has both.
-fn split_pair(nth_word: &[u8]) -> Option<(&[u8], &[u8])>
-    ensures { MatchOption result (is_pair nth_word.now ≡ false)
-        (λ p. (is_pair nth_word.now ≡ true) × (p.0.now ≡ formal_of nth_word.now) × (p.1.now ≡ actual_of nth_word.now)) }
+/// A formal and its actual, if the word has both.
+fn split_pair(word: &[u8]) -> Option<(&[u8], &[u8])>
+    ensures { MatchOption result (is_pair word.now ≡ false)
+        (λ p. (is_pair word.now ≡ true) × (p.0.now ≡ formal_of word.now) × (p.1.now ≡ actual_of word.now)) }
 {
-    let end = tm_text::place_of(nth_word, b'=');
-    if end == 0 || end >= nth_word.len() {
+    let end = tm_text::place_of(word, b'=');
+    if end == 0 || end >= word.len() {
         return None;
     }
-    let (_, actual) = nth_word.split_at(end + 1);
+    let (_, actual) = word.split_at(end + 1);
     if actual.is_empty() {
         return None;
     }
-    Some((&nth_word[..end], actual))
+    Some((&word[..end], actual))
 }
 
 /// The formals and the actuals of a `.subckt` line.
@@ -266,8 +266,8 @@ fn split_pairs<'a>(alloc: Global, words: &[&'a [u8]]) -> Result<Pairs<'a>, Refus
 {
     let mut formals = Vec::new(alloc);
     let mut actuals = Vec::new(alloc);
-    'words: for nth_word in words {
-        let Some((formal, actual)) = split_pair(nth_word) else {
+    'words: for word in words {
+        let Some((formal, actual)) = split_pair(word) else {
             return Err(Refusal::Kind(DesignKind::Word));
         };
         formals.push(formal)?;

@@ -6,7 +6,7 @@ use Rattle.std.proofs.lemmas.Bool.{cases_eq}
 use Rattle.std.proofs.lemmas.List.{length-set, get_or_append_left, get_or_push, length_push}
 use Rattle.std.proofs.lemmas.List.Elements.{Contains-get_or, Contains-push, Contains-push_cases, Contains-append_left}
 use Rattle.netlist.specs.declared.draft.Cover.{Cover}
-use Rattle.netlist.specs.Covers.{no_cover, cover_at, Reads, LeadsToModel as Leads, here as at_once, onward as through}
+use Rattle.netlist.specs.Covers.{no_cover, cover_at, Reads, Reaches as Leads, here as at_once, onward as through}
 use Rattle.netlist.specs.Groups.{AreGroups}
 use Rattle.netlist.proofs.OrderLemmas.{first_same}
 use Rattle.flatten.specs.declared.model.Model.{Model}
