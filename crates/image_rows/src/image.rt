@@ -195,7 +195,8 @@ pub fn run_image<S: Store, K: Sink>(
     // Wherever the store stood as the command began, and however often the rig had failed.
     ensures follows { let old = outside (S.store_state store.old) (rig_state rig.old) (K.sink_state sink.old) in
         let new = outside (S.store_state store.new) (rig_state rig.new) (K.sink_state sink.new) in
-        (files : List (List ℕ)) (begun : StoreState) (failures : ℕ) → StandsIn files begun old.store → failures ≤ old.rig.failures →
+        (files : List (List ℕ)) (begun : StoreState) (failures : ℕ) → StandsIn files begun old.store →
+        failures ≤ old.rig.failures →
         let rows = image_rows image (old.store.contents vectors.now) new.store.current failures new.rig in
         let b : RowsBegin = record { image = image; vectors = vectors.now; files = files; begun = begun; before = old.rig.loads } in
         Follows ⊥ (vectors.now ∷ []) (new.rig.machine ≡ old.rig.machine) (image_course rows b (around new)) result old new }
