@@ -8,7 +8,7 @@ mod counts;
 mod faults;
 mod feet;
 mod looks;
-mod seats;
+mod seating;
 mod shorts;
 mod sight;
 mod trial;

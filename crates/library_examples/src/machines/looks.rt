@@ -1,7 +1,7 @@
 //! Whether a list covers the faults, and whether it is tight to them.
 
 use crate::machines::feet::on_two;
-use crate::machines::seats::is_seated;
+use crate::machines::seating::is_seated;
 use crate::machines::sight::Sight;
 use hierarchy::Meaning;
 use std::alloc::{AllocError, Global};
