@@ -3,4 +3,3 @@ pub mod CourseLemmas
 -- For the proofs of this crate alone.
 mod ImageLemmas
 mod RowLemmas
-mod CycleLemmas

@@ -30,6 +30,5 @@ pub mod Values
 pub mod ListFiles
 -- For the proofs of this crate alone.
 mod TextLemmas
-mod CutRows
 mod AttachLemmas
 mod TookLemmas

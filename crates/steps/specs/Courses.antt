@@ -54,8 +54,6 @@ pub record RowWork : Type 1 where
   pub are : (vectors rows : List (List Bool)) → Type 0
   -- and the rig's session is these vectors and rows
   pub session : (vectors rows : List (List Bool)) → Type 0
-  -- the rig has failed since the command began, and so has no session any more
-  pub lost : Type 0
   -- after so many rows memory may be wanting
   pub lacks : ℕ → Type 0
 
@@ -72,18 +70,16 @@ pub record HasReadRows (w : RowWork) (text : List ℕ) : Type 0 where
   pub has : HasRows w text
   pub session : w.session has.vectors has.rows
 
--- The row of one more vector comes next, and the store isn't far beyond that vector's line. The rows behind it that were to go
--- out with it have been read too, unless the rig has failed
+-- the row of one more vector comes next, and the store isn't far beyond that vector's line
 pub record IsBeforeRow (w : RowWork) (text line : List ℕ) : Type 0 where
   pub vectors : List (List Bool)
   pub rows : List (List Bool)
   pub row : List Bool
-  pub more : List (List Bool)
   pub text_is : text ≡ flat_map row_line rows
   pub line_is : line ≡ row_line row
   pub first : AreFirst w.width w.told vectors
-  pub are : w.are vectors (rows ++ row ∷ more)
-  pub session : w.session vectors (rows ++ row ∷ more) ⊎ w.lost
+  pub are : w.are vectors (rows ++ row ∷ [])
+  pub session : w.session vectors (rows ++ row ∷ [])
   pub near : IsNearNext w.width w.told w.place (length rows)
 
 -- a row for each vector of the file
@@ -91,7 +87,7 @@ abbrev pub all_rows : RowWork → Course
 all_rows w text ends = (h : HasReadRows w text) × AreAll w.width w.told h.has.vectors
 all_rows w text (writes line) = IsBeforeRow w text line
 all_rows w text (refuses (refused.Vectors line kind)) =
-    (h : HasReadRows w text) × AreBeforeFault w.width w.told w.place line kind h.has.vectors
+    (h : HasReadRows w text) × AreBeforeFault w.width w.told line kind h.has.vectors
 all_rows w text (refuses refused.Store) = HasReadRows w text × (w.place ≡ None)
 all_rows w text (refuses refused.Rig) = (h : HasRows w text) × IsNearNext w.width w.told w.place (length h.rows)
 all_rows w text (refuses refused.Memory) =

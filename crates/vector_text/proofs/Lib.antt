@@ -5,3 +5,4 @@ mod InsideLemmas
 mod StepLemmas
 mod FeedLemmas
 mod ReadLemmas
+mod RowLemmas
