@@ -93,11 +93,11 @@ faulty p b kind sound lt e m h c fault = record {
   full = tt;
   says = λ rest.
       let first = first-line p.limit p.number (p.at + 1) rest in
-      says-byte p b rest lt e ∙
+      (first.line.next_at, omega (arith, first.late), says-byte p b rest lt e ∙
       ap (λ (ls : List PhysicalLine). lines_say p.width (put_before (front_of p ++ b ∷ []) ls)) first.is ∙
       says-first p.width (record first.line { bytes = (front_of p ++ b ∷ []) ++ first.line.bytes }) first.later (p.shown ++ b ∷ shown first.line.bytes)
       (rw c (ap shown (append_assoc (p.shown ++ []) (b ∷ []) first.line.bytes ∙ append_assoc p.shown [] (b ∷ first.line.bytes)) ∙ shown-other p.width p.shown first.line.bytes b sound.right m h)) ∙
-      rw (fault (shown first.line.bytes), first.numbered) refl;
+      rw (fault (shown first.line.bytes), first.numbered) refl);
 }
 
 pub on-wrong : (p : PartLine) (b : ℕ) → IsSound p → p.at < p.limit → is_line_feed b ≡ false → is_comment_mark b ≡ false → is_row_blank b ≡ false → p.in_comment ≡ false → is_vector_byte p.width b ≡ false → HasRead (Fault Char) (b ∷ []) 1 p p
@@ -130,7 +130,7 @@ on-limit p b sound le = record {
   room = λ same _. absurd (cc);
   whole = λ same. absurd (cc);
   full = tt;
-  says = λ rest. ap (λ (ls : List PhysicalLine). lines_say p.width (put_before (front_of p) ls)) (lines-limit p.limit p.number p.at b rest le) ∙ ends p p.at true [] sound;
+  says = λ rest. (p.at, omega arith, ap (λ (ls : List PhysicalLine). lines_say p.width (put_before (front_of p) ls)) (lines-limit p.limit p.number p.at b rest le) ∙ ends p p.at true [] sound);
 }
 
 short_fault : (width : ℕ) (s : List ℕ) → 0 < length s → length s < vector_size width → end_fault width false s ≡ Some Width
@@ -196,7 +196,7 @@ feed-short p sound lt some few = record {
   room = λ same _. absurd (cc);
   whole = λ same. absurd (cc);
   full = tt;
-  says = λ rest. says-feed p rest sound lt ∙ rw (short_fault p.width p.shown some few) refl;
+  says = λ rest. (p.at + 1, omega arith, says-feed p rest sound lt ∙ rw (short_fault p.width p.shown some few) refl);
 }
 
 -- at the end of the file
@@ -209,5 +209,5 @@ end-blank p sound e = says-end p sound ∙ rw (e, blank_fault p.width) refl
 pub end-vector : (p : PartLine) → IsSound p → length p.shown ≡ vector_size p.width → says_on p [] ≡ with_vector (bits_of p.width p.shown) p.at (says_on (begun p) [])
 end-vector p sound e = says-end p sound ∙ vector-ends p.width p.number p.at p.shown nothing_said e ∙ ap (with_vector (bits_of p.width p.shown) p.at) (sym (end-blank (begun p) (record { right = refl; room = omega arith }) refl))
 
-pub end-short : (p : PartLine) → IsSound p → 0 < length p.shown → length p.shown < vector_size p.width → says_on p [] ≡ fault_said p.number Width
+pub end-short : (p : PartLine) → IsSound p → 0 < length p.shown → length p.shown < vector_size p.width → says_on p [] ≡ fault_said p.number Width p.at
 end-short p sound some few = says-end p sound ∙ rw (short_fault p.width p.shown some few) refl

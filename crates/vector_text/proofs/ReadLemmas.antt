@@ -4,12 +4,14 @@ use Rattle.std.specs.Prelude.{Err, IsSome}
 use Rattle.std.proofs.Math.Seq.{take-add, take-append-add, take-append_seam}
 use Rattle.std.proofs.lemmas.List.{length-drop, append-nil}
 use Rattle.tm_outside.specs.Store.{StoreState, StorePlace, moved, rest_of}
+use Rattle.vector_text.specs.declared.vectors.VectorKind.{VectorKind}
 use Rattle.vector_text.specs.declared.vectors.VectorsFail.{VectorsFail}
 use Rattle.vector_text.specs.declared.vectors.VectorsFail.TheVariants.{Text, Failed}
 use Rattle.vector_text.specs.declared.line.Step.{Step}
 use Rattle.vector_text.specs.declared.line.Step.TheVariants.{Onward, Vector, Fault}
-use Rattle.vector_text.specs.Vectors.{PhysicalLine, numbered_lines, put_before, shown, byte_fault, lines_say, SaidVectors, nothing_said, fault_said, with_vector, bits_of, vector_size}
+use Rattle.vector_text.specs.Vectors.{PhysicalLine, numbered_lines, put_before, shown, byte_fault, lines_say, SaidVectors, nothing_said, with_vector, bits_of, vector_size}
 use Rattle.vector_text.specs.Readings.{bytes_ahead, says_next, said_ahead, NextGives, NextFails, HasMoved, AreOpen, AskedOpen, StaysWithin}
+use Rattle.vector_text.specs.Readings.{IsFaultOf}
 use Rattle.vector_text.specs.Lines.{PartLine, IsSound, front_of, begun, says_on, EndsAs, EndSays}
 use Rattle.vector_text.specs.Steps.{reading_of, IsRefilled, IsStoreFail, HasReadOn, answer_of, LineGives, LineFails, HasAnswered, IsWaiting, GoesOn}
 use Rattle.vector_text.proofs.FeedLemmas.{rest-moved}
@@ -31,6 +33,12 @@ map-if : {X Y : Type 0} (f g : X → Y) (y : Y) (o p : Option X) → option_map 
 map-if f g y None p e h = tt
 map-if f g y (Some x) None e h = absurd (cc)
 map-if f g y (Some x) (Some z) e h = cc
+
+map-holds : {X Y : Type 0} (f g : X → Y) (P : Y → Type 0) (o p : Option X) → option_map f o ≡ option_map g p → IfSome p (λ x. P (g x)) →
+    IfSome o (λ x. P (f x))
+map-holds f g P None p e h = tt
+map-holds f g P (Some x) None e h = absurd (cc)
+map-holds f g P (Some x) (Some z) e h = let same : g z ≡ f x = cc in subst P same h
 
 -- places
 
@@ -145,10 +153,10 @@ module _ (old line : PartLine) (unread left fresh : List ℕ) (before mid after 
   map-rest f g rest None e = refl
   map-rest f g rest (Some t) e = ap Some (e t)
 
-  if-rest : (f : List ℕ → SaidVectors) (said : SaidVectors) (told : Option (List ℕ)) → ((t : List ℕ) → f (fresh ++ t) ≡ said) →
-      IfSome (option_map (λ t. fresh ++ t) told) (λ bytes. f bytes ≡ said)
-  if-rest f said None e = tt
-  if-rest f said (Some t) e = e t
+  if-rest : (Q : List ℕ → Type 0) (told : Option (List ℕ)) → ((t : List ℕ) → Q (fresh ++ t)) →
+      IfSome (option_map (λ t. fresh ++ t) told) Q
+  if-rest Q None e = tt
+  if-rest Q (Some t) e = e t
 
   -- where nothing is unread any more, what the line was read from is undecided
   opens : front_of old ≡ [] → IsSound line → left ≡ [] →
@@ -258,6 +266,19 @@ module _ (old line : PartLine) (unread left fresh : List ℕ) (before mid after 
       (omega arith) refl in
       record { count = m.count; place = m.place; within = m.within }
 
+  -- a fault of the fresh bytes, which the store isn't far beyond
+  abbrev FaultHere : ℕ → VectorKind → SaidVectors → Type 0
+  FaultHere number kind said = IsFaultOf number kind (line.at + length fresh) said
+
+  fault-ahead : (more : Bool) (number : ℕ) (kind : VectorKind) → IsRefilled more left fresh mid after →
+      IfSome (bytes_ahead fresh after) (λ bytes. FaultHere number kind (says_on line bytes)) →
+      LineFails (Text number kind) old unread before after
+  fault-ahead more number kind r here =
+      let m = moves-on old line line unread left fresh fresh more 0 before mid after h.contents h.moves r (omega arith)
+      (omega arith) refl in
+      (m.count, m.place, subst (λ (n : ℕ). IfSome (bytes_ahead unread before) (λ bytes. IsFaultOf number kind n (says_on old bytes))) (sym m.bytes)
+      (map-holds (says_on old) (says_on line) (FaultHere number kind) (bytes_ahead unread before) (bytes_ahead fresh after) (says-fresh more r) here))
+
   pub answers-read : (step : Step) (new : PartLine) (rest : List ℕ) → IsSound line → length fresh ≤ 65536 → (step ≡ Onward → ⊥) →
       IsRefilled true left fresh mid after → HasReadOn step line fresh new rest →
       HasAnswered (answer_of step new.number) old unread new rest before after
@@ -282,8 +303,8 @@ module _ (old line : PartLine) (unread left fresh : List ℕ) (before mid after 
   }
   answers-read (Fault kind) new rest sound few ne r s = record {
     gives = tt;
-    refused = map-if (says_on old) (says_on line) (fault_said new.number kind) (bytes_ahead unread before) (bytes_ahead fresh after)
-        (says-fresh true r) (if-rest (says_on line) (fault_said new.number kind) (rest_of after) s.says);
+    refused = fault-ahead true new.number kind r (if-rest (λ bytes. FaultHere new.number kind (says_on line bytes)) (rest_of after)
+        (λ t. let d = s.says t in record { end = d.0; is = d.2; near = omega (arith, d.1, few) }));
     width = s.width ∙ h.width;
     limit = s.limit ∙ h.limit;
     current = tt;
@@ -309,6 +330,10 @@ module _ (old line : PartLine) (unread left fresh : List ℕ) (before mid after 
       f [] ≡ said → IfSome ahead (λ bytes. f bytes ≡ said)
   if-nothing f said None h e = tt
   if-nothing f said (Some bytes) h e = ap f h ∙ e
+
+  if-nothing-holds : (Q : List ℕ → Type 0) (ahead : Option (List ℕ)) → IfSome ahead (λ bytes. bytes ≡ []) → Q [] → IfSome ahead Q
+  if-nothing-holds Q None h here = tt
+  if-nothing-holds Q (Some bytes) h here = subst Q (sym h) here
 
   if-nothing-same : (f g : List ℕ → SaidVectors) (ahead : Option (List ℕ)) → IfSome ahead (λ bytes. bytes ≡ []) → f [] ≡ g [] →
       IfSome ahead (λ bytes. f bytes ≡ g bytes)
@@ -360,8 +385,8 @@ module _ (old line : PartLine) (unread left fresh : List ℕ) (before mid after 
   }
   answers-end (Fault kind) sound few r ends says = record {
     gives = tt;
-    refused = map-if (says_on old) (says_on line) (fault_said line.number kind) (bytes_ahead unread before) (bytes_ahead fresh after)
-        (says-fresh false r) (if-nothing (says_on line) (fault_said line.number kind) (bytes_ahead fresh after) (nothing-ahead r) says);
+    refused = fault-ahead false line.number kind r (if-nothing-holds (λ bytes. FaultHere line.number kind (says_on line bytes))
+        (bytes_ahead fresh after) (nothing-ahead r) (record { end = line.at; is = says; near = omega (arith, few) }));
     width = h.width;
     limit = h.limit;
     current = tt;
@@ -442,5 +467,10 @@ next-gives false row line new unread left before after gives is = next-says noth
 
 pub next-fails : (e : VectorsFail) (line : PartLine) (unread : List ℕ) (before after : StoreState) →
     LineFails e (begun line) unread before after → NextFails e (reading_of line unread) before after
-next-fails (Text number kind) line unread before after fails = next-says (fault_said number kind) line unread before fails
+next-fails (Text number kind) line unread before after fails = (fails.0, fails.1, by (bytes_ahead unread before) fails.2)
+  where
+    by : (ahead : Option (List ℕ)) → IfSome ahead (λ bytes. IsFaultOf number kind (line.at + length unread + fails.0) (says_on (begun line) bytes)) →
+        IfSome (option_map (says_next (reading_of line unread)) ahead) (IsFaultOf number kind (line.at + length unread + fails.0))
+    by None h = tt
+    by (Some bytes) h = subst (IsFaultOf number kind (line.at + length unread + fails.0)) (sym (begun-says line unread bytes)) h
 next-fails Failed line unread before after fails = fails
