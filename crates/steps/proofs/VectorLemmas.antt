@@ -6,10 +6,10 @@ use Rattle.std.proofs.lemmas.Option.{slice_get-get_or}
 use Rattle.tm_outside.specs.Told.{Told, untold, absent, holds, bytes_of, IfTold, IsPresent}
 use Rattle.tm_outside.specs.Store.{StoreState, rest_of}
 use Rattle.vector_text.specs.declared.vectors.VectorKind.{VectorKind}
-use Rattle.vector_text.specs.Vectors.{SaidVectors, VectorLine, nothing_said, fault_said, with_vector}
+use Rattle.vector_text.specs.Vectors.{SaidVectors, VectorLine, nothing_said, with_vector}
 use Rattle.vector_text.specs.declared.vectors.VectorsFail.TheVariants.{Text}
 use Rattle.steps.proofs.TextLemmas.{IfTold-with}
-use Rattle.vector_text.specs.Readings.{VectorReading, new_reading, says_next, NextGives, NextFails, HasMoved}
+use Rattle.vector_text.specs.Readings.{VectorReading, new_reading, says_next, NextGives, NextFails, IsFaultOf, HasMoved}
 use Rattle.steps.specs.Files.{most_vector_bytes, most_ahead, says_at, vectors_at, end_at, AreFirst, AreAll, AreBeforeFault, IsNearNext, file_of, IsBegun}
 
 abbrev pub bits_of_line : VectorLine → List Bool
@@ -170,14 +170,19 @@ taken-all width before store store' r r' vector taken so_far gives =
     rw (file-is before so_far.name so_far.begun) (all-told width (before.contents so_far.name) r taken so_far.told (rw rest at gives))
 
 -- at a fault all vectors before it were taken
-fault-told : (width : ℕ) (told : Told) (reading : VectorReading) (taken : List (List Bool)) (line : ℕ) (kind : VectorKind) → IfTold told (λ bytes. IsTakenTo width bytes reading taken) → IfSome (option_map (says_next reading) (option_map (λ rest. reading.unread ++ rest) (option_map (drop (given_of reading)) (bytes_of told)))) (λ said. said ≡ fault_said line kind) → AreBeforeFault width told line kind taken
-fault-told width untold reading taken line kind h said = tt
-fault-told width absent reading taken line kind h said = h
-fault-told width (holds bytes) reading taken line kind h said =
-    let rest : map bits_of_line (says_ahead reading bytes).vectors ≡ [] = ap (λ (s : SaidVectors). map bits_of_line s.vectors) said in
-    (vectors-are width bytes reading taken h ∙ (ap (λ vs. taken ++ vs) rest ∙ append-nil taken), h.fault ∙ ap (λ (s : SaidVectors). s.fault) said)
+fault-told : (width : ℕ) (told : Told) (name : List ℕ) (reading : VectorReading) (taken : List (List Bool)) (count line : ℕ) (kind : VectorKind) → IfTold told (λ bytes. IsTakenTo width bytes reading taken) → IfSome (option_map (says_next reading) (option_map (λ rest. reading.unread ++ rest) (option_map (drop (given_of reading)) (bytes_of told)))) (IsFaultOf line kind (given_of reading + count)) → AreBeforeFault width told (Some (record { name = name; at = given_of reading + count })) line kind taken
+fault-told width untold name reading taken count line kind h said = tt
+fault-told width absent name reading taken count line kind h said = h
+fault-told width (holds bytes) name reading taken count line kind h said =
+    let rest : map bits_of_line (says_ahead reading bytes).vectors ≡ [] = ap (λ (s : SaidVectors). map bits_of_line s.vectors) said.is in
+    (vectors-are width bytes reading taken h ∙ (ap (λ vs. taken ++ vs) rest ∙ append-nil taken), record {
+      end = said.end;
+      is = h.fault ∙ ap (λ (s : SaidVectors). s.fault) said.is;
+      near = said.near;
+    })
 
-pub taken-fault : (width : ℕ) (before store store' : StoreState) (r : VectorReading) (taken : List (List Bool)) (line : ℕ) (kind : VectorKind) → IsTaking width before store r taken → NextFails (Text line kind) r store store' → AreBeforeFault width (file_of before) line kind taken
+pub taken-fault : (width : ℕ) (before store store' : StoreState) (r : VectorReading) (taken : List (List Bool)) (line : ℕ) (kind : VectorKind) → IsTaking width before store r taken → NextFails (Text line kind) r store store' → AreBeforeFault width (file_of before) store'.current line kind taken
 taken-fault width before store store' r taken line kind so_far fails =
     let rest = rest-is store so_far.name before.contents (given_of r) so_far.contents so_far.place in
-    rw (file-is before so_far.name so_far.begun) (fault-told width (before.contents so_far.name) r taken line kind so_far.told (rw rest at fails))
+    let place : store'.current ≡ Some (record { name = so_far.name; at = given_of r + fails.0 }) = rw (fails.1, so_far.place) refl in
+    rw (file-is before so_far.name so_far.begun, place) (fault-told width (before.contents so_far.name) so_far.name r taken fails.0 line kind so_far.told (rw rest at fails.2))

@@ -97,7 +97,7 @@ module _ (w : RowWork) (begun now new : Outside) (reading : VectorReading) (vect
 
     pub vectors-follow : {U : Type 0} (fail : VectorsFail) → NextFails fail reading now.store new.store → Follows {T = U} ⊥ [] asks (all_rows w) (Err (stop_of_vectors fail)) begun new
     vectors-follow (Text line kind) fails =
-        let fault : AreBeforeFault w.width w.told line kind vectors = rw told (taken-fault w.width begun.store now.store new.store reading vectors line kind so_far.taking fails) in
+        let fault : AreBeforeFault w.width w.told w.place line kind vectors = rw (told, place) (taken-fault w.width begun.store now.store new.store reading vectors line kind so_far.taking fails) in
         rows-follow (Err (stop_of_vectors (Text line kind))) (text, (has-read, fault), rw silent so_far.wrote) tt
     vectors-follow VectorsFailed fails =
         rows-follow (Err (stop_of_vectors VectorsFailed)) (text, (has-read, place ∙ fails.closed), rw silent so_far.wrote) fails.rose
