@@ -87,7 +87,7 @@ abbrev pub all_rows : RowWork → Course
 all_rows w text ends = (h : HasReadRows w text) × AreAll w.width w.told h.has.vectors
 all_rows w text (writes line) = IsBeforeRow w text line
 all_rows w text (refuses (refused.Vectors line kind)) =
-    (h : HasReadRows w text) × AreBeforeFault w.width w.told line kind h.has.vectors
+    (h : HasReadRows w text) × AreBeforeFault w.width w.told w.place line kind h.has.vectors
 all_rows w text (refuses refused.Store) = HasReadRows w text × (w.place ≡ None)
 all_rows w text (refuses refused.Rig) = (h : HasRows w text) × IsNearNext w.width w.told w.place (length h.rows)
 all_rows w text (refuses refused.Memory) =

@@ -40,10 +40,16 @@ AreFirst width told vectors = IfTold told (λ bytes. take (length vectors) (vect
 abbrev pub AreAll : ℕ → Told → List (List Bool) → Type 0
 AreAll width told vectors = IfTold told (λ bytes. (vectors_at width bytes ≡ vectors) × ((says_at width bytes).fault ≡ None))
 
--- this is its first fault, and these are all vectors before it
-abbrev pub AreBeforeFault : ℕ → Told → ℕ → VectorKind → List (List Bool) → Type 0
-AreBeforeFault width told line kind vectors =
-    IfTold told (λ bytes. (vectors_at width bytes ≡ vectors) × ((says_at width bytes).fault ≡ Some (record { line = line; kind = kind })))
+-- this is the first fault of a file, and the place is not far beyond its line
+pub record IsFirstFault (said : SaidVectors) (place : Option StorePlace) (line : ℕ) (kind : VectorKind) : Type 0 where
+  pub end : ℕ
+  pub is : said.fault ≡ Some (record { line = line; kind = kind; next_at = end })
+  pub near : IsNear place end
+
+-- this is its first fault, which the place is not far beyond, and these are all vectors before it
+abbrev pub AreBeforeFault : ℕ → Told → Option StorePlace → ℕ → VectorKind → List (List Bool) → Type 0
+AreBeforeFault width told place line kind vectors =
+    IfTold told (λ bytes. (vectors_at width bytes ≡ vectors) × IsFirstFault (says_at width bytes) place line kind)
 
 -- a vector follows after so many, and the place is not far beyond its line
 abbrev pub IsNearNext : ℕ → Told → Option StorePlace → ℕ → Type 0

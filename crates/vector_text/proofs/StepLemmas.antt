@@ -1,5 +1,5 @@
 -- Bytes that are read one after the other, and blocks that are read one after the other.
-use Rattle.std.proofs.Common.{◌≡◌, ℕ, ◌+◌, ◌<◌, List, [], ◌∷◌, ◌++◌, length, drop, get_or, refl, sym, ap, ◌∙◌, arith}
+use Rattle.std.proofs.Common.{◌≡◌, ℕ, ◌+◌, ◌<◌, ◌≤◌, List, [], ◌∷◌, ◌++◌, length, drop, get_or, refl, sym, ap, ◌∙◌, arith}
 use Rattle.std.proofs.lemmas.List.{drop_more}
 use Rattle.vector_text.specs.declared.line.Step.{Step}
 use Rattle.vector_text.specs.declared.line.Step.TheVariants.{Onward, Vector, Fault}
@@ -8,10 +8,10 @@ use Rattle.vector_text.specs.Lines.{PartLine, says_on, SaysStep, IsStepTo, HasRe
 pub none-read : (bytes : List ℕ) (line : PartLine) → HasRead Onward bytes 0 line line
 none-read bytes line = record { width = refl; limit = refl; within = omega arith; at = omega arith; room = λ _ some. absurd (omega arith); whole = λ same. absurd (cc); full = tt; says = λ rest. refl }
 
-pub SaysStep-from : (step : Step) (old mid new : PartLine) (bytes later rest : List ℕ) → says_on old bytes ≡ says_on mid later → SaysStep step mid later new rest → SaysStep step old bytes new rest
-SaysStep-from Onward old mid new bytes later rest e s = e ∙ s
-SaysStep-from Vector old mid new bytes later rest e s = e ∙ s
-SaysStep-from (Fault kind) old mid new bytes later rest e s = e ∙ s
+pub SaysStep-from : (step : Step) (old mid new : PartLine) (bytes later rest : List ℕ) → old.at ≤ mid.at → says_on old bytes ≡ says_on mid later → SaysStep step mid later new rest → SaysStep step old bytes new rest
+SaysStep-from Onward old mid new bytes later rest from e s = e ∙ s
+SaysStep-from Vector old mid new bytes later rest from e s = e ∙ s
+SaysStep-from (Fault kind) old mid new bytes later rest from e s = (s.0, omega (arith, from, s.1), e ∙ s.2)
 
 pub IsStepTo-from : (step : Step) (before from to : ℕ) → before ≡ from → IsStepTo step from to → IsStepTo step before to
 IsStepTo-from Onward before from to e s = e ∙ s
@@ -29,7 +29,7 @@ one-more step bytes k b old mid new lt is h s = record {
   whole = λ same. (omega arith, (s.whole same).1);
   full = s.full;
   says = λ rest.
-      SaysStep-from step old mid new (bytes ++ rest) (b ∷ (drop (k + 1) bytes ++ rest)) (drop (k + 1) bytes ++ rest)
+      SaysStep-from step old mid new (bytes ++ rest) (b ∷ (drop (k + 1) bytes ++ rest)) (drop (k + 1) bytes ++ rest) (omega (arith, h.at))
       (h.says rest ∙ ap (λ (t : List ℕ). says_on mid (t ++ rest)) (drop_more bytes k 0 lt ∙ ap (λ (x : ℕ). x ∷ drop (k + 1) bytes) (sym is)))
       (s.says (drop (k + 1) bytes ++ rest));
 }

@@ -34,30 +34,32 @@ pub put_before-nil : (ls : List PhysicalLine) → put_before [] ls ≡ ls
 put_before-nil [] = refl
 put_before-nil (l ∷ ls) = refl
 
--- a text has a first line, with the number that it was given
-pub record HasFirst (number : ℕ) (lines : List PhysicalLine) : Type 0 where
+-- a text has a first line, with the number that it was given, which doesn't end before this place
+pub record HasFirst (number at : ℕ) (lines : List PhysicalLine) : Type 0 where
   pub line : PhysicalLine
   pub later : List PhysicalLine
   pub is : lines ≡ line ∷ later
   pub numbered : line.number ≡ number
+  pub late : at ≤ line.next_at
 
-put_before-first : (number : ℕ) (front : List ℕ) (lines : List PhysicalLine) → HasFirst number lines → HasFirst number (put_before front lines)
-put_before-first number front lines h = record {
+put_before-first : (number at : ℕ) (front : List ℕ) (lines : List PhysicalLine) → HasFirst number (at + 1) lines → HasFirst number at (put_before front lines)
+put_before-first number at front lines h = record {
   line = record h.line { bytes = front ++ h.line.bytes };
   later = h.later;
   is = ap (put_before front) h.is;
   numbered = h.numbered;
+  late = omega (arith, h.late);
 }
 
-pub first-line : (limit number at : ℕ) (bs : List ℕ) → HasFirst number (numbered_lines limit number at bs)
+pub first-line : (limit number at : ℕ) (bs : List ℕ) → HasFirst number at (numbered_lines limit number at bs)
 unfolding numbered_lines
-first-line limit number at [] = record { line = record { number = number; bytes = []; next_at = at; is_cut = false }; later = []; is = refl; numbered = refl }
+first-line limit number at [] = record { line = record { number = number; bytes = []; next_at = at; is_cut = false }; later = []; is = refl; numbered = refl; late = omega arith }
 first-line limit number at (b ∷ bs) = by (nat_le limit at) (is_line_feed b) (first-line limit number (at + 1) bs)
   where
-    by : (c d : Bool) → HasFirst number (numbered_lines limit number (at + 1) bs) → HasFirst number (if c then record { number = number; bytes = []; next_at = at; is_cut = true } ∷ [] else if d then record { number = number; bytes = []; next_at = at + 1; is_cut = false } ∷ numbered_lines limit (number + 1) (at + 1) bs else put_before (b ∷ []) (numbered_lines limit number (at + 1) bs))
-    by true d h = record { line = record { number = number; bytes = []; next_at = at; is_cut = true }; later = []; is = refl; numbered = refl }
-    by false true h = record { line = record { number = number; bytes = []; next_at = at + 1; is_cut = false }; later = numbered_lines limit (number + 1) (at + 1) bs; is = refl; numbered = refl }
-    by false false h = put_before-first number (b ∷ []) (numbered_lines limit number (at + 1) bs) h
+    by : (c d : Bool) → HasFirst number (at + 1) (numbered_lines limit number (at + 1) bs) → HasFirst number at (if c then record { number = number; bytes = []; next_at = at; is_cut = true } ∷ [] else if d then record { number = number; bytes = []; next_at = at + 1; is_cut = false } ∷ numbered_lines limit (number + 1) (at + 1) bs else put_before (b ∷ []) (numbered_lines limit number (at + 1) bs))
+    by true d h = record { line = record { number = number; bytes = []; next_at = at; is_cut = true }; later = []; is = refl; numbered = refl; late = omega arith }
+    by false true h = record { line = record { number = number; bytes = []; next_at = at + 1; is_cut = false }; later = numbered_lines limit (number + 1) (at + 1) bs; is = refl; numbered = refl; late = omega arith }
+    by false false h = put_before-first number at (b ∷ []) (numbered_lines limit number (at + 1) bs) h
 
 -- what is shown
 

@@ -43,7 +43,7 @@ says_on line bytes = lines_say line.width (put_before (front_of line) (numbered_
 abbrev pub SaysStep : Step → PartLine → List ℕ → PartLine → List ℕ → Type 0
 SaysStep Onward old bytes new rest = says_on old bytes ≡ says_on new rest
 SaysStep Vector old bytes new rest = says_on old bytes ≡ with_vector (bits_of new.width new.shown) new.at (says_on (begun new) rest)
-SaysStep (Fault kind) old bytes new rest = says_on old bytes ≡ fault_said new.number kind
+SaysStep (Fault kind) old bytes new rest = (end : ℕ) × (old.at ≤ end) × (says_on old bytes ≡ fault_said new.number kind end)
 
 -- what the end of a line comes to: a line with nothing left, a whole vector, or too few bytes
 abbrev pub EndsAs : Step → PartLine → Type 0
@@ -55,7 +55,7 @@ EndsAs (Fault kind) line = (kind ≡ Width) × (0 < length line.shown) × (lengt
 abbrev pub EndSays : Step → PartLine → Type 0
 EndSays Onward line = says_on line [] ≡ nothing_said
 EndSays Vector line = says_on line [] ≡ with_vector (bits_of line.width line.shown) line.at (says_on (begun line) [])
-EndSays (Fault kind) line = says_on line [] ≡ fault_said line.number kind
+EndSays (Fault kind) line = says_on line [] ≡ fault_said line.number kind line.at
 
 -- a vector has all its bytes
 abbrev pub IsFull : Step → PartLine → Type 0

@@ -3,6 +3,7 @@ use Rattle.std.specs.Prelude.{◌≡◌, ℕ, ◌+◌, ◌<◌, ◌≤◌, List,
 use Rattle.tm_outside.specs.Store.{StoreState, IsFailure, moved, rest_of}
 use Rattle.vector_text.specs.declared.vectors.VectorsFail.{VectorsFail}
 use Rattle.vector_text.specs.declared.vectors.VectorsFail.TheVariants.{Text, Failed}
+use Rattle.vector_text.specs.declared.vectors.VectorKind.{VectorKind}
 use Rattle.vector_text.specs.Vectors.{numbered_lines, put_before, shown, byte_fault, lines_say, SaidVectors, nothing_said, fault_said}
 use Rattle.vector_text.specs.Vectors.{with_vector}
 
@@ -40,9 +41,18 @@ abbrev pub NextGives : Bool → List Bool → VectorReading → VectorReading �
 NextGives true row old new before after = said_ahead old before ≡ option_map (with_vector row new.at) (said_ahead new after)
 NextGives false row old new before after = IfSome (said_ahead old before) (λ said. said ≡ nothing_said)
 
--- what a refusal says: the file's first fault, or the store's
+-- this fault comes next, and the place is at most 65,536 bytes beyond its line
+pub record IsFaultOf (line : ℕ) (kind : VectorKind) (place : ℕ) (said : SaidVectors) : Type 0 where
+  pub end : ℕ
+  pub is : said ≡ fault_said line kind end
+  pub near : place ≤ end + 65536
+
+-- what a refusal says: the file's first fault, where the store has gone on by so many bytes and isn't far beyond that line; or the
+-- store's
 abbrev pub NextFails : VectorsFail → VectorReading → StoreState → StoreState → Type 0
-NextFails (Text line kind) old before after = IfSome (said_ahead old before) (λ said. said ≡ fault_said line kind)
+NextFails (Text line kind) old before after =
+    (count : ℕ) × (after.current ≡ moved before.current count)
+    × IfSome (said_ahead old before) (IsFaultOf line kind (old.at + length old.unread + count))
 NextFails Failed old before after = IsFailure before after
 
 -- the store went on by as many bytes as the reader took or has unread

@@ -6,8 +6,8 @@ use Rattle.vector_text.specs.declared.vectors.VectorsFail.{VectorsFail}
 use Rattle.vector_text.specs.declared.vectors.VectorsFail.TheVariants.{Text, Failed}
 use Rattle.vector_text.specs.declared.line.Step.{Step}
 use Rattle.vector_text.specs.declared.line.Step.TheVariants.{Onward, Vector, Fault}
-use Rattle.vector_text.specs.Vectors.{nothing_said, fault_said, with_vector, bits_of, vector_size}
-use Rattle.vector_text.specs.Readings.{VectorReading, bytes_ahead, HasMoved, AskedOpen, GoesFurther, StopsWithin}
+use Rattle.vector_text.specs.Vectors.{nothing_said, with_vector, bits_of, vector_size}
+use Rattle.vector_text.specs.Readings.{VectorReading, bytes_ahead, IsFaultOf, HasMoved, AskedOpen, GoesFurther, StopsWithin}
 use Rattle.vector_text.specs.Lines.{PartLine, front_of, begun, says_on, SaysStep, IsStepTo, IsFull}
 
 -- where a line and the unread bytes stand
@@ -64,7 +64,9 @@ LineGives false old unread new left before after = IfSome (bytes_ahead unread be
 
 -- what a refusal says of it
 abbrev pub LineFails : VectorsFail → PartLine → List ℕ → StoreState → StoreState → Type 0
-LineFails (Text line kind) old unread before after = IfSome (bytes_ahead unread before) (λ bytes. says_on old bytes ≡ fault_said line kind)
+LineFails (Text line kind) old unread before after =
+    (count : ℕ) × (after.current ≡ moved before.current count)
+    × IfSome (bytes_ahead unread before) (λ bytes. IsFaultOf line kind (old.at + length unread + count) (says_on old bytes))
 LineFails Failed old unread before after = IsFailure before after
 
 -- what reading a vector's line comes to: an answer or a refusal, and where line, unread bytes and store stand then

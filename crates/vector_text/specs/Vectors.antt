@@ -86,10 +86,11 @@ pub record VectorLine : Type 0 where
   pub bits : List Bool
   pub next_at : ℕ
 
--- the first fault of a file, and the number of its line
+-- the first fault of a file, the number of its line, and the place of the byte that follows that line
 pub record VectorFault : Type 0 where
   pub line : ℕ
   pub kind : VectorKind
+  pub next_at : ℕ
 
 -- what a file says: the vectors before its first fault, and that fault
 pub record SaidVectors : Type 0 where
@@ -99,15 +100,15 @@ pub record SaidVectors : Type 0 where
 abbrev pub nothing_said : SaidVectors
 nothing_said = record { vectors = []; fault = None }
 
-abbrev pub fault_said : ℕ → VectorKind → SaidVectors
-fault_said line kind = record { vectors = []; fault = Some (record { line = line; kind = kind }) }
+abbrev pub fault_said : ℕ → VectorKind → (next_at : ℕ) → SaidVectors
+fault_said line kind next_at = record { vectors = []; fault = Some (record { line = line; kind = kind; next_at = next_at }) }
 
 abbrev pub with_vector : List Bool → ℕ → SaidVectors → SaidVectors
 with_vector bits next_at said = record { vectors = record { bits = bits; next_at = next_at } ∷ said.vectors; fault = said.fault }
 
 -- what a line says before the lines after it: a fault ends the file, and a line with nothing left says nothing
 abbrev pub line_says : ℕ → ℕ → ℕ → Option VectorKind → List ℕ → SaidVectors → SaidVectors
-line_says width number next_at (Some kind) bytes later = fault_said number kind
+line_says width number next_at (Some kind) bytes later = fault_said number kind next_at
 line_says width number next_at None [] later = later
 line_says width number next_at None (b ∷ bs) later = with_vector (bits_of width (b ∷ bs)) next_at later
 
