@@ -7,6 +7,7 @@ use Rattle.hierarchy.specs.declared.Shape.{Shape}
 use Rattle.hierarchy.specs.declared.Cross.{Cross}
 use Rattle.hierarchy.specs.declared.Table.{Table}
 use Rattle.hierarchy.specs.Shape.{pin_wire, table_wire, ends_of}
+use Rattle.known.proofs.Getting.{below_or}
 use Rattle.self_test.specs.Marks.{Adds, IsPinAmong, IsEndAmong, tap_among, line_among, IsPinOfTable, IsTablePinAmong}
 use Rattle.self_test.proofs.Marking.{adds_none, adds_one, adds_more}
 

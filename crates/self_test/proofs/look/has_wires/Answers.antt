@@ -1,5 +1,5 @@
 use Rattle.std.proofs.Common.{◌<◌, arith}
-use Rattle.self_test.proofs.Getting.{marked_within}
+use Rattle.known.proofs.Getting.{marked_within}
 use Rattle.self_test.proofs.Looking.{wire_kept, pair_kept}
 use Rattle.self_test.proofs.look.has_wires.Goals as goal
 
