@@ -1,13 +1,12 @@
 //! What a case has at hand besides its machine.
 use crate::setup::Setup;
-use crate::walk::Loads;
 use std::alloc::{AllocError, Global};
 
 /// What was set, and how many loads the last question took.
 #[derive(Drop)]
 pub struct Bench {
     pub setup: Setup,
-    pub loads: Loads,
+    pub loads: u64,
 }
 
 impl Bench {
@@ -15,7 +14,7 @@ impl Bench {
     pub fn new(alloc: Global) -> Bench {
         Bench {
             setup: Setup::new(alloc),
-            loads: Loads { trunk: 0, rest: 0 },
+            loads: 0,
         }
     }
 
@@ -28,17 +27,12 @@ impl Bench {
         }
     }
 
-    /// Whether the last question took no more loads than words say. None where they say no numbers.
+    /// Whether the last question took no more loads than words say. None where they say no number.
     pub fn is_within(&self, words: &[String]) -> Option<bool> {
         match words {
             [most] => {
                 let most = most.as_str().parse::<u64>().ok()?;
-                Some(self.loads.rest <= most)
-            }
-            [trunk, rest] => {
-                let trunk = trunk.as_str().parse::<u64>().ok()?;
-                let rest = rest.as_str().parse::<u64>().ok()?;
-                Some(self.loads.trunk <= trunk && self.loads.rest <= rest)
+                Some(self.loads <= most)
             }
             _ => None,
         }
