@@ -15,10 +15,12 @@
 
 mod again;
 pub mod laws;
+mod leads;
 mod pins;
 mod proof;
 mod readings;
 mod routes;
 mod toggles;
 
+pub use leads::Lead;
 pub use proof::Proof;
