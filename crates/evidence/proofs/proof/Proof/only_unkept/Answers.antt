@@ -6,6 +6,7 @@ use Rattle.test_configs.proofs.Closings.{among_at}
 use Rattle.evidence.specs.Leads.{is_only_unkept}
 use Rattle.evidence.proofs.Only.{AllKept, none_kept, kept_more, none_only, found_more, only_again, only_this, only_of, no_only, among_front}
 use Rattle.evidence.proofs.proof.Proof.only_unkept.Goals as goal
+use Rattle.evidence.proofs.proof.Proof.only_unkept.Goals.{in-Some+else-other-cross, in_default}
 
 pub crosses-init : goal.crosses-init
 crosses-init c = record { none = λ _. none_kept c.args.self.now; one = tt }
