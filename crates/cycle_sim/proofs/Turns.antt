@@ -1,14 +1,14 @@
 -- Several cycles, one after the other.
-use Rattle.std.proofs.Common.{◌≡◌, ℕ, ◌+◌, ◌<◌, ◌≤◌, Option, Some, None, IsSome, IfSome, List, [], ◌∷◌, ◌++◌, length, refl, sym, ap, ◌∙◌, arith, append-nil, append_assoc}
-use Rattle.std.specs.Prelude.{Bool, true, false, Result, Ok, Err, OnOk, option_map, map, get_or, All}
-use Rattle.core.specs.Result.{is_err}
+use Rattle.std.proofs.Common.{◌≡◌, ℕ, ◌+◌, ◌<◌, ◌≤◌, Option, Some, None, IsSome, IfSome, List, [], ◌∷◌, ◌++◌, length, refl, sym, ap, ◌∙◌, subst, arith, append-nil, append_assoc}
+use Rattle.std.specs.Prelude.{Bool, true, false, Result, Ok, Err, OnOk, is_err, option_map, map, get_or, All}
 use Rattle.std.proofs.lemmas.List.{map-append, length-append}
 use Rattle.std.proofs.Math.ListN.{get_or-map}
 use Rattle.std.proofs.lemmas.List.Elements.{All-get_or}
 use Rattle.hierarchy.specs.Shape.{pins_of}
 use Rattle.hierarchy.specs.Circuit.{Pins}
 use Rattle.hierarchy.specs.Faults.{Faults}
-use Rattle.rig.specs.Rig.{Exchange, Session, drives_of, readings_of}
+use Rattle.config_set.specs.Faulty.{IsRun}
+use Rattle.rig.specs.Rig.{Exchange, Session, Machine, GoesOnBy, drives_of, readings_of}
 use Rattle.cycle_sim.specs.States.{GoesOnFrom, HasRoomFrom, GoesOnByFrom}
 
 module _ (f : Faults) (count : ℕ) where
@@ -77,3 +77,19 @@ kept_row_at w old new k d all kept h = row_at w old k d all h ∙ ap Some (sym (
 pub ok_of : {X E : Type 0} {P : Type 0} (r : Result X E) → OnOk r P → (b : Bool) → b ≡ is_err r → b ≡ false → P
 ok_of (Ok x) p b e f = p
 ok_of (Err x) p b e f = cc
+
+-- the rig goes on as its machine does
+pub rig_goes_on : (f : Faults) (drives readings : List Pins) (m k : Machine) (o p : Option Session) (a b x y : ℕ) → IsSome o → IsSome p → k.faults ≡ Some f →
+    IfSome o (λ s. IfSome p (λ t. GoesOnByFrom f drives readings s t)) →
+    GoesOnBy drives readings (record { machine = m; session = o; loads = a; failures = x }) (record { machine = k; session = p; loads = b; failures = y })
+rig_goes_on f drives readings m k (Some s) (Some t) a b x y is on told h = record {
+  more = h.more;
+  driven = h.driven;
+  read = h.read;
+  config = ap Some h.config;
+  cycles = h.cycles;
+  spare = h.spare;
+  told = subst (λ (o : Option Faults). IfSome o (λ f. IsRun f t.config (drives_of t.cycles) (readings_of t.cycles))) (sym told) h.run;
+}
+rig_goes_on f drives readings m k None p a b x y is on told h = cc
+rig_goes_on f drives readings m k (Some s) None a b x y is on told h = cc
