@@ -1,8 +1,8 @@
 use Rattle.self_test.proofs.Looking.{pair_kept}
 use Rattle.self_test.proofs.look.has_wires.Goals as goal
 
-pub are_known-requires : goal.are_known-requires
-are_known-requires c = rw c.requires.known.shape c.requires.used
+pub are_known-all_known-requires : goal.are_known-all_known-requires
+are_known-all_known-requires c = rw c.requires.known.shape c.requires.used
 
 pub returns-then-all_kept-clause-pairs : goal.returns-then-all_kept-clause-pairs
 returns-then-all_kept-clause-pairs c = λ yes w u h g differ.
