@@ -6,7 +6,7 @@ use Rattle.tm_outside.specs.Sink.{SinkState}
 use Rattle.tm_outside.specs.Told.{Told, IfTold}
 use Rattle.hierarchy.specs.declared.Shape.{Shape}
 use Rattle.defect_db.specs.Lists.{DefectList}
-use Rattle.rig.specs.Rig.{RigState, Machine}
+use Rattle.rig.specs.Rig.{RigState, Machine, Asked}
 use Rattle.steps.specs.Courses.{Step}
 use Rattle.steps.specs.Outside.{Outside, outside}
 use Rattle.steps.specs.Stops.{StepStops}
@@ -46,8 +46,8 @@ module _ {T U V : Type 0} (first : Step T) (second : Step U) (both : Step V) (na
   }
 
 -- what was asked of the rig stays asked while the machine stays
-pub asked-on : (is_shape : Shape → Type 0) (name : List ℕ) (old mid new : RigState) → new.machine ≡ mid.machine → AsksMachine is_shape name old.machine.asked mid.machine.asked → AsksMachine is_shape name old.machine.asked new.machine.asked
-asked-on is_shape name old mid new same asks = subst (λ (m : Machine). AsksMachine is_shape name old.machine.asked m.asked) (sym same) asks
+pub asked-on : (is_shape : Shape → Type 0) (name : List ℕ) (old : List Asked) (mid new : Machine) → new ≡ mid → AsksMachine is_shape name old mid.asked → AsksMachine is_shape name old new.asked
+asked-on is_shape name old mid new same asks = subst (λ (m : Machine). AsksMachine is_shape name old m.asked) (sym same) asks
 
 -- ---- where it ends
 
