@@ -14,6 +14,8 @@ mod ClockLemmas
 mod PrintLemmas
 mod ReadLemmas
 mod KnownLemmas
+mod LeanLemmas
+mod BodyLemmas
 mod FitLemmas
 mod CountLemmas
 mod DriveLemmas

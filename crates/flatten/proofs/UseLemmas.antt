@@ -44,7 +44,7 @@ added_lookup old new name w k none e = e ∙ by (bytes_eq name w) refl (swapped 
     by true d s = rw (← s) (sym (ap (λ o. option_or o (Some k)) (ap old (sym (name_is name w d)) ∙ none)))
     by false d s = rw (← s) (sym (or_none (old w)))
 
-known_named : (ms : List Model) (m : Model) (w : List ℕ) → is_among (names_of ms) w ≡ true → model_named (ms ++ m ∷ []) w ≡ model_named ms w
+pub known_named : (ms : List Model) (m : Model) (w : List ℕ) → is_among (names_of ms) w ≡ true → model_named (ms ++ m ∷ []) w ≡ model_named ms w
 known_named [] m w h = absurd cc
 known_named (x ∷ ms) m w h = by (bytes_eq x.name w) (swapped x.name w) (known_named ms m w)
   where
@@ -68,19 +68,19 @@ none_named (x ∷ ms) w h = by (bytes_eq x.name w) (swapped x.name w) (none_name
     by true s rest = absurd (let f : true ≡ false = ap (λ b. b || is_among (names_of ms) w) s ∙ h in cc)
     by false s rest = rest (ap (λ b. b || is_among (names_of ms) w) s ∙ h)
 
-name_push : (ms : List Model) (m : Model) (w : List ℕ) → is_among (names_of (ms ++ m ∷ [])) w ≡ (is_among (names_of ms) w || bytes_eq w m.name)
+pub name_push : (ms : List Model) (m : Model) (w : List ℕ) → is_among (names_of (ms ++ m ∷ [])) w ≡ (is_among (names_of ms) w || bytes_eq w m.name)
 name_push ms m w = ap (λ ns. is_among ns w) (map-append (λ x. x.name) ms (m ∷ [])) ∙ among-push (names_of ms) m.name w
 
 pub known_more : (ms : List Model) (m : Bor Model) (w : List ℕ) (o : Option Known) → IsKnown ms w o → IsKnown (ms ++ m.now ∷ []) w (option_or o (cond (bytes_eq w m.now.name) (Some (known_of m)) None))
 known_more ms m w (Some k) h =
-    (name_push ms m.now w ∙ ap (λ b. b || bytes_eq w m.now.name) h.0, h.1 ∙ sym (known_named ms m.now w h.0), h.2)
+    (name_push ms m.now w ∙ ap (λ b. b || bytes_eq w m.now.name) h.0, h.1 ∙ sym (known_named ms m.now w h.0), h.2, h.3)
 known_more ms m w None h = by (bytes_eq w m.now.name) (name_push ms m.now w ∙ ap (λ b. b || bytes_eq w m.now.name) h) (new_named ms m.now w h)
   where
     by : (b : Bool) → is_among (names_of (ms ++ m.now ∷ [])) w ≡ b → model_named (ms ++ m.now ∷ []) w ≡ cond b m.now no_model → IsKnown (ms ++ m.now ∷ []) w (cond b (Some (known_of m)) None)
-    by true d e = (d, sym e, refl)
+    by true d e = (d, sym e, refl, refl)
     by false d e = d
 
-pub absent_key : (o : Option Known) → is_some o ≡ false → o ≡ None
+pub absent_key : {K : Type 0} (o : Option K) → is_some o ≡ false → o ≡ None
 absent_key None h = refl
 absent_key (Some k) h = absurd cc
 

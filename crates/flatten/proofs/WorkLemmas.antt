@@ -1,5 +1,6 @@
 -- Frames and the lines that are left.
 use Rattle.std.proofs.Common.{◌≡◌, ℕ, zero, suc, ◌+◌, ◌-◌, ◌<◌, ◌≤◌, ◌||◌, Bool, true, false, cond, List, [], ◌∷◌, ◌++◌, Option, Some, None, length, map, refl, ap, sym, ◌∙◌, subst, arith, append_assoc, length-append, drop, get_or, take, add-one, inl, inr}
+use Rattle.std.specs.Borrow.{Bor}
 use Rattle.std.specs.Option.{option_or}
 use Rattle.std.specs.Str.{bytes_eq}
 use Rattle.std.proofs.Math.Seq.{drop-cons, get_or-append_seam}
@@ -13,11 +14,12 @@ use Rattle.flatten.specs.declared.placed.PlacedPart.TheVariants as placed
 use Rattle.flatten.specs.declared.frames.Frame.{Frame}
 use Rattle.flatten.specs.declared.frames.Found.{Found}
 use Rattle.flatten.specs.declared.work.Origin.{Origin as Kept}
-use Rattle.flatten.specs.declared.ordered.Ordered.{Ordered}
+use Rattle.flatten.specs.declared.bodies.Lean.{Lean}
 use Rattle.flatten.specs.declared.refusal.Refusal.{Refusal}
 use Rattle.flatten.specs.declared.refusal.Refusal.TheVariants.{Memory, Limit}
 use Rattle.flatten.specs.Lines.{Pair, Part, InputPart, OutputPart, CoverPart, LatchPart, UsePart, Line, is_use, pair_of, with_place, next_place, with_places}
 use Rattle.flatten.specs.Ordered.{line_in}
+use Rattle.flatten.specs.Bodies.{lean_in}
 use Rattle.flatten.specs.Given.{looked_up, place_of}
 use Rattle.flatten.specs.Placed.{part_of}
 use Rattle.flatten.specs.Refusals.{IsOver}
@@ -27,6 +29,7 @@ use Rattle.flatten.specs.Netlists.{first_use, origin_of}
 use Rattle.flatten.specs.Frames.{way_to, left_from, left_in, left_of, AreFrames, use_line, IsPlaced, IsOverIn}
 use Rattle.flatten.specs.Origins.{IsOrigin, AreOrigins, IsRefused}
 use Rattle.flatten.proofs.SignalsLemmas.{over_more}
+use Rattle.flatten.proofs.BodyLemmas.{lean_plain}
 use Rattle.flatten.proofs.SubstitutionLemmas.{stays_after}
 
 -- ---- what is given
@@ -40,13 +43,14 @@ given_push (q ∷ pairs) p w = rw (given_push pairs p w) (by (bytes_eq p.formal 
     by true = refl
     by false = refl
 
-pub given_more : (f : ℕ → Signal) (ps : List PairDef) (i : ℕ) (d : PairDef) (w : List ℕ) → i < length ps →
-    given (map (pair_through f) (map pair_of (take (i + 1) ps))) w ≡ cond (bytes_eq (get_or ps i d).formal w) (Some (f (get_or ps i d).actual)) (given (map (pair_through f) (map pair_of (take i ps))) w)
+pub given_more : (f : ℕ → Signal) (ps : List (Bor PairDef)) (i : ℕ) (d : Bor PairDef) (w : List ℕ) → i < length ps →
+    given (map (pair_through f) (map (λ p. pair_of p.now) (take (i + 1) ps))) w ≡ cond (bytes_eq (get_or ps i d).now.formal w) (Some (f (get_or ps i d).now.actual)) (given (map (pair_through f) (map (λ p. pair_of p.now) (take i ps))) w)
 given_more f ps i d w lt =
-    ap (λ xs. given (map (pair_through f) (map pair_of xs)) w) (take_more ps i d lt)
-    ∙ ap (λ xs. given (map (pair_through f) xs) w) (map_push pair_of (take i ps) (get_or ps i d))
-    ∙ ap (λ xs. given xs w) (map_push (pair_through f) (map pair_of (take i ps)) (pair_of (get_or ps i d)))
-    ∙ given_push (map (pair_through f) (map pair_of (take i ps))) (pair_through f (pair_of (get_or ps i d))) w
+    let pair : Bor PairDef → Pair ℕ = λ p. pair_of p.now in
+    ap (λ xs. given (map (pair_through f) (map pair xs)) w) (take_more ps i d lt)
+    ∙ ap (λ xs. given (map (pair_through f) xs) w) (map_push pair (take i ps) (get_or ps i d))
+    ∙ ap (λ xs. given xs w) (map_push (pair_through f) (map pair (take i ps)) (pair (get_or ps i d)))
+    ∙ given_push (map (pair_through f) (map pair (take i ps))) (pair_through f (pair (get_or ps i d))) w
 
 -- ---- the next line of a frame
 
@@ -57,26 +61,26 @@ plain_place k (CoverPart out ins rows off) h = (refl, refl)
 plain_place k (LatchPart from out init control) h = (refl, refl)
 plain_place k (UsePart m pairs way) h = absurd cc
 
-module _ (way : List ℕ) (f : Frame) (k : ℕ) (o : Ordered) (lt : k < length f.lines.items) (is : o ≡ get_or f.lines.items k o) where
+module _ (way : List ℕ) (f : Frame) (k : ℕ) (o : Lean) (lt : k < length f.lines.now) (is : o ≡ get_or f.lines.now k o) where
   abbrev T : Line ℕ → Line Signal
   T = through (place_of f.given way) f.names.now
 
-  cut : drop k (map line_in f.lines.items) ≡ line_in o ∷ drop (k + 1) (map line_in f.lines.items)
+  cut : drop k (map lean_in f.lines.now) ≡ lean_in o ∷ drop (k + 1) (map lean_in f.lines.now)
   cut =
-      drop-map line_in k f.lines.items
-      ∙ ap (map line_in) (drop-cons f.lines.items k o lt ∙ ap (λ x. x ∷ drop (suc k) f.lines.items) (sym is) ∙ ap (λ n. o ∷ drop n f.lines.items) (sym (add-one k)))
-      ∙ ap (λ xs. line_in o ∷ xs) (sym (drop-map line_in (k + 1) f.lines.items))
+      drop-map lean_in k f.lines.now
+      ∙ ap (map lean_in) (drop-cons f.lines.now k o lt ∙ ap (λ x. x ∷ drop (suc k) f.lines.now) (sym is) ∙ ap (λ n. o ∷ drop n f.lines.now) (sym (add-one k)))
+      ∙ ap (λ xs. lean_in o ∷ xs) (sym (drop-map lean_in (k + 1) f.lines.now))
 
-  pub next_plain : is_use (line_in o).part ≡ false → left_from way f k f.uses ≡ T (line_in o) ∷ left_from way f (k + 1) f.uses
+  pub next_plain : is_use (line_in o.line).part ≡ false → left_from way f k f.uses ≡ T (line_in o.line) ∷ left_from way f (k + 1) f.uses
   next_plain none =
-      let p = plain_place f.uses (line_in o).part none in
-      ap (λ ls. map T (with_places f.uses ls)) cut
-      ∙ (λ i. T (record { number = o.number; part = p.0 i }) ∷ map T (with_places (p.1 i) (drop (k + 1) (map line_in f.lines.items))))
+      let p = plain_place f.uses (line_in o.line).part none in
+      ap (λ ls. map T (with_places f.uses ls)) (cut ∙ ap (λ l. l ∷ drop (k + 1) (map lean_in f.lines.now)) (lean_plain o none))
+      ∙ (λ i. T (record { number = o.line.number; part = p.0 i }) ∷ map T (with_places (p.1 i) (drop (k + 1) (map lean_in f.lines.now))))
 
-  pub next_use : (m : List ℕ) (ps : List (Pair ℕ)) → (line_in o).part ≡ UsePart m ps [] → left_from way f k f.uses ≡ use_line o.number m (map (pair_through (becomes (place_of f.given []) f.names.now)) ps) (way ++ f.uses ∷ []) ∷ left_from way f (k + 1) (f.uses + 1)
+  pub next_use : (m : List ℕ) (ps : List (Pair ℕ)) → (lean_in o).part ≡ UsePart m ps [] → left_from way f k f.uses ≡ use_line o.line.number m (map (pair_through (becomes (place_of f.given []) f.names.now)) ps) (way ++ f.uses ∷ []) ∷ left_from way f (k + 1) (f.uses + 1)
   next_use m ps e =
       ap (λ ls. map T (with_places f.uses ls)) cut
-      ∙ ap (λ p. T (record { number = o.number; part = with_place f.uses p }) ∷ map T (with_places (next_place f.uses p) (drop (k + 1) (map line_in f.lines.items)))) e
+      ∙ ap (λ p. T (record { number = o.line.number; part = with_place f.uses p }) ∷ map T (with_places (next_place f.uses p) (drop (k + 1) (map lean_in f.lines.now)))) e
 
 drop_past : {A : Type 0} (xs : List A) (k : ℕ) → length xs ≤ k → drop k xs ≡ []
 drop_past [] zero h = refl
@@ -85,8 +89,8 @@ drop_past (x ∷ xs) zero h = absurd (let no : ⊥ = omega arith in no)
 drop_past (x ∷ xs) (suc k) h = drop_past xs k (omega arith)
 
 -- behind the last line nothing is left
-pub nothing_left : (way : List ℕ) (f : Frame) (k : ℕ) → length f.lines.items ≤ k → left_from way f k f.uses ≡ []
-nothing_left way f k le = ap (λ ls. map (through (place_of f.given way) f.names.now) (with_places f.uses ls)) (drop_past (map line_in f.lines.items) k (omega (arith, le, length-map f.lines.items line_in)))
+pub nothing_left : (way : List ℕ) (f : Frame) (k : ℕ) → length f.lines.now ≤ k → left_from way f k f.uses ≡ []
+nothing_left way f k le = ap (λ ls. map (through (place_of f.given way) f.names.now) (with_places f.uses ls)) (drop_past (map lean_in f.lines.now) k (omega (arith, le, length-map f.lines.now lean_in)))
 
 -- ---- the first line that uses a model
 

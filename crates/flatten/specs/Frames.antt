@@ -8,7 +8,7 @@ use Rattle.flatten.specs.declared.sink.Sink.{Sink}
 use Rattle.flatten.specs.declared.refusal.Refusal.{Refusal}
 use Rattle.flatten.specs.declared.refusal.Refusal.TheVariants.{Memory, Limit}
 use Rattle.flatten.specs.Lines.{Pair, UsePart, Line, with_places}
-use Rattle.flatten.specs.Ordered.{line_in}
+use Rattle.flatten.specs.Bodies.{lean_in}
 use Rattle.flatten.specs.Given.{looked_up, place_of}
 use Rattle.flatten.specs.Signals.{is_over}
 use Rattle.flatten.specs.Substitution.{given, through, is_left}
@@ -21,7 +21,7 @@ way_to models k = (origin_of models k).way
 
 -- the lines of a frame from one on, where so many in front use models
 abbrev pub left_from : List ℕ → Frame → ℕ → ℕ → List (Line Signal)
-left_from way f next uses = map (through (place_of f.given way) f.names.now) (with_places uses (drop next (map line_in f.lines.items)))
+left_from way f next uses = map (through (place_of f.given way) f.names.now) (with_places uses (drop next (map lean_in f.lines.now)))
 
 abbrev pub left_in : List ℕ → Frame → List (Line Signal)
 left_in way f = left_from way f f.next f.uses

@@ -19,6 +19,8 @@ pub mod Lists
 pub mod NameSets
 pub mod UseLines
 pub mod Links
+pub mod Needs
+pub mod Bodies
 pub mod Frames
 pub mod Origins
 pub mod Clocks

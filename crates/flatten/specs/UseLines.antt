@@ -14,6 +14,7 @@ use Rattle.flatten.specs.Lines.{pair_of}
 use Rattle.flatten.specs.Substitution.{model_named}
 use Rattle.flatten.specs.Uses.{Use, no_use, is_among, port_names}
 use Rattle.flatten.specs.NameSets.{with_names}
+use Rattle.flatten.specs.Needs.{names_within}
 
 abbrev pub use_in : UseLine → Use
 use_in u = record { number = u.number; own = u.own.now; model = u.model.now; pairs = map pair_of u.pairs.now }
@@ -40,16 +41,17 @@ abbrev pub names_of : List Model → List (List ℕ)
 names_of models = map (λ m. m.name) models
 
 abbrev pub known_of : Bor Model → Known
-known_of m = record { model = m; ports = with_names [] (port_names m.now) }
+known_of m = record { model = m; ports = with_names [] (port_names m.now); needs = with_names [] (names_within m.now) }
 
 abbrev pub looked_up : Catalog → List ℕ → Option Known
 looked_up c w = get_by (λ k. bytes_eq w k.now) c.known
 
--- what is kept at a name: the first model of the name, with its ports
+-- what is kept at a name: the first model of the name, with its ports and the names on its lines
 abbrev pub IsKnown : List Model → List ℕ → Option Known → Type 0
 IsKnown models w None = is_among (names_of models) w ≡ false
 IsKnown models w (Some k) =
     (is_among (names_of models) w ≡ true) × (k.model.now ≡ model_named models w) × (k.ports ≡ with_names [] (port_names k.model.now))
+    × (k.needs ≡ with_names [] (names_within k.model.now))
 
 abbrev pub IsCatalog : List Model → Catalog → Type 0
 IsCatalog models c = (w : List ℕ) → IsKnown models w (looked_up c w)

@@ -9,15 +9,18 @@ ghost use Rattle.flatten.specs.UseLines.{looked_up, IsAdded, IsCatalog};
 use crate::given::name_at;
 use crate::model::Model;
 use crate::name_set::NameSet;
+use crate::needs::names_within;
 use netlist::{Name, PortDef};
 use std::alloc::{AllocError, Global};
 use std::collections::HashMap;
 
-/// A model, and the names that may be given to it.
+/// A model, the names that may be given to it, and those that stand on its lines.
 #[derive(Drop)]
 pub struct Known<'a> {
     pub model: &'a Model,
     pub ports: NameSet<'a>,
+    /// The names on its lines.
+    pub needs: NameSet<'a>,
 }
 
 /// The first model of each name.
@@ -78,7 +81,15 @@ impl<'a> Catalog<'a> {
             return Ok(());
         }
         let ports = ports_of(alloc, model)?;
-        let _ = self.known.insert(name, Known { model, ports })?;
+        let needs = names_within(alloc, model)?;
+        let _ = self.known.insert(
+            name,
+            Known {
+                model,
+                ports,
+                needs,
+            },
+        )?;
         Ok(())
     }
 

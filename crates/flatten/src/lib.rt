@@ -3,6 +3,7 @@
 //! The lines that use a model are replaced by that model's lines until none is left; the netlist is read from what then stands there.
 #![tactic(auto)]
 
+mod bodies;
 mod catalog;
 mod clocks;
 mod design;
@@ -13,6 +14,7 @@ mod given;
 mod lists;
 mod model;
 mod name_set;
+mod needs;
 mod ordered;
 mod placed;
 mod printed;

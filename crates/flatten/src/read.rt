@@ -27,7 +27,7 @@ use std::alloc::{AllocError, Global};
 use tm_items::Items;
 
 /// The names of the signals of the first model.
-fn first_names(models: &[Model]) -> &[Name]
+pub fn first_names(models: &[Model]) -> &[Name]
     ensures { result.now ≡ (first_model models.now).names }
 {
     match models.first() {

@@ -3,7 +3,7 @@
 ghost use Rattle.std.specs.Prelude.{IfOk, IfErr};
 ghost use Rattle.flatten.specs.Origins.{IsSubstitution, IsRefused};
 
-use crate::catalog::Catalog;
+use crate::bodies::Bodies;
 use crate::frames::{Frame, first_frame, frame_of, place_lines};
 use crate::model::Model;
 use crate::refusal::Refusal;
@@ -35,8 +35,8 @@ pub fn substitute<'a>(alloc: Global, models: &'a [Model]) -> Result<Substituted<
     ensures ok { IfOk result (IsSubstitution models.now) }
     ensures refused { IfErr result (IsRefused models.now) }
 {
-    let catalog = Catalog::new(alloc, models)?;
-    let first = first_frame(alloc, models)?;
+    let bodies = Bodies::new(alloc, models)?;
+    let first = first_frame(alloc, &bodies);
     let mut sink = Sink::new(alloc, first.names)?;
     let mut origins = Vec::new(alloc);
     origins.push(Origin {
@@ -54,7 +54,7 @@ pub fn substitute<'a>(alloc: Global, models: &'a [Model]) -> Result<Substituted<
         if replaced >= MOST_REPLACED {
             return Err(Refusal::Limit);
         }
-        let next = frame_of(alloc, &catalog, found.model, found.given)?;
+        let next = frame_of(&bodies, found.model, found.given);
         origins.push(Origin {
             names: next.names,
             within: frame.given.used,

@@ -4,3 +4,5 @@ pub mod Following
 pub mod Made
 pub mod Texts
 pub mod WrongWords
+-- For the proofs of this crate alone.
+mod MachineListed

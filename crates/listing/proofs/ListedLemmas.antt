@@ -1,9 +1,8 @@
 -- The list as a step.
-use Rattle.std.proofs.Common.{◌≡◌, ◌∙◌, ℕ, ◌≤◌, List, [], Some, option_map, refl, sym, ap, subst, arith, append-nil}
-use Rattle.std.specs.Prelude.{Result, Ok, Err, IfOk}
+use Rattle.std.proofs.Common.{◌≡◌, ◌∙◌, ℕ, ◌≤◌, List, [], Some, option_map, refl, sym, ap, arith, append-nil}
+use Rattle.std.specs.Prelude.{Ok, Err}
 use Rattle.tm_outside.specs.Counts.{Rose}
 use Rattle.tm_outside.specs.Store.{StoreState}
-use Rattle.tm_outside.specs.Told.{Told, IfTold}
 use Rattle.tm_outside.specs.Sink.{SinkState}
 use Rattle.hierarchy.specs.declared.Shape.{Shape}
 use Rattle.defect_db.specs.Lists.{DefectList, IsDefectList}
@@ -13,11 +12,10 @@ use Rattle.rig.specs.declared.rig.RigFail.TheVariants.{Failed, Memory}
 use Rattle.diagnose.specs.Diagnosis.{IsDiagnosis, TakesFewLoads}
 use Rattle.steps.specs.Outside.{outside, IsLater}
 use Rattle.steps.specs.Stops.{IsCounted, StepStops, stop_of_rig}
-use Rattle.steps.specs.Texts.{IsMachineText}
 use Rattle.steps.specs.Took.{Took}
 use Rattle.steps.specs.declared.refusal.Stop.{Stop}
 use Rattle.steps.specs.declared.refusal.Stop.TheVariants.{Refused, Sink}
-use Rattle.listing.specs.Lists.{IsListed, Listed, ListsMachine, lists, lists_now}
+use Rattle.listing.specs.Lists.{IsListed, Listed, lists, lists_now}
 
 -- the shape that is attached
 pub attached-shape : (rig : RigState) (m : Shape) (name : List ℕ) → rig.machine.attached ≡ Some (record { shape = m; name = name }) → shape_of rig ≡ Some m
@@ -30,17 +28,6 @@ list-shape old new m d machine same is = ap (λ (x : Machine). option_map (λ (a
 -- a list is one of the machine, and so it stays while the machine stays
 pub listed-on : (m : Shape) (before : ℕ) (mid new : RigState) (l : Listed) → IsListed m before mid l → new.machine ≡ mid.machine → IsListed m before new l
 listed-on m before mid new l is machine = record { shape = is.shape; kept = is.kept; right = rw machine is.right; few = rw machine is.few }
-
--- a machine that was read and attached is listed, if its defects are
-pub machine-listed : (name : List ℕ) (text : Told) (m : Shape) (old mid new : RigState) (result : Result DefectList Stop) → IfTold text (λ bytes. IsMachineText bytes m)
-    → mid.machine.attached ≡ Some (record { shape = m; name = name }) → mid.loads ≡ old.loads → new.machine ≡ mid.machine
-    → IfOk result (λ d. IsListed m mid.loads new (record { list = d; loads = new.loads })) → IfOk result (ListsMachine name text old new)
-machine-listed name text m old mid new (Err stop) read attached loads machine is = tt
-machine-listed name text m old mid new (Ok d) read attached loads machine is = record {
-  machine_is = subst (λ s. IfTold text (λ bytes. IsMachineText bytes s)) (sym is.shape) read;
-  attached = ap (λ (x : Machine). x.attached) machine ∙ (attached ∙ ap (λ s. Some (record { shape = s; name = name })) (sym is.shape));
-  is_listed = subst (λ s. IsListed s old.loads new (record { list = d; loads = new.loads })) (sym is.shape) (subst (λ n. IsListed m n new (record { list = d; loads = new.loads })) loads is);
-}
 
 -- where it isn't made, few loads were made too, from so many on
 pub few-stops : (m : Shape) (before : ℕ) (old new : RigState) (stop : Stop) → old.loads ≡ before → new.machine ≡ old.machine → StepStops (lists_now m old new) stop → StepStops (lists m before new) stop

@@ -8,8 +8,9 @@ use Rattle.rig.specs.Rig.{RigState}
 use Rattle.diagnose.specs.Diagnosis.{IsDiagnosis, TakesFewLoads}
 use Rattle.steps.specs.Courses.{Step}
 use Rattle.steps.specs.Outside.{Around, Outside, StandsIn, outside}
-use Rattle.steps.specs.Texts.{FailsOnRig, IsMachineText}
+use Rattle.steps.specs.Texts.{FailsOnRig, IsMachineText, NoMachine, NotAttached}
 use Rattle.steps.specs.Took.{Took, Puts}
+use Rattle.steps.specs.declared.refusal.Refusal.{Refusal}
 use Rattle.steps.specs.declared.refusal.Stop.{Stop}
 
 -- a list of a machine's defects, and how many loads the rig counted when it was made
@@ -44,6 +45,19 @@ pub record ListsMachine (name : List ℕ) (text : Told) (old new : RigState) (d 
   pub machine_is : IfTold text (λ bytes. IsMachineText bytes d.shape)
   pub attached : new.machine.attached ≡ Some (record { shape = d.shape; name = name })
   pub is_listed : IsListed d.shape old.loads new (record { list = d; loads = new.loads })
+
+-- The machine of this text isn't read, and the rig isn't asked; or it is read and not attached, and no load was made; or it is
+-- attached under the name and not listed, and few loads were made
+pub data NotListed (name : List ℕ) (text : Told) (old new : RigState) (refusal : Refusal) : Type 0 where
+  unread : NoMachine text refusal → new ≡ old → NotListed name text old new refusal
+  unattached : (m : Shape) → IfTold text (λ bytes. IsMachineText bytes m)
+      → NotAttached (record { shape = m; name = name }) old new refusal → new.loads ≡ old.loads → NotListed name text old new refusal
+  unlisted : (m : Shape) → IfTold text (λ bytes. IsMachineText bytes m) → new.machine.attached ≡ Some (record { shape = m; name = name })
+      → FailsOnRig refusal → TakesFewLoads new.machine.faults m old.loads new.loads → NotListed name text old new refusal
+
+-- the machine of this text is read, attached under the name and listed, from the rig as it was before to the rig as it is then
+abbrev pub lists_machine : (name : List ℕ) → (text : Told) → (old new : RigState) → Step DefectList
+lists_machine name text old new = record { stops = NotListed name text old new; gives = ListsMachine name text old new }
 
 -- the list is made, and nothing of it is written yet
 abbrev pub Makes : (m : Shape) → DefectList → Outside → Outside → Type 0

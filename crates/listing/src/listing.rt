@@ -1,12 +1,13 @@
 //! Lists of defects that are made and written.
-ghost use Rattle.std.specs.Prelude.{◌≡◌, [], Some, IfOk};
+ghost use Rattle.std.specs.Prelude.{◌≡◌, [], ◌∷◌, Some};
 ghost use Rattle.tm_outside.specs.Store.{StoreState};
 ghost use Rattle.tm_outside.specs.Sink.{SinkState};
 ghost use Rattle.rig.specs.Rig.{shape_of};
 ghost use Rattle.diagnose.specs.Diagnosis.{TakesFewLoads};
 ghost use Rattle.steps.specs.Outside.{outside};
+ghost use Rattle.steps.specs.Texts.{AsksMachine, reads_machine};
 ghost use Rattle.steps.specs.Took.{Took};
-ghost use Rattle.listing.specs.Lists.{lists_now, ListsMachine, WritesList};
+ghost use Rattle.listing.specs.Lists.{lists_machine, lists_now, WritesList};
 
 use defect_db::{Defects, defects_text};
 use diagnose::diagnose;
@@ -40,7 +41,7 @@ pub fn list_of(alloc: Global, shape: &Shape, rig: &mut Box<dyn Rig>) -> Result<D
     }
 }
 
-/// Reads a machine, attaches it under a name, and lists its defects.
+/// Reads a machine, attaches it under a name, and lists its defects. Wherever it ends, it took few loads, and none before the list.
 ///
 /// # Errors
 ///
@@ -55,8 +56,12 @@ pub fn list_machine<S: Store>(
 ) -> Result<Defects, Stop>
     requires always { name.now ≡ name.now }
 
-    ensures listed { IfOk result (λ list. ListsMachine name.now ((S.store_state store.old).contents machine.now)
-        (rig_state rig.old) (rig_state rig.new) list) }
+    ensures asked { AsksMachine (reads_machine ((S.store_state store.old).contents machine.now)).gives name.now
+        (rig_state rig.old).machine.asked (rig_state rig.new).machine.asked }
+    // Whatever the sink is.
+    ensures took { let text = (S.store_state store.old).contents machine.now in
+        (sink : SinkState) → Took (machine.now ∷ []) (lists_machine name.now text (rig_state rig.old) (rig_state rig.new)) result
+        (outside (S.store_state store.old) (rig_state rig.old) sink) (outside (S.store_state store.new) (rig_state rig.new) sink) }
 {
     let shape = read_shape(alloc, store, machine)?;
     attach(rig, &shape, name)?;

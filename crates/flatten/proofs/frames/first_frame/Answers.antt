@@ -1,12 +1,22 @@
-use Rattle.std.proofs.Common.{◌≡◌, ◌∙◌, ap, sym, map}
+use Rattle.std.proofs.Common.{◌∙◌, ap, sym, map}
+use Rattle.flatten.specs.declared.model.Model.{Model}
 use Rattle.flatten.specs.Lines.{with_places}
 use Rattle.flatten.specs.Substitution.{through, lines_at, at_first, first_model}
-use Rattle.flatten.proofs.FrameLemmas.{place_is, first_found}
+use Rattle.flatten.specs.Bodies.{lean_in}
+use Rattle.flatten.proofs.FrameLemmas.{place_is}
+use Rattle.flatten.proofs.LeanLemmas.{lean_first, ordered_lean}
 use Rattle.flatten.proofs.frames.first_frame.Goals as goal
 
-pub returns-in_ok-in_order-in-Some-clause-lines : goal.returns-in_ok-in_order-in-Some-clause-lines
-returns-in_ok-in_order-in-Some-clause-lines c =
-    let place = place_is c.new-given.result c.new-given.ensures.used c.new-given.ensures.none in
-    let is : first_model c.args.models.now ≡ c.in-Some.model.now = first_found c.args.models.now c.in-Some.model.now c.in-Some.ensures.value in
-    (λ i. map (through (place i) (c.as_slice.ensures i)) (with_places 0 (c.in_ok-in_order-in-Some.ensures i)))
-    ∙ sym (ap (λ m. lines_at m at_first) is)
+pub returns-clause-names : goal.returns-clause-names
+returns-clause-names c =
+    let ms = c.args.bodies.now.models.now in
+    c.requires.names ∙ sym (ap (λ (m : Model). m.names) (lean_first ms ms))
+
+pub returns-clause-lines : goal.returns-clause-lines
+returns-clause-lines c =
+    let ms = c.args.bodies.now.models.now in
+    let m = first_model ms in
+    let place = place_is c.new.result c.new.ensures.used c.new.ensures.none in
+    let lines = ap (map lean_in) c.deref.ensures.value ∙ c.requires.lines ∙ sym (ordered_lean ms m) in
+    (λ i. map (through (place i) (c.requires.names i)) (with_places 0 (lines i)))
+    ∙ sym (ap (λ x. lines_at x at_first) (lean_first ms ms))

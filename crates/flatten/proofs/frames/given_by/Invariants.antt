@@ -7,5 +7,5 @@ use Rattle.flatten.proofs.frames.given_by.Given as goal
 abbrev pub invariant-pairs : goal.invariant-pairs
 invariant-pairs l = record {
   used : l.given.used ≡ l.used;
-  is : (w : List ℕ) → looked_up l.given w ≡ given (map (pair_through (becomes (place_of l.frame.given []) l.frame.names.now)) (map pair_of (take l.pair-index l.pairs))) w;
+  is : (w : List ℕ) → looked_up l.given w ≡ given (map (pair_through (becomes (place_of l.frame.given []) l.frame.names.now)) (map (λ p. pair_of p.now) (take l.pair-index l.pairs))) w;
 }

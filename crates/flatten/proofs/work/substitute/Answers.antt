@@ -1,31 +1,37 @@
 use Rattle.std.proofs.Common.{◌≡◌, ◌∙◌, ◌+◌, ◌-◌, ◌++◌, ◌∷◌, [], refl, ℕ, List, ap, sym, length, length-append, arith, subst, true}
 use Rattle.std.proofs.lemmas.Result.{err_from_is_err_and}
 use Rattle.flatten.specs.Sinks.{IsSink}
-use Rattle.flatten.specs.Substitution.{after, first_model, is_left, model_named, lines_at, without_ports}
+use Rattle.flatten.specs.Substitution.{after, first_model, is_left, model_named, lines_at, without_ports, at_first}
 use Rattle.flatten.specs.Given.{place_of}
+use Rattle.flatten.specs.Needs.{lean_models}
+use Rattle.flatten.specs.declared.refusal.Refusal.TheVariants.{Limit}
 use Rattle.flatten.specs.Frames.{way_to, left_in}
 use Rattle.flatten.proofs.WorkLemmas.{starts, ended, refused, is_left_now, origin_is, replaced_more, all_placed, placed_none, placed_some, not_within, frames_push, frames_pop, frames_more, first_origin, origins_push}
+use Rattle.flatten.proofs.LeanLemmas.{whole_design, whole_refused}
 use Rattle.flatten.proofs.work.substitute.Goals as goal
 
 pub work-init : goal.work-init
 work-init c =
-    let ms = c.args.models.now in
-    let first = c.in_ok-first.first in
+    let ms = lean_models c.args.models.now in
+    let first = c.first_frame-first.result in
+    let models = ap lean_models c.in_ok-bodies.ensures.models in
+    let names : first.names.now ≡ (first_model ms).names = c.first_frame-first.ensures.names ∙ ap (λ xs. (first_model xs).names) models in
+    let lines : left_in [] first ≡ lines_at (first_model ms) at_first = c.first_frame-first.ensures.lines ∙ ap (λ xs. lines_at (first_model xs) at_first) models in
     record {
       most = omega arith;
       sink = (
         [],
-        subst (λ ns. IsSink ns [] c.in_ok-sink.sink) c.in_ok-first.ensures.names c.in_ok-sink.ensures,
-        rw (c.in_ok-push-2.ensures.items, c.new-stack.ensures.items) (starts ms first c.in_ok-first.ensures.used c.in_ok-first.ensures.lines),
+        subst (λ ns. IsSink ns [] c.in_ok-sink.sink) names c.in_ok-sink.ensures,
+        rw (c.in_ok-push-2.ensures.items, c.new-stack.ensures.items) (starts ms first c.first_frame-first.ensures.used lines),
       );
-      frames = rw (c.in_ok-push-2.ensures.items, c.new-stack.ensures.items) (frames_push 0 [] first tt (omega (arith, c.in_ok-first.ensures.used)) (omega (arith, c.in_ok-first.ensures.uses)));
+      frames = rw (c.in_ok-push-2.ensures.items, c.new-stack.ensures.items) (frames_push 0 [] first tt (omega (arith, c.first_frame-first.ensures.used)) (omega (arith, c.first_frame-first.ensures.uses)));
       count = rw (c.in_ok-push.ensures.items, c.new-origins.ensures.items) refl;
-      origins = rw (c.in_ok-push.ensures.items, c.new-origins.ensures.items) (first_origin ms _ c.in_ok-first.ensures.names);
+      origins = rw (c.in_ok-push.ensures.items, c.new-origins.ensures.items) (first_origin ms _ names);
     }
 
 pub work-preserved-in_default-2 : goal.work-preserved-in_default-2
 work-preserved-in_default-2 c =
-    let ms = c.args.models.now in
+    let ms = lean_models c.args.models.now in
     let f = c.in-Some.frame in
     let way = way_to ms f.given.used in
     let old = c.work.invariant.sink in
@@ -45,14 +51,14 @@ work-preserved-in_default-2 c =
 pub returns-in_err-found-clause-refused : goal.returns-in_err-found-clause-refused
 returns-in_err-found-clause-refused c =
     let p = err_from_is_err_and c.from_residual-in_err-found.result c.from_residual-in_err-found.ensures.1 in
-    let ms = c.args.models.now in
+    let ms = lean_models c.args.models.now in
     let f = c.in-Some.frame in
     let old = c.work.invariant.sink in
-    rw (p.1, p.2) (refused ms c.work.replaced old.0 c.pop.new.self.items f (rw c.in-Some.ensures.items at old.2) c.in_err-found.field-0.0 (c.in_err-found.ensures.refused (way_to ms f.given.used) (first_model ms).names old.0 old.1))
+    rw (p.1, p.2) (whole_refused c.args.models.now c.in_err-found.field-0.0 (refused ms c.work.replaced old.0 c.pop.new.self.items f (rw c.in-Some.ensures.items at old.2) c.in_err-found.field-0.0 (c.in_err-found.ensures.refused (way_to ms f.given.used) (first_model ms).names old.0 old.1)))
 
 pub returns-then-replaced-ge-MOST_REPLACED-clause-refused : goal.returns-then-replaced-ge-MOST_REPLACED-clause-refused
 returns-then-replaced-ge-MOST_REPLACED-clause-refused c =
-    let ms = c.args.models.now in
+    let ms = lean_models c.args.models.now in
     let f = c.in-Some.frame in
     let way = way_to ms f.given.used in
     let old = c.work.invariant.sink in
@@ -60,7 +66,7 @@ returns-then-replaced-ge-MOST_REPLACED-clause-refused c =
     let u = placed_some way (c.work.replaced + 1) f old.0 put.0 c.in_ok-found.field-0 c.in-Some-2.found c.in-Some-2.is put.2 in
     let full : c.work.replaced ≡ 65535 = omega arith in
     let left = is_left_now ms c.work.replaced old.0 c.pop.new.self.items f (rw c.in-Some.ensures.items at old.2) put.0 c.in-Some-2.found u.0 u.1 put.1.none_left u.3 u.4 in
-    not_within ms 65535 (subst (λ n. is_left (after ms n) ≡ true) full left)
+    whole_refused c.args.models.now Limit (not_within ms 65535 (subst (λ n. is_left (after ms n) ≡ true) full left))
 
 pub overflow_add-frame : goal.overflow_add-frame
 overflow_add-frame c =
@@ -69,7 +75,7 @@ overflow_add-frame c =
 
 pub work-preserved : goal.work-preserved
 work-preserved c =
-    let ms = c.args.models.now in
+    let ms = lean_models c.args.models.now in
     let f = c.in-Some.frame in
     let way = way_to ms f.given.used in
     let old = c.work.invariant.sink in
@@ -81,16 +87,16 @@ work-preserved c =
     let placed = put.0 in
     let now = rw c.in-Some.ensures.items at old.2 in
     let none = put.1.none_left in
-    let next = c.in_ok-next.next in
+    let next = c.frame_of-next.result in
     let leads = origin_is ms k old.0 pops f now placed c.in-Some-2.found u.0 u.1 none u.3 u.4 in
-    let models = c.in_ok-catalog.ensures.models in
+    let models = ap lean_models c.in_ok-bodies.ensures.models in
     record {
       most = omega arith;
       sink = (
         put.0,
         put.1,
-        rw (c.in_ok-push-5.ensures.items, c.in_ok-push-4.ensures.items) (replaced_more ms k old.0 pops f now placed c.in-Some-2.found u.0 u.1 none u.3 u.4 (record f { next = c.in-Some-2.found.next; uses = f.uses + 1 }) next refl c.in_ok-next.ensures.given u.2
-            (subst (λ xs. (w : List ℕ) → left_in w next ≡ without_ports (lines_at (model_named xs c.in-Some-2.found.model.now) (place_of c.in-Some-2.found.given w))) models c.in_ok-next.ensures.lines)),
+        rw (c.in_ok-push-5.ensures.items, c.in_ok-push-4.ensures.items) (replaced_more ms k old.0 pops f now placed c.in-Some-2.found u.0 u.1 none u.3 u.4 (record f { next = c.in-Some-2.found.next; uses = f.uses + 1 }) next refl c.frame_of-next.ensures.given u.2
+            (subst (λ xs. (w : List ℕ) → left_in w next ≡ without_ports (lines_at (model_named xs c.in-Some-2.found.model.now) (place_of c.in-Some-2.found.given w))) models c.frame_of-next.ensures.lines)),
       );
       frames = rw (c.in_ok-push-5.ensures.items, c.in_ok-push-4.ensures.items) (
           let all = frames_more k pops olds.0 in
@@ -98,28 +104,28 @@ work-preserved c =
           let uses = olds.2 in
           let with_old = frames_push (k + 1) pops (record f { next = c.in-Some-2.found.next; uses = f.uses + 1 }) all (omega (arith, used)) (omega (arith, uses)) in
           frames_push (k + 1) (pops ++ record f { next = c.in-Some-2.found.next; uses = f.uses + 1 } ∷ []) next with_old
-          (omega (arith, ap (λ g. g.used) c.in_ok-next.ensures.given, u.2))
-          (omega (arith, c.in_ok-next.ensures.uses))
+          (omega (arith, ap (λ g. g.used) c.frame_of-next.ensures.given, u.2))
+          (omega (arith, c.frame_of-next.ensures.uses))
           );
       count = ap length c.in_ok-push-3.ensures.items ∙ length-append c.work.origins.items _ ∙ ap (λ n. n + 1) c.work.invariant.count;
       origins = rw c.in_ok-push-3.ensures.items (
           origins_push ms c.work.origins.items (record { names = next.names; within = f.given.used; place = f.uses }) k c.work.invariant.count c.work.invariant.origins
-          (c.in_ok-next.ensures.names ∙ ap (λ xs. (model_named xs c.in-Some-2.found.model.now).names) models ∙ sym (ap (λ o. o.model.names) leads), olds.1, ap (λ o. o.way) leads)
+          (c.frame_of-next.ensures.names ∙ ap (λ xs. (model_named xs c.in-Some-2.found.model.now).names) models ∙ sym (ap (λ o. o.model.names) leads), olds.1, ap (λ o. o.way) leads)
           );
     }
 
 pub returns-clause-ok : goal.returns-clause-ok
 returns-clause-ok c =
-    let ms = c.args.models.now in
+    let ms = lean_models c.args.models.now in
     let last = c.work.invariant.sink in
     let count = c.work.invariant.count in
     let all = all_placed ms c.work.replaced last.0 c.work.stack.items last.1.none_left last.2 (omega (arith, rw c.in_default.is at c.pop.ensures.cases)) in
     let few : c.work.replaced ≡ length c.work.origins.items - 1 = omega (arith, count) in
     let same : last.0 ≡ after ms (length c.work.origins.items - 1) = all.reached ∙ ap (after ms) few in
-    record {
+    whole_design c.args.models.now _ (record {
       sink = subst (λ ls. IsSink (first_model ms).names ls c.work.sink) same last.1;
       most = omega (arith, count, c.work.invariant.most);
       substituted = record { reached = refl; none_left = sym (ap is_left same) ∙ all.none_left };
       count = omega (arith, count);
       origins = c.work.invariant.origins;
-    }
+    })

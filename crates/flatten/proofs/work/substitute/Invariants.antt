@@ -2,6 +2,7 @@ use Rattle.std.proofs.Common.{◌≡◌, ◌≤◌, ◌++◌, ◌+◌, ◌*◌, 
 use Rattle.flatten.specs.declared.model.Signal.{Signal}
 use Rattle.flatten.specs.Lines.{Line}
 use Rattle.flatten.specs.Substitution.{after, first_model}
+use Rattle.flatten.specs.Needs.{lean_models}
 use Rattle.flatten.specs.Frames.{left_of, AreFrames}
 use Rattle.flatten.specs.Origins.{AreOrigins}
 use Rattle.flatten.specs.Sinks.{IsSink}
@@ -10,10 +11,10 @@ use Rattle.flatten.proofs.work.substitute.Given as goal
 abbrev pub invariant-work : goal.invariant-work
 invariant-work l = record {
   most : l.replaced ≤ 65535;
-  sink : (lines : List (Line Signal)) × IsSink (first_model l.models).names lines l.sink × (after l.models l.replaced ≡ lines ++ left_of l.models l.stack.items);
+  sink : (lines : List (Line Signal)) × IsSink (first_model (lean_models l.models)).names lines l.sink × (after (lean_models l.models) l.replaced ≡ lines ++ left_of (lean_models l.models) l.stack.items);
   frames : AreFrames l.replaced l.stack.items;
   count : length l.origins.items ≡ l.replaced + 1;
-  origins : AreOrigins l.models l.origins.items;
+  origins : AreOrigins (lean_models l.models) l.origins.items;
 }
 
 abbrev pub decreases-work : goal.decreases-work

@@ -1,0 +1,8 @@
+use Rattle.std.proofs.Common.{◌≡◌, [], take}
+use Rattle.std.specs.List.{flat_map}
+use Rattle.flatten.specs.NameSets.{with_names}
+use Rattle.flatten.specs.Needs.{names_on}
+use Rattle.flatten.proofs.needs.names_within.Given as goal
+
+abbrev pub invariant-pieces : goal.invariant-pieces
+invariant-pieces l = l.set ≡ with_names [] (flat_map (names_on l.names) (take l.piece-index l.pieces))
