@@ -96,17 +96,17 @@ module _ {told : Option Faults} {k : Kept} {a : Field} {near : List Near} {s t :
       sums u v z m n p d i h x y few i1 i2 i3 i4 i5 = omega (arith, few, i1, i2, i3, i4, i5)
 
 -- no loads at all
-pins_few : {k : Kept} {a : Field} → IsFieldOf k.shape a → pins_in k.shape a ≤ size_of a.wires
-pins_few {k} {a} field = subst (λ n. pins_in k.shape a ≤ n) (ap (how_many (has_number a.wires)) (sym field.wires) ∙ many_size a.wires) (pins_long k.shape a.wires)
+pins_few : (k : Kept) (a : Field) → IsFieldOf k.shape a → pins_in k.shape a ≤ size_of a.wires
+pins_few k a field = subst (λ n. pins_in k.shape a ≤ n) (ap (how_many (has_number a.wires)) (sym field.wires) ∙ many_size a.wires) (pins_long k.shape a.wires)
 
-pub no_loads : {k : Kept} {a : Field} {before : ℕ} → IsFieldOf k.shape a → before + pins_in k.shape a ≤ before + (8 * fresh k a + 3 * size_of a.wires)
-no_loads {k} {a} {before} field = sums _ _ _ (pins_few field)
+pub no_loads : (k : Kept) (a : Field) (before : ℕ) → IsFieldOf k.shape a → before + pins_in k.shape a ≤ before + (8 * fresh k a + 3 * size_of a.wires)
+no_loads k a before field = sums _ _ _ (pins_few k a field)
   where
-    sums : (p x w : ℕ) → p ≤ w → before + p ≤ before + (8 * x + 3 * w)
-    sums p x w few = omega (arith, few)
+    sums : (p x y : ℕ) → p ≤ y → before + p ≤ before + (8 * x + 3 * y)
+    sums p x y few = omega (arith, few)
 
 pub takes_none : {told : Option Faults} {k : Kept} {a : Field} {before after : ℕ} → IsFieldOf k.shape a → after ≡ before → TakesFew told k a before after
-takes_none {before = before} {after = after} field same = record { at = λ f is none holds. sums _ _ _ (pins_few field) }
+takes_none {k = k} {a = a} {before = before} {after = after} field same = record { at = λ f is none holds. sums _ _ _ (pins_few k a field) }
   where
-    sums : (p x w : ℕ) → p ≤ w → after + p ≤ before + (2 * x + 3 * w)
-    sums p x w few = omega (arith, few, same)
+    sums : (p x y : ℕ) → p ≤ y → after + p ≤ before + (2 * x + 3 * y)
+    sums p x y few = omega (arith, few, same)

@@ -1,5 +1,6 @@
 //! Trials of wires on two feet, and of pins: what is good is known then.
-ghost use Rattle.std.specs.Prelude.{◌≡◌, ◌≢◌, ◌<◌, ◌≤◌, ◌+◌, ℕ, true, false, Some, IfOk, IfSome, IfNone, OnOk, OnErr, IsErrOf, IsTrue, slice_set};
+ghost use Rattle.std.specs.Prelude.{◌≡◌, ◌≢◌, ◌<◌, ◌≤◌, ◌+◌, ℕ, true, false, Some, slice_set};
+ghost use Rattle.std.specs.Prelude.{IfOk, IfSome, IfNone, OnOk, OnErr, IsErrOf, IsTrue};
 ghost use Rattle.tm_bits.specs.Numbers.{has_number};
 ghost use Rattle.tm_outside.specs.Counts.{Rose};
 ghost use Rattle.hierarchy.specs.Shape.{pins_of, pin_wire, wires_of};

@@ -21,10 +21,10 @@ pub returns-in_default-clause-grows : goal.returns-in_default-clause-grows
 returns-in_default-clause-grows g c = grows_nothing c.args.known.now.steps
 
 pub returns-in_default-clause-loads : goal.returns-in_default-clause-loads
-returns-in_default-clause-loads g c = no_loads c.requires.field
+returns-in_default-clause-loads g c = no_loads c.args.proof.now c.args.field.now _ c.requires.field
 
 pub returns-in_default-new-clause-loads : goal.returns-in_default-new-clause-loads
-returns-in_default-new-clause-loads g c = no_loads c.requires.field
+returns-in_default-new-clause-loads g c = no_loads c.args.proof.now c.args.field.now _ c.requires.field
 
 pub returns-in_default-clause-few : goal.returns-in_default-clause-few
 returns-in_default-clause-few g c = takes_none c.requires.field refl
