@@ -43,8 +43,8 @@ few_loads {told} {m} {k} {a} {before} {after} e field few = record { at = λ f t
         let t = ap wires_of e in
         omega (arith, h, x, w, s, t)
 
-pub most_loads : {m : Shape} {k : Kept} {a : Field} {before after : ℕ} → m ≡ k.shape → IsFieldOf m a → after + pins_in k.shape a ≤ before + (8 * fresh k a + 3 * size_of a.wires) → after ≤ before + loads_for k 8 3
-most_loads {m} {k} {a} {before} {after} e field most = by (takes_wide k a most)
+pub most_loads : {m : Shape} (k : Kept) {a : Field} (before : ℕ) {after : ℕ} → m ≡ k.shape → IsFieldOf m a → after + pins_in k.shape a ≤ before + (8 * fresh k a + 3 * size_of a.wires) → after ≤ before + loads_for k 8 3
+most_loads {m} k {a} before {after} e field most = by (takes_wide k a before most)
   where
     by : after ≤ before + (8 * size_of a.crosses + 3 * size_of a.wires) → after ≤ before + loads_for k 8 3
     by h =
@@ -55,8 +55,8 @@ most_loads {m} {k} {a} {before} {after} e field most = by (takes_wide k a most)
         omega (arith, h, x, w, s, t)
 
 -- tables that aren't kept are no more than all
-pub tables_most : (k : Kept) (tables : List Table) {n before after : ℕ} → length tables ≡ n → after ≤ before + 130 * fresh_tables k tables → after ≤ before + 130 * n
-tables_most k tables count loads = let few = count_by-le-length (λ (t : Table). not (keeps_table k t.0)) tables in omega (arith, count, loads, few)
+pub tables_most : (k : Kept) (tables : List Table) (before : ℕ) {n after : ℕ} → length tables ≡ n → after ≤ before + 130 * fresh_tables k tables → after ≤ before + 130 * n
+tables_most k tables before count loads = let few = count_by-le-length (λ (t : Table). not (keeps_table k t.0)) tables in omega (arith, count, loads, few)
 
 -- What is closed in the whole machine is all that can be reached.
 pub reached_if : {told : Option Faults} {m : Shape} {l : Kept} {a : Field} {ss : List Step} → m ≡ l.shape → IsNumbered l.shape → ((w : ℕ) → w < wires_of m → has_number a.wires w ≡ true) →

@@ -1,7 +1,6 @@
 -- Loads for what isn't kept are loads for all.
-use Rattle.std.proofs.Common.{◌≡◌, ℕ, ◌+◌, ◌*◌, ◌≤◌, Bool, true, Some, Option, length, subst, arith}
+use Rattle.std.proofs.Common.{◌≡◌, ℕ, ◌+◌, ◌*◌, ◌≤◌, Bool, true, false, Some, Option, length, refl, subst, arith}
 use Rattle.std.specs.Prelude.{not, ◌&&◌}
-use Rattle.std.proofs.lemmas.Bool.{false≢true}
 use Rattle.tm_bits.specs.Numbers.{has_number, size_of}
 use Rattle.hierarchy.specs.Faults.{Faults, IsFaultless}
 use Rattle.evidence.specs.Kept.{Kept, HoldsFor, keeps_cross}
@@ -18,9 +17,9 @@ pub fresh_few : (k : Kept) (a : Field) → fresh k a ≤ size_of a.crosses
 fresh_few k a = subst (λ n. fresh k a ≤ n) (many_size a.crosses)
     (many_more _ (has_number a.crosses) (length a.crosses) (λ x less on. first_on (has_number a.crosses x) (not (keeps_cross k x)) on))
 
-pub takes_wide : {before after : ℕ} (k : Kept) (a : Field) → after + pins_in k.shape a ≤ before + (8 * fresh k a + 3 * size_of a.wires) →
+pub takes_wide : (k : Kept) (a : Field) (before : ℕ) {after : ℕ} → after + pins_in k.shape a ≤ before + (8 * fresh k a + 3 * size_of a.wires) →
     after ≤ before + (8 * size_of a.crosses + 3 * size_of a.wires)
-takes_wide {before} {after} k a most = sums _ _ _ _ (fresh_few k a) most
+takes_wide k a before {after} most = sums _ _ _ _ (fresh_few k a) most
   where
     sums : (p x y w : ℕ) → x ≤ y → after + p ≤ before + (8 * x + 3 * w) → after ≤ before + (8 * y + 3 * w)
     sums p x y w less most = omega (arith, less, most)

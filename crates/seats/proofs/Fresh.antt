@@ -47,9 +47,9 @@ pub takes_fresh : {k : Kept} {t before after : ℕ} → keeps_table k t ≡ fals
 takes_fresh off most = record { most = most; kept = λ e. absurd (false≢true (sym off ∙ e)) }
 
 -- .. for the first n and one more
-pub takes_more : {k l : Kept} (tables : List Table) (i : ℕ) (d : Table) {before mid after : ℕ} → i < length tables → IsMore k l →
+pub takes_more : {k l : Kept} (tables : List Table) (i : ℕ) (d : Table) (before : ℕ) {mid after : ℕ} → i < length tables → IsMore k l →
     mid ≤ before + 130 * fresh_tables k (take i tables) → TakesForTable l (get_or tables i d).0 mid after → after ≤ before + 130 * fresh_tables k (take (i + 1) tables)
-takes_more {k} {l} tables i d {before} {mid} {after} less more old new = by_bit (keeps_table k (get_or tables i d).0) refl
+takes_more {k} {l} tables i d before {mid} {after} less more old new = by_bit (keeps_table k (get_or tables i d).0) refl
   where
     is_fresh : Table → Bool
     is_fresh t = not (keeps_table k t.0)
@@ -63,5 +63,5 @@ takes_more {k} {l} tables i d {before} {mid} {after} less more old new = by_bit 
         let most = new.most in omega (arith, old, most, count)
 
 -- .. for all, of which the first n are some
-pub takes_all : {k : Kept} (tables : List Table) (n : ℕ) {before after : ℕ} → after ≤ before + 130 * fresh_tables k (take n tables) → after ≤ before + 130 * fresh_tables k tables
-takes_all {k} tables n old = let some = sum_by-take-le (λ (t : Table). if not (keeps_table k t.0) then 1 else 0) tables n in omega (arith, old, some)
+pub takes_all : (k : Kept) (tables : List Table) (n before : ℕ) {after : ℕ} → after ≤ before + 130 * fresh_tables k (take n tables) → after ≤ before + 130 * fresh_tables k tables
+takes_all k tables n before old = let some = sum_by-take-le (λ (t : Table). if not (keeps_table k t.0) then 1 else 0) tables n in omega (arith, old, some)

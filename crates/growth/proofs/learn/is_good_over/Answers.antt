@@ -20,8 +20,8 @@ returns-in-Some-clause-loads g c = takes_two c.is_good_pin.ensures.loads
 pub ways_over-requires-clause-feet : goal.ways_over-requires-clause-feet
 ways_over-requires-clause-feet g c = offer_feet c.requires.offer c.requires.over
 
-pub returns-in_default-clause-loads : goal.returns-in_default-clause-loads
-returns-in_default-clause-loads g c = takes_two (omega arith)
+pub returns-in_default-ways_over-clause-loads : goal.returns-in_default-ways_over-clause-loads
+returns-in_default-ways_over-clause-loads g c = takes_two (omega arith)
 
 pub returns-clause-loads : goal.returns-clause-loads
 returns-clause-loads g c = takes_three (subst (λ (m : Shape). (i : ℕ) → i < pins_of m → c.args.offer.now.wire.0 ≢ pin_wire m i) c.shape.ensures (rw c.in_default.is at c.machine_pin.ensures.none)) c.is_good.ensures.loads

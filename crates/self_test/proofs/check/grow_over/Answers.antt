@@ -29,7 +29,7 @@ returns-in-Ok-clause-whole g c =
     c.in-Ok.ensures.closed c.grow.ensures.advances.holds c.keeps_routes.ensures.all
 
 pub returns-in-Ok-clause-loads : goal.returns-in-Ok-clause-loads
-returns-in-Ok-clause-loads g c = takes_wide c.args.proof.now c.args.field.now c.grow.ensures.loads
+returns-in-Ok-clause-loads g c = takes_wide c.args.proof.now c.args.field.now _ c.grow.ensures.loads
 
 pub returns-in-Err-clause-loads : goal.returns-in-Err-clause-loads
-returns-in-Err-clause-loads g c = takes_wide c.args.proof.now c.args.field.now c.grow.ensures.loads
+returns-in-Err-clause-loads g c = takes_wide c.args.proof.now c.args.field.now _ c.grow.ensures.loads
