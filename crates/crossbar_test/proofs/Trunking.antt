@@ -18,6 +18,7 @@ use Rattle.test_configs.specs.declared.trunk.Trunk.{Trunk}
 use Rattle.rig.specs.Rig.{RigState, Machine}
 use Rattle.evidence.specs.Kept.{Kept, HoldsFor, Advances}
 use Rattle.known.specs.Field.{IsClosed, ClosedIf, TakesFew}
+use Rattle.known.proofs.Taking.{few_wide}
 use Rattle.known.specs.Gains.{Gets, IsWireBefore}
 use Rattle.known.specs.Known.{KnownWires, HasWire}
 use Rattle.known.specs.Routes.{IsKnownRoute, AreRoutesTo}
@@ -114,7 +115,7 @@ pins_grown a b k l known count ws start field adv few list got closed = record {
 pub few_loads : (told : Option Faults) (k : Kept) (field : Field) (ws : List Wire) (start : List Bool) (before after count : ℕ) → length ws ≡ count → size_of start ≡ 0 → size_of field.crosses ≡ 0 → Gets (IsWireBefore ws (length ws)) (length ws) start field.wires →
     TakesFew told k field before after → LoadsAtMost told k before after (3 * count)
 few_loads told k field ws start before after count len none no_crosses got few = record {
-  at = λ f is faultless holds. (let most = few.at f is faultless holds in let new = got.few in omega (arith, most, new, len, none, no_crosses));
+  at = λ f is faultless holds. (let most = few_wide few is faultless holds in let new = got.few in omega (arith, most, new, len, none, no_crosses));
 }
 
 -- two sound ones of the pins would both be known

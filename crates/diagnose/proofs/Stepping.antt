@@ -1,6 +1,6 @@
 -- The steps of a diagnosis, together.
 use Rattle.std.proofs.Common.{◌≡◌, ◌≤◌, ◌<◌, ◌+◌, ◌*◌, ℕ, zero, suc, Bool, true, Some, Option, List, [], ◌∷◌, ◌++◌, length, length-append, refl, sym, ap, ◌∙◌, subst, arith}
-use Rattle.std.specs.Prelude.{All, slice_get}
+use Rattle.std.specs.Prelude.{All, not, slice_get}
 use native.Mathlib.Decide.{dec_lt}
 use Rattle.std.proofs.lemmas.List.Elements.{All-push}
 use Rattle.std.proofs.lemmas.List.Sums.{count_by-le-length}
@@ -15,9 +15,10 @@ use Rattle.hierarchy.specs.Tight.{HasFeet, two, IsTight}
 use Rattle.rig.specs.Rig.{RigState}
 use Rattle.evidence.specs.Kept.{Kept, HoldsFor, IsMore, Advances}
 use Rattle.evidence.proofs.Keeping.{holds_earlier}
-use Rattle.known.specs.Field.{IsFieldOf, ClosedIf, TakesFew}
+use Rattle.known.specs.Field.{IsFieldOf, ClosedIf, TakesFew, fresh, pins_in}
 use Rattle.known.specs.Known.{KnownWires, HasWire, IsKnown}
-use Rattle.seats.specs.Tables.{SeatedIsKept, SeatedAreKept}
+use Rattle.known.proofs.Taking.{few_wide, takes_wide}
+use Rattle.seats.specs.Tables.{SeatedIsKept, SeatedAreKept, fresh_tables, keeps_table}
 use Rattle.known.specs.declared.field.Field.{Field}
 use Rattle.known.specs.declared.step.Step.{Step}
 use Rattle.table_test.specs.Seats.{AddsOnlyTableFacts}
@@ -32,7 +33,7 @@ size_few : (numbers : List Bool) (n : ℕ) → length numbers ≡ n → size_of 
 size_few numbers n e = omega (arith, count_by-le-length (λ b. b) numbers, e)
 
 pub few_loads : {told : Option Faults} {m : Shape} {k : Kept} {a : Field} {before after : ℕ} → m ≡ k.shape → IsFieldOf m a → TakesFew told k a before after → IfFaultless told k (after ≤ before + loads_for k 2 3)
-few_loads {told} {m} {k} {a} {before} {after} e field few = record { at = λ f t none holds. by (few.at f t none holds) }
+few_loads {told} {m} {k} {a} {before} {after} e field few = record { at = λ f t none holds. by (few_wide few t none holds) }
   where
     by : after ≤ before + (2 * size_of a.crosses + 3 * size_of a.wires) → after ≤ before + loads_for k 2 3
     by h =
@@ -41,6 +42,21 @@ few_loads {told} {m} {k} {a} {before} {after} e field few = record { at = λ f t
         let s = ap crosses_of e in
         let t = ap wires_of e in
         omega (arith, h, x, w, s, t)
+
+pub most_loads : {m : Shape} (k : Kept) {a : Field} (before : ℕ) {after : ℕ} → m ≡ k.shape → IsFieldOf m a → after + pins_in k.shape a ≤ before + (8 * fresh k a + 3 * size_of a.wires) → after ≤ before + loads_for k 8 3
+most_loads {m} k {a} before {after} e field most = by (takes_wide k a before most)
+  where
+    by : after ≤ before + (8 * size_of a.crosses + 3 * size_of a.wires) → after ≤ before + loads_for k 8 3
+    by h =
+        let x = size_few a.crosses (crosses_of m) field.crosses in
+        let w = size_few a.wires (wires_of m) field.wires in
+        let s = ap crosses_of e in
+        let t = ap wires_of e in
+        omega (arith, h, x, w, s, t)
+
+-- tables that aren't kept are no more than all
+pub tables_most : (k : Kept) (tables : List Table) (before : ℕ) {n after : ℕ} → length tables ≡ n → after ≤ before + 130 * fresh_tables k tables → after ≤ before + 130 * n
+tables_most k tables before count loads = let few = count_by-le-length (λ (t : Table). not (keeps_table k t.0)) tables in omega (arith, count, loads, few)
 
 -- What is closed in the whole machine is all that can be reached.
 pub reached_if : {told : Option Faults} {m : Shape} {l : Kept} {a : Field} {ss : List Step} → m ≡ l.shape → IsNumbered l.shape → ((w : ℕ) → w < wires_of m → has_number a.wires w ≡ true) →

@@ -9,7 +9,7 @@ use Rattle.hierarchy.specs.Faults.{Faults}
 use Rattle.hierarchy.specs.Laws.{IsTree, HasMeetings}
 use Rattle.hierarchy.specs.Shape.{pins_of, wires_of, crosses_of, pin_wire}
 use Rattle.evidence.specs.Kept.{Kept, HoldsFor, IsMore}
-use Rattle.known.specs.Field.{IsFieldOf, ClosedIf, GrowsIn, TakesFew}
+use Rattle.known.specs.Field.{IsFieldOf, ClosedIf, GrowsIn, TakesFew, fresh, pins_in}
 use Rattle.known.specs.Linked.{AreLinks}
 use Rattle.growth.specs.Grown.{IsGrown, IsOneMore}
 use Rattle.known.specs.Known.{KnownWires, HasWire, IsKnown}
@@ -19,7 +19,7 @@ use Rattle.known.specs.declared.field.Field.{Field}
 use Rattle.known.specs.declared.links.Near.{Near}
 use Rattle.reach.specs.declared.marks.Marks.{Marks}
 use Rattle.known.specs.declared.step.Step.{Step}
-use Rattle.reach.proofs.Counting.{none_has, set_has}
+use Rattle.known.proofs.Counting.{none_has, set_has}
 use Rattle.growth.proofs.Ending.{closed, grows_in}
 use Rattle.growth.proofs.Leaving.{all_later}
 use Rattle.reach.proofs.Marking.{by_three, spends_then}
@@ -110,11 +110,11 @@ growing_first {first = first} outside are grows tried grown marks spends = recor
   spends = spends;
 }
 
-pub growing_next : {told : Option Faults} {j k l : Kept} {a : Field} {near : List Near} {old known new : KnownWires} {now next : Marks} {before mid after n : ℕ} → k.shape ≡ j.shape → ((f : Faults) → told ≡ Some f → HoldsFor j f → HoldsFor k f) → IsMore k l →
+pub growing_next : {told : Option Faults} {j k l : Kept} {a : Field} {near : List Near} {old known new : KnownWires} {now next : Marks} {before mid after n : ℕ} → IsMore j k → ((f : Faults) → told ≡ Some f → HoldsFor j f → HoldsFor k f) → IsMore k l →
     IsGrowing told j k a near old known now before mid n → Grows l known new now.barred next.barred → AreTried told l new.steps now.barred next.barred → IsGrown told l near new.steps next.barred (length new.steps) →
     HasWire new.steps (pin_wire k.shape n) ⊎ (has_number next.barred (pin_wire k.shape n) ≡ true) → AreAllMarks told l near new.steps next → Spends told k (IsLinking near) now next mid after →
     IsGrowing told j l a near old new next before after (n + 1)
-growing_next {told} {j} {k} {l} {a} {near} {old} {known} {new} {now} {next} {before} {mid} {after} {n} shape holds more g step tried grown pin marks spends = record {
+growing_next {told} {j} {k} {l} {a} {near} {old} {known} {new} {now} {next} {before} {mid} {after} {n} earlier holds more g step tried grown pin marks spends = record {
   first = g.first;
   outside = g.outside;
   len = g.len;
@@ -124,7 +124,7 @@ growing_next {told} {j} {k} {l} {a} {near} {old} {known} {new} {now} {next} {bef
   grown = grown;
   pins = λ i less. subst (λ (m : Shape). HasWire new.steps (pin_wire m i) ⊎ (has_number next.barred (pin_wire m i) ≡ true)) (sym more.shape) (by_place i less (ℕ_discrete i n));
   marks = marks;
-  spends = spends_then shape holds g.spends spends;
+  spends = spends_then earlier holds g.spends spends;
 }
   where
     later : (w : ℕ) → HasWire known.steps w ⊎ (has_number now.barred w ≡ true) → HasWire new.steps w ⊎ (has_number next.barred w ≡ true)
@@ -148,9 +148,9 @@ pub growing_in : {told : Option Faults} {j k l : Kept} {a : Field} {near : List 
 growing_in g step = grows_in g.outside g.len (grows_then g.grows step)
 
 module _ {told : Option Faults} {j k : Kept} {a : Field} {near : List Near} {old known : KnownWires} {now next : Marks} {before mid after n : ℕ} (g : IsGrowing told j k a near old known now before mid n) (field : IsFieldOf j.shape a)
-    (links : AreLinks j.shape a near) (shape : k.shape ≡ j.shape) (holds : (f : Faults) → told ≡ Some f → HoldsFor j f → HoldsFor k f) (spends : Spends told k (IsLinking near) now next mid after) where
-  pub growing_most : after ≤ before + (8 * size_of a.crosses + 3 * size_of a.wires)
-  growing_most = takes_most field links g.outside g.unspent (spends_then shape holds g.spends spends)
+    (links : AreLinks j.shape a near) (earlier : IsMore j k) (holds : (f : Faults) → told ≡ Some f → HoldsFor j f → HoldsFor k f) (spends : Spends told k (IsLinking near) now next mid after) where
+  pub growing_most : after + pins_in j.shape a ≤ before + (8 * fresh j a + 3 * size_of a.wires)
+  growing_most = takes_most field links g.outside g.unspent (spends_then earlier holds g.spends spends)
 
   pub growing_few : TakesFew told j a before after
-  growing_few = takes_few field links g.outside g.unspent (spends_then shape holds g.spends spends)
+  growing_few = takes_few field links g.outside g.unspent (spends_then earlier holds g.spends spends)

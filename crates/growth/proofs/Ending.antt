@@ -22,7 +22,7 @@ use Rattle.reach.specs.Trials.{IsFit, IsTried}
 use Rattle.known.specs.declared.field.Field.{Field}
 use Rattle.known.specs.declared.links.Near.{Near}
 use Rattle.known.specs.declared.step.Step.{Step}
-use Rattle.reach.proofs.Counting.{number_within}
+use Rattle.known.proofs.Counting.{number_within}
 use Rattle.known.proofs.Places.{at_within, has_later}
 
 -- a crosspoint's two ends are different wires

@@ -20,7 +20,7 @@ use Rattle.reach.specs.declared.marks.Marks.{Marks}
 use Rattle.reach.specs.declared.offers.Offer.{Offer}
 use Rattle.known.specs.declared.step.Foot.{Foot}
 use Rattle.known.specs.declared.step.Step.{Step}
-use Rattle.reach.proofs.Counting.{set_has}
+use Rattle.known.proofs.Counting.{set_has}
 use Rattle.growth.proofs.Growing.{before_old}
 use Rattle.growth.proofs.Looking.{look_within, look_ends, looked_barred, looked_lost}
 use Rattle.reach.proofs.Marking.{spends_none, spends_between}

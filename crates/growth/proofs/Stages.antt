@@ -13,7 +13,7 @@ use Rattle.growth.specs.Looks.{IsLooked, StayBarred, AreTried, Grows}
 use Rattle.reach.specs.Marked.{BarsAtMost}
 use Rattle.known.specs.declared.links.Near.{Near}
 use Rattle.known.specs.declared.step.Step.{Step}
-use Rattle.reach.proofs.Counting.{set_only, set_stays}
+use Rattle.known.proofs.Counting.{set_only, set_stays}
 use Rattle.growth.proofs.Growing.{grown_later, looked_later}
 use Rattle.reach.proofs.Losing.{tried_later}
 use Rattle.known.proofs.Later.{known_later}

@@ -1,19 +1,21 @@
 //! Trials of wires on two feet, and of pins: what is good is known then.
-ghost use Rattle.std.specs.Prelude.{◌≡◌, ◌<◌, ◌≤◌, ◌+◌, true, false, Some, OnOk, OnErr, IsErrOf, slice_set};
+ghost use Rattle.std.specs.Prelude.{◌≡◌, ◌≢◌, ◌<◌, ◌≤◌, ◌+◌, ℕ, true, false, Some, slice_set};
+ghost use Rattle.std.specs.Prelude.{IfOk, IfSome, IfNone, OnOk, OnErr, IsErrOf, IsTrue};
 ghost use Rattle.tm_bits.specs.Numbers.{has_number};
 ghost use Rattle.tm_outside.specs.Counts.{Rose};
 ghost use Rattle.hierarchy.specs.Shape.{pins_of, pin_wire, wires_of};
 ghost use Rattle.rig.specs.Rig.{shape_of};
 ghost use Rattle.evidence.specs.Kept.{Advances};
 ghost use Rattle.growth.specs.Grown.{IsLearnt, IsOneMore};
-ghost use Rattle.reach.specs.Trials.{IsTried};
-ghost use Rattle.known.specs.Known.{IsKnown, HasWire};
-ghost use Rattle.reach.specs.Marked.{AreMarks, IsOfOffer, OffersOnly, Spends, BarsAtMost, HasTried};
+ghost use Rattle.reach.specs.Trials.{IsBad, IsTried};
+ghost use Rattle.known.specs.Known.{IsKnown, HasWire, IsGood};
+ghost use Rattle.reach.specs.Marked.{AreMarks, IsOfOffer, OffersOnly, Spends, BarsAtMost, HasTried, TakesForWire};
 ghost use Rattle.reach.specs.Offers.{IsOffer, IsSecond};
 
 use crate::feet::second_foot;
-use crate::parts::is_good;
+use crate::parts::{is_good, is_good_pin};
 use evidence::Proof;
+use hierarchy::{Meaning, Shape, Wire, the_numbering_is_sound};
 use known::{Foot, Known, Stand, Step};
 use reach::{Marks, Offer};
 use rig::{Rig, RigFail};
@@ -30,6 +32,50 @@ fn learn(known: &mut Known, step: Step) -> Result<(), RigFail>
         Ok(()) => Ok(()),
         Err(_) => Err(RigFail::Memory),
     }
+}
+
+// Which pin of the machine a wire is, if it is one.
+fn machine_pin(shape: &Shape, w: Wire) -> Option<u32>
+    requires { w.0 < wires_of shape.now }
+    ensures pin { IfSome result (λ pin. (pin < pins_of shape.now) × (w.0 ≡ pin_wire shape.now pin)) }
+    ensures none { IfNone result ((i : ℕ) → i < pins_of shape.now → w.0 ≢ pin_wire shape.now i) }
+{
+    the_numbering_is_sound();
+    match shape.meaning(w) {
+        Meaning::Pin { position } => Some(position),
+        Meaning::Line { .. } => None,
+        Meaning::Port { .. } => None,
+        Meaning::TablePin { .. } => None,
+    }
+}
+
+// Tests the wire of an offer that hangs on two kept crosspoints, by its two ways, or by its one way if it is a pin of the machine.
+// True exactly where it is kept then, and kept apart from each known wire.
+fn is_good_over(
+    known: &Known,
+    rig: &mut Box<dyn Rig>,
+    proof: &mut Proof,
+    offer: &Offer,
+    over: Foot,
+) -> Result<bool, RigFail>
+    requires attached { shape_of (rig_state rig.old) ≡ Some proof.old.shape }
+    requires known { IsKnown proof.old known.now }
+    requires offer { IsOffer proof.old.shape known.now.steps offer.now }
+    requires over { IsSecond proof.old offer.now over }
+    ensures good { IfOk result (λ yes. IsTrue yes → IsGood proof.new known.now.steps offer.now.wire.0) }
+    ensures bad { IfOk result (λ yes. yes ≡ false →
+        IsBad (rig_state rig.old).machine.faults proof.new known.now.steps offer.now.wire.0) }
+    ensures advances { Advances (rig_state rig.old) (rig_state rig.new) proof.old proof.new }
+    ensures loads { TakesForWire proof.old.shape offer.now.wire.0 (rig_state rig.old).loads (rig_state rig.new).loads }
+    ensures cause { IsErrOf result RigFail.Failed → Rose (rig_state rig.old).failures (rig_state rig.new).failures }
+{
+    if let Some(pin) = machine_pin(&proof.shape(), offer.wire) {
+        return is_good_pin(known, rig, proof, offer.wire, pin);
+    }
+    let Ok((left, right)) = known.ways_over(proof, offer.wire, offer.foot, over) else {
+        return Err(RigFail::Memory);
+    };
+    is_good(known, rig, proof, offer.wire, &left, &right)
 }
 
 // Tests the wire of an offer that hangs on two kept crosspoints, and bars it. If it is good, it is known then.
@@ -52,15 +98,12 @@ fn try_feet(
     ensures tried { OnOk result (IsTried (rig_state rig.old).machine.faults proof.new known.new.steps offer.now.wire.0) }
     ensures marks { OnOk result (AreMarks (rig_state rig.old).machine.faults proof.new known.new.steps marks.new) }
     ensures barred { marks.new ≡ record marks.old { barred = slice_set marks.old.barred offer.now.wire.0 true } }
-    ensures loads { (rig_state rig.new).loads ≤ (rig_state rig.old).loads + 3 }
+    ensures loads { TakesForWire proof.old.shape offer.now.wire.0 (rig_state rig.old).loads (rig_state rig.new).loads }
     ensures advances { Advances (rig_state rig.old) (rig_state rig.new) proof.old proof.new }
     ensures cause { IsErrOf result RigFail.Failed → Rose (rig_state rig.old).failures (rig_state rig.new).failures }
 {
     marks.bar(offer.wire);
-    let Ok((left, right)) = known.ways_over(proof, offer.wire, offer.foot, over) else {
-        return Err(RigFail::Memory);
-    };
-    let good = is_good(known, rig, proof, offer.wire, &left, &right)?;
+    let good = is_good_over(known, rig, proof, offer, over)?;
     if !good {
         return Ok(());
     }
@@ -123,16 +166,13 @@ pub(crate) fn try_pin(
     ensures tried { OnOk result (IsTried (rig_state rig.old).machine.faults proof.new known.new.steps (pin_wire proof.old.shape pin)) }
     ensures marks { OnOk result (AreMarks (rig_state rig.old).machine.faults proof.new known.new.steps marks.new) }
     ensures barred { marks.new ≡ record marks.old { barred = slice_set marks.old.barred (pin_wire proof.old.shape pin) true } }
-    ensures loads { (rig_state rig.new).loads ≤ (rig_state rig.old).loads + 3 }
+    ensures loads { (rig_state rig.new).loads ≤ (rig_state rig.old).loads + 2 }
     ensures advances { Advances (rig_state rig.old) (rig_state rig.new) proof.old proof.new }
     ensures cause { IsErrOf result RigFail.Failed → Rose (rig_state rig.old).failures (rig_state rig.new).failures }
 {
     let wire = proof.shape().pin(pin);
     marks.bar(wire);
-    let Ok((left, right)) = known.ways_at(pin) else {
-        return Err(RigFail::Memory);
-    };
-    let good = is_good(known, rig, proof, wire, &left, &right)?;
+    let good = is_good_pin(known, rig, proof, wire, pin)?;
     if !good {
         return Ok(());
     }

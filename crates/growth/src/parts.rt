@@ -1,7 +1,7 @@
 //! Trials of a wire that isn't known, by its ways: whether it is clear, and shorted to no known one.
 ghost use Rattle.std.specs.Prelude.{◌≡◌, ◌≤◌, ◌<◌, ◌+◌, ℕ, true, false, Some, IfOk, OnOk, IsErrOf, IsTrue, length};
 ghost use Rattle.tm_outside.specs.Counts.{Rose};
-ghost use Rattle.hierarchy.specs.Shape.{pins_of, wires_of};
+ghost use Rattle.hierarchy.specs.Shape.{pin_wire, pins_of, wires_of};
 ghost use Rattle.config_set.specs.Tests.{AreReleased};
 ghost use Rattle.rig.specs.Rig.{shape_of};
 ghost use Rattle.test_configs.specs.Routes.{IsRoute, cross_numbers};
@@ -33,7 +33,7 @@ fn released(proof: &mut Proof) -> Result<PinBits, RigFail>
     }
 }
 
-// Swings a way to a wire. True exactly where the wire is kept then.
+// Swings a way to a wire, unless it is kept already. True exactly where the wire is kept then.
 fn swing(
     known: &Known,
     rig: &mut Box<dyn Rig>,
@@ -50,6 +50,9 @@ fn swing(
     ensures loads { (rig_state rig.new).loads ≤ (rig_state rig.old).loads + 1 }
     ensures cause { IsErrOf result RigFail.Failed → Rose (rig_state rig.old).failures (rig_state rig.new).failures }
 {
+    if proof.keeps_wire(w) {
+        return Ok(true);
+    }
     tests_by_lists_pass();
     let config = laid(proof, way, way, &[])?;
     let low = driven(proof, way.pin())?;
@@ -198,4 +201,34 @@ pub(crate) fn is_good(
         return Ok(false);
     }
     part(known, rig, proof, w, right)
+}
+
+/// Tests a pin of the machine by its one way, which is the pin alone. True exactly where it is kept then, and kept apart from each
+/// known wire.
+pub(crate) fn is_good_pin(
+    known: &Known,
+    rig: &mut Box<dyn Rig>,
+    proof: &mut Proof,
+    w: Wire,
+    pin: u32,
+) -> Result<bool, RigFail>
+    requires attached { shape_of (rig_state rig.old) ≡ Some proof.old.shape }
+    requires known { IsKnown proof.old known.now }
+    requires pin { pin < pins_of proof.old.shape }
+    requires wire { w.0 ≡ pin_wire proof.old.shape pin }
+    requires new { ¬ HasWire known.now.steps w.0 }
+    ensures good { IfOk result (λ yes. IsTrue yes → IsGood proof.new known.now.steps w.0) }
+    ensures bad { IfOk result (λ yes. yes ≡ false → IsBad (rig_state rig.old).machine.faults proof.new known.now.steps w.0) }
+    ensures advances { Advances (rig_state rig.old) (rig_state rig.new) proof.old proof.new }
+    ensures loads { (rig_state rig.new).loads ≤ (rig_state rig.old).loads + 2 }
+    ensures cause { IsErrOf result RigFail.Failed → Rose (rig_state rig.old).failures (rig_state rig.new).failures }
+{
+    let Ok(way) = known.way_at(pin) else {
+        return Err(RigFail::Memory);
+    };
+    let kept = swing(known, rig, proof, w, &way)?;
+    if !kept {
+        return Ok(false);
+    }
+    part(known, rig, proof, w, &way)
 }

@@ -5,7 +5,7 @@ ghost use Rattle.tm_outside.specs.Counts.{Rose};
 ghost use Rattle.hierarchy.specs.Shape.{pins_of, pin_wire};
 ghost use Rattle.rig.specs.Rig.{shape_of};
 ghost use Rattle.evidence.specs.Kept.{Advances};
-ghost use Rattle.known.specs.Field.{IsFieldOf, ClosedIf, GrowsIn, TakesFew};
+ghost use Rattle.known.specs.Field.{IsFieldOf, ClosedIf, GrowsIn, TakesFew, fresh, pins_in};
 ghost use Rattle.known.specs.Linked.{AreLinked};
 ghost use Rattle.growth.specs.Grown.{IsGrown};
 ghost use Rattle.known.specs.Known.{IsKnown, HasWire};
@@ -94,8 +94,9 @@ fn grow_pin(
 
 /// Known wires grow in a field: until each wire of it that is clear, is shorted to no known wire, and is a pin of the machine or
 /// has two crosspoints of the field that aren't stuck to two different known wires, is known, and each crosspoint of the field
-/// between two known wires is kept unless it is stuck. What was known stays known, and what is new is of the field. It takes at
-/// most 8 loads for each crosspoint of the field and 3 for each of its wires, without faults 2 and 3, whatever it answers.
+/// between two known wires is kept unless it is stuck. What was known stays known, and what is new is of the field. What is kept
+/// costs nothing again: it takes at most 8 loads for each crosspoint of the field that the proof doesn't keep and 3 for each of its
+/// wires, less one for each pin of the machine in it, and without faults 2 and 3, less one for each such pin, whatever it answers.
 ///
 /// # Errors
 ///
@@ -112,7 +113,8 @@ pub fn grow(
     ensures known { IsKnown proof.new known.new }
     ensures grows { GrowsIn field.now known.old.steps known.new.steps }
     ensures closed { OnOk result (ClosedIf (rig_state rig.old).machine.faults proof.new field.now known.new.steps) }
-    ensures loads { (rig_state rig.new).loads ≤ (rig_state rig.old).loads + (8 * size_of field.now.crosses + 3 * size_of field.now.wires) }
+    ensures loads { (rig_state rig.new).loads + pins_in proof.old.shape field.now
+        ≤ (rig_state rig.old).loads + (8 * fresh proof.old field.now + 3 * size_of field.now.wires) }
     ensures few { TakesFew (rig_state rig.old).machine.faults proof.old field.now (rig_state rig.old).loads (rig_state rig.new).loads }
     ensures advances { Advances (rig_state rig.old) (rig_state rig.new) proof.old proof.new }
     ensures cause { IsErrOf result RigFail.Failed → Rose (rig_state rig.old).failures (rig_state rig.new).failures }

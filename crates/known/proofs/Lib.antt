@@ -7,6 +7,8 @@ pub mod Apart
 pub mod Linking
 pub mod Grounding
 pub mod Stood
+pub mod Counting
+pub mod Taking
 -- For the proofs of this crate alone.
 mod Ranking
 mod Once

@@ -1,5 +1,6 @@
 -- What growth may look at, and when it has found all that can be found there.
-use Rattle.std.specs.Prelude.{◌≡◌, ◌⊎◌, ℕ, ◌+◌, ◌*◌, ◌<◌, ◌≤◌, true, Option, Some, None, List, length}
+use Rattle.std.specs.Prelude.{◌≡◌, ◌⊎◌, ℕ, zero, suc, ◌+◌, ◌*◌, ◌<◌, ◌≤◌, Bool, true, not, ◌&&◌, Option, Some, None, List, length}
+use Rattle.std.specs.Prelude.{if◌then◌else◌}
 use Rattle.tm_bits.specs.Numbers.{has_number, size_of}
 use Rattle.hierarchy.specs.declared.Shape.{Shape}
 use Rattle.hierarchy.specs.Shape.{wires_of, crosses_of, pins_of, pin_wire, ends_of}
@@ -34,6 +35,21 @@ pub record GrowsIn (a : Field) (old new : List Step) : Type 0 where
   pub stays : (w : ℕ) → HasWire old w → HasWire new w
   pub within : (w : ℕ) → HasWire new w → HasWire old w ⊎ (has_number a.wires w ≡ true)
 
--- without faults, at most two loads for each crosspoint of the field and three for each of its wires
+-- how many of the numbers below this one are so
+abbrev pub how_many : (ℕ → Bool) → ℕ → ℕ
+how_many is_so zero = 0
+how_many is_so (suc n) = (if is_so n then 1 else 0) + how_many is_so n
+
+-- the crosspoints of the field that the proof doesn't keep
+abbrev pub fresh : Kept → Field → ℕ
+fresh k a = how_many (λ x. has_number a.crosses x && not (keeps_cross k x)) (length a.crosses)
+
+-- the pins of the machine that are in the field
+abbrev pub pins_in : Shape → Field → ℕ
+pins_in m a = how_many (λ i. has_number a.wires (pin_wire m i)) (pins_of m)
+
+-- without faults, at most two loads for each crosspoint of the field that the proof doesn't keep and three for each of its wires, less
+-- one for each pin of the machine in it
 pub record TakesFew (told : Option Faults) (k : Kept) (a : Field) (before after : ℕ) : Type 0 where
-  pub at : (f : Faults) → told ≡ Some f → IsFaultless f → HoldsFor k f → after ≤ before + (2 * size_of a.crosses + 3 * size_of a.wires)
+  pub at : (f : Faults) → told ≡ Some f → IsFaultless f → HoldsFor k f →
+      after + pins_in k.shape a ≤ before + (2 * fresh k a + 3 * size_of a.wires)

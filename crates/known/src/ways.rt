@@ -32,8 +32,17 @@ impl Known {
         Ok((left, right))
     }
 
-    /// The ways to a pin of the machine, which are the pin alone. Wants memory for them.
-    pub fn ways_at(&self, pin: u32) -> Result<(Route, Route), AllocError>
+    /// The one way to a pin of the machine, which is the pin alone. Wants memory for it.
+    pub fn way_at(&self, pin: u32) -> Result<Route, AllocError>
+        requires { pin < pins_of self.now.shape }
+        ensures { IfOk result (λ way. (k : Kept) → k.shape ≡ self.now.shape → AreWays k self.now.steps (pin_wire k.shape pin) way way) }
+    {
+        let shape = self.shape();
+        route_at(self.alloc(), &shape, pin)
+    }
+
+    // The same twice.
+    fn ways_at(&self, pin: u32) -> Result<(Route, Route), AllocError>
         requires { pin < pins_of self.now.shape }
         ensures { IfOk result (λ ways. (k : Kept) → k.shape ≡ self.now.shape →
             AreWays k self.now.steps (pin_wire k.shape pin) ways.0 ways.1) }

@@ -3,7 +3,6 @@ pub mod Besides
 pub mod Passing
 pub mod Adding
 pub mod Hung
-pub mod Counting
 pub mod Marking
 pub mod Losing
 pub mod Settling

@@ -7,13 +7,13 @@ use Rattle.tm_bits.specs.Numbers.{has_number}
 use Rattle.hierarchy.specs.declared.Shape.{Shape}
 use Rattle.hierarchy.specs.Faults.{Faults}
 use Rattle.evidence.specs.Kept.{Kept, HoldsFor, IsMore, keeps_cross}
-use Rattle.reach.specs.Marked.{is_spent, AreMarks, IsOfOffer, OffersAtMost, OffersOnly, SpendsOn}
+use Rattle.reach.specs.Marked.{barred_pins, is_spent, AreMarks, IsOfOffer, OffersAtMost, OffersOnly, SpendsOn}
 use Rattle.reach.specs.Offers.{IsOffer, IsPlaced}
 use Rattle.reach.specs.declared.marks.Marks.{Marks}
 use Rattle.reach.specs.declared.offers.Offer.{Offer}
 use Rattle.known.specs.declared.step.Foot.{Foot}
 use Rattle.known.specs.declared.step.Step.{Step}
-use Rattle.reach.proofs.Counting.{set_only}
+use Rattle.known.proofs.Counting.{set_only}
 use Rattle.reach.proofs.Marking.{MarksOne, offered_one, spends_none, spends_then, spends_offered, spends_second, most_offered}
 
 offers_none : {x : ℕ} {s t : Marks} → t ≡ s → OffersOnly x s t
@@ -32,9 +32,9 @@ offers_then {x} {s} {t} {u} p q = record { only = λ y on. by_mid y (q.only y on
 pub spends_on_none : {told : Option Faults} {k : Kept} {o : Offer} {s t : Marks} {before after : ℕ} → t ≡ s → after ≡ before → SpendsOn told k o s t before after
 spends_on_none same loads = record { spends = spends_none same loads; offered = offers_none same; barred = ap (λ (u : Marks). u.barred) same }
 
-pub spends_on_then : {told : Option Faults} {k l : Kept} {o : Offer} {s t u : Marks} {a b c : ℕ} → l.shape ≡ k.shape → ((f : Faults) → told ≡ Some f → HoldsFor k f → HoldsFor l f) →
+pub spends_on_then : {told : Option Faults} {k l : Kept} {o : Offer} {s t u : Marks} {a b c : ℕ} → IsMore k l → ((f : Faults) → told ≡ Some f → HoldsFor k f → HoldsFor l f) →
     SpendsOn told k o s t a b → SpendsOn told l o t u b c → SpendsOn told k o s u a c
-spends_on_then shape later p q = record { spends = spends_then shape later p.spends q.spends; offered = offers_then p.offered q.offered; barred = q.barred ∙ p.barred }
+spends_on_then more later p q = record { spends = spends_then more later p.spends q.spends; offered = offers_then p.offered q.offered; barred = q.barred ∙ p.barred }
 
 -- the same of faults that are told alike
 pub spends_on_told : {a b : Option Faults} {k : Kept} {o : Offer} {s t : Marks} {before after : ℕ} → a ≡ b → SpendsOn a k o s t before after → SpendsOn b k o s t before after
@@ -66,13 +66,14 @@ spends_first are offer off (inr one) = spends_own are offer one.fresh off one.ma
 -- .. beside both
 pub spends_both : {told : Option Faults} {k l : Kept} {ss : List Step} {o : Offer} {s t u : Marks} (a b c : ℕ) → AreMarks told k ss s → IsOffer k.shape ss o → has_number s.offered o.foot.cross.0 ≡ false → IsMore k l →
     ((f : Faults) → told ≡ Some f → HoldsFor k f → HoldsFor l f) → AreMarks told l ss t → OffersAtMost k o.foot.cross.0 s t a b → OffersAtMost l o.foot.cross.0 t u b c → SpendsOn told k o s u a c
-spends_both {ss = ss} {o = o} a b c are offer off more later mid (inl first) second = spends_on_then more.shape later (spends_on_none first.0 first.1)
+spends_both {ss = ss} {o = o} a b c are offer off more later mid (inl first) second = spends_on_then more later (spends_on_none first.0 first.1)
     (spends_first mid (subst (λ (m : Shape). IsOffer m ss o) (sym more.shape) offer) (ap (λ (v : Marks). has_number v.offered o.foot.cross.0) first.0 ∙ off) second)
-spends_both a b c are offer off more later mid (inr first) (inl second) = spends_on_then more.shape later (spends_own are offer first.fresh off first.marks first.loads) (spends_on_none second.0 second.1)
+spends_both a b c are offer off more later mid (inr first) (inl second) = spends_on_then more later (spends_own are offer first.fresh off first.marks first.loads) (spends_on_none second.0 second.1)
 spends_both {told} {k} {l} {ss} {o} {s} {t} {u} a b c are offer off more later mid (inr first) (inr second) = subst (λ v. SpendsOn told k o s v a c) (sym same) (record {
   spends = record {
     only = λ y on. by_one y (one.only y on);
-    most = most_offered a c are offer.foot.within off (let p = first.loads in let q = second.loads in omega (arith, p, q));
+    fresh = λ y on. by_fresh y (one.only y on);
+    most = sums (barred_pins k.shape s) _ _ (most_offered a c are offer.foot.within off (let p = first.loads in let q = second.loads in omega (arith, p, q)));
     few = λ f is none holds. absurd (false≢true (sym second.fresh ∙ mid.spent f is none (later f is holds) x (subst (λ v. is_spent v x ≡ true) (sym first.marks) one.this)));
   };
   offered = offers_one x s refl;
@@ -91,6 +92,13 @@ spends_both {told} {k} {l} {ss} {o} {s} {t} {u} a b c are offer off more later m
     by_one : (y : ℕ) → (is_spent s y ≡ true) ⊎ (x ≡ y) → (is_spent s y ≡ true) ⊎ IsOfOffer o y
     by_one y (inl e) = inl e
     by_one y (inr e) = inr (inl e)
+
+    by_fresh : (y : ℕ) → (is_spent s y ≡ true) ⊎ (x ≡ y) → (is_spent s y ≡ true) ⊎ (keeps_cross k y ≡ false)
+    by_fresh y (inl e) = inl e
+    by_fresh y (inr e) = inr (ap (keeps_cross k) (sym e) ∙ first.fresh)
+
+    sums : (p v w : ℕ) → c + v ≤ a + w → c + p + v ≤ a + p + w
+    sums p v w less = omega (arith, less)
 
     same : u ≡ once
     same = second.marks ∙ ap (λ (v : Marks). record v { offered = slice_set v.offered x true }) first.marks ∙ ap (λ bits. record s { offered = bits }) (set-set s.offered x true true)

@@ -16,7 +16,7 @@ use Rattle.reach.specs.Trials.{IsLost, IsLinkTo, IsKeptUnlessStuck, IsFaulty}
 use Rattle.reach.specs.declared.marks.Marks.{Marks}
 use Rattle.known.specs.declared.step.Foot.{Foot}
 use Rattle.known.specs.declared.step.Step.{Step}
-use Rattle.reach.proofs.Counting.{set_only}
+use Rattle.known.proofs.Counting.{set_only}
 use Rattle.reach.proofs.Losing.{kept_later, lost_one_later}
 use Rattle.reach.proofs.Marking.{MarksOne, offered_one, second_one, between_one, fit_faultless}
 use Rattle.known.proofs.Places.{has_later}

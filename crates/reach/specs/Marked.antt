@@ -1,22 +1,17 @@
 -- What growth has tried in one call, and the loads that this took.
-use Rattle.std.specs.Prelude.{◌≡◌, ◌⊎◌, ℕ, zero, suc, ◌+◌, ◌*◌, ◌≤◌, Bool, true, false, Option, Some, List, length, slice_set, ◌<◌, ◌||◌}
-use Rattle.std.specs.Prelude.{if◌then◌else◌}
+use Rattle.std.specs.Prelude.{◌≡◌, ◌⊎◌, ℕ, ◌+◌, ◌*◌, ◌≤◌, Bool, true, false, Option, Some, List, length, slice_set, ◌<◌, ◌||◌}
 use Rattle.tm_bits.specs.Numbers.{has_number}
 use Rattle.hierarchy.specs.declared.Shape.{Shape}
-use Rattle.hierarchy.specs.Shape.{Ends, ends_of, wires_of, crosses_of}
+use Rattle.hierarchy.specs.Shape.{Ends, ends_of, pin_wire, pins_of, wires_of, crosses_of}
 use Rattle.hierarchy.specs.Faults.{Faults, IsFaultless}
 use Rattle.evidence.specs.Kept.{Kept, HoldsFor, keeps_cross}
+use Rattle.known.specs.Field.{how_many}
 use Rattle.known.specs.Known.{HasWire}
 use Rattle.reach.specs.Offers.{InSome, HasNoSecond}
 use Rattle.reach.specs.Trials.{IsKeptUnlessStuck, IsLost, IsTried}
 use Rattle.reach.specs.declared.marks.Marks.{Marks}
 use Rattle.reach.specs.declared.offers.Offer.{Offer}
 use Rattle.known.specs.declared.step.Step.{Step}
-
--- how many of the numbers below this one are so
-abbrev pub how_many : (ℕ → Bool) → ℕ → ℕ
-how_many is_so zero = 0
-how_many is_so (suc n) = (if is_so n then 1 else 0) + how_many is_so n
 
 -- the crosspoint was toggled
 abbrev pub is_spent : Marks → ℕ → Bool
@@ -30,11 +25,22 @@ most_loads m s = 4 * how_many (has_number s.offered) (crosses_of m) + 2 * how_ma
 abbrev pub few_loads : Shape → Marks → ℕ
 few_loads m s = 2 * how_many (is_spent s) (crosses_of m) + 3 * how_many (has_number s.barred) (wires_of m)
 
--- No more loads were made than the new marks stand for; of crosspoints these alone are marked anew.
+-- the pins of the machine that are barred, for each of which it is one load less
+abbrev pub barred_pins : Shape → Marks → ℕ
+barred_pins m s = how_many (λ i. has_number s.barred (pin_wire m i)) (pins_of m)
+
+-- at most three loads were made for a wire, and for a pin of the machine two
+pub record TakesForWire (m : Shape) (w before after : ℕ) : Type 0 where
+  pub wire : after ≤ before + 3
+  pub pin : (i : ℕ) → i < pins_of m → w ≡ pin_wire m i → after ≤ before + 2
+
+-- No more loads were made than the new marks stand for; of crosspoints these alone are marked anew, and none that was kept.
 pub record Spends (told : Option Faults) (k : Kept) (these : ℕ → Type 0) (old new : Marks) (before after : ℕ) : Type 0 where
   pub only : (x : ℕ) → is_spent new x ≡ true → (is_spent old x ≡ true) ⊎ these x
-  pub most : after + most_loads k.shape old ≤ before + most_loads k.shape new
-  pub few : (f : Faults) → told ≡ Some f → IsFaultless f → HoldsFor k f → after + few_loads k.shape old ≤ before + few_loads k.shape new
+  pub fresh : (x : ℕ) → is_spent new x ≡ true → (is_spent old x ≡ true) ⊎ (keeps_cross k x ≡ false)
+  pub most : after + barred_pins k.shape new + most_loads k.shape old ≤ before + barred_pins k.shape old + most_loads k.shape new
+  pub few : (f : Faults) → told ≡ Some f → IsFaultless f → HoldsFor k f →
+      after + barred_pins k.shape new + few_loads k.shape old ≤ before + barred_pins k.shape old + few_loads k.shape new
 
 -- The crosspoint leads from a known wire to one that is known, unless the crosspoint is kept, or lost.
 pub record IsSecondMark (told : Option Faults) (k : Kept) (ss : List Step) (x : ℕ) : Type 0 where

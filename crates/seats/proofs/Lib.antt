@@ -4,3 +4,4 @@ mod Placing
 mod Searching
 mod Choosing
 mod Testing
+mod Fresh

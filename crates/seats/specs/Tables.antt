@@ -1,11 +1,13 @@
 -- What the tests of tables keep.
-use Rattle.std.specs.Prelude.{◌≡◌, ℕ, Option, Some, List, slice_get}
+use Rattle.std.specs.Prelude.{◌≡◌, ℕ, ◌+◌, ◌≤◌, ◌==◌, Bool, true, not, ◌&&◌, Option, Some, List, slice_get}
+use Rattle.std.specs.List.{count_by}
 use Rattle.hierarchy.specs.declared.Table.{Table}
 use Rattle.hierarchy.specs.Faults.{Faults}
 use Rattle.hierarchy.specs.Standing.{IsSeated}
 use Rattle.hierarchy.specs.Tight.{IsRightTable}
-use Rattle.evidence.specs.Kept.{Kept, HoldsFor}
+use Rattle.evidence.specs.Kept.{Kept, HoldsFor, keeps_cell, keeps_register}
 use Rattle.table_test.specs.Seats.{KeepsTable}
+use Rattle.known.specs.Field.{how_many}
 use Rattle.known.specs.Known.{HasWire, IsKeptCrossOf}
 use Rattle.known.specs.declared.step.Step.{Step}
 
@@ -18,3 +20,16 @@ pub record SeatedIsKept (told : Option Faults) (k l : Kept) (ss : List Step) (t 
 -- .. each of these tables
 pub record SeatedAreKept (told : Option Faults) (k l : Kept) (ss : List Step) (tables : List Table) : Type 0 where
   pub each : (j : ℕ) (t : Table) → slice_get tables j ≡ Some t → SeatedIsKept told k l ss t.0
+
+-- all 64 cells of the table and its register are kept
+abbrev pub keeps_table : Kept → ℕ → Bool
+keeps_table k t = (how_many (keeps_cell k t) 64 == 64) && keeps_register k t
+
+-- of these tables, how many aren't kept
+abbrev pub fresh_tables : Kept → List Table → ℕ
+fresh_tables k tables = count_by (λ t. not (keeps_table k t.0)) tables
+
+-- at most 130 loads were made for a table, and none if it was kept
+pub record TakesForTable (k : Kept) (t before after : ℕ) : Type 0 where
+  pub most : after ≤ before + 130
+  pub kept : keeps_table k t ≡ true → after ≤ before

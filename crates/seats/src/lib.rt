@@ -4,7 +4,8 @@
 //! its pins over kept crosspoints.
 //!
 //! Promised (`test_tables`): where faults are told, each of the given tables that is seated in known wires and kept crosspoints
-//! and is right has its cells and its register kept (`tables`), with at most 130 loads for each, at every end (`loads`).
+//! and is right has its cells and its register kept (`tables`), with at most 130 loads for each that wasn't kept before, at every
+//! end (`loads`).
 #![tactic(auto)]
 
 mod choices;

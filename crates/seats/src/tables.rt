@@ -1,15 +1,15 @@
 //! The tests of tables over known wires.
-ghost use Rattle.std.specs.Prelude.{◌≡◌, ◌≤◌, ◌<◌, ◌+◌, ◌*◌, ℕ, All, Some, IfOk, IfSome, IfNone, OnOk, IsErrOf, IsTrue, false, length};
+ghost use Rattle.std.specs.Prelude.{◌≡◌, ◌≤◌, ◌<◌, ◌+◌, ◌*◌, ℕ, All, Some, IfOk, IfSome, IfNone, OnOk, IsErrOf, IsTrue, false};
 ghost use Rattle.tm_outside.specs.Counts.{Rose};
 ghost use Rattle.hierarchy.specs.Shape.{table_wire, tables_of};
 ghost use Rattle.hierarchy.specs.Standing.{IsSeated};
 ghost use Rattle.rig.specs.Rig.{shape_of};
 ghost use Rattle.evidence.specs.Kept.{Advances};
-ghost use Rattle.table_test.specs.Seats.{AddsOnlyTableFacts, IsSeat};
+ghost use Rattle.table_test.specs.Seats.{AddsOnlyTableFacts, IsSeat, KeepsTable};
 ghost use Rattle.known.specs.Known.{IsKeptCrossOf, IsKnown, HasWire};
 ghost use Rattle.known.specs.Grounds.{AreAllLinks};
 ghost use Rattle.seats.specs.Seating.{AreAllWithout};
-ghost use Rattle.seats.specs.Tables.{SeatedAreKept, SeatedIsKept};
+ghost use Rattle.seats.specs.Tables.{SeatedAreKept, SeatedIsKept, TakesForTable, fresh_tables, keeps_table};
 
 use crate::outside::outside_of;
 use crate::seats::{find_place, seat_of};
@@ -33,6 +33,20 @@ fn has_pins(known: &Known, t: Table) -> bool
         }
     }
     true
+}
+
+// Whether the cells and the register of a table are kept.
+fn is_kept(proof: &Proof, t: Table) -> bool
+    requires { t.0 < tables_of proof.now.shape }
+    ensures is { result ≡ keeps_table proof.now t.0 }
+    ensures kept { IsTrue result → KeepsTable proof.now t.0 }
+{
+    'cells: for address in 0..64 {
+        if !proof.keeps_cell(t, address) {
+            return false;
+        }
+    }
+    proof.keeps_register(t)
 }
 
 // What stands without a hextant.
@@ -111,7 +125,7 @@ fn seat_for(
     Ok(Some(seat))
 }
 
-// Tests a table, if it is seated.
+// Tests a table, if it is seated and not kept yet.
 fn test_seated(
     rig: &mut Box<dyn Rig>,
     proof: &mut Proof,
@@ -129,9 +143,12 @@ fn test_seated(
     ensures stands { OnOk result (AreAllWithout proof.old known.now.steps without.new.hextant.0 without.new.known) }
     ensures advances { Advances (rig_state rig.old) (rig_state rig.new) proof.old proof.new }
     ensures only { AddsOnlyTableFacts proof.old proof.new }
-    ensures loads { (rig_state rig.new).loads ≤ (rig_state rig.old).loads + 130 }
+    ensures loads { TakesForTable proof.old t.0 (rig_state rig.old).loads (rig_state rig.new).loads }
     ensures cause { IsErrOf result RigFail.Failed → Rose (rig_state rig.old).failures (rig_state rig.new).failures }
 {
+    if is_kept(proof, t) {
+        return Ok(());
+    }
     let Ok(found) = seat_for(known, proof, near, without, t) else {
         return Err(RigFail::Memory);
     };
@@ -141,9 +158,10 @@ fn test_seated(
     test_table(known.alloc(), rig, proof, &seat)
 }
 
-/// Tests these tables over known wires, with 130 loads for each at most. Where the faults are told and what was kept is
-/// true of them, each of these tables that is seated in the known wires and the kept crosspoints, has no wrong cell and
-/// no stuck register has its 64 cells and its register kept after an Ok. At every end no other facts are new.
+/// Tests these tables over known wires, with 130 loads at most for each of which a cell or the register wasn't kept before, and
+/// none for the others. Where the faults are told and what was kept is true of them, each of these tables that is seated in the
+/// known wires and the kept crosspoints, has no wrong cell and no stuck register has its 64 cells and its register kept after an
+/// Ok. At every end no other facts are new.
 pub fn test_tables(
     rig: &mut Box<dyn Rig>,
     proof: &mut Proof,
@@ -156,7 +174,7 @@ pub fn test_tables(
     ensures tables { OnOk result (SeatedAreKept (rig_state rig.old).machine.faults proof.old proof.new known.now.steps tables.now) }
     ensures advances { Advances (rig_state rig.old) (rig_state rig.new) proof.old proof.new }
     ensures only { AddsOnlyTableFacts proof.old proof.new }
-    ensures loads { (rig_state rig.new).loads ≤ (rig_state rig.old).loads + 130 * length tables.now }
+    ensures loads { (rig_state rig.new).loads ≤ (rig_state rig.old).loads + 130 * fresh_tables proof.old tables.now }
     ensures cause { IsErrOf result RigFail.Failed → Rose (rig_state rig.old).failures (rig_state rig.new).failures }
 {
     let Ok(near) = all_links(known.alloc(), &known.shape()) else {

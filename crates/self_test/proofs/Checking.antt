@@ -1,7 +1,8 @@
 -- The test of an image, step by step.
 use Rattle.std.proofs.Common.{◌≡◌, ℕ, ◌+◌, ◌*◌, ◌≤◌, Bool, true, Some, Option, List, length, arith}
-use Rattle.std.specs.Prelude.{◌==◌, if◌then◌else◌, is_some, IsTrue}
+use Rattle.std.specs.Prelude.{◌==◌, not, if◌then◌else◌, is_some, IsTrue}
 use Rattle.std.specs.List.{count_by}
+use Rattle.std.proofs.lemmas.List.Sums.{count_by-le-length}
 use Rattle.tm_bits.specs.Numbers.{size_of}
 use Rattle.hierarchy.specs.declared.Table.{Table}
 use Rattle.hierarchy.specs.Faults.{Faults}
@@ -9,7 +10,7 @@ use Rattle.config_set.specs.Configuration.{setting_of}
 use Rattle.config_image.specs.Images.{ImageValue, IsImage}
 use Rattle.evidence.specs.Kept.{Kept, HoldsFor, IsMore}
 use Rattle.known.specs.Field.{IsFieldOf, ClosedIf}
-use Rattle.seats.specs.Tables.{SeatedAreKept}
+use Rattle.seats.specs.Tables.{SeatedAreKept, fresh_tables, keeps_table}
 use Rattle.known.specs.declared.field.Field.{Field}
 use Rattle.known.specs.declared.step.Step.{Step}
 use Rattle.self_test.specs.Fields.{IsFewFor}
@@ -45,11 +46,12 @@ tables_if told k l ss i tables answer counts kept known = record {
 }
 
 -- so many loads for each of them are so many for any list that has them
-pub loads_tables : (i : ImageValue) (tables : List Table) (before after : ℕ) → ((t : ℕ) → count_by (λ (y : Table). y.0 == t) tables ≡ (if is_some (setting_of i.config t) then 1 else 0)) → after ≤ before + 130 * length tables →
+pub loads_tables : (k : Kept) (i : ImageValue) (tables : List Table) (before after : ℕ) → ((t : ℕ) → count_by (λ (y : Table). y.0 == t) tables ≡ (if is_some (setting_of i.config t) then 1 else 0)) → after ≤ before + 130 * fresh_tables k tables →
     (ts : List ℕ) → HasTablesOn i ts → after ≤ before + 130 * length ts
-loads_tables i tables before after counts loads ts on =
+loads_tables k i tables before after counts loads ts on =
+    let few = count_by-le-length (λ (t : Table). not (keeps_table k t.0)) tables in
     let fits = list_fits (λ (t : Table). t.0) tables (λ q. is_some (setting_of i.config q)) counts ts (λ q e. on q (on_of i q e)) in
-    omega (arith, loads, fits)
+    omega (arith, loads, fits, few)
 
 -- ---- in one field
 

@@ -36,7 +36,7 @@ pub returns-in_default-clause-few : goal.returns-in_default-clause-few
 returns-in_default-clause-few g c = no_few _ c.args.proof.now c.args.node.0 _
 
 pub returns-in_err-grow-clause-loads : goal.returns-in_err-grow-clause-loads
-returns-in_err-grow-clause-loads g c = bar_loads c.args.node.0 c.in-Ok.field _ _ c.args.proof.now.shape c.in-Ok.ensures.field c.in_err-grow.ensures.loads
+returns-in_err-grow-clause-loads g c = bar_loads c.args.node.0 c.in-Ok.field _ _ c.args.proof.now c.in-Ok.ensures.field c.in_err-grow.ensures.loads
 
 pub returns-in_err-grow-clause-few : goal.returns-in_err-grow-clause-few
 returns-in_err-grow-clause-few g c = bar_few c.args.node.0 c.in-Ok.field _ _ _ c.args.proof.now c.in-Ok.ensures.field c.in_err-grow.ensures.few

@@ -31,7 +31,7 @@ returns-clause-marks g c =
     subst (λ (told : Option Faults). OnOk c.try_others.result (AreMarks told c.try_others.new.proof c.args.known.now.steps c.try_others.new.marks)) (ap (λ m. m.faults) c.toggle_first.ensures.advances.machine) c.try_others.ensures.marks
 
 pub returns-clause-spends : goal.returns-clause-spends
-returns-clause-spends g c = spends_on_then c.toggle_first.ensures.advances.more.shape c.toggle_first.ensures.advances.holds c.toggle_first.ensures.spends
+returns-clause-spends g c = spends_on_then c.toggle_first.ensures.advances.more c.toggle_first.ensures.advances.holds c.toggle_first.ensures.spends
     (spends_on_told (ap (λ m. m.faults) c.toggle_first.ensures.advances.machine) c.try_others.ensures.spends)
 
 pub kept_link-requires : goal.kept_link-requires

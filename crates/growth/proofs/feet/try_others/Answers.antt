@@ -32,7 +32,7 @@ pub try_other-requires-clause-own : goal.try_other-requires-clause-own
 try_other-requires-clause-own g c = c.others.invariant.advances.more.crosses c.args.offer.now.foot.cross.0 c.requires.own
 
 pub returns-in_err-kept-clause-spends : goal.returns-in_err-kept-clause-spends
-returns-in_err-kept-clause-spends g c = spends_on_then c.others.invariant.advances.more.shape c.others.invariant.advances.holds c.others.invariant.spends
+returns-in_err-kept-clause-spends g c = spends_on_then c.others.invariant.advances.more c.others.invariant.advances.holds c.others.invariant.spends
     (spends_on_told (ap (λ m. m.faults) c.others.invariant.advances.machine) c.try_other.ensures.spends)
 
 pub returns-then-kept-clause-marks : goal.returns-then-kept-clause-marks
@@ -40,7 +40,7 @@ returns-then-kept-clause-marks g c =
     subst (λ (told : Option Faults). AreMarks told c.try_other.new.proof c.args.known.now.steps c.try_other.new.marks) (ap (λ m. m.faults) c.others.invariant.advances.machine) c.in_ok-kept.ensures.marks
 
 pub returns-then-kept-clause-spends : goal.returns-then-kept-clause-spends
-returns-then-kept-clause-spends g c = spends_on_then c.others.invariant.advances.more.shape c.others.invariant.advances.holds c.others.invariant.spends
+returns-then-kept-clause-spends g c = spends_on_then c.others.invariant.advances.more c.others.invariant.advances.holds c.others.invariant.spends
     (spends_on_told (ap (λ m. m.faults) c.others.invariant.advances.machine) c.try_other.ensures.spends)
 
 pub returns-clause-none : goal.returns-clause-none
@@ -55,7 +55,7 @@ others-preserved g c =
     record {
       advances = advances_then old.advances c.try_other.ensures.advances;
       marks = subst (λ (told : Option Faults). AreMarks told c.try_other.new.proof c.args.known.now.steps c.try_other.new.marks) same c.in_ok-kept.ensures.marks;
-      spends = spends_on_then old.advances.more.shape old.advances.holds old.spends (spends_on_told same c.try_other.ensures.spends);
+      spends = spends_on_then old.advances.more old.advances.holds old.spends (spends_on_told same c.try_other.ensures.spends);
       lost = lost_next c.args.offer.now.others.items c.args.offer.now.wire.0 c.args.offer.now.foot.cross.0 c.others.k other c.try_other.ensures.advances.more here
           (subst (λ (told : Option Faults). AreLost told c.try_other.new.proof c.args.known.now.steps c.args.offer.now.wire.0 c.args.offer.now.foot.cross.0 other.cross.0) same (c.in_ok-kept.ensures.lost c.if-kept.false)) old.lost;
     }

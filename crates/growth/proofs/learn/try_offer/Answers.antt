@@ -69,6 +69,6 @@ pub returns-clause-spends : goal.returns-clause-spends
 returns-clause-spends g c =
     let more = c.second_foot.ensures.advances.more in
     let w = c.args.offer.now.wire.0 in
-    spends_then more.shape c.second_foot.ensures.advances.holds c.second_foot.ensures.spends.spends
+    spends_then more c.second_foot.ensures.advances.holds c.second_foot.ensures.spends.spends
     (spends_barred _ _ c.in_ok-second.ensures.marks (subst (λ (m : Shape). w < wires_of m) (sym more.shape) c.requires.offer.within)
     (ap (λ bits. has_number bits w) c.second_foot.ensures.spends.barred ∙ c.requires.wire) c.try_feet.ensures.barred c.try_feet.ensures.loads)

@@ -6,7 +6,6 @@ use Rattle.hierarchy.specs.Shape.{pins_of, pin_wire, wires_of}
 use Rattle.known.specs.Known.{KnownWires, HasWire, IsKnown, on_pin}
 use Rattle.growth.specs.Grown.{IsOneMore}
 use Rattle.reach.specs.Trials.{IsBad}
-use Rattle.known.specs.Ways.{AreWays}
 use Rattle.known.proofs.Later.{known_later, stands_later}
 use Rattle.growth.proofs.Learning.{by_result, none_more, learnt_more, learnt_has, learnt_known, learnt_marks}
 use Rattle.reach.proofs.Settling.{marks_barred, marks_still}
@@ -15,23 +14,14 @@ use Rattle.growth.proofs.learn.try_pin.Goals as goal
 pub bar-requires : goal.bar-requires
 bar-requires g c = subst (λ n. c.pin-wire.result.0 < n) (sym c.requires.marks.barred) (subst (λ (m : Shape). c.pin-wire.result.0 < wires_of m) c.shape.ensures c.pin-wire.ensures.within)
 
-pub ways_at-requires : goal.ways_at-requires
-ways_at-requires g c = subst (λ (m : Shape). c.args.pin < pins_of m) (sym c.requires.known.shape) c.requires.pin
+pub is_good_pin-requires-clause-wire : goal.is_good_pin-requires-clause-wire
+is_good_pin-requires-clause-wire g c = c.pin-wire.ensures.wire ∙ ap (λ m. pin_wire m c.args.pin) c.shape.ensures
 
-pub is_good-requires-clause-ways : goal.is_good-requires-clause-ways
-is_good-requires-clause-ways g c = subst (λ w. AreWays c.args.proof.now c.args.known.now.steps w c.in-Ok.left c.in-Ok.right) (sym (c.pin-wire.ensures.wire ∙ ap (λ m. pin_wire m c.args.pin) c.shape.ensures)) (c.in-Ok.ensures c.args.proof.now (sym c.requires.known.shape))
-
-pub is_good-requires-clause-new : goal.is_good-requires-clause-new
-is_good-requires-clause-new g c = subst (λ w. ¬ HasWire c.args.known.now.steps w) (sym (c.pin-wire.ensures.wire ∙ ap (λ m. pin_wire m c.args.pin) c.shape.ensures)) c.requires.new
-
-pub returns-in_default-clause-more : goal.returns-in_default-clause-more
-returns-in_default-clause-more g c = none_more (pin_wire c.args.proof.now.shape c.args.pin) refl
-
-pub returns-in_default-clause-barred : goal.returns-in_default-clause-barred
-returns-in_default-clause-barred g c = subst (λ w. c.bar.new.self ≡ record c.args.marks.now { barred = slice_set c.args.marks.now.barred w true }) (c.pin-wire.ensures.wire ∙ ap (λ m. pin_wire m c.args.pin) c.shape.ensures) c.bar.ensures
+pub is_good_pin-requires-clause-new : goal.is_good_pin-requires-clause-new
+is_good_pin-requires-clause-new g c = subst (λ w. ¬ HasWire c.args.known.now.steps w) (sym (c.pin-wire.ensures.wire ∙ ap (λ m. pin_wire m c.args.pin) c.shape.ensures)) c.requires.new
 
 pub returns-in_err-good-clause-known : goal.returns-in_err-good-clause-known
-returns-in_err-good-clause-known g c = known_later c.is_good.ensures.advances.more c.requires.known
+returns-in_err-good-clause-known g c = known_later c.is_good_pin.ensures.advances.more c.requires.known
 
 pub returns-in_err-good-clause-more : goal.returns-in_err-good-clause-more
 returns-in_err-good-clause-more g c = none_more (pin_wire c.args.proof.now.shape c.args.pin) refl
@@ -40,7 +30,7 @@ pub returns-in_err-good-clause-barred : goal.returns-in_err-good-clause-barred
 returns-in_err-good-clause-barred g c = subst (λ w. c.bar.new.self ≡ record c.args.marks.now { barred = slice_set c.args.marks.now.barred w true }) (c.pin-wire.ensures.wire ∙ ap (λ m. pin_wire m c.args.pin) c.shape.ensures) c.bar.ensures
 
 pub returns-then-not-good-clause-known : goal.returns-then-not-good-clause-known
-returns-then-not-good-clause-known g c = known_later c.is_good.ensures.advances.more c.requires.known
+returns-then-not-good-clause-known g c = known_later c.is_good_pin.ensures.advances.more c.requires.known
 
 pub returns-then-not-good-clause-more : goal.returns-then-not-good-clause-more
 returns-then-not-good-clause-more g c = none_more (pin_wire c.args.proof.now.shape c.args.pin) refl
@@ -52,10 +42,10 @@ pub returns-clause-barred : goal.returns-clause-barred
 returns-clause-barred g c = subst (λ w. c.bar.new.self ≡ record c.args.marks.now { barred = slice_set c.args.marks.now.barred w true }) (c.pin-wire.ensures.wire ∙ ap (λ m. pin_wire m c.args.pin) c.shape.ensures) c.bar.ensures
 
 pub returns-then-not-good-clause-tried : goal.returns-then-not-good-clause-tried
-returns-then-not-good-clause-tried g c = inr (subst (IsBad _ c.is_good.new.proof c.args.known.now.steps) (c.pin-wire.ensures.wire ∙ ap (λ m. pin_wire m c.args.pin) c.shape.ensures) (c.in_ok-good.ensures.bad c.if-not-good.true))
+returns-then-not-good-clause-tried g c = inr (subst (IsBad _ c.is_good_pin.new.proof c.args.known.now.steps) (c.pin-wire.ensures.wire ∙ ap (λ m. pin_wire m c.args.pin) c.shape.ensures) (c.in_ok-good.ensures.bad c.if-not-good.true))
 
 pub returns-then-not-good-clause-marks : goal.returns-then-not-good-clause-marks
-returns-then-not-good-clause-marks g c = marks_still c.is_good.ensures.advances.more (marks_barred c.pin-wire.result.0 c.requires.marks c.bar.ensures)
+returns-then-not-good-clause-marks g c = marks_still c.is_good_pin.ensures.advances.more (marks_barred c.pin-wire.result.0 c.requires.marks c.bar.ensures)
 
 pub learn-requires-clause-wire : goal.learn-requires-clause-wire
 learn-requires-clause-wire g c = subst (λ (m : Shape). c.pin-wire.result.0 < wires_of m) (c.shape.ensures ∙ sym c.requires.known.shape) c.pin-wire.ensures.within
@@ -65,10 +55,10 @@ learn-requires-clause-new g c = subst (λ w. ¬ HasWire c.args.known.now.steps w
 
 pub returns-clause-known : goal.returns-clause-known
 returns-clause-known g c =
-    let later = known_later c.is_good.ensures.advances.more c.requires.known in
+    let later = known_later c.is_good_pin.ensures.advances.more c.requires.known in
     by_result c.learn.result c.learn.ensures.learnt c.learn.ensures.same
-    (λ l. learnt_known later (c.in_ok-good.ensures.good c.if-not-good.false) (stands_later c.is_good.ensures.advances.more (on_pin c.requires.pin (c.pin-wire.ensures.wire ∙ ap (λ m. pin_wire m c.args.pin) c.shape.ensures))) l)
-    (λ same. subst (λ (known : KnownWires). IsKnown c.is_good.new.proof known) (sym same) later)
+    (λ l. learnt_known later (c.in_ok-good.ensures.good c.if-not-good.false) (stands_later c.is_good_pin.ensures.advances.more (on_pin c.requires.pin (c.pin-wire.ensures.wire ∙ ap (λ m. pin_wire m c.args.pin) c.shape.ensures))) l)
+    (λ same. subst (λ (known : KnownWires). IsKnown c.is_good_pin.new.proof known) (sym same) later)
 
 pub returns-clause-more : goal.returns-clause-more
 returns-clause-more g c = by_result c.learn.result c.learn.ensures.learnt c.learn.ensures.same (λ l. subst (IsOneMore c.args.known.now c.learn.new.known) (c.pin-wire.ensures.wire ∙ ap (λ m. pin_wire m c.args.pin) c.shape.ensures) (learnt_more l)) (λ same. none_more (pin_wire c.args.proof.now.shape c.args.pin) same)
@@ -77,4 +67,4 @@ pub returns-clause-tried : goal.returns-clause-tried
 returns-clause-tried g c = on_ok_weaker c.learn.result (λ l. inl (subst (HasWire c.learn.new.known.steps) (c.pin-wire.ensures.wire ∙ ap (λ m. pin_wire m c.args.pin) c.shape.ensures) (learnt_has l))) c.learn.ensures.learnt
 
 pub returns-clause-marks : goal.returns-clause-marks
-returns-clause-marks g c = on_ok_weaker c.learn.result (λ l. learnt_marks c.is_good.ensures.advances.more l (marks_barred c.pin-wire.result.0 c.requires.marks c.bar.ensures)) c.learn.ensures.learnt
+returns-clause-marks g c = on_ok_weaker c.learn.result (λ l. learnt_marks c.is_good_pin.ensures.advances.more l (marks_barred c.pin-wire.result.0 c.requires.marks c.bar.ensures)) c.learn.ensures.learnt

@@ -55,7 +55,7 @@ returns-in_err-look_over-clause-grows g c = grows_then c.links.invariant.grows c
 pub returns-in_err-look_over-clause-spends : goal.returns-in_err-look_over-clause-spends
 returns-in_err-look_over-clause-spends g c =
     let old = c.links.invariant in
-    spends_then old.advances.more.shape old.advances.holds old.spends (spends_told (ap (λ m. m.faults) old.advances.machine) c.look_over.ensures.spends)
+    spends_then old.advances.more old.advances.holds old.spends (spends_told (ap (λ m. m.faults) old.advances.machine) c.look_over.ensures.spends)
 
 pub links-preserved : goal.links-preserved
 links-preserved g c =
@@ -70,7 +70,7 @@ links-preserved g c =
       tried = tried_then step.more step.steps more old.tried
           (subst (λ (told : Option Faults). AreTried told c.look_over.new.proof c.look_over.new.known.steps c.links.marks.barred c.look_over.new.marks.barred) same c.in_ok-look_over.ensures.tried);
       marks = subst (λ (told : Option Faults). AreAllMarks told c.look_over.new.proof c.args.near.now.items c.look_over.new.known.steps c.look_over.new.marks) same c.in_ok-look_over.ensures.marks;
-      spends = spends_then old.advances.more.shape old.advances.holds old.spends (spends_told same c.look_over.ensures.spends);
+      spends = spends_then old.advances.more old.advances.holds old.spends (spends_told same c.look_over.ensures.spends);
       looked = looks_next c.args.place c.wire_at-wire.result.0 c.links.j c.in-Some.link more step (let low = c.requires.place in omega (arith, low, long)) (sym c.link_at.ensures ∙ c.in-Some.is)
           (subst (λ (told : Option Faults). IsLooked told c.look_over.new.proof c.args.near.now.items c.look_over.new.known.steps c.look_over.new.marks.barred c.args.place c.in-Some.link.cross.0 c.in-Some.link.wire.0) same
           c.in_ok-look_over.ensures.looked) old.looked;

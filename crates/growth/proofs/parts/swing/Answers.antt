@@ -4,8 +4,11 @@ use Rattle.config_set.specs.Tests.{IsDrivenAlone}
 use Rattle.test_configs.specs.Configs.{IsLoopConfig}
 use Rattle.evidence.specs.Kept.{Kept, IsMore, Gains, these_wires}
 use Rattle.evidence.proofs.Lists.{route_passes}
-use Rattle.growth.proofs.Parting.{swing_kept, swing_bad}
+use Rattle.growth.proofs.Parting.{end_on, swing_kept, swing_bad}
 use Rattle.growth.proofs.parts.swing.Goals as goal
+
+pub keeps_wire-requires : goal.keeps_wire-requires
+keeps_wire-requires g c = c.requires.way.route.wires c.args.w.0 (end_on c.requires.way)
 
 pub returns-clause-kept : goal.returns-clause-kept
 returns-clause-kept g c = IfOk-weaker c.swing-answer.result _ _ (λ yes gains. λ is_yes.

@@ -11,7 +11,7 @@ use Rattle.growth.proofs.Circling.{first_marks, first_unspent, grows_nothing, gr
 use Rattle.growth.proofs.Ending.{grows_in}
 use Rattle.growth.proofs.Leaving.{spends_told}
 use Rattle.known.proofs.Linking.{linked_of}
-use Rattle.growth.proofs.Taken.{takes_none, takes_most, takes_few}
+use Rattle.growth.proofs.Taken.{no_loads, takes_none, takes_most, takes_few}
 use Rattle.growth.proofs.rounds.grow.Goals as goal
 
 pub links_of-requires : goal.links_of-requires
@@ -20,14 +20,20 @@ links_of-requires g c = record { field = subst (λ (m : Shape). IsFieldOf m c.ar
 pub returns-in_default-clause-grows : goal.returns-in_default-clause-grows
 returns-in_default-clause-grows g c = grows_nothing c.args.known.now.steps
 
+pub returns-in_default-clause-loads : goal.returns-in_default-clause-loads
+returns-in_default-clause-loads g c = no_loads c.args.proof.now c.args.field.now _ c.requires.field
+
+pub returns-in_default-new-clause-loads : goal.returns-in_default-new-clause-loads
+returns-in_default-new-clause-loads g c = no_loads c.args.proof.now c.args.field.now _ c.requires.field
+
 pub returns-in_default-clause-few : goal.returns-in_default-clause-few
-returns-in_default-clause-few g c = takes_none refl
+returns-in_default-clause-few g c = takes_none c.requires.field refl
 
 pub returns-in_default-new-clause-grows : goal.returns-in_default-new-clause-grows
 returns-in_default-new-clause-grows g c = grows_nothing c.args.known.now.steps
 
 pub returns-in_default-new-clause-few : goal.returns-in_default-new-clause-few
-returns-in_default-new-clause-few g c = takes_none refl
+returns-in_default-new-clause-few g c = takes_none c.requires.field refl
 
 pub look_on-requires-clause-links : goal.look_on-requires-clause-links
 look_on-requires-clause-links g c = linked_of (subst (λ (m : Shape). AreLinks m c.args.field.now c.in-Ok.near.items) c.shape-shape.ensures c.in-Ok.ensures)
@@ -74,10 +80,10 @@ pub returns-in_err-grow_pin-clause-grows : goal.returns-in_err-grow_pin-clause-g
 returns-in_err-grow_pin-clause-grows g c = growing_in c.pins.invariant.growing c.grow_pin.ensures.grows
 
 pub returns-in_err-grow_pin-clause-loads : goal.returns-in_err-grow_pin-clause-loads
-returns-in_err-grow_pin-clause-loads g c = growing_most c.pins.invariant.growing c.requires.field (subst (λ (m : Shape). AreLinks m c.args.field.now c.in-Ok.near.items) c.shape-shape.ensures c.in-Ok.ensures) c.pins.invariant.advances.more.shape c.pins.invariant.advances.holds (spends_told (ap (λ m. m.faults) c.pins.invariant.advances.machine) c.grow_pin.ensures.spends)
+returns-in_err-grow_pin-clause-loads g c = growing_most c.pins.invariant.growing c.requires.field (subst (λ (m : Shape). AreLinks m c.args.field.now c.in-Ok.near.items) c.shape-shape.ensures c.in-Ok.ensures) c.pins.invariant.advances.more c.pins.invariant.advances.holds (spends_told (ap (λ m. m.faults) c.pins.invariant.advances.machine) c.grow_pin.ensures.spends)
 
 pub returns-in_err-grow_pin-clause-few : goal.returns-in_err-grow_pin-clause-few
-returns-in_err-grow_pin-clause-few g c = growing_few c.pins.invariant.growing c.requires.field (subst (λ (m : Shape). AreLinks m c.args.field.now c.in-Ok.near.items) c.shape-shape.ensures c.in-Ok.ensures) c.pins.invariant.advances.more.shape c.pins.invariant.advances.holds (spends_told (ap (λ m. m.faults) c.pins.invariant.advances.machine) c.grow_pin.ensures.spends)
+returns-in_err-grow_pin-clause-few g c = growing_few c.pins.invariant.growing c.requires.field (subst (λ (m : Shape). AreLinks m c.args.field.now c.in-Ok.near.items) c.shape-shape.ensures c.in-Ok.ensures) c.pins.invariant.advances.more c.pins.invariant.advances.holds (spends_told (ap (λ m. m.faults) c.pins.invariant.advances.machine) c.grow_pin.ensures.spends)
 
 pub pins-preserved : goal.pins-preserved
 pins-preserved g c =
@@ -85,7 +91,7 @@ pins-preserved g c =
     let same = (ap (λ m. m.faults) c.pins.invariant.advances.machine) in
     record {
       advances = advances_then old.advances c.grow_pin.ensures.advances;
-      growing = growing_next old.advances.more.shape old.advances.holds c.grow_pin.ensures.advances.more old.growing c.grow_pin.ensures.grows
+      growing = growing_next old.advances.more old.advances.holds c.grow_pin.ensures.advances.more old.growing c.grow_pin.ensures.grows
           (subst (λ (told : Option Faults). AreTried told c.grow_pin.new.proof c.grow_pin.new.known.steps c.pins.marks.barred c.grow_pin.new.marks.barred) same c.in_ok-grow_pin.ensures.tried)
           (subst (λ (told : Option Faults). IsGrown told c.pins.proof c.in-Ok.near.items c.pins.known.steps c.pins.marks.barred (length c.pins.known.steps) →
           IsGrown told c.grow_pin.new.proof c.in-Ok.near.items c.grow_pin.new.known.steps c.grow_pin.new.marks.barred (length c.grow_pin.new.known.steps)) same c.in_ok-grow_pin.ensures.grown old.growing.grown)

@@ -13,7 +13,7 @@ use Rattle.growth.specs.Looks.{AreAllMarks, AreTried}
 use Rattle.reach.specs.declared.marks.Marks.{Marks}
 use Rattle.growth.proofs.Circling.{grown_at, pin_grows, pin_marks, pin_has}
 use Rattle.growth.proofs.Leaving.{spends_told}
-use Rattle.reach.proofs.Marking.{spends_none, spends_then, spends_barred}
+use Rattle.reach.proofs.Marking.{spends_none, spends_then, spends_barred, takes_two}
 use Rattle.growth.proofs.Stages.{grows_itself, grows_then, grown_on, longer, tried_none, tried_one, tried_then}
 use Rattle.growth.proofs.rounds.grow_pin.Goals as goal
 
@@ -66,7 +66,7 @@ pub returns-in_err-try_pin-clause-grows : goal.returns-in_err-try_pin-clause-gro
 returns-in_err-try_pin-clause-grows g c = pin_grows c.requires.marks.are (subst (λ w. w < wires_of c.args.proof.now.shape) (c.pin-wire.ensures.wire ∙ ap (λ m. pin_wire m c.args.pin) c.shape.ensures) (subst (λ (m : Shape). c.pin-wire.result.0 < wires_of m) c.shape.ensures c.pin-wire.ensures.within)) (ap (has_number c.args.marks.now.barred) (sym (c.pin-wire.ensures.wire ∙ ap (λ m. pin_wire m c.args.pin) c.shape.ensures)) ∙ sym c.has.ensures ∙ c.if-has.false) c.try_pin.ensures.known c.try_pin.ensures.more c.try_pin.ensures.barred
 
 pub returns-in_err-try_pin-clause-spends : goal.returns-in_err-try_pin-clause-spends
-returns-in_err-try_pin-clause-spends g c = spends_barred _ _ c.requires.marks.are (subst (λ w. w < wires_of c.args.proof.now.shape) (c.pin-wire.ensures.wire ∙ ap (λ m. pin_wire m c.args.pin) c.shape.ensures) (subst (λ (m : Shape). c.pin-wire.result.0 < wires_of m) c.shape.ensures c.pin-wire.ensures.within)) (ap (has_number c.args.marks.now.barred) (sym (c.pin-wire.ensures.wire ∙ ap (λ m. pin_wire m c.args.pin) c.shape.ensures)) ∙ sym c.has.ensures ∙ c.if-has.false) c.try_pin.ensures.barred c.try_pin.ensures.loads
+returns-in_err-try_pin-clause-spends g c = spends_barred _ _ c.requires.marks.are (subst (λ w. w < wires_of c.args.proof.now.shape) (c.pin-wire.ensures.wire ∙ ap (λ m. pin_wire m c.args.pin) c.shape.ensures) (subst (λ (m : Shape). c.pin-wire.result.0 < wires_of m) c.shape.ensures c.pin-wire.ensures.within)) (ap (has_number c.args.marks.now.barred) (sym (c.pin-wire.ensures.wire ∙ ap (λ m. pin_wire m c.args.pin) c.shape.ensures)) ∙ sym c.has.ensures ∙ c.if-has.false) c.try_pin.ensures.barred (takes_two c.try_pin.ensures.loads)
 
 pub look_on-requires-clause-links : goal.look_on-requires-clause-links
 look_on-requires-clause-links g c = subst (λ (m : Shape). AreLinked m c.args.near.now.items) (sym c.try_pin.ensures.advances.more.shape) c.requires.links
@@ -109,4 +109,4 @@ pub returns-clause-marks : goal.returns-clause-marks
 returns-clause-marks g c = subst (λ (told : Option Faults). OnOk c.look_on.result (AreAllMarks told c.look_on.new.proof c.args.near.now.items c.look_on.new.known.steps c.look_on.new.marks)) (ap (λ m. m.faults) c.try_pin.ensures.advances.machine) c.look_on.ensures.marks
 
 pub returns-clause-spends : goal.returns-clause-spends
-returns-clause-spends g c = spends_then c.try_pin.ensures.advances.more.shape c.try_pin.ensures.advances.holds (spends_barred _ _ c.requires.marks.are (subst (λ w. w < wires_of c.args.proof.now.shape) (c.pin-wire.ensures.wire ∙ ap (λ m. pin_wire m c.args.pin) c.shape.ensures) (subst (λ (m : Shape). c.pin-wire.result.0 < wires_of m) c.shape.ensures c.pin-wire.ensures.within)) (ap (has_number c.args.marks.now.barred) (sym (c.pin-wire.ensures.wire ∙ ap (λ m. pin_wire m c.args.pin) c.shape.ensures)) ∙ sym c.has.ensures ∙ c.if-has.false) c.try_pin.ensures.barred c.try_pin.ensures.loads) (spends_told (ap (λ m. m.faults) c.try_pin.ensures.advances.machine) c.look_on.ensures.spends)
+returns-clause-spends g c = spends_then c.try_pin.ensures.advances.more c.try_pin.ensures.advances.holds (spends_barred _ _ c.requires.marks.are (subst (λ w. w < wires_of c.args.proof.now.shape) (c.pin-wire.ensures.wire ∙ ap (λ m. pin_wire m c.args.pin) c.shape.ensures) (subst (λ (m : Shape). c.pin-wire.result.0 < wires_of m) c.shape.ensures c.pin-wire.ensures.within)) (ap (has_number c.args.marks.now.barred) (sym (c.pin-wire.ensures.wire ∙ ap (λ m. pin_wire m c.args.pin) c.shape.ensures)) ∙ sym c.has.ensures ∙ c.if-has.false) c.try_pin.ensures.barred (takes_two c.try_pin.ensures.loads)) (spends_told (ap (λ m. m.faults) c.try_pin.ensures.advances.machine) c.look_on.ensures.spends)

@@ -37,7 +37,7 @@ returns-in_err-look_at-clause-grows g c = grows_then c.places.invariant.grows c.
 pub returns-in_err-look_at-clause-spends : goal.returns-in_err-look_at-clause-spends
 returns-in_err-look_at-clause-spends g c =
     let old = c.places.invariant in
-    spends_then old.advances.more.shape old.advances.holds old.spends (spends_told (ap (λ m. m.faults) old.advances.machine) c.look_at.ensures.spends)
+    spends_then old.advances.more old.advances.holds old.spends (spends_told (ap (λ m. m.faults) old.advances.machine) c.look_at.ensures.spends)
 
 pub places-smaller : goal.places-smaller
 places-smaller g c =
@@ -63,7 +63,7 @@ places-preserved g c =
       grown = λ grown. subst (λ (told : Option Faults). IsGrown told c.places.proof c.args.near.now.items c.places.known.steps c.places.marks.barred c.places.place →
           IsGrown told c.look_at.new.proof c.args.near.now.items c.look_at.new.known.steps c.look_at.new.marks.barred (c.places.place + 1)) same c.in_ok-look_at.ensures.grown (old.grown grown);
       marks = subst (λ (told : Option Faults). AreAllMarks told c.look_at.new.proof c.args.near.now.items c.look_at.new.known.steps c.look_at.new.marks) same c.in_ok-look_at.ensures.marks;
-      spends = spends_then old.advances.more.shape old.advances.holds old.spends (spends_told same c.look_at.ensures.spends);
+      spends = spends_then old.advances.more old.advances.holds old.spends (spends_told same c.look_at.ensures.spends);
     }
 
 pub returns-clause-grown : goal.returns-clause-grown

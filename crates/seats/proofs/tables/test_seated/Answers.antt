@@ -1,6 +1,26 @@
+use Rattle.std.proofs.Common.{◌∙◌, refl, sym}
 use Rattle.std.proofs.lemmas.Result.{on_ok_weaker}
+use Rattle.seats.proofs.Fresh.{takes_kept, takes_fresh}
 use Rattle.seats.proofs.Testing.{kept_over, kept_unseated, only_none}
 use Rattle.seats.proofs.tables.test_seated.Goals as goal
+
+pub returns-then-is_kept-clause-table : goal.returns-then-is_kept-clause-table
+returns-then-is_kept-clause-table g c = record { at = λ f is h seated right. c.is_kept.ensures.kept c.if-is_kept.true }
+
+pub returns-then-is_kept-clause-only : goal.returns-then-is_kept-clause-only
+returns-then-is_kept-clause-only g c = only_none
+
+pub returns-then-is_kept-clause-loads : goal.returns-then-is_kept-clause-loads
+returns-then-is_kept-clause-loads g c = takes_kept refl
+
+pub returns-in_default-clause-loads : goal.returns-in_default-clause-loads
+returns-in_default-clause-loads g c = takes_kept refl
+
+pub returns-in_default-found-clause-loads : goal.returns-in_default-found-clause-loads
+returns-in_default-found-clause-loads g c = takes_kept refl
+
+pub returns-clause-loads : goal.returns-clause-loads
+returns-clause-loads g c = takes_fresh (sym c.is_kept.ensures.is ∙ c.if-is_kept.false) c.test_table.ensures.loads
 
 pub returns-in_default-clause-only : goal.returns-in_default-clause-only
 returns-in_default-clause-only g c = only_none

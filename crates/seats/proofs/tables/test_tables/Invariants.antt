@@ -1,7 +1,8 @@
-use Rattle.std.proofs.Common.{◌≤◌, ◌+◌, ◌*◌}
+use Rattle.std.proofs.Common.{◌≤◌, ◌+◌, ◌*◌, take}
 use Rattle.evidence.specs.Kept.{Advances}
 use Rattle.table_test.specs.Seats.{AddsOnlyTableFacts}
 use Rattle.seats.specs.Seating.{AreAllWithout}
+use Rattle.seats.specs.Tables.{fresh_tables}
 use Rattle.seats.proofs.Testing.{AreTested}
 use Rattle.seats.proofs.tables.test_tables.Given as goal
 
@@ -14,5 +15,5 @@ invariant-tables g l =
       only : AddsOnlyTableFacts l.fn.proof l.proof;
       tested : AreTested rig0.machine.faults l.fn.proof l.proof l.known.steps l.tables l.i;
       without : AreAllWithout l.proof l.known.steps l.without.hextant.0 l.without.known;
-      loads : rig.loads ≤ rig0.loads + 130 * l.i;
+      loads : rig.loads ≤ rig0.loads + 130 * fresh_tables l.fn.proof (take l.i l.tables);
     }

@@ -1,6 +1,7 @@
 use Rattle.std.proofs.Common.{sym, ◌∙◌, subst}
 use Rattle.hierarchy.specs.declared.Shape.{Shape}
 use Rattle.known.specs.Field.{IsFieldOf}
+use Rattle.known.proofs.Taking.{takes_wide}
 use Rattle.self_test.proofs.Checking.{routes_if}
 use Rattle.self_test.proofs.check.grow_over.Goals as goal
 
@@ -26,3 +27,9 @@ returns-in-Ok-clause-whole g c =
     })
     c.keeps_routes.ensures.right c.requires.used (subst (λ (s : Shape). IsFieldOf s c.args.field.now) (sym c.requires.image) c.requires.field) (c.grow.ensures.advances.more.shape ∙ sym c.requires.image)
     c.in-Ok.ensures.closed c.grow.ensures.advances.holds c.keeps_routes.ensures.all
+
+pub returns-in-Ok-clause-loads : goal.returns-in-Ok-clause-loads
+returns-in-Ok-clause-loads g c = takes_wide c.args.proof.now c.args.field.now _ c.grow.ensures.loads
+
+pub returns-in-Err-clause-loads : goal.returns-in-Err-clause-loads
+returns-in-Err-clause-loads g c = takes_wide c.args.proof.now c.args.field.now _ c.grow.ensures.loads

@@ -17,9 +17,9 @@ returns-in-Ok-clause-whole g c = tables_if _ c.args.proof.now c.test_tables.new.
     (table_counts c.args.image.now c.config-config.result.now.config c.config-config.ensures.config c.tables_on.result.now c.tables_on.ensures) c.in-Ok.ensures.tables c.keeps_tables.ensures.1
 
 pub returns-in-Ok-clause-loads : goal.returns-in-Ok-clause-loads
-returns-in-Ok-clause-loads g c = loads_tables c.args.image.now c.tables_on.result.now _ _
+returns-in-Ok-clause-loads g c = loads_tables c.args.proof.now c.args.image.now c.tables_on.result.now _ _
     (table_counts c.args.image.now c.config-config.result.now.config c.config-config.ensures.config c.tables_on.result.now c.tables_on.ensures) c.test_tables.ensures.loads
 
 pub returns-in-Err-clause-loads : goal.returns-in-Err-clause-loads
-returns-in-Err-clause-loads g c = loads_tables c.args.image.now c.tables_on.result.now _ _
+returns-in-Err-clause-loads g c = loads_tables c.args.proof.now c.args.image.now c.tables_on.result.now _ _
     (table_counts c.args.image.now c.config-config.result.now.config c.config-config.ensures.config c.tables_on.result.now c.tables_on.ensures) c.test_tables.ensures.loads

@@ -6,7 +6,7 @@ use Rattle.std.proofs.lemmas.List.Sums.{sum_by-cons}
 use Rattle.std.proofs.lemmas.List.{get_or-set_same, get_or-set_other, get_or-replicate, get_or_past, length-replicate}
 use native.Mathlib.Decide.{dec_lt, ℕ_discrete}
 use Rattle.tm_bits.specs.Numbers.{has_number, size_of}
-use Rattle.reach.specs.Marked.{how_many}
+use Rattle.known.specs.Field.{how_many}
 
 bit_more : (a b : Bool) → (a ≡ true → b ≡ true) → (if a then 1 else 0) ≤ (if b then 1 else 0)
 bit_more true true h = omega arith
@@ -106,3 +106,60 @@ none_has n x on = by_place (dec_lt x n)
     by_place : Dec (x < n) → ⊥
     by_place (yes h) = false≢true (sym (get_or-replicate n x false false h) ∙ on)
     by_place (no h) = false≢true (sym (get_or_past (replicate n false) x false (rw length-replicate (omega (arith, h)))) ∙ on)
+
+-- no number is so in both ways
+bit_both : (a b : Bool) → (a ≡ true → b ≡ true → ⊥) → (if a then 1 else 0) + (if b then 1 else 0) ≤ 1
+bit_both true true h = absurd (h refl refl)
+bit_both true false h = omega arith
+bit_both false true h = omega arith
+bit_both false false h = omega arith
+
+pub many_both : (p q : ℕ → Bool) (n : ℕ) → ((x : ℕ) → x < n → p x ≡ true → q x ≡ true → ⊥) → how_many p n + how_many q n ≤ n
+many_both p q zero h = omega arith
+many_both p q (suc n) h =
+    let rest = many_both p q n (λ x less. h x (omega (arith, less))) in
+    let one = bit_both (p n) (q n) (h n (omega arith)) in omega (arith, rest, one)
+
+-- of further numbers each is so at most
+pub many_up : (p : ℕ → Bool) (n d : ℕ) → how_many p (n + d) ≤ how_many p n + d
+many_up p n zero = let e : n + 0 ≡ n = omega arith in rw e (omega arith)
+many_up p n (suc d) =
+    let e : n + suc d ≡ suc (n + d) = omega arith in
+    let rest = many_up p n d in
+    let one = bit_one (p (n + d)) in rw e (omega (arith, rest, one))
+
+-- all are so, or one isn't
+pub many_so : (p : ℕ → Bool) (n : ℕ) → ((x : ℕ) → x < n → p x ≡ true) → how_many p n ≡ n
+many_so p zero h = refl
+many_so p (suc n) h = let rest = many_so p n (λ x less. h x (omega (arith, less))) in rw (h n (omega arith)) (omega (arith, rest))
+
+pub many_less : (p : ℕ → Bool) (n x : ℕ) → x < n → p x ≡ false → how_many p n + 1 ≤ n
+many_less p zero x less off = absurd (let no : ⊥ = omega (arith, less) in no)
+many_less p (suc n) x less off = by_place (ℕ_discrete x n) (λ low. many_less p n x low off)
+  where
+    by_place : Dec (x ≡ n) → (x < n → how_many p n + 1 ≤ n) → how_many p (suc n) + 1 ≤ suc n
+    by_place (yes e) below = let rest = many_all p n in let here = ap p (sym e) ∙ off in rw here (omega (arith, rest))
+    by_place (no other) below = let rest = below (omega (arith, less, other)) in let one = bit_one (p n) in omega (arith, rest, one)
+
+-- the same of each number
+pub many_same : (p q : ℕ → Bool) (n : ℕ) → ((x : ℕ) → x < n → p x ≡ q x) → how_many p n ≡ how_many q n
+many_same p q zero h = refl
+many_same p q (suc n) h = rw (h n (omega arith), many_same p q n (λ x less. h x (omega (arith, less)))) refl
+
+-- a set to which a number is added has one more at most, and none below that number
+pub set_most : (set : List Bool) (x n : ℕ) → how_many (has_number (slice_set set x true)) n ≤ how_many (has_number set) n + 1
+set_most set x zero = omega arith
+set_most set x (suc n) = by_place (ℕ_discrete n x) (set_most set x n)
+  where
+    by_place : Dec (n ≡ x) → how_many (has_number (slice_set set x true)) n ≤ how_many (has_number set) n + 1 → how_many (has_number (slice_set set x true)) (suc n) ≤ how_many (has_number set) (suc n) + 1
+    by_place (yes e) below =
+        let rest = many_same (has_number (slice_set set x true)) (has_number set) n (λ y less. set_other set x y (λ s. let no : ⊥ = omega (arith, less, e, s) in no)) in
+        let one = bit_one (has_number (slice_set set x true) n) in omega (arith, rest, one)
+    by_place (no other) below = rw (set_other set x n other) (omega (arith, below))
+
+pub set_below : (set : List Bool) (x n : ℕ) → n ≤ x → how_many (has_number (slice_set set x true)) n ≡ how_many (has_number set) n
+set_below set x n low = many_same _ _ n (λ y less. set_other set x y (λ s. let no : ⊥ = omega (arith, less, low, s) in no))
+
+pub many_long : (p : ℕ → Bool) (n d : ℕ) → how_many p n ≤ how_many p (n + d)
+many_long p n zero = let e : n + 0 ≡ n = omega arith in rw e (omega arith)
+many_long p n (suc d) = let e : n + suc d ≡ suc (n + d) = omega arith in let rest = many_long p n d in rw e (omega (arith, rest))
