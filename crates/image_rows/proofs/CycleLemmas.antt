@@ -1,0 +1,60 @@
+-- A vector that is read, and then driven or not, where rows wait.
+use Rattle.std.proofs.Common.{◌≡◌, ◌⊎◌, ◌∙◌, ◌≤◌, ◌<◌, ℕ, List, true, [], length, refl, ap, subst, inl, inr, arith, append-nil}
+use Rattle.std.specs.Prelude.{Err, Ok}
+use Rattle.tm_outside.specs.Sink.{SinkState, Wrote}
+use Rattle.tm_outside.specs.Store.{StoreState}
+use Rattle.rig.specs.Rig.{RigState, CycleFails}
+use Rattle.rig.specs.declared.rig.RigFail.{RigFail}
+use Rattle.rig.specs.declared.rig.RigFail.TheVariants.{Failed, Memory}
+use Rattle.steps.specs.NextVectors.{RowsAt, IsPutOut, IsHeldUp, IsReadAfter, NextOf, NextStops}
+use Rattle.steps.specs.Stops.{stop_of_rig}
+use Rattle.steps.specs.Took.{Puts}
+use Rattle.steps.specs.declared.refusal.Refusal.TheVariants as refused
+use Rattle.steps.specs.declared.refusal.Stop.{Stop}
+use Rattle.steps.specs.declared.refusal.Stop.TheVariants.{Refused, Sink}
+use Rattle.steps.proofs.WrittenRows.{held-up, put-after, held-after}
+use Rattle.image_rows.specs.Running.{DriveStops, CycleStops, HasOrFailed, at_rows}
+use Rattle.image_rows.specs.declared.image.Running.{Running}
+
+-- ---- the rig drives nothing
+
+has-or-failed : (fail : RigFail) (old new : RigState) → CycleFails fail old new → HasOrFailed old new
+has-or-failed Failed old new fails = inr fails.0
+has-or-failed Memory old new fails = inl fails.1
+
+-- the rows that wait were put out
+pub drive-stops : (fail : RigFail) (waiting left : List ℕ) (sink sink' : SinkState) (old new : RigState) → IsPutOut waiting left sink sink' → CycleFails fail old new → DriveStops (stop_of_rig fail) waiting left sink sink' old new
+drive-stops Failed waiting left sink sink' old new out fails = (out, fails)
+drive-stops Memory waiting left sink sink' old new out fails = (out, fails)
+
+-- or they weren't
+pub drive-held : (stop : Stop) (fail : RigFail) (waiting left : List ℕ) (sink sink' : SinkState) (old new : RigState) → 0 < length waiting → Puts {T = Unit {0}} waiting (Err stop) sink sink' → CycleFails fail old new → DriveStops stop waiting left sink sink' old new
+drive-held (Refused refusal) fail waiting left sink sink' old new some puts fails = absurd puts.stops
+drive-held (Sink why) fail waiting left sink sink' old new some puts fails =
+    (λ store. held-up waiting (Sink why) store sink sink' some puts, has-or-failed fail old new fails)
+
+-- ---- after a vector was read
+
+module _ (old mid new : Running) (from : RowsAt) (store : StoreState) (sink sink' : SinkState) (rig rig' : RigState) where
+  -- none was
+  pub none-read : (stop : Stop) → NextStops stop from (at_rows new store sink) → CycleStops stop old new from (at_rows new store sink) rig rig
+  none-read (Sink fail) stops = (stops, inl refl)
+  none-read (Refused (refused.Vectors line kind)) stops = (stops, refl)
+  none-read (Refused refused.Store) stops = (stops, refl)
+  none-read (Refused refusal) stops = absurd stops
+
+  -- one was, and isn't driven
+  pub undriven : (stop : Stop) → from.reading ≡ old.vectors → new.vectors ≡ mid.vectors → new.vector ≡ mid.vector → NextOf true mid.vector.items from (at_rows mid store sink) → DriveStops stop mid.block.text new.block.text sink sink' rig rig' → CycleStops stop old new from (at_rows new store sink') rig rig'
+  undriven (Sink fail) reading vectors vector next stops =
+      (held-after from.waiting mid.block.text (Sink fail) from.store store from.sink sink sink' next.1 (stops.0 store), stops.1)
+  undriven (Refused refused.Rig) reading vectors vector next stops = record {
+    read = rw (vectors, vector, ← reading) next.0;
+    out = put-after from.waiting mid.block.text new.block.text from.store store from.sink sink sink' next.1 stops.0;
+    fails = stops.1;
+  }
+  undriven (Refused refused.Memory) reading vectors vector next stops = record {
+    read = rw (vectors, vector, ← reading) next.0;
+    out = put-after from.waiting mid.block.text new.block.text from.store store from.sink sink sink' next.1 stops.0;
+    fails = stops.1;
+  }
+  undriven (Refused refusal) reading vectors vector next stops = absurd stops
