@@ -23,6 +23,9 @@ has-or-failed Failed old new fails = inr fails.0
 has-or-failed Memory old new fails = inl fails.1
 
 -- the rows that wait were put out
+pub put-is : (waiting left : List ℕ) (sink sink' : SinkState) → left ≡ [] → Puts {T = Unit {0}} waiting (Ok tt) sink sink' → IsPutOut waiting left sink sink'
+put-is waiting left sink sink' empty puts = record { empty = empty; kind = puts.kind; later = puts.later; wrote = puts.wrote }
+
 pub drive-stops : (fail : RigFail) (waiting left : List ℕ) (sink sink' : SinkState) (old new : RigState) → IsPutOut waiting left sink sink' → CycleFails fail old new → DriveStops (stop_of_rig fail) waiting left sink sink' old new
 drive-stops Failed waiting left sink sink' old new out fails = (out, fails)
 drive-stops Memory waiting left sink sink' old new out fails = (out, fails)
@@ -35,14 +38,14 @@ drive-held (Sink why) fail waiting left sink sink' old new some puts fails =
 
 -- ---- after a vector was read
 
-module _ (old mid new : Running) (from : RowsAt) (store : StoreState) (sink sink' : SinkState) (rig rig' : RigState) where
-  -- none was
-  pub none-read : (stop : Stop) → NextStops stop from (at_rows new store sink) → CycleStops stop old new from (at_rows new store sink) rig rig
-  none-read (Sink fail) stops = (stops, inl refl)
-  none-read (Refused (refused.Vectors line kind)) stops = (stops, refl)
-  none-read (Refused refused.Store) stops = (stops, refl)
-  none-read (Refused refusal) stops = absurd stops
+-- none was
+pub none-read : (stop : Stop) (old new : Running) (from : RowsAt) (store : StoreState) (sink : SinkState) (rig : RigState) → NextStops stop from (at_rows new store sink) → CycleStops stop old new from (at_rows new store sink) rig rig
+none-read (Sink fail) old new from store sink rig stops = (stops, inl refl)
+none-read (Refused (refused.Vectors line kind)) old new from store sink rig stops = (stops, refl)
+none-read (Refused refused.Store) old new from store sink rig stops = (stops, refl)
+none-read (Refused refusal) old new from store sink rig stops = absurd stops
 
+module _ (old mid new : Running) (from : RowsAt) (store : StoreState) (sink sink' : SinkState) (rig rig' : RigState) where
   -- one was, and isn't driven
   pub undriven : (stop : Stop) → from.reading ≡ old.vectors → new.vectors ≡ mid.vectors → new.vector ≡ mid.vector → NextOf true mid.vector.items from (at_rows mid store sink) → DriveStops stop mid.block.text new.block.text sink sink' rig rig' → CycleStops stop old new from (at_rows new store sink') rig rig'
   undriven (Sink fail) reading vectors vector next stops =
