@@ -1,4 +1,4 @@
-use Rattle.std.proofs.Common.{refl}
+use Rattle.std.proofs.Common.{refl, arith}
 use Rattle.std.proofs.lemmas.Result.{err_from_is_err_and}
 use Rattle.steps.specs.Outside.{outside}
 use Rattle.image_rows.proofs.RowLemmas.{IsDriving-start, IsDriving-more, cycle-stops, row-stops, file-ends}
