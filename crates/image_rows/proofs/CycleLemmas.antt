@@ -1,5 +1,5 @@
 -- A vector that is read, and then driven or not, where rows wait.
-use Rattle.std.proofs.Common.{◌≡◌, ◌⊎◌, ◌∙◌, ◌≤◌, ◌<◌, ℕ, List, true, [], length, refl, ap, subst, inl, inr, arith, append-nil}
+use Rattle.std.proofs.Common.{◌≡◌, ◌⊎◌, ◌∙◌, ◌≤◌, ◌<◌, ℕ, Bool, List, true, [], length, refl, ap, subst, inl, inr, arith, append-nil}
 use Rattle.std.specs.Prelude.{Err, Ok}
 use Rattle.tm_outside.specs.Sink.{SinkState, Wrote}
 use Rattle.tm_outside.specs.Store.{StoreState}
@@ -45,19 +45,19 @@ none-read (Refused (refused.Vectors line kind)) old new from store sink rig stop
 none-read (Refused refused.Store) old new from store sink rig stops = (stops, refl)
 none-read (Refused refusal) old new from store sink rig stops = absurd stops
 
-module _ (old mid new : Running) (from : RowsAt) (store : StoreState) (sink sink' : SinkState) (rig rig' : RigState) where
-  -- one was, and isn't driven
-  pub undriven : (stop : Stop) → from.reading ≡ old.vectors → new.vectors ≡ mid.vectors → new.vector ≡ mid.vector → NextOf true mid.vector.items from (at_rows mid store sink) → DriveStops stop mid.block.text new.block.text sink sink' rig rig' → CycleStops stop old new from (at_rows new store sink') rig rig'
-  undriven (Sink fail) reading vectors vector next stops =
-      (held-after from.waiting mid.block.text (Sink fail) from.store store from.sink sink sink' next.1 (stops.0 store), stops.1)
-  undriven (Refused refused.Rig) reading vectors vector next stops = record {
-    read = rw (vectors, vector, ← reading) next.0;
-    out = put-after from.waiting mid.block.text new.block.text from.store store from.sink sink sink' next.1 stops.0;
+-- one was, and isn't driven
+module _ (old new : Running) (from to : RowsAt) (vector : List Bool) (sink : SinkState) (rig rig' : RigState) where
+  pub undriven : (stop : Stop) → from.reading ≡ old.vectors → new.vectors ≡ to.reading → new.vector.items ≡ vector → NextOf true vector from to → DriveStops stop to.waiting new.block.text to.sink sink rig rig' → CycleStops stop old new from (at_rows new to.store sink) rig rig'
+  undriven (Sink fail) reading vectors is next stops =
+      (held-after from.waiting to.waiting (Sink fail) from.store to.store from.sink to.sink sink next.1 (stops.0 to.store), stops.1)
+  undriven (Refused refused.Rig) reading vectors is next stops = record {
+    read = rw (vectors, is, ← reading) next.0;
+    out = put-after from.waiting to.waiting new.block.text from.store to.store from.sink to.sink sink next.1 stops.0;
     fails = stops.1;
   }
-  undriven (Refused refused.Memory) reading vectors vector next stops = record {
-    read = rw (vectors, vector, ← reading) next.0;
-    out = put-after from.waiting mid.block.text new.block.text from.store store from.sink sink sink' next.1 stops.0;
+  undriven (Refused refused.Memory) reading vectors is next stops = record {
+    read = rw (vectors, is, ← reading) next.0;
+    out = put-after from.waiting to.waiting new.block.text from.store to.store from.sink to.sink sink next.1 stops.0;
     fails = stops.1;
   }
-  undriven (Refused refusal) reading vectors vector next stops = absurd stops
+  undriven (Refused refusal) reading vectors is next stops = absurd stops

@@ -76,7 +76,7 @@ returns-in_err-drive_row-clause-refused g c =
     let p = err_from_is_err_and c.from_residual-in_err-drive_row.result c.from_residual-in_err-drive_row.ensures.1 in
     let e = c.in_err-drive_row.ensures in
     let next = rw c.if-not-branch.false at c.in_ok-next_vector.ensures.gives in
-    rw (p.1, p.2) (undriven c.args.rows.now _ _ _ _ _ _ _ _ _ refl e.vectors e.vector next e.refused)
+    rw (p.1, p.2) (undriven c.args.rows.now _ _ _ c.next_vector.new.vector.items _ _ _ _ refl e.vectors (rw e.vector refl) next e.refused)
 
 pub returns-clause-keeps : goal.returns-clause-keeps
 returns-clause-keeps g c =
