@@ -79,11 +79,7 @@ fn prepare(alloc: Global, image: Image, rig: &mut Box<dyn Rig>) -> Result<Runnin
 }
 
 // Makes the cycle of the vector that was read. Where the rig makes none, the rows that wait are written.
-fn drive_row<K: Sink>(
-    rows: &mut Running,
-    rig: &mut Box<dyn Rig>,
-    sink: &mut K,
-) -> Result<(), Stop>
+fn drive_row<K: Sink>(rows: &mut Running, rig: &mut Box<dyn Rig>, sink: &mut K) -> Result<(), Stop>
     requires fits { IsFitting rows.old }
     requires pins { width_of (rig_state rig.old) ≡ Some (pins_of rows.old.image.config.shape) }
 
@@ -128,7 +124,13 @@ fn next_row<S: Store, K: Sink>(
         let to = at_rows rows.new (S.store_state store.new) (K.sink_state sink.new) in
         IfErr result (λ stop. CycleStops stop rows.old rows.new from to (rig_state rig.old) (rig_state rig.new)) }
 {
-    if !next_vector(&mut rows.vectors, &mut rows.vector, &mut rows.block, store, sink)? {
+    if !next_vector(
+        &mut rows.vectors,
+        &mut rows.vector,
+        &mut rows.block,
+        store,
+        sink,
+    )? {
         return Ok(false);
     }
     drive_row(rows, rig, sink)?;

@@ -174,12 +174,14 @@ fault-told : (width : ℕ) (told : Told) (name : List ℕ) (reading : VectorRead
 fault-told width untold name reading taken count line kind h said = tt
 fault-told width absent name reading taken count line kind h said = h
 fault-told width (holds bytes) name reading taken count line kind h said =
-    let rest : map bits_of_line (says_ahead reading bytes).vectors ≡ [] = ap (λ (s : SaidVectors). map bits_of_line s.vectors) said.is in
-    (vectors-are width bytes reading taken h ∙ (ap (λ vs. taken ++ vs) rest ∙ append-nil taken), record {
-      end = said.end;
-      is = h.fault ∙ ap (λ (s : SaidVectors). s.fault) said.is;
-      near = said.near;
-    })
+    let rest : map bits_of_line (says_ahead reading bytes).vectors ≡ [] = ap (λ (s : SaidVectors). map bits_of_line s.vectors) said.is in (
+      vectors-are width bytes reading taken h ∙ (ap (λ vs. taken ++ vs) rest ∙ append-nil taken),
+      record {
+        end = said.end;
+        is = h.fault ∙ ap (λ (s : SaidVectors). s.fault) said.is;
+        near = said.near;
+      },
+    )
 
 pub taken-fault : (width : ℕ) (before store store' : StoreState) (r : VectorReading) (taken : List (List Bool)) (line : ℕ) (kind : VectorKind) → IsTaking width before store r taken → NextFails (Text line kind) r store store' → AreBeforeFault width (file_of before) store'.current line kind taken
 taken-fault width before store store' r taken line kind so_far fails =

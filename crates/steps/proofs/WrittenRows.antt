@@ -79,7 +79,7 @@ module _ (width : ℕ) (begun : Outside) (reading : VectorReading) (waiting : Li
   pub all-written : waiting ≡ [] → Wrote begun.sink.written now.sink.written (flat_map row_line rows)
   all-written none =
       let same : flat_map row_line so_far.put ≡ flat_map row_line rows =
-          sym (append-nil (flat_map row_line so_far.put)) ∙ (ap (λ t. flat_map row_line so_far.put ++ t) (sym none) ∙ lines-are) in
+      sym (append-nil (flat_map row_line so_far.put)) ∙ (ap (λ t. flat_map row_line so_far.put ++ t) (sym none) ∙ lines-are) in
       subst (λ t. Wrote begun.sink.written now.sink.written t) same so_far.wrote
 
   pub none-left : waiting ≡ [] → length rows ≤ length so_far.put
@@ -277,9 +277,13 @@ module _ (w : RowWork) (begun now new : Outside) (reading : VectorReading) (wait
 
     held-wrote : (fail : SinkFail) → 0 < length waiting → PutFails fail waiting now.sink new.sink → StopWrote (all_rows w) (Sink fail) begun.sink new.sink
     held-wrote Failed some fails =
-        let c = cut-of so_far.rest fails.1.0 (subst (λ t. 0 < length t) so_far.waits some) in
-        (flat_map row_line (so_far.put ++ c.front), row_line c.row, c.part, before-row c.front c.row c.more c.split,
-        subst (λ t. Wrote begun.sink.written new.sink.written t) (cut-text fails.1.0 c) (Wrote-then _ _ _ _ _ so_far.wrote fails.1.1))
+        let c = cut-of so_far.rest fails.1.0 (subst (λ t. 0 < length t) so_far.waits some) in (
+          flat_map row_line (so_far.put ++ c.front),
+          row_line c.row,
+          c.part,
+          before-row c.front c.row c.more c.split,
+          subst (λ t. Wrote begun.sink.written new.sink.written t) (cut-text fails.1.0 c) (Wrote-then _ _ _ _ _ so_far.wrote fails.1.1),
+        )
     held-wrote Memory some fails =
         let f = first-of so_far.rest (subst (λ t. 0 < length t) so_far.waits some) in
         let at = before-row [] f.0 f.1 f.2 in

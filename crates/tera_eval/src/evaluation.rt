@@ -67,7 +67,13 @@ fn next_row<S: Store, K: Sink>(
         let new = at_rows rows.new (S.store_state store.new) (K.sink_state sink.new) in
         IfErr result (λ stop. NextStops stop old new) }
 {
-    if !next_vector(&mut rows.vectors, &mut rows.vector, &mut rows.block, store, sink)? {
+    if !next_vector(
+        &mut rows.vectors,
+        &mut rows.vector,
+        &mut rows.block,
+        store,
+        sink,
+    )? {
         return Ok(false);
     }
     let ahead = rows.vectors.unread();

@@ -92,12 +92,15 @@ faulty p b kind sound lt e m h c fault = record {
   whole = λ same. absurd (cc);
   full = tt;
   says = λ rest.
-      let first = first-line p.limit p.number (p.at + 1) rest in
-      (first.line.next_at, omega (arith, first.late), says-byte p b rest lt e ∙
-      ap (λ (ls : List PhysicalLine). lines_say p.width (put_before (front_of p ++ b ∷ []) ls)) first.is ∙
-      says-first p.width (record first.line { bytes = (front_of p ++ b ∷ []) ++ first.line.bytes }) first.later (p.shown ++ b ∷ shown first.line.bytes)
-      (rw c (ap shown (append_assoc (p.shown ++ []) (b ∷ []) first.line.bytes ∙ append_assoc p.shown [] (b ∷ first.line.bytes)) ∙ shown-other p.width p.shown first.line.bytes b sound.right m h)) ∙
-      rw (fault (shown first.line.bytes), first.numbered) refl);
+      let first = first-line p.limit p.number (p.at + 1) rest in (
+        first.line.next_at,
+        omega (arith, first.late),
+        says-byte p b rest lt e ∙
+            ap (λ (ls : List PhysicalLine). lines_say p.width (put_before (front_of p ++ b ∷ []) ls)) first.is ∙
+            says-first p.width (record first.line { bytes = (front_of p ++ b ∷ []) ++ first.line.bytes }) first.later (p.shown ++ b ∷ shown first.line.bytes)
+            (rw c (ap shown (append_assoc (p.shown ++ []) (b ∷ []) first.line.bytes ∙ append_assoc p.shown [] (b ∷ first.line.bytes)) ∙ shown-other p.width p.shown first.line.bytes b sound.right m h)) ∙
+            rw (fault (shown first.line.bytes), first.numbered) refl,
+      );
 }
 
 pub on-wrong : (p : PartLine) (b : ℕ) → IsSound p → p.at < p.limit → is_line_feed b ≡ false → is_comment_mark b ≡ false → is_row_blank b ≡ false → p.in_comment ≡ false → is_vector_byte p.width b ≡ false → HasRead (Fault Char) (b ∷ []) 1 p p

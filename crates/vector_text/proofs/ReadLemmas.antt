@@ -275,9 +275,12 @@ module _ (old line : PartLine) (unread left fresh : List ℕ) (before mid after 
       LineFails (Text number kind) old unread before after
   fault-ahead more number kind r here =
       let m = moves-on old line line unread left fresh fresh more 0 before mid after h.contents h.moves r (omega arith)
-      (omega arith) refl in
-      (m.count, m.place, subst (λ (n : ℕ). IfSome (bytes_ahead unread before) (λ bytes. IsFaultOf number kind n (says_on old bytes))) (sym m.bytes)
-      (map-holds (says_on old) (says_on line) (FaultHere number kind) (bytes_ahead unread before) (bytes_ahead fresh after) (says-fresh more r) here))
+      (omega arith) refl in (
+        m.count,
+        m.place,
+        subst (λ (n : ℕ). IfSome (bytes_ahead unread before) (λ bytes. IsFaultOf number kind n (says_on old bytes))) (sym m.bytes)
+            (map-holds (says_on old) (says_on line) (FaultHere number kind) (bytes_ahead unread before) (bytes_ahead fresh after) (says-fresh more r) here),
+      )
 
   pub answers-read : (step : Step) (new : PartLine) (rest : List ℕ) → IsSound line → length fresh ≤ 65536 → (step ≡ Onward → ⊥) →
       IsRefilled true left fresh mid after → HasReadOn step line fresh new rest →

@@ -20,10 +20,11 @@ returns-clause-vector c = λ yes.
     (gives-unread c.if-more.row c.self.inside.line new c.self.inside.feed c.read_here-more.new.feed r.room (r.vector yes) spelled)
 
 pub returns-clause-kept : goal.returns-clause-kept
-returns-clause-kept c = λ none.
-    (c.read_here-more.ensures.kept none ∙ c.self.view_is,
-    elim c.if-more.branch [
-      | then-more w ↦
-          absurd (let set = w.if-more.true in cc)
-      | else-more w ↦ w.row-is
-    ])
+returns-clause-kept c = λ none. (
+  c.read_here-more.ensures.kept none ∙ c.self.view_is,
+  elim c.if-more.branch [
+    | then-more w ↦
+        absurd (let set = w.if-more.true in cc)
+    | else-more w ↦ w.row-is
+  ],
+)
