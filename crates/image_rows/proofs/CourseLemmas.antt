@@ -17,7 +17,7 @@ use Rattle.image_rows.specs.Rows.{most_rows, RowsBegin, IsAtOutputs, image_cours
 
 -- the same work, of which the rows are such
 abbrev pub with_rows : RowWork → (are : (vectors rows : List (List Bool)) → Type 0) → RowWork
-with_rows w are = record { width = w.width; told = w.told; place = w.place; are = are; session = w.session; lacks = w.lacks }
+with_rows w are = record { width = w.width; told = w.told; place = w.place; are = are; session = w.session; lost = w.lost; lacks = w.lacks }
 
 module _ (w : RowWork) (are : (vectors rows : List (List Bool)) → Type 0) (also : (vectors rows : List (List Bool)) → w.are vectors rows → are vectors rows) where
   abbrev has-also : (text : List ℕ) → HasRows w text → HasRows (with_rows w are) text
@@ -37,6 +37,7 @@ module _ (w : RowWork) (are : (vectors rows : List (List Bool)) → Type 0) (als
     vectors = h.vectors;
     rows = h.rows;
     row = h.row;
+    more = h.more;
     text_is = h.text_is;
     line_is = h.line_is;
     first = h.first;

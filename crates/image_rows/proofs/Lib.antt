@@ -3,3 +3,4 @@ pub mod CourseLemmas
 -- For the proofs of this crate alone.
 mod ImageLemmas
 mod RowLemmas
+mod CycleLemmas

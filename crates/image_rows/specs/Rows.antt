@@ -2,7 +2,7 @@
 use Rattle.std.specs.Prelude.{◌≡◌, ℕ, ◌+◌, ◌≤◌, Bool, List, [], ◌∷◌, map, length, Option, Some, IfSome}
 use Rattle.std.specs.List.{All}
 use Rattle.tm_outside.specs.Told.{Told}
-use Rattle.tm_outside.specs.Counts.{next_count}
+use Rattle.tm_outside.specs.Counts.{next_count, Rose}
 use Rattle.tm_outside.specs.Store.{StorePlace, StoreState}
 use Rattle.hierarchy.specs.Circuit.{Pins}
 use Rattle.hierarchy.specs.Faults.{Faults}
@@ -36,14 +36,15 @@ pub record IsSession (rig : RigState) (i : ImageValue) (vectors rows : List (Lis
   pub rows_are : rows ≡ map (image_row i) (readings_of (cycles_of rig))
   pub room : most_rows ≤ spare_of rig + length rows
 
--- the rows of an image
-abbrev pub image_rows : ImageValue → Told → Option StorePlace → RigState → RowWork
-image_rows i told place rig = record {
+-- the rows of an image. The rig had failed so many times as the command began
+abbrev pub image_rows : ImageValue → Told → Option StorePlace → (failures : ℕ) → RigState → RowWork
+image_rows i told place failures rig = record {
   width = length i.inputs;
   told = told;
   place = place;
   are = AreRowsOf rig i;
   session = IsSession rig i;
+  lost = Rose failures rig.failures;
   lacks = λ count. most_rows ≤ count;
 }
 

@@ -1,18 +1,20 @@
 -- What the steps of a run say.
-use Rattle.std.specs.Prelude.{◌≡◌, ◌≤◌, Bool, true, false, length, None}
+use Rattle.std.specs.Prelude.{◌≡◌, ◌⊎◌, ◌≤◌, ℕ, List, [], Bool, true, false, length}
 use Rattle.tm_outside.specs.Counts.{Rose}
-use Rattle.tm_outside.specs.Store.{StoreState, IsFailure}
-use Rattle.rig.specs.Rig.{RigState, Begins, spare_of}
+use Rattle.tm_outside.specs.Store.{StoreState}
+use Rattle.tm_outside.specs.Sink.{SinkState}
+use Rattle.rig.specs.Rig.{RigState, Begins, CycleFails}
+use Rattle.rig.specs.declared.rig.RigFail.{RigFail}
+use Rattle.rig.specs.declared.rig.RigFail.TheVariants as work
 use Rattle.loader.specs.Pins.{pins_in}
 use Rattle.loader.specs.Run.{RunsRow}
-use Rattle.vector_text.specs.declared.vectors.VectorsFail.TheVariants.{Text}
-use Rattle.vector_text.specs.Readings.{new_reading, NextGives, NextFails, StaysWithin}
+use Rattle.vector_text.specs.Readings.{new_reading}
 use Rattle.steps.specs.Files.{most_vector_bytes}
-use Rattle.steps.specs.NextVectors.{StaysOpen, IsRead}
+use Rattle.steps.specs.NextVectors.{StaysOpen, IsRead, RowsAt, rows_at, IsPutOut, IsHeldUp, NextOf, NextStops}
 use Rattle.steps.specs.Courses.{Step}
 use Rattle.steps.specs.declared.refusal.Refusal.TheVariants as refused
 use Rattle.steps.specs.declared.refusal.Stop.{Stop}
-use Rattle.steps.specs.declared.refusal.Stop.TheVariants.{Refused}
+use Rattle.steps.specs.declared.refusal.Stop.TheVariants.{Refused, Sink}
 use Rattle.image_rows.specs.Rows.{most_rows, loads}
 use Rattle.image_rows.specs.declared.image.Running.{Running}
 
@@ -23,12 +25,13 @@ pub record IsFitting (rows : Running) : Type 0 where
   pub limit : rows.vectors.limit ≡ most_vector_bytes
   pub vector : length rows.vector.items ≡ length rows.image.inputs
   pub row : length rows.row.items ≡ length rows.image.outputs
-  pub line : rows.line ≡ length rows.image.outputs
+  pub block : rows.block.width ≡ length rows.image.outputs
 
 -- the image is loaded, with room for the rows, and no vector was read
 pub record IsLoaded (rows : Running) (rig : RigState) : Type 0 where
   pub fits : IsFitting rows
   pub vectors : rows.vectors ≡ new_reading (length rows.image.inputs) most_vector_bytes
+  pub none : rows.block.text ≡ []
   pub begins : Begins rows.image.config most_rows rig
 
 -- the load, as the body's own step
@@ -43,28 +46,44 @@ pub record Keeps (old new : Running) (before after : StoreState) (rig_old rig_ne
   pub loads : rig_new.loads ≡ rig_old.loads
   pub failures : rig_old.failures ≤ rig_new.failures
 
--- a vector was read
-abbrev pub ReadsNext : (old new : Running) → (before after : StoreState) → Type 0
-ReadsNext old new before after = IsRead new.vector.items old.vectors new.vectors before after
+-- where the reading stands: with the lines of the rows that wait
+abbrev pub at_rows : Running → StoreState → SinkState → RowsAt
+at_rows rows store sink = rows_at rows.vectors rows.block store sink
 
--- and driven, and the row is what was read at the output pins
-pub record IsDriven (old new : Running) (before after : StoreState) (rig_old rig_new : RigState) : Type 0 where
-  pub read : ReadsNext old new before after
+-- a vector was read and driven, and the row is what was read at the output pins
+pub record IsDriven (old new : Running) (from to : RowsAt) (rig_old rig_new : RigState) : Type 0 where
+  pub next : NextOf true new.vector.items from to
   pub row : RunsRow (pins_in old.image) rig_old rig_new new.vector.items new.row.items
 
 -- the next row, or the end of the file
-abbrev pub CycleGives : Bool → Running → Running → StoreState → StoreState → RigState → RigState → Type 0
-CycleGives true old new before after rig_old rig_new = IsDriven old new before after rig_old rig_new
-CycleGives false old new before after rig_old rig_new =
-    NextGives false new.vector.items old.vectors new.vectors before after × (rig_new ≡ rig_old)
+abbrev pub CycleGives : Bool → Running → Running → RowsAt → RowsAt → RigState → RigState → Type 0
+CycleGives true old new from to rig_old rig_new = IsDriven old new from to rig_old rig_new
+CycleGives false old new from to rig_old rig_new = NextOf false new.vector.items from to × (rig_new ≡ rig_old)
 
--- why no row is made: no vector is read, or the rig doesn't drive it
-abbrev pub CycleStops : Stop → Running → Running → StoreState → StoreState → RigState → RigState → Type 0
-CycleStops (Refused (refused.Vectors line kind)) old new before after rig_old rig_new =
-    NextFails (Text line kind) old.vectors before after × StaysWithin before after × (rig_new ≡ rig_old)
-CycleStops (Refused refused.Store) old new before after rig_old rig_new = IsFailure before after × (rig_new ≡ rig_old)
-CycleStops (Refused refused.Rig) old new before after rig_old rig_new =
-    ReadsNext old new before after × Rose rig_old.failures rig_new.failures × (rig_new.session ≡ None)
-CycleStops (Refused refused.Memory) old new before after rig_old rig_new =
-    ReadsNext old new before after × (spare_of rig_old ≡ 0) × (rig_new.session ≡ rig_old.session)
-CycleStops stop old new before after rig_old rig_new = ⊥
+-- the session is as it was, or the rig has failed
+abbrev pub HasOrFailed : RigState → RigState → Type 0
+HasOrFailed old new = (new.session ≡ old.session) ⊎ Rose old.failures new.failures
+
+-- the rig doesn't drive the vector, and the rows that wait are put out; or they aren't
+abbrev pub DriveStops : Stop → (waiting left : List ℕ) → SinkState → SinkState → RigState → RigState → Type 0
+DriveStops (Refused refused.Rig) waiting left old new rig_old rig_new =
+    IsPutOut waiting left old new × CycleFails work.Failed rig_old rig_new
+DriveStops (Refused refused.Memory) waiting left old new rig_old rig_new =
+    IsPutOut waiting left old new × CycleFails work.Memory rig_old rig_new
+DriveStops (Sink fail) waiting left old new rig_old rig_new =
+    ((store : StoreState) → IsHeldUp (Sink fail) waiting store store old new) × HasOrFailed rig_old rig_new
+DriveStops stop waiting left old new rig_old rig_new = ⊥
+
+-- the same behind a vector that was read
+pub record IsUndriven (fail : RigFail) (old new : Running) (from to : RowsAt) (rig_old rig_new : RigState) : Type 0 where
+  pub read : IsRead new.vector.items old.vectors new.vectors from.store to.store
+  pub out : IsPutOut from.waiting to.waiting from.sink to.sink
+  pub fails : CycleFails fail rig_old rig_new
+
+-- why no row is made: no vector is read, the rig doesn't drive it, or the rows that wait aren't put out
+abbrev pub CycleStops : Stop → Running → Running → RowsAt → RowsAt → RigState → RigState → Type 0
+CycleStops (Refused refused.Rig) old new from to rig_old rig_new = IsUndriven work.Failed old new from to rig_old rig_new
+CycleStops (Refused refused.Memory) old new from to rig_old rig_new = IsUndriven work.Memory old new from to rig_old rig_new
+CycleStops (Sink fail) old new from to rig_old rig_new =
+    IsHeldUp (Sink fail) from.waiting from.store to.store from.sink to.sink × HasOrFailed rig_old rig_new
+CycleStops stop old new from to rig_old rig_new = NextStops stop from to × (rig_new ≡ rig_old)

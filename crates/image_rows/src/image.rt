@@ -1,24 +1,27 @@
 //! The rows of an image.
-ghost use Rattle.std.specs.Prelude.{◌≡◌, ℕ, List, ◌∷◌, [], Some, OnOk, IfOk, IfErr, IsSome, length};
+ghost use Rattle.std.specs.Prelude.{◌≡◌, ◌≤◌, ℕ, List, ◌∷◌, ◌++◌, [], Some, OnOk, IfOk, IfErr, IsSome, length};
 ghost use Rattle.tm_outside.specs.Store.{StoreState};
 ghost use Rattle.tm_outside.specs.Sink.{SinkState};
 ghost use Rattle.hierarchy.specs.Shape.{pins_of};
 ghost use Rattle.rig.specs.Rig.{shape_of, width_of};
+ghost use Rattle.loader.specs.Pins.{pins_in};
+ghost use Rattle.loader.specs.Run.{RunsRow};
 ghost use Rattle.vector_text.specs.Rows.{row_line};
 ghost use Rattle.steps.specs.Files.{IsBegun, file_of};
 ghost use Rattle.steps.specs.Outside.{StandsIn, outside, around};
 ghost use Rattle.steps.specs.Courses.{all_rows};
-ghost use Rattle.steps.specs.Took.{Took, Puts, Follows};
+ghost use Rattle.steps.specs.NextVectors.{WaitsOrPuts};
+ghost use Rattle.steps.specs.Took.{Took, Follows};
 ghost use Rattle.image_rows.specs.Rows.{RowsBegin, image_rows, image_course};
-ghost use Rattle.image_rows.specs.Running.{IsFitting, IsLoaded, Keeps, CycleGives, CycleStops, prepares};
+ghost use Rattle.image_rows.specs.Running.{IsFitting, IsLoaded, Keeps, CycleGives, CycleStops, DriveStops, prepares, at_rows};
 
 use config_image::Image;
 use loader::{Run, begin};
 use rig::Rig;
 use std::alloc::Global;
-use steps::{Stop, open_vectors, write};
+use steps::{RowBlock, Stop, next_vector, open_vectors, write};
 use tm_outside::{Sink, Store};
-use vector_text::{RowText, VectorText};
+use vector_text::VectorText;
 
 /// For how many rows the rig is asked for room.
 const ROOM: u32 = 4_096;
@@ -31,7 +34,7 @@ struct Running {
     vectors: VectorText,
     vector: Vec<bool>,
     row: Vec<bool>,
-    line: RowText,
+    block: RowBlock,
 }
 
 // How many input pins an image has, and how many output pins: they are different pins of the machine.
@@ -63,7 +66,7 @@ fn prepare(alloc: Global, image: Image, rig: &mut Box<dyn Rig>) -> Result<Runnin
     let vectors = VectorText::new(alloc, inputs)?;
     let vector = vec![in alloc; false; inputs as usize]?;
     let row = vec![in alloc; false; outputs as usize]?;
-    let line = RowText::new(alloc, outputs)?;
+    let block = RowBlock::new(alloc, outputs)?;
     let run = begin(alloc, rig, &image, ROOM)?;
     Ok(Running {
         image,
@@ -71,15 +74,42 @@ fn prepare(alloc: Global, image: Image, rig: &mut Box<dyn Rig>) -> Result<Runnin
         vectors,
         vector,
         row,
-        line,
+        block,
     })
 }
 
+// Makes the cycle of the vector that was read. Where the rig makes none, the rows that wait are written.
+fn drive_row<K: Sink>(rows: &mut Running, rig: &mut Box<dyn Rig>, sink: &mut K) -> Result<(), Stop>
+    requires fits { IsFitting rows.old }
+    requires pins { width_of (rig_state rig.old) ≡ Some (pins_of rows.old.image.config.shape) }
+
+    ensures image { rows.new.image ≡ rows.old.image }
+    ensures vectors { rows.new.vectors ≡ rows.old.vectors }
+    ensures vector { rows.new.vector ≡ rows.old.vector }
+    ensures machine { (rig_state rig.new).machine ≡ (rig_state rig.old).machine }
+    ensures loads { (rig_state rig.new).loads ≡ (rig_state rig.old).loads }
+    ensures failures { (rig_state rig.old).failures ≤ (rig_state rig.new).failures }
+    ensures fits { IsFitting rows.new }
+    ensures kept { OnOk result ((rows.new.block ≡ rows.old.block) × (K.sink_state sink.new ≡ K.sink_state sink.old)) }
+    ensures row { let pins = pins_in rows.old.image in
+        OnOk result (RunsRow pins (rig_state rig.old) (rig_state rig.new) rows.old.vector.items rows.new.row.items) }
+    ensures refused { IfErr result (λ stop. DriveStops stop rows.old.block.text rows.new.block.text
+        (K.sink_state sink.old) (K.sink_state sink.new) (rig_state rig.old) (rig_state rig.new)) }
+{
+    let fail = match rows.run.row(rig, &rows.vector, &mut rows.row) {
+        Ok(()) => return Ok(()),
+        Err(fail) => fail,
+    };
+    rows.block.put(sink)?;
+    Err(Stop::from(fail))
+}
+
 // Reads the next vector and makes its cycle. False is the end of the file.
-fn next_row<S: Store>(
+fn next_row<S: Store, K: Sink>(
     rows: &mut Running,
     store: &mut S,
     rig: &mut Box<dyn Rig>,
+    sink: &mut K,
 ) -> Result<bool, Stop>
     requires open { IsSome (S.store_state store.old).current }
     requires fits { IsFitting rows.old }
@@ -87,28 +117,39 @@ fn next_row<S: Store>(
 
     ensures keeps { Keeps rows.old rows.new (S.store_state store.old) (S.store_state store.new) (rig_state rig.old) (rig_state rig.new) }
     ensures fits { OnOk result (IsFitting rows.new) }
-    ensures gives { let old = S.store_state store.old in let new = S.store_state store.new in
-        IfOk result (λ more. CycleGives more rows.old rows.new old new (rig_state rig.old) (rig_state rig.new)) }
-    ensures refused { let old = S.store_state store.old in let new = S.store_state store.new in
-        IfErr result (λ stop. CycleStops stop rows.old rows.new old new (rig_state rig.old) (rig_state rig.new)) }
+    ensures gives { let from = at_rows rows.old (S.store_state store.old) (K.sink_state sink.old) in
+        let to = at_rows rows.new (S.store_state store.new) (K.sink_state sink.new) in
+        IfOk result (λ more. CycleGives more rows.old rows.new from to (rig_state rig.old) (rig_state rig.new)) }
+    ensures refused { let from = at_rows rows.old (S.store_state store.old) (K.sink_state sink.old) in
+        let to = at_rows rows.new (S.store_state store.new) (K.sink_state sink.new) in
+        IfErr result (λ stop. CycleStops stop rows.old rows.new from to (rig_state rig.old) (rig_state rig.new)) }
 {
-    if !rows.vectors.next(store, &mut rows.vector)? {
+    if !next_vector(
+        &mut rows.vectors,
+        &mut rows.vector,
+        &mut rows.block,
+        store,
+        sink,
+    )? {
         return Ok(false);
     }
-    rows.run.row(rig, &rows.vector, &mut rows.row)?;
+    drive_row(rows, rig, sink)?;
     Ok(true)
 }
 
-// Writes the line of the row that was made.
-fn write_row<K: Sink>(rows: &mut Running, sink: &mut K) -> Result<(), Stop>
+// Lets the row that was made wait behind the others, or writes them all.
+fn add_row<K: Sink>(rows: &mut Running, sink: &mut K) -> Result<(), Stop>
     requires { IsFitting rows.old }
-    ensures same { rows.new ≡ rows.old }
-    ensures puts { Puts (row_line rows.old.row.items) result (K.sink_state sink.old) (K.sink_state sink.new) }
+    ensures image { rows.new.image ≡ rows.old.image }
+    ensures vectors { rows.new.vectors ≡ rows.old.vectors }
+    ensures fits { IsFitting rows.new }
+    ensures waits { let lines = rows.old.block.text ++ row_line rows.old.row.items in
+        WaitsOrPuts lines rows.new.block.text result (K.sink_state sink.old) (K.sink_state sink.new) }
 {
-    write(sink, rows.line.line(&rows.row))
+    rows.block.add(&rows.row, sink)
 }
 
-// Makes a cycle for each vector of the current file, and writes its row before the next is read.
+// Makes a cycle for each vector of the current file, and writes all rows that wait before the store is read again.
 fn write_rows<S: Store, K: Sink>(
     rows: &mut Running,
     store: &mut S,
@@ -118,13 +159,15 @@ fn write_rows<S: Store, K: Sink>(
     requires begun { IsBegun (S.store_state store.old) }
     requires loaded { IsLoaded rows.old (rig_state rig.old) }
 
+    // However often the rig had failed as the command began.
     ensures follows { let old = outside (S.store_state store.old) (rig_state rig.old) (K.sink_state sink.old) in
         let new = outside (S.store_state store.new) (rig_state rig.new) (K.sink_state sink.new) in
-        let work = image_rows rows.old.image (file_of old.store) new.store.current new.rig in
+        (failures : ℕ) → failures ≤ old.rig.failures →
+        let work = image_rows rows.old.image (file_of old.store) new.store.current failures new.rig in
         Follows ⊥ [] ((new.rig.machine ≡ old.rig.machine) × (new.rig.loads ≡ old.rig.loads)) (all_rows work) result old new }
 {
-    'file: while next_row(rows, store, rig)? {
-        write_row(rows, sink)?;
+    'file: while next_row(rows, store, rig, sink)? {
+        add_row(rows, sink)?;
     }
     Ok(())
 }
@@ -149,11 +192,11 @@ pub fn run_image<S: Store, K: Sink>(
 ) -> Result<(), Stop>
     requires { shape_of (rig_state rig.old) ≡ Some image.config.shape }
 
-    // Wherever the store stood as the command began.
+    // Wherever the store stood as the command began, and however often the rig had failed.
     ensures follows { let old = outside (S.store_state store.old) (rig_state rig.old) (K.sink_state sink.old) in
         let new = outside (S.store_state store.new) (rig_state rig.new) (K.sink_state sink.new) in
-        let rows = image_rows image (old.store.contents vectors.now) new.store.current new.rig in
-        (files : List (List ℕ)) (begun : StoreState) → StandsIn files begun old.store →
+        (files : List (List ℕ)) (begun : StoreState) (failures : ℕ) → StandsIn files begun old.store → failures ≤ old.rig.failures →
+        let rows = image_rows image (old.store.contents vectors.now) new.store.current failures new.rig in
         let b : RowsBegin = record { image = image; vectors = vectors.now; files = files; begun = begun; before = old.rig.loads } in
         Follows ⊥ (vectors.now ∷ []) (new.rig.machine ≡ old.rig.machine) (image_course rows b (around new)) result old new }
 {

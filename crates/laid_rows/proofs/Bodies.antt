@@ -1,6 +1,6 @@
 -- The bodies of the commands, up to the list: a machine is read and attached, and designs are read. A lemma for each place where one
 -- ends, and for each where it goes on.
-use Rattle.std.proofs.Common.{◌≡◌, ℕ, List, [], ◌∷◌, refl}
+use Rattle.std.proofs.Common.{◌≡◌, ◌≤◌, ℕ, List, [], ◌∷◌, refl}
 use Rattle.std.specs.Prelude.{Result, Ok, Err}
 use Rattle.tm_outside.specs.Store.{StoreState}
 use Rattle.tm_outside.specs.Sink.{SinkState}
@@ -18,10 +18,11 @@ use Rattle.steps.proofs.Reading.{HasRead, none-read, more-read, read-stops, read
 use Rattle.listing.specs.Lists.{Unloaded}
 use Rattle.laid_rows.specs.Runs.{machine_attached}
 
--- these files were read, and no load was made
+-- these files were read, and no load was made. The rig's count of failures didn't fall
 pub record HasOnlyRead (files : List (List ℕ)) (old : Around) (now : Outside) : Type 0 where
   pub read : HasRead files old.store now.store
   pub loads : now.rig.loads ≡ old.rig.loads
+  pub failures : old.rig.failures ≤ now.rig.failures
 
 -- ---- the machine
 
@@ -65,7 +66,7 @@ module _ (machine name : List ℕ) (rest : Shape → Course) (more : List (List 
     attached-then result new took goes =
         let unloaded = Unloaded (machine ∷ []) (around old) (around new) in
         let has = more-read reads_machine machine [] s0 m old (outside s1 r0 a) (none-read s0) read in
-        let is = goes (record { read = has; loads = loads }) in
+        let is = goes (record { read = has; loads = loads; failures = took.later.rig }) in
         attached-gives machine name unloaded rest more s0 s1 r0 r1 a m read may result new took is
 
 -- ---- the designs
@@ -96,7 +97,7 @@ module _ {files : List (List ℕ)} {old : Around} {now : Outside} (come : HasOnl
       → GoesTo result new
   drawn-then x result new took goes =
       let has = more-read (reads_design file) name files old.store x now mid come.read took in
-      let is = goes (record { read = has; loads = come.loads }) in
+      let is = goes (record { read = has; loads = come.loads; failures = come.failures }) in
       let unloaded = Unloaded (name ∷ files) old (around new) in
       let reads = reads_design file in
       read-gives reads name files old.store unloaded rest more _ _ x result now mid new come.read took is is.machines

@@ -42,7 +42,7 @@ pub record Words : Type 1 where
 
 module _ (w : Words) (old new : Around) where
   abbrev pub begin-at : List (List ℕ) → RunBegin
-  begin-at files = record { begun = old.store; files = files; vectors = w.vectors }
+  begin-at files = record { begun = old.store; failures = old.rig.failures; files = files; vectors = w.vectors }
 
   abbrev pub script-course : Script → List (List ℕ) → Shape → Course
   script-course (reads file name rest) files m =

@@ -1,6 +1,7 @@
 -- What is laid on a machine: one design, or several side by side.
 use Rattle.std.specs.Prelude.{◌≡◌, ◌≤◌, ℕ, Bool, List, length, Option, IfSome}
 use Rattle.tm_outside.specs.Told.{Told}
+use Rattle.tm_outside.specs.Counts.{Rose}
 use Rattle.tm_outside.specs.Store.{StorePlace}
 use Rattle.hierarchy.specs.Defects.{Covers}
 use Rattle.hierarchy.specs.Faults.{Faults}
@@ -32,12 +33,14 @@ pub record AreLaidRows (w : Laid) (rig : RigState) (i : ImageValue) (vectors row
   pub read : AreRowsOf rig i vectors rows
   pub right : IfSome rig.machine.faults (λ f. w.rows vectors rows)
 
-abbrev pub rows_work : Laid → ImageValue → Told → Option StorePlace → RigState → RowWork
-rows_work w i told place rig = record {
+-- the rig had failed so many times as the command began
+abbrev pub rows_work : Laid → ImageValue → Told → Option StorePlace → (failures : ℕ) → RigState → RowWork
+rows_work w i told place failures rig = record {
   width = length i.inputs;
   told = told;
   place = place;
   are = AreLaidRows w rig i;
   session = IsSession rig i;
+  lost = Rose failures rig.failures;
   lacks = λ count. most_rows ≤ count;
 }

@@ -13,10 +13,11 @@ use Rattle.listing.specs.Lists.{Listed, Unloaded, lists}
 use Rattle.image_rows.specs.Rows.{image_course}
 use Rattle.laid_rows.specs.Laid.{Laid, rows_work}
 
--- where the list is made: the store as the command began, the files that were read since, the last first, and the file of
--- vectors
+-- where the list is made: the store as the command began, and how often the rig had failed then, the files that were read since,
+-- the last first, and the file of vectors
 pub record RunBegin : Type 0 where
   pub begun : StoreState
+  pub failures : ℕ
   pub files : List (List ℕ)
   pub vectors : List ℕ
 
@@ -27,7 +28,7 @@ HasStayed b l new = StandsIn b.files b.begun new.store × (new.rig.loads ≡ l.l
 -- The image is loaded by one load more, and its rows, which are those of what was laid, are written
 abbrev pub image_run : Laid → RunBegin → (new : Around) → Listed → ImageValue → Course
 image_run w b new l i =
-    image_course (rows_work w i (b.begun.contents b.vectors) new.store.current new.rig)
+    image_course (rows_work w i (b.begun.contents b.vectors) new.store.current b.failures new.rig)
     (record { image = i; vectors = b.vectors; files = b.files; begun = b.begun; before = l.loads }) new
 
 -- It is laid on what the list leaves free, and the image is run

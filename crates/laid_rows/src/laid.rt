@@ -1,5 +1,5 @@
 //! What is laid on a machine, and run.
-ghost use Rattle.std.specs.Prelude.{◌≡◌, ℕ, List, ◌∷◌, [], Some};
+ghost use Rattle.std.specs.Prelude.{◌≡◌, ◌≤◌, ℕ, List, ◌∷◌, [], Some};
 ghost use Rattle.tm_outside.specs.Store.{StoreState};
 ghost use Rattle.defect_db.specs.Lists.{DefectList};
 ghost use Rattle.config_image.specs.Images.{ImageValue};
@@ -56,12 +56,12 @@ pub fn list_and_run<L: Lays, S: Store, K: Sink>(
 ) -> Result<(), Stop>
     requires { shape_of (rig_state rig.old) ≡ Some shape.now }
 
-    // Wherever the store stood as the command began, and whatever was read since.
+    // Wherever the store stood as the command began, however often the rig had failed, and whatever was read since.
     ensures follows { let old = outside (S.store_state store.old) (rig_state rig.old) (K.sink_state sink.old) in
         let new = outside (S.store_state store.new) (rig_state rig.new) (K.sink_state sink.new) in
-        (before : ℕ) (files : List (List ℕ)) (begun : StoreState) → old.rig.loads ≡ before → StandsIn files begun old.store →
-        old.store.contents ≡ begun.contents →
-        let b : RunBegin = record { begun = begun; files = files; vectors = vectors.now } in
+        (before failures : ℕ) (files : List (List ℕ)) (begun : StoreState) → old.rig.loads ≡ before → failures ≤ old.rig.failures →
+        StandsIn files begun old.store → old.store.contents ≡ begun.contents →
+        let b : RunBegin = record { begun = begun; failures = failures; files = files; vectors = vectors.now } in
         Follows ⊥ (vectors.now ∷ []) (new.rig.machine ≡ old.rig.machine)
         (machine_listed (L.laid what.now) shape.now before b (around new)) result old new }
 {

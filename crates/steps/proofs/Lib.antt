@@ -30,5 +30,6 @@ pub mod Values
 pub mod ListFiles
 -- For the proofs of this crate alone.
 mod TextLemmas
+mod CutRows
 mod AttachLemmas
 mod TookLemmas

@@ -54,6 +54,8 @@ pub record RowWork : Type 1 where
   pub are : (vectors rows : List (List Bool)) → Type 0
   -- and the rig's session is these vectors and rows
   pub session : (vectors rows : List (List Bool)) → Type 0
+  -- the rig has failed since the command began, and so has no session any more
+  pub lost : Type 0
   -- after so many rows memory may be wanting
   pub lacks : ℕ → Type 0
 
@@ -70,16 +72,18 @@ pub record HasReadRows (w : RowWork) (text : List ℕ) : Type 0 where
   pub has : HasRows w text
   pub session : w.session has.vectors has.rows
 
--- the row of one more vector comes next, and the store isn't far beyond that vector's line
+-- The row of one more vector comes next, and the store isn't far beyond that vector's line. The rows behind it that were to go
+-- out with it have been read too, unless the rig has failed
 pub record IsBeforeRow (w : RowWork) (text line : List ℕ) : Type 0 where
   pub vectors : List (List Bool)
   pub rows : List (List Bool)
   pub row : List Bool
+  pub more : List (List Bool)
   pub text_is : text ≡ flat_map row_line rows
   pub line_is : line ≡ row_line row
   pub first : AreFirst w.width w.told vectors
-  pub are : w.are vectors (rows ++ row ∷ [])
-  pub session : w.session vectors (rows ++ row ∷ [])
+  pub are : w.are vectors (rows ++ row ∷ more)
+  pub session : w.session vectors (rows ++ row ∷ more) ⊎ w.lost
   pub near : IsNearNext w.width w.told w.place (length rows)
 
 -- a row for each vector of the file

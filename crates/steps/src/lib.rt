@@ -17,6 +17,7 @@ mod machine;
 mod opening;
 mod output;
 mod refusal;
+mod row_block;
 
 pub use attaching::attach;
 pub use defects::read_list;
@@ -28,3 +29,4 @@ pub use machine::read_shape;
 pub use opening::open_vectors;
 pub use output::write;
 pub use refusal::{Refusal, RefusedDesign, RefusedRoom, Stop};
+pub use row_block::{RowBlock, next_vector};

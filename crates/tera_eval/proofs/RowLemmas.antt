@@ -1,6 +1,6 @@
 -- A file of vectors that is read, row by row, and how that goes on and stops.
-use Rattle.std.proofs.Common.{◌≡◌, ◌≤◌, Bool, false, List, [], ◌∷◌, ◌++◌, length, arith, refl, subst, append-nil, append_assoc}
-use Rattle.std.specs.Prelude.{Ok, Err}
+use Rattle.std.proofs.Common.{◌≡◌, ◌≤◌, ℕ, Bool, false, List, [], ◌∷◌, ◌++◌, length, arith, refl, ap, subst, inl, ◌∙◌, append-nil, append_assoc}
+use Rattle.std.specs.Prelude.{Result, Ok, Err}
 use Rattle.tm_outside.specs.Store.{StoreState}
 use Rattle.tm_outside.specs.Sink.{SinkState}
 use Rattle.netlist.specs.declared.draft.Draft.{Draft}
@@ -8,31 +8,34 @@ use Rattle.netlist.specs.Rows.{RowsFrom, AreRows, first_state, next_state}
 use Rattle.netlist_eval.specs.Evals.{EvalState, IsStep}
 use Rattle.rig.specs.Rig.{RigState}
 use Rattle.vector_text.specs.declared.vectors.VectorsFail.{VectorsFail}
+use Rattle.vector_text.specs.declared.vectors.VectorsFail.TheVariants.{Text, Failed}
 use Rattle.vector_text.specs.Readings.{NextGives, NextFails}
 use Rattle.vector_text.specs.Rows.{row_line}
 use Rattle.steps.specs.Files.{file_of, IsBegun}
-use Rattle.steps.specs.NextVectors.{StaysOpen}
+use Rattle.steps.specs.NextVectors.{StaysOpen, IsPutOut, WaitsOrPuts, NextStops}
 use Rattle.steps.specs.Outside.{outside, IsLater}
-use Rattle.steps.specs.Courses.{Course, all_rows}
+use Rattle.steps.specs.Courses.{RowWork, all_rows}
 use Rattle.steps.specs.Stops.{stop_of_vectors}
-use Rattle.steps.specs.Took.{Puts, Follows}
+use Rattle.steps.specs.Took.{Follows}
+use Rattle.steps.specs.declared.refusal.Refusal.TheVariants as refused
 use Rattle.steps.specs.declared.refusal.Stop.{Stop}
-use Rattle.steps.proofs.WrittenRows.{AreWritten, none-written, row-later, written-more, vectors-follow, end-follows, row-follows}
+use Rattle.steps.specs.declared.refusal.Stop.TheVariants.{Refused, Sink}
+use Rattle.steps.proofs.WrittenRows.{AreWritten, none-written, put-out, after-put, read-after, was-read, added, not-added, some-lines, stays-same, row-later, waits-more, vectors-follow, end-follows, held-follows}
 use Rattle.tera_eval.specs.declared.evaluation.Evaluation.{Evaluation}
 use Rattle.tera_eval.specs.Eval.{eval_rows}
-use Rattle.tera_eval.specs.Evaluations.{IsSized, IsReady, TakesRow}
+use Rattle.tera_eval.specs.Evaluations.{IsSized, IsReady, TakesRow, RowGives, at_rows}
 
 -- rows that are made on from this state follow on those that were made
 abbrev RowsGoOn : Draft → (taken made : List (List Bool)) → (state : List Bool) → Type 0
 RowsGoOn draft taken made state = (vs rs : List (List Bool)) → RowsFrom draft state vs rs → RowsFrom draft (first_state draft) (taken ++ vs) (made ++ rs)
 
--- vectors were taken and their rows written, whatever the rig is
+-- vectors were taken and their rows made, whatever the rig is: some were written, and the rest wait
 pub record IsRunning (draft : Draft) (before : StoreState) (old : SinkState) (rows : Evaluation) (store : StoreState) (sink : SinkState) : Type 0 where
   pub netlist : rows.eval.netlist ≡ draft
   pub sized : IsSized rows
   pub taken : List (List Bool)
   pub made : List (List Bool)
-  pub written : (rig : RigState) → AreWritten (length draft.inputs) (outside before rig old) rows.vectors (outside store rig sink) taken made
+  pub written : (rig : RigState) → AreWritten (length draft.inputs) (outside before rig old) rows.vectors rows.block.text (outside store rig sink) taken made
   pub go_on : RowsGoOn draft taken made rows.eval.state
 
 pub running-start : (draft : Draft) (rows : Evaluation) (store : StoreState) (sink : SinkState) → IsReady draft rows → IsBegun store → IsRunning draft store sink rows store sink
@@ -41,7 +44,7 @@ running-start draft rows store sink ready begun = record {
   sized = ready.sized;
   taken = [];
   made = [];
-  written = λ rig. rw ready.vectors (none-written (length draft.inputs) (outside store rig sink) begun);
+  written = λ rig. rw (ready.vectors, ready.none) (none-written (length draft.inputs) (outside store rig sink) begun);
   go_on = λ vs rs h. rw ready.eval at h;
 }
 
@@ -58,42 +61,72 @@ go-on-more draft taken made eval eval' vector row netlist step go_on vs rs h =
     let rest : RowsFrom draft (next_state draft step.given) vs rs = subst (λ s. RowsFrom draft s vs rs) state h in
     rw (append_assoc taken, append_assoc made) (go_on (vector ∷ vs) (row ∷ rs) (step.given, right, outputs, rest))
 
-module _ (draft : Draft) (before : StoreState) (old : SinkState) (rows : Evaluation) (store store' : StoreState) (sink : SinkState) (so_far : IsRunning draft before old rows store sink) (stays : StaysOpen store store') where
-  abbrev course : Course
-  course = all_rows (eval_rows draft (file_of before) store'.current)
+module _ (draft : Draft) (before : StoreState) (old : SinkState) (rows rows' : Evaluation) (store store' : StoreState) (sink sink' : SinkState) (so_far : IsRunning draft before old rows store sink) (stays : StaysOpen store store') where
+  abbrev work : RowWork
+  work = eval_rows draft (file_of before) store'.current
+
+  abbrev Ends : Result (Unit {0}) Stop → RigState → SinkState → Type 0
+  Ends result rig last = Follows ⊥ [] (Unit {0}) (all_rows work) result (outside before rig old) (outside store' rig last)
 
   are-rows : AreRows draft so_far.taken so_far.made
   are-rows = rows-of draft so_far.taken so_far.made rows.eval.state so_far.go_on
 
-  onward : (rig : RigState) (sink' : SinkState) → sink'.can_lack ≡ sink.can_lack → sink.failures ≤ sink'.failures → IsLater (outside store rig sink) (outside store' rig sink')
-  onward rig sink' kind later = row-later store store' rig rig sink sink' stays refl (omega arith) kind later
+  onward : (rig : RigState) (from to : SinkState) → to.can_lack ≡ from.can_lack → from.failures ≤ to.failures → IsLater (outside store rig from) (outside store' rig to)
+  onward rig from to kind later = row-later store store' rig rig from to stays refl (omega arith) kind later
+
+  -- all rows were put out before the store was read
+  module _ (rig : RigState) (left : List ℕ) (out : IsPutOut rows.block.text left sink sink') where
+    now : AreWritten (length draft.inputs) (outside before rig old) rows.vectors left (outside store rig sink') so_far.taken so_far.made
+    now = put-out _ _ _ _ (outside store rig sink) _ _ (so_far.written rig) left sink' out
+
+    put-fails : (fail : VectorsFail) → NextFails fail rows.vectors store store' → Ends (Err (stop_of_vectors fail)) rig sink'
+    put-fails fail fails =
+        vectors-follow work _ (outside store rig sink') (outside store' rig sink') _ _ _ _ now (onward rig sink' sink' refl (omega arith)) stays.asked refl refl (Unit {0}) tt are-rows tt out.empty refl fail fails
+
+    put-ends : NextGives false rows'.vector.items rows.vectors rows'.vectors store store' → Ends (Ok tt) rig sink'
+    put-ends gives =
+        end-follows work _ (outside store rig sink') (outside store' rig sink') _ _ _ _ now (onward rig sink' sink' refl (omega arith)) stays.asked refl refl (Unit {0}) tt are-rows tt out.empty refl tt rows'.vectors rows'.vector.items gives
 
   -- no further vector is read
-  pub read-stops : (rig : RigState) (fail : VectorsFail) → NextFails fail rows.vectors store store' → Follows {T = Unit {0}} ⊥ [] (Unit {0}) course (Err (stop_of_vectors fail)) (outside before rig old) (outside store' rig sink)
-  read-stops rig fail fails =
-      vectors-follow (eval_rows draft (file_of before) store'.current) _ _ (outside store' rig sink) _ _ _ (so_far.written rig) (onward rig sink refl (omega arith)) stays.asked refl refl (Unit {0}) tt are-rows tt refl fail fails
+  pub read-stops : (rig : RigState) (stop : Stop) → NextStops stop (at_rows rows store sink) (at_rows rows' store' sink') → Ends (Err stop) rig sink'
+  read-stops rig (Sink fail) held =
+      held-follows work _ (outside store rig sink) (outside store' rig sink') _ _ _ _ (so_far.written rig) (onward rig sink sink' held.kind held.later) stays.asked refl refl (Unit {0}) tt are-rows (inl tt) held.still (Sink fail) held
+  read-stops rig (Refused (refused.Vectors line kind)) stops = put-fails rig _ stops.1 (Text line kind) stops.0
+  read-stops rig (Refused refused.Store) stops = put-fails rig _ stops.1 Failed stops.0
+  read-stops rig (Refused refusal) stops = absurd stops
 
   -- the file has ended
-  pub file-ends : (rig : RigState) (rows' : Evaluation) → NextGives false rows'.vector.items rows.vectors rows'.vectors store store' → Follows {T = Unit {0}} ⊥ [] (Unit {0}) course (Ok tt) (outside before rig old) (outside store' rig sink)
-  file-ends rig rows' gives =
-      end-follows (eval_rows draft (file_of before) store'.current) _ _ (outside store' rig sink) _ _ _ (so_far.written rig) (onward rig sink refl (omega arith)) stays.asked refl refl (Unit {0}) tt are-rows tt refl tt rows'.vectors rows'.vector.items gives
+  pub file-ends : (rig : RigState) → RowGives false rows rows' (at_rows rows store sink) (at_rows rows' store' sink') → Ends (Ok tt) rig sink'
+  file-ends rig gives = put-ends rig _ gives.1 gives.0
 
-  module _ (rows' : Evaluation) (takes : TakesRow rows rows' store store') (sink' : SinkState) where
+  -- ---- one more vector and its row
+
+  module _ (takes : TakesRow rows rows' (at_rows rows store sink) (at_rows rows' store' sink')) where
     more-on : RowsGoOn draft (so_far.taken ++ rows'.vector.items ∷ []) (so_far.made ++ rows'.row.items ∷ []) rows'.eval.state
     more-on = go-on-more draft so_far.taken so_far.made rows.eval rows'.eval rows'.vector.items rows'.row.items so_far.netlist takes.step so_far.go_on
 
-    -- its row isn't written
-    pub row-stops : (rig : RigState) (stop : Stop) → Puts {T = Unit {0}} (row_line rows'.row.items) (Err stop) sink sink' → Follows {T = Unit {0}} ⊥ [] (Unit {0}) course (Err stop) (outside before rig old) (outside store' rig sink')
-    row-stops rig stop puts =
-        row-follows (eval_rows draft (file_of before) store'.current) _ _ (outside store' rig sink') _ _ _ (so_far.written rig) (onward rig sink' puts.kind puts.later) stays.asked refl refl (Unit {0}) tt rows'.vectors rows'.vector.items rows'.row.items takes.read (rows-of draft _ _ rows'.eval.state more-on) tt stop puts
+    -- the rows before it, and whether the store was read for it
+    before-it : (rig : RigState) → AreWritten (length draft.inputs) (outside before rig old) rows.vectors rows'.block.text (outside store rig sink') so_far.taken so_far.made
+    before-it rig = read-after _ _ _ _ (outside store rig sink) _ _ (so_far.written rig) _ store' sink' takes.next.1
 
-    -- or it is
-    pub running-more : IsSized rows' → Puts {T = Unit {0}} (row_line rows'.row.items) (Ok tt) sink sink' → IsRunning draft before old rows' store' sink'
-    running-more sized puts = record {
-      netlist = rw takes.step.next so_far.netlist;
+    with-it : (rig : RigState) → AreWritten (length draft.inputs) (outside before rig old) rows'.vectors (rows'.block.text ++ row_line rows'.row.items) (outside store' rig sink') (so_far.taken ++ rows'.vector.items ∷ []) (so_far.made ++ rows'.row.items ∷ [])
+    with-it rig =
+        waits-more _ _ (outside store rig sink') (outside store' rig sink') _ _ _ _ _ _ (before-it rig) (onward rig sink' sink' refl (omega arith)) stays.asked takes.next.0 (was-read _ _ _ _ _ _ takes.next.1) refl rows'.row.items
+
+    -- the rows aren't written
+    pub row-stops : (rig : RigState) (stop : Stop) (left : List ℕ) (last : SinkState) → WaitsOrPuts (rows'.block.text ++ row_line rows'.row.items) left (Err stop) sink' last → Ends (Err stop) rig last
+    row-stops rig stop left last waits =
+        let held = not-added _ left stop store' sink' last (some-lines rows'.block.text rows'.row.items) waits in
+        held-follows work _ (outside store' rig sink') (outside store' rig last) _ _ _ _ (with-it rig)
+        (row-later store' store' rig rig sink' last (stays-same store') refl (omega arith) held.kind held.later) refl refl refl (Unit {0}) tt (rows-of draft _ _ rows'.eval.state more-on) (inl tt) refl stop held
+
+    -- or they are, or wait
+    pub running-more : (last_rows : Evaluation) (last : SinkState) → last_rows.eval ≡ rows'.eval → last_rows.vectors ≡ rows'.vectors → IsSized last_rows → WaitsOrPuts (rows'.block.text ++ row_line rows'.row.items) last_rows.block.text (Ok tt) sink' last → IsRunning draft before old last_rows store' last
+    running-more last_rows last eval vectors sized waits = record {
+      netlist = ap (λ (e : EvalState). e.netlist) eval ∙ rw takes.step.next so_far.netlist;
       sized = sized;
       taken = so_far.taken ++ rows'.vector.items ∷ [];
       made = so_far.made ++ rows'.row.items ∷ [];
-      written = λ rig. written-more (length draft.inputs) _ _ (outside store' rig sink') _ _ _ _ _ (so_far.written rig) (onward rig sink' puts.kind puts.later) stays.asked takes.read tt rows'.row.items puts;
-      go_on = more-on;
+      written = λ rig. rw vectors (after-put _ _ _ _ (outside store' rig sink') _ _ (with-it rig) _ last (added _ _ _ _ waits));
+      go_on = rw eval more-on;
     }

@@ -1,24 +1,23 @@
 //! The command that writes the rows of a design.
-ghost use Rattle.std.specs.Prelude.{◌≡◌, ◌∷◌, [], ℕ, List, OnOk, IfOk, IfErr, IsSome};
+ghost use Rattle.std.specs.Prelude.{◌≡◌, ◌∷◌, ◌++◌, [], ℕ, List, OnOk, IfOk, IfErr, IsSome};
 ghost use Rattle.tm_outside.specs.Store.{StoreState};
 ghost use Rattle.rig.specs.Rig.{RigState};
 ghost use Rattle.vector_text.specs.Rows.{row_line};
-ghost use Rattle.vector_text.specs.Readings.{NextFails};
 ghost use Rattle.steps.specs.Outside.{outside, StandsIn};
 ghost use Rattle.steps.specs.Files.{IsBegun, file_of};
-ghost use Rattle.steps.specs.NextVectors.{StaysOpen};
+ghost use Rattle.steps.specs.NextVectors.{StaysOpen, WaitsOrPuts, NextStops};
 ghost use Rattle.steps.specs.Courses.{all_rows};
-ghost use Rattle.steps.specs.Took.{Puts, Follows};
+ghost use Rattle.steps.specs.Took.{Follows};
 ghost use Rattle.steps.specs.Jobs.{Does, IsLawful};
 ghost use Rattle.tera_eval.specs.Eval.{eval_rows, design_evaluated, eval_job};
-ghost use Rattle.tera_eval.specs.Evaluations.{IsReady, IsSized, RowGives};
+ghost use Rattle.tera_eval.specs.Evaluations.{IsReady, IsSized, RowGives, at_rows};
 
 use netlist::Netlist;
 use netlist_eval::Eval;
 use std::alloc::{AllocError, Global};
-use steps::{DesignFile, Stop, open_vectors, read_design, write};
+use steps::{DesignFile, RowBlock, Stop, next_vector, open_vectors, read_design, write};
 use tm_outside::{Sink, Store};
-use vector_text::{RowText, VectorText, VectorsFail};
+use vector_text::VectorText;
 
 // All that the rows need: no memory is taken after this.
 #[derive(Drop)]
@@ -27,7 +26,7 @@ struct Evaluation<'a> {
     vectors: VectorText,
     vector: Vec<bool>,
     row: Vec<bool>,
-    line: RowText,
+    block: RowBlock,
 }
 
 // Takes all memory for the rows of a netlist.
@@ -40,27 +39,41 @@ fn prepare(alloc: Global, netlist: &Netlist) -> Result<Evaluation<'_>, AllocErro
     let vectors = VectorText::new(alloc, inputs as u32)?;
     let vector = vec![in alloc; false; inputs]?;
     let row = vec![in alloc; false; outputs]?;
-    let line = RowText::new(alloc, outputs as u32)?;
+    let block = RowBlock::new(alloc, outputs as u32)?;
     Ok(Evaluation {
         eval,
         vectors,
         vector,
         row,
-        line,
+        block,
     })
 }
 
 // Reads the next vector and makes its row. False is the end of the file.
-fn next_row<S: Store>(rows: &mut Evaluation, store: &mut S) -> Result<bool, VectorsFail>
+fn next_row<S: Store, K: Sink>(
+    rows: &mut Evaluation,
+    store: &mut S,
+    sink: &mut K,
+) -> Result<bool, Stop>
     requires begun { IsSome (S.store_state store.old).current }
     requires sized { IsSized rows.old }
 
     ensures stays { StaysOpen (S.store_state store.old) (S.store_state store.new) }
     ensures sized { OnOk result (IsSized rows.new) }
-    ensures gives { IfOk result (λ more. RowGives more rows.old rows.new (S.store_state store.old) (S.store_state store.new)) }
-    ensures refused { IfErr result (λ e. NextFails e rows.old.vectors (S.store_state store.old) (S.store_state store.new)) }
+    ensures gives { let old = at_rows rows.old (S.store_state store.old) (K.sink_state sink.old) in
+        let new = at_rows rows.new (S.store_state store.new) (K.sink_state sink.new) in
+        IfOk result (λ more. RowGives more rows.old rows.new old new) }
+    ensures refused { let old = at_rows rows.old (S.store_state store.old) (K.sink_state sink.old) in
+        let new = at_rows rows.new (S.store_state store.new) (K.sink_state sink.new) in
+        IfErr result (λ stop. NextStops stop old new) }
 {
-    if !rows.vectors.next(store, &mut rows.vector)? {
+    if !next_vector(
+        &mut rows.vectors,
+        &mut rows.vector,
+        &mut rows.block,
+        store,
+        sink,
+    )? {
         return Ok(false);
     }
     let ahead = rows.vectors.unread();
@@ -68,16 +81,19 @@ fn next_row<S: Store>(rows: &mut Evaluation, store: &mut S) -> Result<bool, Vect
     Ok(true)
 }
 
-// Writes the line of the row that was made.
-fn write_row<K: Sink>(rows: &mut Evaluation, sink: &mut K) -> Result<(), Stop>
+// Lets the row that was made wait behind the others, or writes them all.
+fn add_row<K: Sink>(rows: &mut Evaluation, sink: &mut K) -> Result<(), Stop>
     requires { IsSized rows.old }
-    ensures same { rows.new ≡ rows.old }
-    ensures puts { Puts (row_line rows.old.row.items) result (K.sink_state sink.old) (K.sink_state sink.new) }
+    ensures eval { rows.new.eval ≡ rows.old.eval }
+    ensures vectors { rows.new.vectors ≡ rows.old.vectors }
+    ensures sized { IsSized rows.new }
+    ensures waits { let lines = rows.old.block.text ++ row_line rows.old.row.items in
+        WaitsOrPuts lines rows.new.block.text result (K.sink_state sink.old) (K.sink_state sink.new) }
 {
-    write(sink, rows.line.line(&rows.row))
+    rows.block.add(&rows.row, sink)
 }
 
-// Writes a row for each vector of the file, and each row before the next vector is read.
+// Writes a row for each vector of the file, and all that wait before the store is read again.
 fn write_rows<S: Store, K: Sink>(
     rows: &mut Evaluation,
     store: &mut S,
@@ -92,8 +108,8 @@ fn write_rows<S: Store, K: Sink>(
         let new = outside (S.store_state store.new) rig (K.sink_state sink.new) in
         Follows ⊥ [] (Unit {0}) (all_rows (eval_rows rows.old.eval.netlist (file_of old.store) new.store.current)) result old new }
 {
-    'file: while next_row(rows, store)? {
-        write_row(rows, sink)?;
+    'file: while next_row(rows, store, sink)? {
+        add_row(rows, sink)?;
     }
     Ok(())
 }

@@ -19,7 +19,7 @@ use Rattle.tera_pair.specs.Both.{BothHaveRoom, BothLackRoom, both_laid}
 
 abbrev pub pair_begin : Around → (machine first second vectors : List ℕ) → RunBegin
 pair_begin old machine first second vectors =
-    record { begun = old.store; files = second ∷ first ∷ machine ∷ []; vectors = vectors }
+    record { begun = old.store; failures = old.rig.failures; files = second ∷ first ∷ machine ∷ []; vectors = vectors }
 
 -- The second design is read, and the machine is listed
 abbrev pub second_read : (machine first second vectors : List ℕ) → Around → Around → Shape → Draft → Course

@@ -1,5 +1,5 @@
 -- How the steps of `run` follow one another, once the machine is attached.
-use Rattle.std.proofs.Common.{◌≡◌, ℕ, List, [], ◌∷◌, Some, option_map, refl, sym, ap, subst, ◌∙◌}
+use Rattle.std.proofs.Common.{◌≡◌, ◌≤◌, ℕ, List, [], ◌∷◌, Some, option_map, refl, sym, ap, subst, ◌∙◌}
 use Rattle.std.specs.Prelude.{Result, Ok, Err}
 use Rattle.tm_outside.specs.Told.{Told}
 use Rattle.tm_outside.specs.Store.{StoreState}
@@ -21,10 +21,11 @@ use Rattle.tera_run.specs.Run.{run_job}
 pub attached-shape : (rig : RigState) (m : Shape) (name : List ℕ) (i : ImageValue) → rig.machine.attached ≡ Some (record { shape = m; name = name }) → i.config.shape ≡ m → shape_of rig ≡ Some i.config.shape
 attached-shape rig m name i is shape = ap (option_map (λ (a : Asked). a.shape)) is ∙ ap Some (sym shape)
 
--- the rows of an image are followed, of a file of vectors that is told so, where so many loads were made before
-abbrev Runs : (machine image vectors : List ℕ) → StoreState → ImageValue → Result (Unit {0}) Stop → (mid new : Outside) → Told → ℕ → Type 0
-Runs machine image vectors begun i result mid new told before =
-    Follows ⊥ (vectors ∷ []) (new.rig.machine ≡ mid.rig.machine) (image_course (image_rows i told new.store.current new.rig)
+-- the rows of an image are followed, of a file of vectors that is told so, where so many loads were made before, and the rig had
+-- failed so many times as the command began
+abbrev Runs : (machine image vectors : List ℕ) → StoreState → ImageValue → Result (Unit {0}) Stop → (mid new : Outside) → (failures : ℕ) → Told → ℕ → Type 0
+Runs machine image vectors begun i result mid new failures told before =
+    Follows ⊥ (vectors ∷ []) (new.rig.machine ≡ mid.rig.machine) (image_course (image_rows i told new.store.current failures new.rig)
     (record { image = i; vectors = vectors; files = image ∷ machine ∷ []; begun = begun; before = before }) (around new)) result mid new
 
 module _ {machine name image vectors : List ℕ} {s0 s1 : StoreState} {r0 r1 : RigState} {a : SinkState} {m : Shape}
@@ -43,14 +44,14 @@ module _ {machine name image vectors : List ℕ} {s0 s1 : StoreState} {r0 r1 : R
   -- the image was read, and its rows are followed from where the store and the rig stand
   pub rows-follow : {s2 : StoreState} {i : ImageValue} {result : Result (Unit {0}) Stop} {new : Outside} →
       Took (image ∷ []) (reads_image (s1.contents image) m) (Ok i) (outside s1 r1 a) (outside s2 r1 a) →
-      (StandsIn (image ∷ machine ∷ []) s0 s2 →
-      Runs machine image vectors s0 i result (outside s2 r1 a) new (s2.contents vectors) r1.loads) →
+      (StandsIn (image ∷ machine ∷ []) s0 s2 → r0.failures ≤ r1.failures →
+      Runs machine image vectors s0 i result (outside s2 r1 a) new r0.failures (s2.contents vectors) r1.loads) →
       Does ⊥ (run_job machine name image vectors) result (outside s0 r0 a) new
   rows-follow {s2} {i} {result} {new} took rest =
       let one = more-read reads_machine machine [] s0 m _ _ (none-read s0) read in
-      let runs = Runs machine image vectors s0 i result (outside s2 r1 a) new in
+      let runs = Runs machine image vectors s0 i result (outside s2 r1 a) new r0.failures in
       let both = more-read (λ told. reads_image told m) image (machine ∷ []) s0 i _ _ one took in
-      let told = subst (λ (contents : List ℕ → Told). runs (contents vectors) r1.loads) both.contents (rest both.place) in
+      let told = subst (λ (contents : List ℕ → Told). runs (contents vectors) r1.loads) both.contents (rest both.place attached.later.rig) in
       let is = subst (λ n. runs (s0.contents vectors) n) loads told in
       attached-gives machine name _ _ (image ∷ vectors ∷ []) s0 s1 r0 r1 a m read may _ _ attached
       (read-gives (λ told. reads_image told m) image (machine ∷ []) s0 _ _ (vectors ∷ []) _ _ _ _ _ _ _ one took is is.machines)

@@ -5,4 +5,3 @@ mod InsideLemmas
 mod StepLemmas
 mod FeedLemmas
 mod ReadLemmas
-mod RowLemmas

@@ -11,7 +11,7 @@ use Rattle.vector_text.specs.declared.line.Step.{Step}
 use Rattle.vector_text.specs.declared.line.Step.TheVariants.{Onward, Vector, Fault}
 use Rattle.vector_text.specs.Vectors.{PhysicalLine, numbered_lines, put_before, shown, byte_fault, lines_say, SaidVectors, nothing_said, with_vector, bits_of, vector_size}
 use Rattle.vector_text.specs.Readings.{bytes_ahead, says_next, said_ahead, NextGives, NextFails, HasMoved, AreOpen, AskedOpen, StaysWithin}
-use Rattle.vector_text.specs.Readings.{IsFaultOf}
+use Rattle.vector_text.specs.Readings.{GivesUnread, IsFaultOf}
 use Rattle.vector_text.specs.Lines.{PartLine, IsSound, front_of, begun, says_on, EndsAs, EndSays}
 use Rattle.vector_text.specs.Steps.{reading_of, IsRefilled, IsStoreFail, HasReadOn, answer_of, LineGives, LineFails, HasAnswered, IsWaiting, GoesOn}
 use Rattle.vector_text.proofs.FeedLemmas.{rest-moved}
@@ -477,3 +477,26 @@ next-fails (Text number kind) line unread before after fails = (fails.0, fails.1
     by None h = tt
     by (Some bytes) h = subst (IsFaultOf number kind (line.at + length unread + fails.0)) (sym (begun-says line unread bytes)) h
 next-fails Failed line unread before after fails = fails
+
+-- a vector's line that the unread bytes end
+
+given-here : (line new : PartLine) (unread left : List ℕ) (told : Option (List ℕ)) → HasReadOn Vector (begun line) unread new left →
+    option_map (says_on (begun line)) (option_map (λ rest. unread ++ rest) told) ≡
+    option_map (λ bytes. with_vector (bits_of new.width new.shown) new.at (says_on (begun new) bytes)) (option_map (λ rest. left ++ rest) told)
+given-here line new unread left None h = refl
+given-here line new unread left (Some rest) h = ap Some (h.says rest)
+
+pub gives-unread : (row : List Bool) (line new : PartLine) (unread left : List ℕ) → length left ≤ 65536 →
+    HasReadOn Vector (begun line) unread new left → (length new.shown ≡ vector_size new.width → row ≡ bits_of new.width new.shown) →
+    GivesUnread row (reading_of line unread) (reading_of new left)
+gives-unread row line new unread left few h is = record {
+  gives = λ store. next-gives true row line new unread left store store (h.full, given-here line new unread left (rest_of store) h) (λ _. is);
+  moves = λ store. record {
+    count = 0;
+    place = moved-none store.current;
+    bytes = (let size : length left ≡ length unread - h.count = ap length h.rest ∙ length-drop h.count unread in omega (arith, h.within, size, h.at));
+    within = if-all (λ (rest : List ℕ). 0 ≤ length rest) (rest_of store) (λ rest. omega arith);
+  };
+  unread = few;
+  further = h.whole refl;
+}

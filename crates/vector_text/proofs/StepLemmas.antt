@@ -1,9 +1,10 @@
 -- Bytes that are read one after the other, and blocks that are read one after the other.
-use Rattle.std.proofs.Common.{◌≡◌, ℕ, ◌+◌, ◌<◌, ◌≤◌, List, [], ◌∷◌, ◌++◌, length, drop, get_or, refl, sym, ap, ◌∙◌, arith}
-use Rattle.std.proofs.lemmas.List.{drop_more}
+use Rattle.std.proofs.Common.{◌≡◌, ℕ, ◌+◌, ◌<◌, ◌≤◌, List, [], ◌∷◌, ◌++◌, length, drop, get_or, refl, sym, ap, subst, ◌∙◌, arith}
+use Rattle.std.proofs.lemmas.List.{drop_more, drop_all}
 use Rattle.vector_text.specs.declared.line.Step.{Step}
 use Rattle.vector_text.specs.declared.line.Step.TheVariants.{Onward, Vector, Fault}
 use Rattle.vector_text.specs.Lines.{PartLine, says_on, SaysStep, IsStepTo, HasRead}
+use Rattle.vector_text.specs.Steps.{HasReadOn}
 
 pub none-read : (bytes : List ℕ) (line : PartLine) → HasRead Onward bytes 0 line line
 none-read bytes line = record { width = refl; limit = refl; within = omega arith; at = omega arith; room = λ _ some. absurd (omega arith); whole = λ same. absurd (cc); full = tt; says = λ rest. refl }
@@ -32,4 +33,20 @@ one-more step bytes k b old mid new lt is h s = record {
       SaysStep-from step old mid new (bytes ++ rest) (b ∷ (drop (k + 1) bytes ++ rest)) (drop (k + 1) bytes ++ rest) (omega (arith, h.at))
       (h.says rest ∙ ap (λ (t : List ℕ). says_on mid (t ++ rest)) (drop_more bytes k 0 lt ∙ ap (λ (x : ℕ). x ∷ drop (k + 1) bytes) (sym is)))
       (s.says (drop (k + 1) bytes ++ rest));
+}
+
+-- unread bytes that were read
+pub read-on : (step : Step) (count : ℕ) (old new : PartLine) (unread left : List ℕ) → HasRead step unread count old new → (step ≡ Onward → count ≡ length unread) → left ≡ drop count unread → HasReadOn step old unread new left
+read-on step count old new unread left h all is = record {
+  width = h.width;
+  limit = h.limit;
+  count = count;
+  within = h.within;
+  rest = is;
+  all = λ e. is ∙ drop_all count unread (omega (arith, all e));
+  at = h.at;
+  grows = λ e some. (let to = subst (λ (x : Step). IsStepTo x (old.at + count) new.at) e h.at in let all_of = all e in (omega arith, h.room e (omega arith)));
+  whole = λ e. (let to = subst (λ (x : Step). IsStepTo x (old.at + count) new.at) e h.at in let w = h.whole e in (omega (arith, w.0, to), w.1));
+  full = h.full;
+  says = λ rest. rw is (h.says rest);
 }

@@ -86,6 +86,13 @@ abbrev pub GoesFurther : Bool → VectorReading → VectorReading → Type 0
 GoesFurther true old new = (old.at < new.at) × (new.at ≤ new.limit)
 GoesFurther false old new = Unit {0}
 
+-- the unread bytes end the next vector's line: that was read of them alone, whatever a store has
+pub record GivesUnread (row : List Bool) (old new : VectorReading) : Type 0 where
+  pub gives : (store : StoreState) → NextGives true row old new store store
+  pub moves : (store : StoreState) → HasMoved old new store store
+  pub unread : length new.unread ≤ 65536
+  pub further : GoesFurther true old new
+
 -- the store went on, at most to the end of the file
 pub record StaysWithin (before after : StoreState) : Type 0 where
   pub count : ℕ

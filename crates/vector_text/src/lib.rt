@@ -13,5 +13,5 @@ mod row_text;
 mod vectors;
 
 pub use reading::VectorText;
-pub use row_text::RowText;
+pub use row_text::{RowText, put_row};
 pub use vectors::{VectorKind, VectorsFail};

@@ -100,6 +100,28 @@ impl Line {
         self.count = 0;
     }
 
+    /// How many bytes of the file were read, and the number of the line.
+    pub fn place(&self) -> (u64, u64)
+        ensures at { result.0 ≡ self.now.at }
+        ensures number { result.1 ≡ self.now.number }
+        ensures within { self.now.at ≤ self.now.limit }
+        ensures few { self.now.number ≤ self.now.at + 1 }
+    {
+        (self.at, self.number)
+    }
+
+    /// Goes back to the line of this number, before its first byte, where so many bytes of the file were read.
+    pub fn go_back(&mut self, at: u64, number: u64)
+        requires within { at ≤ self.old.limit }
+        requires few { number ≤ at + 1 }
+        ensures { self.new ≡ begun (record self.old { at = at; number = number }) }
+    {
+        self.at = at;
+        self.number = number;
+        self.in_comment = false;
+        self.count = 0;
+    }
+
     /// Reads a byte.
     pub fn take(&mut self, byte: u8) -> Step
         ensures { HasRead result (byte ∷ []) 1 self.old self.new }

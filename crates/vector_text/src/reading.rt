@@ -1,8 +1,10 @@
 //! Vector files, read from a store.
 
-ghost use Rattle.std.specs.Prelude.{◌≡◌, ◌⊎◌, ◌-◌, ◌^◌, ◌<◌, ◌≤◌, length, IfOk, IfErr, OnErr, OnOk, IsSome, []};
-ghost use Rattle.vector_text.specs.Steps.{IsRefilled, IsStoreFail, HasReadOn, answer_of, HasAnswered};
+ghost use Rattle.std.specs.Prelude.{◌≡◌, ◌⊎◌, ◌-◌, ◌^◌, ◌<◌, ◌≤◌, length, true, false, IfOk, IfErr, OnErr, OnOk, IsSome, []};
+ghost use Rattle.vector_text.specs.Lines.{begun};
+ghost use Rattle.vector_text.specs.Steps.{IsRefilled, IsStoreFail, HasReadOn, reading_of, answer_of, HasAnswered};
 ghost use Rattle.vector_text.specs.Readings.{new_reading, NextGives, NextFails, HasMoved, AskedOpen, GoesFurther, StopsWithin};
+ghost use Rattle.vector_text.specs.Readings.{GivesUnread};
 
 use crate::feed::Feed;
 use crate::line::{Line, Step};
@@ -53,6 +55,22 @@ impl VectorText {
         ensures { result.now ≡ self.now.unread }
     {
         self.feed.unread()
+    }
+
+    /// Reads the next vector into `row`, which has one place for each input, where the unread bytes end its line: no
+    /// store is asked for bytes. False leaves all as it was.
+    pub fn next_unread(&mut self, row: &mut [bool]) -> bool
+        requires { length row.old ≡ self.old.width }
+        ensures vector { result ≡ true → GivesUnread row.new self.old self.new }
+        ensures kept { result ≡ false → (self.new ≡ self.old) × (row.new ≡ row.old) }
+        ensures width { self.new.width ≡ self.old.width }
+        ensures limit { self.new.limit ≡ self.old.limit }
+    {
+        let more = read_here(&mut self.line, &mut self.feed);
+        if more {
+            self.line.put(row);
+        }
+        more
     }
 
     /// Reads the next vector of the store's current file into `row`, which has one place for each input. False
@@ -122,6 +140,29 @@ fn read_unread(line: &mut Line, feed: &mut Feed) -> Step
     let (count, step) = line.read(feed.unread());
     feed.skip(count);
     step
+}
+
+// Reads a vector's line where the unread bytes end it. False goes back to where the line begins.
+fn read_here(line: &mut Line, feed: &mut Feed) -> bool
+    ensures vector { result ≡ true → HasReadOn Step.Vector (begun line.old) feed.old line.new feed.new }
+    ensures room { length feed.new ≤ 65536 }
+    ensures kept { result ≡ false → reading_of line.new feed.new ≡ reading_of line.old feed.old }
+    ensures width { line.new.width ≡ line.old.width }
+    ensures limit { line.new.limit ≡ line.old.limit }
+{
+    let (at, number) = line.place();
+    line.begin();
+    let (count, step) = line.read(feed.unread());
+    match step {
+        Step::Vector => {
+            feed.skip(count);
+            true
+        }
+        _ => {
+            line.go_back(at, number);
+            false
+        }
+    }
 }
 
 // What a step answers.

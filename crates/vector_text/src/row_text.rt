@@ -1,6 +1,6 @@
 //! The lines of rows.
 
-ghost use Rattle.std.specs.Prelude.{◌≡◌, ◌+◌, max, length, IfOk};
+ghost use Rattle.std.specs.Prelude.{◌≡◌, ◌+◌, ◌≤◌, ◌++◌, max, length, take, IfOk};
 ghost use Rattle.vector_text.specs.Rows.{row_line};
 
 use std::alloc::{AllocError, Global};
@@ -42,20 +42,23 @@ impl RowText {
         ensures* kept { sem 𝓛 (KeepsWidth self.entry) }
         ensures line { result.now ≡ row_line bits.now }
     {
-        fill_line(&mut self.line, bits);
+        put_row(&mut self.line, 0, bits);
         &self.line
     }
 }
 
-// Puts the line of a row into a buffer of its length.
-fn fill_line(line: &mut Vec<u8>, bits: &[bool])
-    requires { length line.old.items ≡ max 1 (length bits.now) + 1 }
-    ensures { line.new.items ≡ row_line bits.now }
+/// Puts the line of a row into a buffer, behind the first `from` bytes, and says where it ends there.
+pub fn put_row(text: &mut Vec<u8>, from: usize, bits: &[bool]) -> usize
+    requires { from + (max 1 (length bits.now) + 1) ≤ length text.old.items }
+    ensures ends { result ≡ from + (max 1 (length bits.now) + 1) }
+    ensures length { length text.new.items ≡ length text.old.items }
+    ensures text { take result text.new.items ≡ take from text.old.items ++ row_line bits.now }
 {
-    line[0] = b'.';
+    text[from] = b'.';
     for (k, bit) in bits.iter().enumerate() {
-        line[k] = if *bit { b'1' } else { b'0' };
+        text[from + k] = if *bit { b'1' } else { b'0' };
     }
-    let last = line.len() - 1;
-    line[last] = b'\n';
+    let size = if bits.is_empty() { 1 } else { bits.len() };
+    text[from + size] = b'\n';
+    from + size + 1
 }

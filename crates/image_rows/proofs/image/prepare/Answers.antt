@@ -27,9 +27,9 @@ returns-in_err-row-clause-took g c =
     let rig = (goal.Rig-dyn g (box.vtable, box.value)).rig_state box.value in
     λ store sink. rw (p.1, p.2) (took-nothing (prepares rig rig) _ (outside store rig sink) refl (tt, inl refl))
 
-pub returns-in_err-line-clause-took : goal.returns-in_err-line-clause-took
-returns-in_err-line-clause-took g c =
-    let p = err_from_is_err_and c.from_residual-in_err-line.result c.from_residual-in_err-line.ensures.1 in
+pub returns-in_err-block-clause-took : goal.returns-in_err-block-clause-took
+returns-in_err-block-clause-took g c =
+    let p = err_from_is_err_and c.from_residual-in_err-block.result c.from_residual-in_err-block.ensures.1 in
     let box = c.args.rig.now in
     let rig = (goal.Rig-dyn g (box.vtable, box.value)).rig_state box.value in
     λ store sink. rw (p.1, p.2) (took-nothing (prepares rig rig) _ (outside store rig sink) refl (tt, inl refl))

@@ -1,4 +1,4 @@
-use Rattle.std.proofs.Common.{[], refl}
+use Rattle.std.proofs.Common.{◌≤◌, [], refl, arith}
 use Rattle.std.proofs.lemmas.Result.{err_from_is_err_and}
 use Rattle.steps.proofs.Making.{nothing}
 use Rattle.steps.proofs.StartLemmas.{begun-file}
@@ -12,7 +12,7 @@ pub returns-in_err-rows : goal.returns-in_err-rows
 returns-in_err-rows g c =
     let p = err_from_is_err_and c.from_residual.result c.from_residual.ensures.1 in
     let e = c.in_err-rows.ensures in
-    record { follows = λ files begun stands. rw (p.1, p.2) (load-stops c.args.image c.args.vectors.now files begun _ _ stands _ _ refl e.machine (e.took _ _)) }
+    record { follows = λ files begun failures stands few. rw (p.1, p.2) (load-stops c.args.image c.args.vectors.now files begun failures _ _ stands _ _ refl e.machine (e.took _ _)) }
 
 pub returns-in_err-open_vectors : goal.returns-in_err-open_vectors
 returns-in_err-open_vectors g c =
@@ -21,7 +21,7 @@ returns-in_err-open_vectors g c =
     let a = g.K.Sink.sink_state c.args.sink.now in
     let e = c.in_ok-rows.ensures in
     record {
-      follows = λ files begun stands. rw (p.1, p.2) (open-stops c.args.image c.args.vectors.now files begun _ _ stands _ e.machine (e.took s0 a) _ _ _ refl (c.in_err-open_vectors.ensures.took _ a) (refl, refl));
+      follows = λ files begun failures stands few. rw (p.1, p.2) (open-stops c.args.image c.args.vectors.now files begun failures _ _ stands _ e.machine (e.took s0 a) _ _ _ refl (c.in_err-open_vectors.ensures.took _ a) (refl, refl));
     }
 
 pub returns-in_err-write : goal.returns-in_err-write
@@ -35,7 +35,7 @@ returns-in_err-write g c =
     let opened = c.in_ok-open_vectors.ensures in
     let session = rw e.image at (session-is r1 r1 c.in_ok-rows.rows.image [] [] refl (driven-start most_rows c.in_ok-rows.rows.image r1 e.loaded.begins)) in
     record {
-      follows = λ files begun stands. rw (p.1, p.2) (line-stops c.args.image c.args.vectors.now files begun _ _ stands _ e.machine (e.took s0 a) _ (opened.took r1 a) (refl, refl) _ _ _ refl c.in_err-write.ensures.puts (opened.begun, session));
+      follows = λ files begun failures stands few. rw (p.1, p.2) (line-stops c.args.image c.args.vectors.now files begun failures _ _ stands _ e.machine (e.took s0 a) _ (opened.took r1 a) (refl, refl) _ _ _ refl c.in_err-write.ensures.puts (opened.begun, session));
     }
 
 pub write_rows-requires : goal.write_rows-requires
@@ -58,7 +58,9 @@ returns g c =
     let opened = c.in_ok-open_vectors.ensures in
     let took = opened.took r1 a in
     let file = begun-file s1 s0.contents c.args.vectors.now took.later.contents opened.begun in
-    let follows = c.write_rows.ensures.follows in
     record {
-      follows = λ files begun stands. rows-follow c.args.image c.args.vectors.now files begun _ _ stands _ e.machine (e.took s0 a) _ took (refl, refl) _ _ _ _ _ e.image file c.in_ok-write.ensures.puts follows.machines follows;
+      follows = λ files begun failures stands few.
+          let still : failures ≤ r1.failures = omega (arith, few, (e.took s0 a).later.rig) in
+          let follows = c.write_rows.ensures.follows failures still in
+          rows-follow c.args.image c.args.vectors.now files begun failures _ _ stands _ e.machine (e.took s0 a) _ took (refl, refl) _ _ _ _ _ e.image file c.in_ok-write.ensures.puts follows.machines follows;
     }

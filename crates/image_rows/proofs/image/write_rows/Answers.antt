@@ -1,7 +1,6 @@
 use Rattle.std.proofs.Common.{refl, arith}
 use Rattle.std.proofs.lemmas.Result.{err_from_is_err_and}
 use Rattle.steps.specs.Outside.{outside}
-use Rattle.steps.proofs.WrittenRows.{row-later}
 use Rattle.image_rows.proofs.RowLemmas.{IsDriving-start, IsDriving-more, cycle-stops, row-stops, file-ends}
 use Rattle.image_rows.proofs.image.write_rows.Goals as goal
 
@@ -14,13 +13,15 @@ next_row-requires-clause-open g c = rw c.file.invariant.written.taking.place ref
 pub file-preserved : goal.file-preserved
 file-preserved g c =
     let n = c.in_ok-next_row.ensures in
-    let w = c.in_ok-write_row.ensures in
+    let w = c.in_ok-add_row.ensures in
     let driven = rw c.if-branch.true at n.gives in
     let s1 = g.S.Store.store_state c.next_row.new.store in
+    let box0 = c.args.rig.now in
+    let r0 = (goal.Rig-dyn g (box0.vtable, box0.value)).rig_state box0.value in
     let box1 = c.next_row.new.rig in
     let r1 = (goal.Rig-dyn g (box1.vtable, box1.value)).rig_state box1.value in
-    let new = outside s1 r1 (g.K.Sink.sink_state c.write_row.new.sink) in
-    rw w.same (IsDriving-more _ _ _ new c.file.rows c.next_row.new.rows c.file.invariant n.keeps (row-later _ _ _ _ _ _ n.keeps.store n.keeps.machine n.keeps.failures w.puts.kind w.puts.later) driven n.fits w.puts)
+    let new = outside s1 r1 (g.K.Sink.sink_state c.next_row.new.sink) in
+    IsDriving-more _ r0.failures _ _ new c.file.rows c.next_row.new.rows c.file.invariant (omega arith) n.keeps driven n.fits c.add_row.new.rows _ w.image w.vectors w.fits w.waits
 
 pub returns-in_err-next_row : goal.returns-in_err-next_row
 returns-in_err-next_row g c =
@@ -29,20 +30,20 @@ returns-in_err-next_row g c =
     let s1 = g.S.Store.store_state c.next_row.new.store in
     let box1 = c.next_row.new.rig in
     let r1 = (goal.Rig-dyn g (box1.vtable, box1.value)).rig_state box1.value in
-    let new = outside s1 r1 (g.K.Sink.sink_state c.file.sink) in
-    rw (p.1, p.2) (record { follows = cycle-stops _ _ _ new c.file.rows c.next_row.new.rows c.file.invariant n.keeps (row-later _ _ _ _ _ _ n.keeps.store n.keeps.machine n.keeps.failures refl (omega arith)) refl _ n.refused })
+    let new = outside s1 r1 (g.K.Sink.sink_state c.next_row.new.sink) in
+    record { follows = λ failures few. rw (p.1, p.2) (cycle-stops _ failures _ _ new c.file.rows c.next_row.new.rows c.file.invariant few n.keeps _ n.refused) }
 
-pub returns-in_err-write_row : goal.returns-in_err-write_row
-returns-in_err-write_row g c =
-    let p = err_from_is_err_and c.from_residual-in_err-write_row.result c.from_residual-in_err-write_row.ensures.1 in
+pub returns-in_err-add_row : goal.returns-in_err-add_row
+returns-in_err-add_row g c =
+    let p = err_from_is_err_and c.from_residual-in_err-add_row.result c.from_residual-in_err-add_row.ensures.1 in
     let n = c.in_ok-next_row.ensures in
-    let w = c.in_err-write_row.ensures in
+    let w = c.in_err-add_row.ensures in
     let driven = rw c.if-branch.true at n.gives in
     let s1 = g.S.Store.store_state c.next_row.new.store in
     let box1 = c.next_row.new.rig in
     let r1 = (goal.Rig-dyn g (box1.vtable, box1.value)).rig_state box1.value in
-    let new = outside s1 r1 (g.K.Sink.sink_state c.write_row.new.sink) in
-    rw (p.1, p.2) (record { follows = row-stops _ _ _ new c.file.rows c.next_row.new.rows c.file.invariant n.keeps (row-later _ _ _ _ _ _ n.keeps.store n.keeps.machine n.keeps.failures w.puts.kind w.puts.later) driven n.fits _ w.puts })
+    let new = outside s1 r1 (g.K.Sink.sink_state c.next_row.new.sink) in
+    record { follows = λ failures few. rw (p.1, p.2) (row-stops _ failures _ _ new c.file.rows c.next_row.new.rows c.file.invariant few n.keeps driven n.fits _ _ _ w.waits) }
 
 pub returns : goal.returns
 returns g c =
@@ -51,5 +52,5 @@ returns g c =
     let s1 = g.S.Store.store_state c.next_row.new.store in
     let box1 = c.next_row.new.rig in
     let r1 = (goal.Rig-dyn g (box1.vtable, box1.value)).rig_state box1.value in
-    let new = outside s1 r1 (g.K.Sink.sink_state c.file.sink) in
-    record { follows = file-ends _ _ _ new c.file.rows c.next_row.new.rows c.file.invariant n.keeps (row-later _ _ _ _ _ _ n.keeps.store n.keeps.machine n.keeps.failures refl (omega arith)) refl tt gives }
+    let new = outside s1 r1 (g.K.Sink.sink_state c.next_row.new.sink) in
+    record { follows = λ failures few. file-ends _ failures _ _ new c.file.rows c.next_row.new.rows c.file.invariant few n.keeps tt gives }

@@ -1,4 +1,4 @@
-use Rattle.std.proofs.Common.{◌∙◌, ap, sym, refl, Some}
+use Rattle.std.proofs.Common.{◌∙◌, ap, sym, refl, Some, arith}
 use Rattle.std.proofs.lemmas.Result.{err_from_is_err_and}
 use Rattle.hierarchy.specs.declared.Shape.{Shape}
 use Rattle.listing.proofs.ListedLemmas.{list-shape}
@@ -7,16 +7,16 @@ use Rattle.laid_rows.proofs.laid.list_and_run.Goals as goal
 
 pub returns-in_err-list : goal.returns-in_err-list
 returns-in_err-list g c = record {
-  follows = λ before files begun loads at same.
+  follows = λ before failures files begun loads few at same.
       let p = err_from_is_err_and c.from_residual.result c.from_residual.ensures.1 in
-      rw (p.1, p.2) (list-fails (g.L.Lays.laid c.args.what.now) c.args.shape.now before (record { begun = begun; files = files; vectors = c.args.vectors.now }) _ _ _ _ _ loads c.in_err-list.ensures.machine at _ _ refl (c.in_err-list.ensures.written _));
+      rw (p.1, p.2) (list-fails (g.L.Lays.laid c.args.what.now) c.args.shape.now before (record { begun = begun; failures = failures; files = files; vectors = c.args.vectors.now }) _ _ _ _ _ loads c.in_err-list.ensures.machine at _ _ refl (c.in_err-list.ensures.written _));
 }
 
 pub returns-in_err-image : goal.returns-in_err-image
 returns-in_err-image g c = record {
-  follows = λ before files begun loads at same.
+  follows = λ before failures files begun loads few at same.
       let p = err_from_is_err_and c.from_residual-in_err-image.result c.from_residual-in_err-image.ensures.1 in
-      rw (p.1, p.2) (lay-fails (g.L.Lays.laid c.args.what.now) c.args.shape.now before (record { begun = begun; files = files; vectors = c.args.vectors.now }) _ _ _ _ _ loads c.in_ok-list.ensures.machine at c.in_ok-list.list (c.in_ok-list.ensures.written _) _ _ refl (c.in_err-image.ensures.took _));
+      rw (p.1, p.2) (lay-fails (g.L.Lays.laid c.args.what.now) c.args.shape.now before (record { begun = begun; failures = failures; files = files; vectors = c.args.vectors.now }) _ _ _ _ _ loads c.in_ok-list.ensures.machine at c.in_ok-list.list (c.in_ok-list.ensures.written _) _ _ refl (c.in_err-image.ensures.took _));
 }
 
 pub run_image-requires : goal.run_image-requires
@@ -31,8 +31,9 @@ run_image-requires g c =
 
 pub returns : goal.returns
 returns g c = record {
-  follows = λ before files begun loads at same.
+  follows = λ before failures files begun loads few at same.
       let took = c.in_ok-image.ensures.took _ in
       let on = g.met.L.Lays.right c.args.what.now c.in_ok-list.list c.in_ok-image.image took.gives in
-      laid-runs (g.L.Lays.laid c.args.what.now) c.args.shape.now before (record { begun = begun; files = files; vectors = c.args.vectors.now }) _ _ _ _ _ loads c.in_ok-list.ensures.machine at c.in_ok-list.list (c.in_ok-list.ensures.written _) c.in_ok-image.image _ _ same took on (c.run_image.ensures.follows files begun at);
+      laid-runs (g.L.Lays.laid c.args.what.now) c.args.shape.now before (record { begun = begun; failures = failures; files = files; vectors = c.args.vectors.now }) _ _ _ _ _ loads c.in_ok-list.ensures.machine at c.in_ok-list.list (c.in_ok-list.ensures.written _) c.in_ok-image.image _ _ same took on
+      (c.run_image.ensures.follows files begun failures at (omega (arith, few, (c.in_ok-list.ensures.written (g.S.Store.store_state c.args.store.now)).0.later.rig)));
 }

@@ -43,6 +43,6 @@ returns g c = record {
       attached-then c.args.machine.now c.args.name.now _ _ _ _ _ _ _ c.in_ok-shape.shape (c.in_ok-shape.ensures.took _ _)
       e.asked e.loads _ _ (e.took _ _) (λ has.
       drawn-then has Design c.args.design.now _ _ _ c.in_ok-netlist.netlist _ _ (c.in_ok-netlist.ensures.took _ _) (λ all.
-      c.list_and_run.ensures.follows _ (c.args.design.now ∷ c.args.machine.now ∷ []) (g.S.Store.store_state c.args.store.now)
-      all.loads all.read.place all.read.contents));
+      c.list_and_run.ensures.follows _ _ (c.args.design.now ∷ c.args.machine.now ∷ []) (g.S.Store.store_state c.args.store.now)
+      all.loads all.failures all.read.place all.read.contents));
 }

@@ -56,6 +56,6 @@ returns g c = record {
       e.asked e.loads _ _ (e.took _ _) (λ has.
       drawn-then has First c.args.first.now _ _ _ c.in_ok-one.one _ _ (c.in_ok-one.ensures.took _ _) (λ more.
       drawn-then more Second c.args.second.now _ _ _ c.in_ok-other.other _ _ (c.in_ok-other.ensures.took _ _) (λ all.
-      c.list_and_run.ensures.follows _ (c.args.second.now ∷ c.args.first.now ∷ c.args.machine.now ∷ [])
-      (g.S.Store.store_state c.args.store.now) all.loads all.read.place all.read.contents)));
+      c.list_and_run.ensures.follows _ _ (c.args.second.now ∷ c.args.first.now ∷ c.args.machine.now ∷ [])
+      (g.S.Store.store_state c.args.store.now) all.loads all.failures all.read.place all.read.contents)));
 }

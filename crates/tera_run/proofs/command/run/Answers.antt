@@ -50,4 +50,4 @@ pub returns-clause-does : goal.returns-clause-does
 returns-clause-does g c =
     let e = c.in_ok-attach.ensures in
     rows-follow (c.in_ok-shape.ensures.took _ _) e.asked e.loads (e.took _ _) (c.in_ok-image.ensures.took _ _)
-    (c.run_image.ensures.follows (c.args.image.now ∷ c.args.machine.now ∷ []) (g.S.Store.store_state c.args.store.now))
+    (c.run_image.ensures.follows (c.args.image.now ∷ c.args.machine.now ∷ []) (g.S.Store.store_state c.args.store.now) _)
