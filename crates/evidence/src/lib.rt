@@ -1,4 +1,4 @@
-//! Facts about one rig's faults, and the six tests that gain them.
+//! Facts about one rig's faults, and the tests that gain them: six for one fact each, and one in bulk.
 //!
 //! A fact is kept only where the answer of a test shows it, whatever other faults the machine has. A toggle that a stuck
 //! crosspoint, a wrong cell or a stuck register makes void reads the same twice. A pin that reads 0 and 1 in one session
@@ -11,6 +11,10 @@
 //! loads at most twice, `swing`, `apart` and `all_apart` once (`loads`); `Failed` comes only where the rig's count rose
 //! (`cause`), and after `Memory` no session stands whose readings aren't all made (`wanting`). Each test is bound to answer true
 //! where its wires are as they should be (`passes`; by lists: `laws`). No other crate can add a fact.
+//!
+//! `lead_each` reads once while walks from pins to pins are closed, many of them: the crosspoints of those that lead are kept, and of
+//! one that doesn't the only crosspoint that isn't kept is marked (`led`). Where the faults are told, marks stay true (`stuck`).
+//! What it misses the six tests decide, so nothing says that it passes.
 #![tactic(auto)]
 
 mod again;
