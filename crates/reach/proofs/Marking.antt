@@ -16,7 +16,7 @@ use Rattle.reach.specs.Marked.{is_spent, most_loads, few_loads, barred_pins, Tak
 use Rattle.reach.specs.Trials.{IsFit}
 use Rattle.reach.specs.declared.marks.Marks.{Marks}
 use Rattle.known.specs.declared.step.Step.{Step}
-use Rattle.known.proofs.Counting.{many_one, many_same, set_below, set_has, set_most, set_only, set_stays, set_one}
+use Rattle.known.proofs.Counting.{many_one, set_below, set_has, set_most, set_only, set_stays, set_one}
 
 -- without faults each wire that isn't known is fit
 pub fit_faultless : {m : Shape} {f : Faults} {ss : List Step} {w : ℕ} → IsFaultless f → ¬ HasWire ss w → IsFit m f ss w

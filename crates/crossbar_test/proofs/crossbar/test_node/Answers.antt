@@ -45,3 +45,15 @@ pub returns-in-Ok-found_in-clause-full : goal.returns-in-Ok-found_in-clause-full
 returns-in-Ok-found_in-clause-full g c = full_is _ _ c.args.proof.now c.grow.new.proof c.grow.new.known c.in-Ok.field c.in-Ok-found_in.tested (c.the_laws_hold.ensures c.grow.new.proof.shape) c.in_ok-grow.ensures.advances
     (bar_at (sym c.in_ok-grow.ensures.advances.more.shape) (sym (rw c.in-Ok-found_in.is at c.found_in.ensures.node)) c.in-Ok.ensures.field) c.in_ok-grow.ensures.closed
     (rw c.in-Ok-found_in.is at c.found_in.ensures.held) (rw c.in-Ok-found_in.is at c.found_in.ensures.all)
+
+pub returns-in-Ok-found_in-clause-loads : goal.returns-in-Ok-found_in-clause-loads
+returns-in-Ok-found_in-clause-loads g c = bar_loads c.args.node.0 c.in-Ok.field _ _ c.args.proof.now c.in-Ok.ensures.field c.in_ok-grow.ensures.loads
+
+pub returns-in-Ok-found_in-clause-few : goal.returns-in-Ok-found_in-clause-few
+returns-in-Ok-found_in-clause-few g c = bar_few c.args.node.0 c.in-Ok.field _ _ _ c.args.proof.now c.in-Ok.ensures.field c.in_ok-grow.ensures.few
+
+pub returns-clause-loads : goal.returns-clause-loads
+returns-clause-loads g c = bar_loads c.args.node.0 c.in-Ok.field _ _ c.args.proof.now c.in-Ok.ensures.field c.in_ok-grow.ensures.loads
+
+pub returns-clause-few : goal.returns-clause-few
+returns-clause-few g c = bar_few c.args.node.0 c.in-Ok.field _ _ _ c.args.proof.now c.in-Ok.ensures.field c.in_ok-grow.ensures.few

@@ -2,7 +2,7 @@ use Rattle.std.proofs.Common.{◌≡◌, ◌<◌, ◌∙◌, true, refl, sym, ap
 use Rattle.std.specs.Prelude.{slice_set}
 use Rattle.std.proofs.lemmas.Result.{on_ok_weaker}
 use Rattle.hierarchy.specs.declared.Shape.{Shape}
-use Rattle.hierarchy.specs.Shape.{pins_of, pin_wire, wires_of}
+use Rattle.hierarchy.specs.Shape.{pin_wire, wires_of}
 use Rattle.known.specs.Known.{KnownWires, HasWire, IsKnown, on_pin}
 use Rattle.growth.specs.Grown.{IsOneMore}
 use Rattle.reach.specs.Trials.{IsBad}
