@@ -1,4 +1,4 @@
-//! Worked examples of the tests of facts, as texts: what is wrong with a machine, what is asked, and what has to come.
+//! Worked examples of the tests of crossbars, as texts: what is wrong with a machine, what is asked, and what has to come.
 //!
 //! The texts are the files that the command line names; the head of `facts.txt` says how they are written.
 #![tactic(auto)]
@@ -10,6 +10,7 @@ mod lines;
 mod machine;
 mod routes;
 mod setup;
+mod walk;
 mod words;
 
 use book::{Book, Trouble};
