@@ -174,15 +174,6 @@ fn next(
     }
 }
 
-// Whether no more loads were made than words say. None where they say no number.
-fn took(loads: u64, words: &[String]) -> Option<bool> {
-    let [most] = words else {
-        return None;
-    };
-    let most = most.as_str().parse::<u64>().ok()?;
-    Some(loads <= most)
-}
-
 // What comes of a line. None where it says nothing.
 fn came_of(
     alloc: Global,
@@ -204,7 +195,6 @@ fn came_of(
     let key = key.as_str();
     match key {
         "crossbar" => next(alloc, rig, proof, walk, bench, words),
-        "took" => yes_or_no(alloc, took(rig.loads(), words)),
         "separated" => yes_or_no(alloc, Some(are_separated(proof, walk))),
         "toggle" | "cell" | "register" | "swing" | "apart" => {
             asked(alloc, rig, proof, bench, key, words)
