@@ -5,7 +5,7 @@ mod figures;
 mod shares;
 mod texts;
 
-use book::{Book, Trouble};
+use book::Book;
 use figures::figures_of;
 use std::{fs, io};
 use texts::Texts;
@@ -14,20 +14,13 @@ use texts::Texts;
 pub fn try_text(rt: &HostRuntime, name: &str) -> io::Result<bool> {
     let text = fs::read_to_string(rt, name)?;
     let mut book = Book::new(rt.alloc());
-    let written = match book.try_all(rt, text.as_str()) {
-        Ok(()) => true,
-        Err(Trouble::Line(line)) => {
-            println!(rt; "{name}: what is line {line}?")?;
-            false
-        }
-        Err(Trouble::Memory) => {
-            println!(rt; "{name}: no memory")?;
-            false
-        }
-    };
+    let silent = book.try_all(rt, text.as_str())?;
+    if let Some(line) = silent {
+        println!(rt; "{name}: what is line {line}?")?;
+    }
     let (right, all) = book.counts();
     println!(rt; "{name}: {right} of {all} right")?;
-    Ok(written && right == all)
+    Ok(silent.is_none() && right == all)
 }
 
 /// Prints what is to be seen of the plans of a design, and tells whether it has any.

@@ -5,21 +5,6 @@ use crate::plans::shares::shares_of;
 use crate::plans::texts::{Part, Texts};
 use std::alloc::{AllocError, Global};
 
-/// Why a text of examples isn't tried to its end.
-#[derive(Drop)]
-pub enum Trouble {
-    /// This line isn't as it should be.
-    Line(u64),
-    /// There was no memory.
-    Memory,
-}
-
-impl From<AllocError> for Trouble {
-    fn from(_: AllocError) -> Self {
-        Trouble::Memory
-    }
-}
-
 /// A text of examples: what was said up to here, and how many cases were right.
 #[derive(Drop)]
 pub struct Book {
@@ -121,15 +106,16 @@ impl Book {
         self.read_head(rt, line)
     }
 
-    /// Tries all cases of a text, and prints what came of each that isn't right.
-    pub fn try_all(&mut self, rt: &impl Print, text: &str) -> Result<(), Trouble> {
+    /// Tries all cases of a text, and prints what came of each that isn't right. Gives the first line that says nothing, behind
+    /// which none is read.
+    pub fn try_all(&mut self, rt: &impl Print, text: &str) -> Result<Option<u64>, AllocError> {
         let mut number = 0u64;
-        for line in text.lines() {
+        'lines: for line in text.lines() {
             number = number.saturating_add(1);
             if !self.read(rt, line)? {
-                return Err(Trouble::Line(number));
+                return Ok(Some(number));
             }
         }
-        Ok(())
+        Ok(None)
     }
 }
