@@ -1,4 +1,5 @@
 //! The bytes of an image.
+ghost use Rattle.std.specs.Prelude.{◌≡◌};
 
 use crate::shapes::TINY;
 use config_image::{Image, ImageFault, ImageKind, read_image, touches_none, write_image};
@@ -118,7 +119,9 @@ pub fn flipped_image_bits(alloc: Global) -> Option<bool> {
 }
 
 // The list with a pin of the sample, a crosspoint that it closes, its table, or a table that it leaves off.
-fn list_one(defects: &mut Defects, which: u8) {
+fn list_one(defects: &mut Defects, which: u8)
+    ensures { defects.new.shape ≡ defects.old.shape }
+{
     let shape = defects.shape();
     match which {
         1 if 2 < shape.wires() => defects.list_wire(Wire(2)),
@@ -133,11 +136,7 @@ fn list_one(defects: &mut Defects, which: u8) {
 fn is_free_of(alloc: Global, image: &Image, which: u8) -> Option<bool> {
     let mut defects = Defects::none(alloc, image.config().shape()).ok()?;
     list_one(&mut defects, which);
-    if defects.shape().counts() == image.config().shape().counts() {
-        Some(touches_none(image, &defects))
-    } else {
-        None
-    }
+    Some(touches_none(image, &defects))
 }
 
 // The sample image takes pins 0, 1 and 2, table 0 and crosspoints 0, 5 and more.
