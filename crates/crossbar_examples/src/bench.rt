@@ -1,12 +1,13 @@
 //! What a case has at hand besides its machine.
 use crate::setup::Setup;
+use crate::walk::Loads;
 use std::alloc::{AllocError, Global};
 
 /// What was set, and how many loads the last question took.
 #[derive(Drop)]
 pub struct Bench {
     pub setup: Setup,
-    pub loads: u64,
+    pub loads: Loads,
 }
 
 impl Bench {
@@ -14,7 +15,7 @@ impl Bench {
     pub fn new(alloc: Global) -> Bench {
         Bench {
             setup: Setup::new(alloc),
-            loads: 0,
+            loads: Loads { trunk: 0, rest: 0 },
         }
     }
 
@@ -27,12 +28,17 @@ impl Bench {
         }
     }
 
-    /// Whether the last question took no more loads than words say. None where they say no number.
+    /// Whether the last question took no more loads than words say. None where they say no numbers.
     pub fn is_within(&self, words: &[String]) -> Option<bool> {
         match words {
             [most] => {
                 let most = most.as_str().parse::<u64>().ok()?;
-                Some(self.loads <= most)
+                Some(self.loads.rest <= most)
+            }
+            [trunk, rest] => {
+                let trunk = trunk.as_str().parse::<u64>().ok()?;
+                let rest = rest.as_str().parse::<u64>().ok()?;
+                Some(self.loads.trunk <= trunk && self.loads.rest <= rest)
             }
             _ => None,
         }

@@ -5,21 +5,6 @@ use crate::words::{numbers_of, words_of};
 use hierarchy::{Counts, Shape};
 use std::alloc::{AllocError, Global};
 
-/// Why a text of examples isn't tried to its end.
-#[derive(Drop)]
-pub enum Trouble {
-    /// This line isn't as it should be.
-    Line(u64),
-    /// There was no memory.
-    Memory,
-}
-
-impl From<AllocError> for Trouble {
-    fn from(_: AllocError) -> Self {
-        Trouble::Memory
-    }
-}
-
 /// A line of a case: what it says, and what has to come of it.
 #[derive(Drop)]
 pub struct Line {
@@ -181,7 +166,7 @@ impl Book {
     }
 
     // Tries the case that stands open.
-    fn close(&mut self, rt: &impl Print) -> Result<(), Trouble> {
+    fn close(&mut self, rt: &impl Print) -> Result<(), AllocError> {
         let Some(case) = self.case.take() else {
             return Ok(());
         };
@@ -193,7 +178,7 @@ impl Book {
     }
 
     // Begins a case; false where no machine is said.
-    fn begin(&mut self, rt: &impl Print, name: &str) -> Result<bool, Trouble> {
+    fn begin(&mut self, rt: &impl Print, name: &str) -> Result<bool, AllocError> {
         self.close(rt)?;
         let Some(shape) = self.shape else {
             return Ok(false);
@@ -203,7 +188,7 @@ impl Book {
     }
 
     // Sets the machine of the cases from here on; false where the words say none.
-    fn set_machine(&mut self, rt: &impl Print, counts: &str) -> Result<bool, Trouble> {
+    fn set_machine(&mut self, rt: &impl Print, counts: &str) -> Result<bool, AllocError> {
         self.close(rt)?;
         let words = words_of(self.alloc, counts)?;
         self.shape = shape_of_words(self.alloc, &words)?;
@@ -219,7 +204,7 @@ impl Book {
     }
 
     // Does what a line says; false where it says nothing.
-    fn read(&mut self, rt: &impl Print, number: u64, text: &str) -> Result<bool, Trouble> {
+    fn read(&mut self, rt: &impl Print, number: u64, text: &str) -> Result<bool, AllocError> {
         if text.is_empty() || text.starts_with("#") {
             return Ok(true);
         }
@@ -229,19 +214,20 @@ impl Book {
         if let Some(name) = text.strip_prefix("case ") {
             return self.begin(rt, name);
         }
-        let added = self.add(number, text)?;
-        Ok(added)
+        self.add(number, text)
     }
 
-    /// Tries all cases of a text, and prints what came of each line that isn't right.
-    pub fn try_all(&mut self, rt: &impl Print, text: &str) -> Result<(), Trouble> {
+    /// Tries all cases of a text, and prints what came of each line that isn't right. Gives the first line that says nothing,
+    /// behind which none is read.
+    pub fn try_all(&mut self, rt: &impl Print, text: &str) -> Result<Option<u64>, AllocError> {
         let mut number = 0u64;
-        for line in text.lines() {
+        'lines: for line in text.lines() {
             number = number.saturating_add(1);
             if !self.read(rt, number, line)? {
-                return Err(Trouble::Line(number));
+                return Ok(Some(number));
             }
         }
-        self.close(rt)
+        self.close(rt)?;
+        Ok(None)
     }
 }

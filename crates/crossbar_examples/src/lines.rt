@@ -2,15 +2,19 @@
 ghost use Rattle.std.specs.Prelude.{◌≡◌, Some};
 ghost use Rattle.rig.specs.Rig.{shape_of};
 ghost use Rattle.evidence.specs.Kept.{Advances};
+ghost use Rattle.crossbar_examples.specs.Found.{AreFound};
 
 use crate::answers::{answer, keeps};
 use crate::bench::Bench;
 use crate::book::{Case, Line};
 use crate::machine::rig_of;
 use crate::routes::seen;
-use crate::words::{numbers_of, word, yes_or_no};
+use crate::walk::{Loads, Progress, are_separated, test_next};
+use crate::words::{numbers_of, text_of, word, yes_or_no};
+use crossbar_test::Tested;
 use evidence::Proof;
 use evidence::laws::tests_add_up;
+use hierarchy::{Node, Wire};
 use rig::{Rig, RigFail};
 use std::alloc::{AllocError, Global};
 
@@ -23,6 +27,32 @@ fn told(
         Ok(yes) => yes_or_no(alloc, yes),
         Err(RigFail::Failed) => word(alloc, "failed"),
         Err(RigFail::Memory) => Err(AllocError),
+    }
+}
+
+// The numbers of wires.
+fn wires(alloc: Global, wires: &[Wire]) -> Result<Option<String>, AllocError> {
+    let mut numbers = Vec::new(alloc);
+    for wire in wires {
+        numbers.push(u64::from(wire.0))?;
+    }
+    text_of(alloc, &numbers)
+}
+
+// What was found of a crossbar.
+fn found_of(alloc: Global, tested: &Tested, key: &str) -> Result<Option<String>, AllocError> {
+    match key {
+        "ends" => {
+            let trunk = tested.trunk();
+            wires(alloc, &[trunk.left.end(), trunk.right.end()])
+        }
+        "taps" => wires(alloc, tested.taps()),
+        "lines" => wires(alloc, tested.lines()),
+        "pair" => match tested.open_pair() {
+            Some((first, second)) => wires(alloc, &[first, second]),
+            None => word(alloc, "none"),
+        },
+        _ => Ok(None),
     }
 }
 
@@ -68,6 +98,7 @@ fn set(
 fn unasked(
     alloc: Global,
     proof: &Proof,
+    found: &[Tested],
     bench: &mut Bench,
     key: &str,
     words: &[String],
@@ -75,6 +106,10 @@ fn unasked(
     match key {
         "keeps" => kept(alloc, proof, words),
         "within" => yes_or_no(alloc, bench.is_within(words)),
+        "ends" | "taps" | "lines" | "pair" => match found.last() {
+            Some(tested) => found_of(alloc, tested, key),
+            None => Ok(None),
+        },
         "leads" | "touches" | "extended" | "meets" | "closes" => {
             look(alloc, proof, bench, key, words)
         }
@@ -100,8 +135,43 @@ fn asked(
     };
     let before = rig.loads();
     let answer = answer(alloc, rig, proof, &bench.setup, key, &numbers);
-    bench.loads = rig.loads().saturating_sub(before);
+    let rest = rig.loads().saturating_sub(before);
+    bench.loads = Loads { trunk: 0, rest };
     told(alloc, answer)
+}
+
+// What the next crossbar has, in words.
+fn next(
+    alloc: Global,
+    rig: &mut Box<dyn Rig>,
+    proof: &mut Proof,
+    walk: &mut Progress,
+    bench: &mut Bench,
+    words: &[String],
+) -> Result<Option<String>, AllocError>
+    requires attached { shape_of (rig_state rig.old) ≡ Some proof.old.shape }
+    requires found { AreFound (rig_state rig.old).machine.faults proof.old walk.old.known walk.old.found.items }
+    ensures advances { Advances (rig_state rig.old) (rig_state rig.new) proof.old proof.new }
+    ensures found { AreFound (rig_state rig.old).machine.faults proof.new walk.new.known walk.new.found.items }
+{
+    tests_add_up();
+    let [node] = words else {
+        return Ok(None);
+    };
+    let Ok(node) = node.as_str().parse::<u32>() else {
+        return Ok(None);
+    };
+    if node as usize != walk.found.len() {
+        return Ok(None);
+    }
+    let answer = test_next(alloc, rig, proof, walk, Node(node));
+    bench.loads = walk.loads;
+    match answer {
+        Ok(true) => word(alloc, "tested"),
+        Ok(false) => word(alloc, "none"),
+        Err(RigFail::Failed) => word(alloc, "failed"),
+        Err(RigFail::Memory) => Err(AllocError),
+    }
 }
 
 // What comes of a line. None where it says nothing.
@@ -109,11 +179,14 @@ fn came_of(
     alloc: Global,
     rig: &mut Box<dyn Rig>,
     proof: &mut Proof,
+    walk: &mut Progress,
     bench: &mut Bench,
     words: &[String],
 ) -> Result<Option<String>, AllocError>
     requires attached { shape_of (rig_state rig.old) ≡ Some proof.old.shape }
+    requires found { AreFound (rig_state rig.old).machine.faults proof.old walk.old.known walk.old.found.items }
     ensures advances { Advances (rig_state rig.old) (rig_state rig.new) proof.old proof.new }
+    ensures found { AreFound (rig_state rig.old).machine.faults proof.new walk.new.known walk.new.found.items }
 {
     tests_add_up();
     let [key, words @ ..] = words else {
@@ -121,10 +194,12 @@ fn came_of(
     };
     let key = key.as_str();
     match key {
+        "crossbar" => next(alloc, rig, proof, walk, bench, words),
+        "separated" => yes_or_no(alloc, Some(are_separated(proof, walk))),
         "toggle" | "cell" | "register" | "swing" | "apart" => {
             asked(alloc, rig, proof, bench, key, words)
         }
-        _ => unasked(alloc, proof, bench, key, words),
+        _ => unasked(alloc, proof, &walk.found, bench, key, words),
     }
 }
 
@@ -153,10 +228,11 @@ fn try_lines(
     requires attached { shape_of (rig_state rig.old) ≡ Some proof.old.shape }
 {
     let mut bench = Bench::new(alloc);
+    let mut walk = Progress::new(alloc, &proof.shape())?;
     let mut right = true;
     'lines: for line in case.lines.iter() {
         let words = line.words.as_slice();
-        let came = came_of(alloc, rig, proof, &mut bench, words)?;
+        let came = came_of(alloc, rig, proof, &mut walk, &mut bench, words)?;
         if !is_right(rt, case.name.as_str(), line, &came) {
             right = false;
         }

@@ -1,4 +1,4 @@
-//! Worked examples of the tests of facts, as texts: what is wrong with a machine, what is asked, and what has to come.
+//! Worked examples of the tests of crossbars, as texts: what is wrong with a machine, what is asked, and what has to come.
 //!
 //! The texts are the files that the command line names; the head of `facts.txt` says how they are written.
 #![tactic(auto)]
@@ -10,35 +10,22 @@ mod lines;
 mod machine;
 mod routes;
 mod setup;
+mod walk;
 mod words;
 
-use book::{Book, Trouble};
+use book::Book;
 use std::process::ExitCode;
-use std::rt::Env;
 use std::{env, fs, io};
 
-// The names of the texts.
-fn names(rt: &(impl Env + AllocGlobal)) -> io::Result<Vec<String>> {
-    let mut names = Vec::new(rt.alloc());
-    for name in env::args(rt)?.skip(1) {
-        names.push(name)?;
-    }
-    Ok(names)
-}
-
-// Tries all cases of a text, and tells whether it is written as it should be.
+// Tries all cases of a text, and tells whether each of its lines says something.
 fn try_text(rt: &HostRuntime, book: &mut Book, name: &str) -> io::Result<bool> {
     let text = fs::read_to_string(rt, name)?;
-    match book.try_all(rt, text.as_str()) {
-        Ok(()) => Ok(true),
-        Err(Trouble::Line(line)) => {
+    match book.try_all(rt, text.as_str())? {
+        Some(line) => {
             println!(rt; "{name}: what is line {line}?")?;
             Ok(false)
         }
-        Err(Trouble::Memory) => {
-            println!(rt; "{name}: no memory")?;
-            Ok(false)
-        }
+        None => Ok(true),
     }
 }
 
@@ -46,10 +33,8 @@ fn try_text(rt: &HostRuntime, book: &mut Book, name: &str) -> io::Result<bool> {
 fn run(rt: &HostRuntime) -> io::Result<bool> {
     let mut book = Book::new(rt.alloc());
     let mut written = true;
-    for name in names(rt)?.iter() {
-        if !try_text(rt, &mut book, name.as_str())? {
-            written = false;
-        }
+    'texts: for name in env::args(rt)?.skip(1) {
+        written = try_text(rt, &mut book, name.as_str())? && written;
     }
     let (right, all) = book.counts();
     println!(rt; "{right} of {all} right")?;

@@ -1,5 +1,10 @@
-use Rattle.std.proofs.Common.{refl}
+use Rattle.std.proofs.Common.{refl, ◌∙◌}
+use Rattle.crossbar_examples.proofs.Finding.{none_found}
 use Rattle.crossbar_examples.proofs.lines.try_lines.Goals as goal
 
 pub lines-init : goal.lines-init
-lines-init g c = record { machine = refl; shape = refl }
+lines-init g c = record {
+  machine = refl;
+  shape = refl;
+  found = none_found _ c.args.proof.now c.in_ok-walk.walk.known c.in_ok-walk.walk.found.items (c.in_ok-walk.ensures.shape ∙ c.shape.ensures) c.in_ok-walk.ensures.known c.in_ok-walk.ensures.found;
+}

@@ -1,8 +1,0 @@
-//! Tests of images, over public calls.
-//!
-//! They hold what no contract says: that these calls answer with ample memory, and values from outside.
-//! What a command shows stands among the worked examples.
-#![tactic(auto)]
-
-#[cfg(test)]
-mod bytes;

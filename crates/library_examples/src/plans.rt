@@ -1,0 +1,41 @@
+//! Examples of plans, as texts: a machine, what of it is listed, a design, and what has to be seen of its plans.
+
+mod book;
+mod figures;
+mod shares;
+mod texts;
+
+use book::Book;
+use figures::figures_of;
+use std::{fs, io};
+use texts::Texts;
+
+/// Tries all cases of a text, prints how many are right, and tells whether all are.
+pub fn try_text(rt: &HostRuntime, name: &str) -> io::Result<bool> {
+    let text = fs::read_to_string(rt, name)?;
+    let mut book = Book::new(rt.alloc());
+    let silent = book.try_all(rt, text.as_str())?;
+    if let Some(line) = silent {
+        println!(rt; "{name}: what is line {line}?")?;
+    }
+    let (right, all) = book.counts();
+    println!(rt; "{name}: {right} of {all} right")?;
+    Ok(silent.is_none() && right == all)
+}
+
+/// Prints what is to be seen of the plans of a design, and tells whether it has any.
+pub fn show(rt: &HostRuntime, machine: &str, defects: &str, design: &str) -> io::Result<bool> {
+    let texts = Texts {
+        machine: fs::read(rt, machine)?,
+        defects: fs::read(rt, defects)?,
+        design: fs::read(rt, design)?,
+        second: Vec::new(rt.alloc()),
+    };
+    let Some(figures) = figures_of(rt.alloc(), &texts) else {
+        println!(rt; "no plan")?;
+        return Ok(false);
+    };
+    let line = figures.text(rt.alloc())?;
+    println!(rt; "{line}")?;
+    Ok(true)
+}

@@ -1,0 +1,90 @@
+//! Plain networks and their depths.
+
+use blif_read::read_blif;
+use std::alloc::Global;
+use table_map::{Network, Source, depth, merged, plain};
+
+/// A table: its inputs, its cells, and whether it is latched.
+type Wanted<'a> = (&'a [Source], u64, bool);
+
+/// The cells that give what pin 0 reads.
+const EACH: u64 = 0xAAAA_AAAA_AAAA_AAAA;
+
+// Whether the network has these tables.
+fn has_tables(network: &Network, wanted: &[Wanted]) -> bool {
+    let tables = network.tables.as_slice();
+    let mut right = tables.len() == wanted.len();
+    'tables: for (table, (ins, cells, latched)) in tables.iter().zip(wanted) {
+        right = right
+            && table.ins.as_slice() == *ins
+            && table.cells == *cells
+            && table.latched == *latched;
+    }
+    right
+}
+
+// Whether the plain network of a design has these tables, and so many levels.
+fn is_plain(alloc: Global, text: &[u8], wanted: &[Wanted], levels: u32) -> Option<bool> {
+    let netlist = read_blif(alloc, text).ok()?;
+    let network = plain(alloc, &netlist).ok()?;
+    let found = depth(alloc, &network).ok()?;
+    Some(has_tables(&network, wanted) && found == levels)
+}
+
+pub fn repeated_input_cover(alloc: Global) -> Option<bool> {
+    let text =
+        b".model v\n.inputs a b c d e\n.outputs y\n.names a b a c d e y\n1-1--- 1\n0-1--- 1\n.end\n";
+    let ins = [
+        Source::Input(0),
+        Source::Input(1),
+        Source::Input(2),
+        Source::Input(3),
+        Source::Input(4),
+    ];
+    let wanted: [Wanted; 1] = [(&ins, EACH, false)];
+    is_plain(alloc, text, &wanted, 1)
+}
+
+pub fn seven_input_nand(alloc: Global) -> Option<bool> {
+    let text =
+        b".model n\n.inputs a b c d e f g\n.outputs y\n.names a b c d e f g y\n1111111 0\n.end\n";
+    let six = [
+        Source::Input(0),
+        Source::Input(1),
+        Source::Input(2),
+        Source::Input(3),
+        Source::Input(4),
+        Source::Input(5),
+    ];
+    let wanted: [Wanted; 4] = [
+        (&six, 0x8000_0000_0000_0000, false),
+        (&[Source::Input(6)], EACH, false),
+        (
+            &[Source::Table(0), Source::Table(1)],
+            0x8888_8888_8888_8888,
+            false,
+        ),
+        (&[Source::Table(2)], 0x5555_5555_5555_5555, false),
+    ];
+    is_plain(alloc, text, &wanted, 3)
+}
+
+// The table of the latch reads that of the cover.
+pub fn toggling_latch(alloc: Global) -> Option<bool> {
+    let text = b".model t\n.outputs q\n.names q d\n0 1\n.latch d q\n.end\n";
+    let wanted: [Wanted; 2] = [
+        (&[Source::Table(1)], 0x5555_5555_5555_5555, false),
+        (&[Source::Table(0)], EACH, true),
+    ];
+    is_plain(alloc, text, &wanted, 1)
+}
+
+// The cover is put into the table of the latch, which reads itself then.
+pub fn merged_toggling_latch(alloc: Global) -> Option<bool> {
+    let text = b".model t\n.outputs q\n.names q d\n0 1\n.latch d q\n.end\n";
+    let netlist = read_blif(alloc, text).ok()?;
+    let network = merged(alloc, &netlist).ok()?;
+    let wanted: [Wanted; 1] = [(&[Source::Table(0)], 0x5555_5555_5555_5555, true)];
+    let shown: &[Source] = &[Source::Table(0)];
+    Some(has_tables(&network, &wanted) && network.outputs.as_slice() == shown)
+}

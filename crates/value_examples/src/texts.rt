@@ -1,0 +1,74 @@
+//! Texts that are written.
+
+use crate::shapes::TINY;
+use defect_db::{Defects, defects_text};
+use fault_model::{AddFault, Fault, faults_text, read_faults};
+use hierarchy::{Cross, Node, Shape, Table, Wire};
+use machine_file::{machine_text, read_machine};
+use std::alloc::Global;
+
+pub fn machine_text_of_tiny(alloc: Global) -> Option<bool> {
+    let due =
+        b"teramac 1\nmodules 1\nchips 1\nhextants 1\ntables 2\nports 4 4 4\nlines 4 4 4 4\npins 4\nend\n";
+    let spread =
+        b"# one\n\nteramac 1 # of\nmodules\t1\nchips 1\r\nhextants 1\n tables 2\nports 4 4 4\nlines 4 4 4 4\npins 4\nend";
+    let shape = read_machine(alloc, spread).ok()?;
+    let text = machine_text(alloc, &shape).ok()?;
+    Some(shape.counts() == TINY && text.as_slice() == due.as_slice())
+}
+
+pub fn faults_text_in_order(alloc: Global) -> Option<bool> {
+    let shape = Shape::new(TINY).ok()?;
+    let given = b"stuck1 r.p0\nstuck0 r.l0\nbridge r.p0 r.l0\nbridge r.l0 r.p1\n";
+    let mut set = read_faults(alloc, &shape, given).ok()?;
+    let text = faults_text(alloc, &set).ok()?;
+    let due = b"stuck0 r.l0\nstuck1 r.p0\nbridge r.p0 r.l0\nbridge r.p1 r.l0\n";
+    let written = text.as_slice() == due.as_slice();
+    if set.shape().wires() <= 5 {
+        return None;
+    }
+    let bridge = Fault::Bridge {
+        a: Wire(4),
+        b: Wire(1),
+    };
+    let refused = set.add(bridge) == Err(AddFault::Doubled);
+    if set.shape().wires() <= 5 {
+        return None;
+    }
+    let stuck = Fault::Stuck {
+        wire: Wire(5),
+        value: true,
+    };
+    Some(written && refused && set.add(stuck) == Ok(()) && set.count() == 5)
+}
+
+// Lists a line, a crosspoint that it touches, one that it doesn't, or a table.
+fn list_one(list: &mut Defects, which: u8) {
+    let shape = list.shape();
+    if which == 0 && shape.wires() > 4 {
+        list.list_wire(Wire(4));
+    } else if which == 1 && shape.crosses() > 0 {
+        list.list_cross(Cross(0));
+    } else if which == 2 && shape.crosses() > 5 {
+        list.list_cross(Cross(5));
+    } else if which == 3 && shape.tables() > 0 {
+        list.list_table(Table(0));
+    }
+}
+
+pub fn defects_text_in_order(alloc: Global) -> Option<bool> {
+    let shape = Shape::new(TINY).ok()?;
+    let due =
+        b"defects 1\nshape 1 1 1 2 4 4 4 4 4 4 4 4\nwire r.l0\ncross r.p1 r.l1\ntable m0.c0.h0.t0\nend\n";
+    let mut list = Defects::none(alloc, shape).ok()?;
+    for which in [3u8, 2, 1, 0] {
+        list_one(&mut list, which);
+    }
+    let text = defects_text(alloc, &list).ok()?;
+    let written = text.as_slice() == due.as_slice();
+    if list.shape().nodes() <= 1 {
+        return None;
+    }
+    let lines = list.open_lines(Node(0)) == 2 && list.free_ports(Node(1)) == 4;
+    Some(written && lines && list.free_tables() == 1 && list.free_pins() == 4)
+}
