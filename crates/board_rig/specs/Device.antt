@@ -26,7 +26,7 @@ abbrev pub HasRunSession : Device → Type 0
 HasRunSession d = IfSome d.session (λ s. IsRun d.faults s.config (drives_of s.cycles) (readings_of s.cycles))
 
 -- the session goes on by these pairs
-pub record GoesOnBy (pairs : List Exchange) (old new : Device) : Type 0 where
+pub record GoesOnWith (pairs : List Exchange) (old new : Device) : Type 0 where
   pub goes_on : (g : Configuration) (cycles : List Exchange) → IsInSession g cycles old → IsInSession g (cycles ++ pairs) new
   pub run : HasRunSession new
 

@@ -8,12 +8,12 @@ use Rattle.board_rig.specs.Boards.{BoardState}
 use Rattle.board_rig.specs.Device.{IsInSession}
 use Rattle.board_rig.specs.declared.kept.Kept.{Kept}
 use Rattle.board_rig.specs.Kept.{session_of}
-use Rattle.board_rig.specs.Rows.{AreWide}
+use Rattle.board_rig.specs.Rows.{AreBlank}
 
 -- the session that is kept is the board's, and the rows that are kept for it are as wide as the machine
 pub record IsAlongside (b : BoardState) (k : Kept) : Type 0 where
   pub ready : b.in_session ≡ true
-  pub wide : AreWide (pins_of k.shape) k.blank.items
+  pub wide : AreBlank (pins_of k.shape) k.blank.items
   pub told : ForSome b.device (IsInSession (session_of k).config (session_of k).cycles)
 
 -- the machine that is attached is the one that the board found

@@ -2,7 +2,8 @@
 ghost use Rattle.std.specs.Prelude.{◌≡◌, ◌^◌, ◌<◌, ◌≤◌, true, None, Some, [], ◌∷◌, OnOk, OnErr, IfErr, IsErrOf, length};
 ghost use Rattle.tm_outside.specs.Counts.{Rose};
 ghost use Rattle.board_rig.specs.Device.{faults_told};
-ghost use Rattle.board_rig.specs.Boards.{BoardState, width_found, Finds, SetsUp, HasCycled, HasFailed};
+ghost use Rattle.rig.specs.Rig.{KeepLengths};
+ghost use Rattle.board_rig.specs.Boards.{BoardState, width_found, Finds, SetsUp, HasCycled, HasCycledAll, AreRowsOf, HasFailed};
 
 use config_set::Config;
 use hierarchy::Shape;
@@ -49,5 +50,21 @@ pub trait Board: Drop {
         ensures length { length read.new ≡ length read.old }
         ensures cycles { OnOk result (HasCycled (record { drive = drive.now; reading = read.new } ∷ []) (board_state self.old)
             (board_state self.new)) }
+        ensures refused { IfErr result (λ e. HasFailed e (board_state self.old) (board_state self.new)) };
+
+    /// Makes as many cycles as there are drives, one after the other, as [`Board::cycle`] does. It takes no memory and never
+    /// answers `Memory`. After `Failed` the count rose, and `reads` has its lengths, and any bits.
+    fn cycles(&mut self, drives: &[PinBits], reads: &mut [PinBits]) -> Result<(), RigFail>
+        requires session { (board_state self.old).in_session ≡ true }
+        requires drive_pins { AreRowsOf (board_state self.old) drives.now }
+        requires read_pins { AreRowsOf (board_state self.old) reads.old }
+        requires as_many { length drives.now ≡ length reads.old }
+
+        ensures found { (board_state self.new).found ≡ (board_state self.old).found }
+        ensures faults { faults_told (board_state self.new).device ≡ faults_told (board_state self.old).device }
+        ensures later { (board_state self.old).failures ≤ (board_state self.new).failures }
+        ensures count { (board_state self.new).failures < 2 ^ 64 }
+        ensures lengths { KeepLengths reads.old reads.new }
+        ensures cycles { OnOk result (HasCycledAll drives.now reads.new (board_state self.old) (board_state self.new)) }
         ensures refused { IfErr result (λ e. HasFailed e (board_state self.old) (board_state self.new)) };
 }

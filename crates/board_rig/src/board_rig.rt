@@ -121,6 +121,25 @@ impl<B: Board> Rig for BoardRig<B> {
         }
     }
 
+    fn cycles(&mut self, drives: &[PinBits], reads: &mut [PinBits]) -> Result<(), RigFail> {
+        let Some(mut kept) = self.kept.take() else {
+            unreachable!()
+        };
+        let pins = kept.shape.pins();
+        if kept.make_room(self.alloc, pins, drives.len()).is_err() {
+            self.kept = Some(kept);
+            return Err(RigFail::Memory);
+        }
+        match self.board.cycles(drives, reads) {
+            Ok(()) => {
+                kept.add_all(drives, reads);
+                self.kept = Some(kept);
+                Ok(())
+            }
+            Err(_) => Err(RigFail::Failed),
+        }
+    }
+
     fn loads(&self) -> u64 {
         self.loads
     }

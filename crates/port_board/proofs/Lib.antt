@@ -1,2 +1,5 @@
-mod Spelled
+mod Closings
 mod Edited
+mod Readings
+mod Spelled
+mod Turned

@@ -1,9 +1,11 @@
 -- What a board over a port keeps beside the machine at the other end.
 use Rattle.std.specs.Prelude.{◌≡◌, ℕ, Bool, true, false, List, [], ◌++◌, Option, Some, IfSome, IsSome, All, option_map, if◌then◌else◌}
 use Rattle.hierarchy.specs.declared.Shape.{Shape}
+use Rattle.hierarchy.specs.Circuit.{Pins}
 use Rattle.config_set.specs.Configuration.{Configuration}
+use Rattle.rig.specs.Rig.{Exchange, drives_of, readings_of}
 use Rattle.board_rig.specs.Boards.{BoardState}
-use Rattle.board_rig.specs.Device.{Device}
+use Rattle.board_rig.specs.Device.{Device, HasRunSession, GoesOnWith, WhereTold}
 use Rattle.port_board.specs.Requests.{Edit, edited, IsEditOf, edits_text, start_text}
 use Rattle.port_board.specs.Answers.{start_of}
 
@@ -38,4 +40,11 @@ pub record IsLinked (device : Option Device) (set : Configuration) (line : List 
   pub right : All (IsEditOf set.shape) edits
   pub line_is : line ≡ start_text anew ++ edits_text edits
   pub told : IfSome device (λ d. (d.shape ≡ set.shape) × (set ≡ edited (start_of anew d) edits))
-  pub loaded : running ≡ true → due ≡ false → (line ≡ []) × IfSome device (λ d. (set ≡ d.set) × IsSome d.session)
+  pub loaded : running ≡ true → due ≡ false → (line ≡ []) × IfSome device (λ d. (set ≡ d.set) × IsSome d.session × HasRunSession d)
+
+-- these pairs came behind the others of a told session; what was driven was loaded first where it was due
+pub record HasTurned (drives readings : List Pins) (due : Bool) (set : Configuration) (old : Option Device) (due_now : Bool) (new : Option Device) : Type 0 where
+  pub pairs : List Exchange
+  pub driven : drives_of pairs ≡ drives
+  pub read : readings_of pairs ≡ readings
+  pub turned : WhereTold (GoesOnWith pairs) (told_with due set old) (told_with due_now set new)

@@ -2,7 +2,13 @@
 #![tactic(auto)]
 
 mod edits;
+mod file_port;
+mod link;
 mod port;
+mod port_board;
 mod spelling;
+mod turn;
 
+pub use file_port::FilePort;
 pub use port::{Port, PortFail};
+pub use port_board::PortBoard;
