@@ -1,6 +1,6 @@
 -- What is kept goes with the board after several cycles.
 use Rattle.std.proofs.Common.{◌≡◌, ℕ, suc, zero, ◌+◌, ◌≤◌, ◌<◌, true, List, [], ◌∷◌, ◌++◌, map, length, get_or, All, Option, None, Some, refl, sym, ap, ◌∙◌, arith, subst}
-use Rattle.std.specs.Prelude.{IfSome, option_map, Result, Ok, Err, OnOk, is_err, Bool, false}
+use Rattle.std.specs.Prelude.{IfSome, option_map, Result, Ok, Err, OnOk, is_err, false}
 use Rattle.std.specs.Option.{ForSome}
 use Rattle.hierarchy.specs.declared.Shape.{Shape}
 use Rattle.hierarchy.specs.Shape.{pins_of}
@@ -8,7 +8,7 @@ use Rattle.hierarchy.specs.Circuit.{Pins}
 use Rattle.hierarchy.specs.Faults.{Faults, AreFaultsOf}
 use Rattle.config_set.specs.Configuration.{Configuration}
 use Rattle.config_set.specs.Faulty.{IsRun}
-use Rattle.rig.specs.Rig.{Exchange, Session, RigState, GoesOnBy, KeepLengths, config_of, cycles_of, spare_of, drives_of, readings_of, IsTold}
+use Rattle.rig.specs.Rig.{Exchange, Session, RigState, GoesOnBy, KeepLengths, drives_of, readings_of}
 use Rattle.board_rig.specs.declared.kept.Kept.{Kept}
 use Rattle.board_rig.specs.Device.{Device, faults_told, IsInSession, HasRunSession, GoesOnWith, WhereTold}
 use Rattle.board_rig.specs.Boards.{BoardState, HasCycledAll}

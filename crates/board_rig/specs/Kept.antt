@@ -1,5 +1,5 @@
 -- What a board's rig keeps of a session.
-use Rattle.std.specs.Prelude.{◌≡◌, ℕ, ◌-◌, min, List, ◌++◌, map, length, vec_len}
+use Rattle.std.specs.Prelude.{◌≡◌, ◌-◌, min, List, ◌++◌, map, length, vec_len}
 use Rattle.std.specs.Vec.{vec_capacity}
 use Rattle.config_set.specs.Kept.{set_of}
 use Rattle.hierarchy.specs.Circuit.{Pins}

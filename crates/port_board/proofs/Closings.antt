@@ -1,8 +1,9 @@
 -- What is closed after what is gone was opened and what is new was closed.
-use Rattle.std.proofs.Common.{◌≡◌, ℕ, suc, zero, ◌+◌, ◌≤◌, ◌<◌, Bool, true, false, List, [], ◌∷◌, ◌++◌, take, drop, length, get_or, refl, sym, ap, ◌∙◌, arith, All}
+use Rattle.std.proofs.Common.{◌≡◌, ℕ, suc, zero, ◌+◌, ◌≤◌, ◌<◌, Bool, true, false, List, [], ◌∷◌, ◌++◌, take, drop, length, get_or, refl, sym, ap, ◌∙◌, arith, subst, All}
 use Rattle.std.proofs.lemmas.Bool.{false≢true}
 use Rattle.std.proofs.lemmas.Bool.Decides.{nat_tests}
 use Rattle.std.proofs.lemmas.List.Sums.{sum_by-cons, sum_by_push}
+use Rattle.std.proofs.lemmas.List.Elements.{All-append}
 use Rattle.std.proofs.Math.Seq.{take-suc, take-length}
 use Rattle.std.specs.Prelude.{◌==◌, if◌then◌else◌, count_by}
 use Rattle.std.specs.FinSet.{same_set, nat_cmp-IsAntisymmetric}
@@ -121,3 +122,19 @@ same_closed g h xs counts fewer all = same_set nat_cmp_total nat_cmp-IsAntisymme
   by_bits x false false e f = e ∙ sym f
   by_bits x true false e f = absurd (false≢true (sym f ∙ fewer x e))
   by_bits x false true e f = let one = stands h xs x counts f in absurd (false≢true (sym e ∙ all x (omega (arith, one))))
+
+-- one more was looked at: it was kept, or it is gone
+pub gone_next : (n : ℕ) (h : Configuration) (xs gone more : List Cross) (k : ℕ) (d : Cross) (b : Bool) → k < length xs → b ≡ is_closed h (get_or xs k d).0 → (get_or xs k d).0 < n
+    → (b ≡ true → more ≡ gone) → (b ≡ false → more ≡ gone ++ get_or xs k d ∷ [])
+    → All (λ c. c.0 < n) gone × ((x : ℕ) → is_closed h x ≡ false → times x (take k xs) ≤ times x gone)
+    → All (λ c. c.0 < n) more × ((x : ℕ) → is_closed h x ≡ false → times x (take (k + 1) xs) ≤ times x more)
+gone_next n h xs gone more k d true lt at within kept went inv = (
+    subst (All (λ (c : Cross). c.0 < n)) (sym (kept refl)) inv.0,
+    λ x sought. subst (λ l. times x (take (k + 1) xs) ≤ times x l) (sym (kept refl)) (passed h xs k x (times x gone) d lt (sym at) sought (inv.1 x sought)))
+gone_next n h xs gone more k d false lt at within kept gone_is inv =
+    let all : All (λ (c : Cross). c.0 < n) (gone ++ get_or xs k d ∷ []) = All-append (λ (c : Cross). c.0 < n) gone (get_or xs k d ∷ []) inv.0 (one within) in (
+    subst (All (λ (c : Cross). c.0 < n)) (sym (gone_is refl)) all,
+    λ x sought. subst (λ l. times x (take (k + 1) xs) ≤ times x l) (sym (gone_is refl)) (went xs gone k x d lt (inv.1 x sought))) where
+  one : (get_or xs k d).0 < n → All (λ (c : Cross). c.0 < n) (get_or xs k d ∷ [])
+  one p zero e lk = p
+  one p (suc j) e lk = absurd (omega (arith, lk))

@@ -1,5 +1,5 @@
 -- Edits one after another.
-use Rattle.std.proofs.Common.{◌≡◌, ℕ, List, [], ◌∷◌, ◌++◌, All, refl, sym, ap, ◌∙◌, subst}
+use Rattle.std.proofs.Common.{◌≡◌, ℕ, zero, suc, arith, List, [], ◌∷◌, ◌++◌, All, refl, sym, ap, ◌∙◌, subst}
 use Rattle.std.proofs.lemmas.List.{append-nil, append_assoc}
 use Rattle.std.proofs.lemmas.List.Elements.{All-append}
 use Rattle.std.proofs.lemmas.Grind.{flat_map-append}
@@ -12,14 +12,15 @@ use Rattle.port_board.specs.Linked.{AreEdited}
 abbrev pub spelled : Edit → List ℕ
 spelled e = edit_text e ++ 32 ∷ []
 
-all_none : {X : Type 0} {P : X → Type 0} → All P []
-all_none k e lk = absurd (omega (lk))
+all_none : {X : Type 0} (P : X → Type 0) → All P []
+all_none P k e lk = absurd (omega (arith, lk))
 
 pub no_edit : (g : Configuration) (line : List ℕ) → AreEdited g line g line
-no_edit g line = record { edits = []; right = all_none; line_is = sym (append-nil line); set_is = refl }
+no_edit g line = record { edits = []; right = all_none (IsEditOf g.shape); line_is = sym (append-nil line); set_is = refl }
 
 all_one : {X : Type 0} (P : X → Type 0) (x : X) → P x → All P (x ∷ [])
-all_one P x p = search (p)
+all_one P x p zero e lk = p
+all_one P x p (suc k) e lk = absurd (omega (arith, lk))
 
 pub one_edit : (e : Edit) (g h : Configuration) (line more : List ℕ) → IsEditOf g.shape e → more ≡ line ++ spelled e → h ≡ edited_by g e → AreEdited g line h more
 one_edit e g h line more right is set = record {

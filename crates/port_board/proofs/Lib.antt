@@ -1,5 +1,6 @@
 mod Closings
 mod Edited
 mod Readings
+mod Settings
 mod Spelled
 mod Turned

@@ -1,5 +1,5 @@
 //! Edits: the words that make one configuration of another, and the same changes made here.
-ghost use Rattle.std.specs.Prelude.{◌≡◌, ℕ, ◌≤◌, ◌<◌, true, false, ◌==◌, Some, OnOk, IfOk, All, count_by};
+ghost use Rattle.std.specs.Prelude.{◌≡◌, ℕ, ◌≤◌, ◌<◌, true, false, ◌==◌, [], ◌∷◌, ◌++◌, OnOk, IfOk, All, count_by};
 ghost use Rattle.hierarchy.specs.Shape.{crosses_of, tables_of};
 ghost use Rattle.config_set.specs.Configuration.{is_closed, with_closed, with_open, with_setting, with_ticks};
 ghost use Rattle.port_board.specs.Linked.{AreEdited};
@@ -61,19 +61,31 @@ fn give(line: &mut Vec<u8>, set: &mut Config, t: Table, s: Option<Setting>) -> R
     Ok(())
 }
 
-// Sets the ticks of a cycle, in the line and here; where they are so, nothing is sent.
-fn give_ticks(line: &mut Vec<u8>, set: &mut Config, ticks: u16) -> Result<(), AllocError>
-    requires some { 1 ≤ ticks }
-    requires few { ticks ≤ 4096 }
-
+// Sets the ticks that a cycle has there, in the line and here; where they are so, nothing is sent.
+fn give_ticks(line: &mut Vec<u8>, set: &mut Config, config: &Config) -> Result<(), AllocError>
     ensures shape { set.new.config.shape ≡ set.old.config.shape }
     ensures made { OnOk result (AreEdited set.old.config line.old.items set.new.config line.new.items) }
-    ensures given { OnOk result (set.new.config ≡ with_ticks set.old.config ticks) }
+    ensures given { OnOk result (set.new.config ≡ with_ticks set.old.config config.now.config.ticks) }
 {
+    // What is set there is one of its machine.
+    let _shape = config.shape();
+    let ticks = config.ticks();
     if set.ticks() != ticks {
         put_word(line, b'k', u32::from(ticks))?;
         set.set_ticks(ticks);
     }
+    Ok(())
+}
+
+// Adds a crosspoint that isn't kept.
+fn add_gone(gone: &mut Vec<Cross>, c: Cross, is_kept: bool) -> Result<(), AllocError>
+    ensures kept { is_kept ≡ true → OnOk result (gone.new.items ≡ gone.old.items) }
+    ensures gone { is_kept ≡ false → OnOk result (gone.new.items ≡ gone.old.items ++ c ∷ []) }
+{
+    if is_kept {
+        return Ok(());
+    }
+    gone.push(c)?;
     Ok(())
 }
 
@@ -91,9 +103,7 @@ fn gone_of(alloc: Global, set: &Config, config: &Config) -> Result<Vec<Cross>, A
     let closed = set.closed();
     'closed: for k in 0..closed.len() {
         let c = closed[k];
-        if !config.has_cross(c) {
-            gone.push(c)?;
-        }
+        add_gone(&mut gone, c, config.has_cross(c))?;
     }
     Ok(gone)
 }
@@ -160,6 +170,6 @@ pub fn put_edits(alloc: Global, line: &mut Vec<u8>, set: &mut Config, config: &C
     open_gone(alloc, line, set, config)?;
     close_new(line, set, config)?;
     give_all(line, set, config)?;
-    give_ticks(line, set, config.ticks())?;
+    give_ticks(line, set, config)?;
     Ok(())
 }

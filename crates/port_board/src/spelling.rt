@@ -76,7 +76,8 @@ pub fn put_word(line: &mut Vec<u8>, letter: u8, n: u32) -> Result<(), AllocError
 
 /// Adds a word that switches a table on.
 pub fn put_setting(line: &mut Vec<u8>, t: u32, s: Setting) -> Result<(), AllocError>
-    ensures { OnOk result (line.new.items ≡ line.old.items ++ (edit_text (On t s) ++ 32 ∷ [])) }
+    ensures cells { s.cells < 2 ^ 64 }
+    ensures spelled { OnOk result (line.new.items ≡ line.old.items ++ (edit_text (On t s) ++ 32 ∷ [])) }
 {
     let mut cells = [0u8; 16];
     let _ = hex::encode_to_slice(s.cells.to_be_bytes(), &mut cells);

@@ -1,4 +1,4 @@
-use Rattle.std.proofs.Common.{rules, ◌≡◌, ◌∙◌, ◌+◌, ◌≤◌, sym, ap, refl, Some, subst, arith, length}
+use Rattle.std.proofs.Common.{rules, ◌∙◌, ◌≤◌, sym, ap, refl, Some, subst, arith}
 use Rattle.std.specs.Prelude.{option_map}
 use Rattle.hierarchy.specs.Shape.{pins_of}
 use Rattle.board_rig.specs.Kept.{session_of}
