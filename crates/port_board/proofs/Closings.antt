@@ -101,15 +101,15 @@ only_more g h x c due was after = by_bit (x == c) refl where
   by_bit true e = let same : c ≡ x = grind (arith, nat_tests, e) in ap (is_closed h) (sym same) ∙ due
   by_bit false e = was (sym (is_closed-closed g c x ∙ ap (λ b. if b then true else is_closed g x) e) ∙ after)
 
-pub closed_more : (g : Configuration) (xs : List Cross) (k x : ℕ) (c : Cross) → k < length xs → c ≡ get_or xs k c → (1 ≤ times x (take k xs) → is_closed g x ≡ true)
+pub closed_more : (g : Configuration) (xs : List Cross) (k x : ℕ) (c d : Cross) → k < length xs → c ≡ get_or xs k d → (1 ≤ times x (take k xs) → is_closed g x ≡ true)
     → 1 ≤ times x (take (k + 1) xs) → is_closed (with_closed g c.0) x ≡ true
-closed_more g xs k x c lt at was some = is_closed-closed g c.0 x ∙ by_bit (x == c.0) refl where
+closed_more g xs k x c d lt at was some = is_closed-closed g c.0 x ∙ by_bit (x == c.0) refl where
   by_bit : (b : Bool) → (x == c.0) ≡ b → (if x == c.0 then true else is_closed g x) ≡ true
   by_bit true e = ap (λ b. if b then true else is_closed g x) e
   by_bit false e =
       let other : (c.0 == x) ≡ false = grind (arith, nat_tests, e) in
-      let more = taken_more xs k x c lt in
-      let none : one_at x (get_or xs k c) ≡ 0 = ap (one_at x) (sym at) ∙ ap (λ b. if b then 1 else 0) other in
+      let more = taken_more xs k x d lt in
+      let none : one_at x (get_or xs k d) ≡ 0 = ap (one_at x) (sym at) ∙ ap (λ b. if b then 1 else 0) other in
       let earlier : 1 ≤ times x (take k xs) = omega (arith, more, none, some) in
       ap (λ b. if b then true else is_closed g x) e ∙ was earlier
 

@@ -1,7 +1,7 @@
 -- Tables one after another.
 use Rattle.std.proofs.Common.{◌≡◌, ◌≢◌, ℕ, ◌+◌, ◌<◌, ◌≤◌, Bool, true, false, Option, None, List, length, get_or, set, refl, sym, ap, ◌∙◌, arith}
 use Rattle.std.proofs.lemmas.Bool.Decides.{nat_tests}
-use Rattle.std.proofs.lemmas.List.{get_or-set_same, get_or-set_other, set-get_or, ext_get_or}
+use Rattle.std.proofs.lemmas.List.{get_or-set_same, get_or-set_other, set-get_or, ext_get_or, length-set}
 use Rattle.std.specs.Prelude.{◌==◌}
 use Rattle.config_set.specs.declared.Setting.{Setting}
 use Rattle.config_set.specs.Configuration.{Configuration, setting_of, with_setting}
@@ -24,3 +24,10 @@ given_next g h t s within is before j lt = by_order (j == t) refl where
 
 pub all_given : (g h : Configuration) (n : ℕ) → length g.tables ≡ n → length h.tables ≡ n → ((j : ℕ) → j < n → setting_of g j ≡ setting_of h j) → g.tables ≡ h.tables
 all_given g h n len other same = ext_get_or None g.tables h.tables (len ∙ sym other) (λ i lt. same i (omega (arith, lt, len)))
+
+pub given_length : (g : Configuration) (t : ℕ) (s : Option Setting) → length (with_setting g t s).tables ≡ length g.tables
+given_length g t s = length-set g.tables t s
+
+-- a setting is known by its fields
+pub same_setting : (x y : Setting) → x.cells ≡ y.cells → x.latched ≡ y.latched → x.init ≡ y.init → x ≡ y
+same_setting x y cells latched init = λ i. record { cells = cells i; latched = latched i; init = init i }

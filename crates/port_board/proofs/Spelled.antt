@@ -15,6 +15,10 @@ pub octets_step : (text : List ℕ) (byte : ℕ) (bytes : List ℕ) → text ++ 
 unfolding encode_with
 octets_step text byte bytes = append_assoc text (encode_lower (byte ∷ [])) (encode_lower bytes)
 
+pub octets_none : (text : List ℕ) → text ++ encode_lower [] ≡ text
+unfolding encode_with
+octets_none text = append-nil text
+
 abbrev pub led : {X : Type 0} → (X → List ℕ) → X → List ℕ
 led f y = 32 ∷ [] ++ f y
 

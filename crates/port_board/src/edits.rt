@@ -1,5 +1,5 @@
 //! Edits: the words that make one configuration of another, and the same changes made here.
-ghost use Rattle.std.specs.Prelude.{◌≡◌, ℕ, ◌≤◌, ◌<◌, true, false, ◌==◌, [], ◌∷◌, ◌++◌, OnOk, IfOk, All, count_by};
+ghost use Rattle.std.specs.Prelude.{◌≡◌, ℕ, ◌≤◌, ◌<◌, true, false, ◌==◌, [], ◌∷◌, ◌++◌, OnOk, IfOk, IsTrue, All, count_by};
 ghost use Rattle.hierarchy.specs.Shape.{crosses_of, tables_of};
 ghost use Rattle.config_set.specs.Configuration.{is_closed, with_closed, with_open, with_setting, with_ticks};
 ghost use Rattle.port_board.specs.Linked.{AreEdited};
@@ -37,6 +37,26 @@ fn close_once(line: &mut Vec<u8>, set: &mut Config, c: Cross) -> Result<(), Allo
     Ok(())
 }
 
+// Whether a table does the same by both.
+#[tactic(auto, using(crate::proofs::Settings::same_setting))]
+fn is_same(a: Option<Setting>, b: Option<Setting>) -> bool
+    ensures { IsTrue result → a ≡ b }
+{
+    let Some(x) = a else {
+        return b.is_none();
+    };
+    let Some(y) = b else {
+        return false;
+    };
+    if x.cells != y.cells {
+        return false;
+    }
+    if x.latched != y.latched {
+        return false;
+    }
+    x.init == y.init
+}
+
 // Gives a table its setting, in the line and here; where it has it, nothing is sent.
 fn give(line: &mut Vec<u8>, set: &mut Config, t: Table, s: Option<Setting>) -> Result<(), AllocError>
     requires within { t.0 < tables_of set.old.config.shape }
@@ -45,7 +65,7 @@ fn give(line: &mut Vec<u8>, set: &mut Config, t: Table, s: Option<Setting>) -> R
     ensures made { OnOk result (AreEdited set.old.config line.old.items set.new.config line.new.items) }
     ensures given { OnOk result (set.new.config ≡ with_setting set.old.config t.0 s) }
 {
-    if set.setting(t) == s {
+    if is_same(set.setting(t), s) {
         return Ok(());
     }
     match s {

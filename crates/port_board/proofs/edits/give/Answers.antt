@@ -1,12 +1,12 @@
-use Rattle.std.proofs.Common.{◌∙◌, ap, Some, None}
-use Rattle.config_set.specs.Configuration.{with_setting}
+use Rattle.std.proofs.Common.{◌∙◌, sym, ap, Some, None}
 use Rattle.port_board.specs.Requests.{On, Off}
 use Rattle.port_board.proofs.Edited.{one_edit}
 use Rattle.port_board.proofs.Settings.{same_given}
 use Rattle.port_board.proofs.edits.give.Goals as goal
 
-pub returns-then-eq-clause-given : goal.returns-then-eq-clause-given
-returns-then-eq-clause-given c = ?
+pub returns-then-is_same-clause-given : goal.returns-then-is_same-clause-given
+returns-then-is_same-clause-given c =
+    same_given c.args.set.now.config c.args.t.0 c.args.s (sym c.setting.ensures ∙ c.is_same.ensures c.if-is_same.true)
 
 pub returns-in_ok-put_setting-in-Some-clause-made : goal.returns-in_ok-put_setting-in-Some-clause-made
 returns-in_ok-put_setting-in-Some-clause-made c = one_edit (On c.args.t.0 c.in-Some.setting) c.args.set.now.config c.switch_on.new.self.config
