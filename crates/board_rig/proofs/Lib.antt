@@ -1,2 +1,3 @@
 mod Driven
+pub mod OneByOne
 mod SameSets
