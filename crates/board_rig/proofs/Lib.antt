@@ -1,3 +1,3 @@
-mod Driven
+pub mod Driven
 pub mod OneByOne
 mod SameSets

@@ -69,7 +69,7 @@ bits_same xs ys i e r lt = by_place r lt where
   p6 : (bit_of xs (i + 6) ≡ bit_of ys (i + 6)) × (bit_of xs (i + 7) ≡ bit_of ys (i + 7))
   p6 = peel (bit_of xs (i + 6)) (bit_of ys (i + 6)) (bit_of xs (i + 7)) (bit_of ys (i + 7)) (few xs (i + 6)) (few ys (i + 6)) p5.1
   by_place : (r : ℕ) → r < 8 → bit_of xs (i + r) ≡ bit_of ys (i + r)
-  by_place zero lt = p0.0
+  by_place zero lt = let same : i ≡ i + 0 = omega arith in subst (λ j. bit_of xs j ≡ bit_of ys j) same p0.0
   by_place (suc zero) lt = p1.0
   by_place (suc (suc zero)) lt = p2.0
   by_place (suc (suc (suc zero))) lt = p3.0
@@ -81,14 +81,14 @@ bits_same xs ys i e r lt = by_place r lt where
 
 octet_same : (xs ys : Pins) (n : ℕ) → octets_below xs n ≡ octets_below ys n → (j : ℕ) → j < n → octet_at xs (8 * j) ≡ octet_at ys (8 * j)
 octet_same xs ys zero e j lt = absurd (omega (arith, lt))
-octet_same xs ys (suc n) e j lt = by_order (j == n) refl where
+octet_same xs ys (suc n) e j lt = by_order (j == n) refl (λ t le. octet_same xs ys n t j le) where
   heads : octet_at xs (8 * n) ≡ octet_at ys (8 * n)
   heads = cc
   tails : octets_below xs n ≡ octets_below ys n
   tails = cc
-  by_order : (b : Bool) → (j == n) ≡ b → octet_at xs (8 * j) ≡ octet_at ys (8 * j)
-  by_order true at = let same : n ≡ j = grind (arith, nat_tests, at) in subst (λ k. octet_at xs (8 * k) ≡ octet_at ys (8 * k)) same heads
-  by_order false at = octet_same xs ys n tails j (grind (arith, nat_tests, at, lt))
+  by_order : (b : Bool) → (j == n) ≡ b → (octets_below xs n ≡ octets_below ys n → j < n → octet_at xs (8 * j) ≡ octet_at ys (8 * j)) → octet_at xs (8 * j) ≡ octet_at ys (8 * j)
+  by_order true at more = let same : n ≡ j = grind (arith, nat_tests, at) in subst (λ k. octet_at xs (8 * k) ≡ octet_at ys (8 * k)) same heads
+  by_order false at more = more tails (grind (arith, nat_tests, at, lt))
 
 are_bytes : (pins : Pins) (n : ℕ) → IsBytes (octets_below pins n)
 are_bytes pins zero i = omega arith

@@ -1,5 +1,6 @@
 -- What a turn makes of the machine is what is kept of it.
 use Rattle.std.proofs.Common.{◌≡◌, ℕ, suc, zero, ◌+◌, ◌<◌, Bool, true, false, List, [], ◌∷◌, ◌++◌, map, length, All, Option, None, Some, refl, sym, ap, ◌∙◌, arith, subst}
+use Rattle.std.proofs.lemmas.Bool.{false≢true}
 use Rattle.std.specs.Prelude.{IfSome, IsSome, option_map, if◌then◌else◌}
 use Rattle.hierarchy.specs.declared.Shape.{Shape}
 use Rattle.hierarchy.specs.Shape.{pins_of}
@@ -56,7 +57,7 @@ record IsTurned (set : Configuration) (pairs : List Exchange) (old e : Device) :
 
 has_session : (s : Option Session) (cycles : List Exchange) → option_map (λ (s : Session). s.cycles) s ≡ Some cycles → IsSome s
 has_session None cycles e = cc
-has_session (Some s) cycles e = search ()
+has_session (Some s) cycles e = refl
 
 module _ (d e : Device) (set : Configuration) (anew running due : Bool) (line request reply : List ℕ) (drives reads : List Pins) (l : IsLinked (Some d) set line anew running due)
     (right : AreDrivesOf set.shape drives) (len : length drives ≡ length reads) (wide : AreOf (pins_of set.shape) reads) (is : reply ≡ reading_line reads) (a : Answers d request reply e) where
@@ -95,7 +96,7 @@ module _ (d e : Device) (set : Configuration) (anew running due : Bool) (line re
     known : (line ≡ []) × ((set ≡ d.set) × IsSome d.session × HasRunSession d)
     known = l.loaded runs idle
     by_session : (s : Option Session) → d.session ≡ s → IsSome s → IfSome s (λ s. Drives d s.config s.cycles drives reply e) → IsTurned set (paired drives reads) d e
-    by_session None same some made = absurd some
+    by_session None same some made = absurd (false≢true some)
     by_session (Some s) same some made =
         let pairs = read_pairs s.config s.cycles set.shape drives reads reply e same_shape len wide is made.reads in
         record {

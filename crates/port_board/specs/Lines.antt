@@ -1,5 +1,5 @@
 -- How bits, counts and sums are spelled in the lines between the tool and a machine behind a port.
-use Rattle.std.specs.Prelude.{ℕ, zero, suc, ◌+◌, ◌*◌, ◌%◌, Bool, true, false, List, [], ◌∷◌, ◌++◌, length, get_or, sum, decimal, codes, slice_index_or}
+use Rattle.std.specs.Prelude.{◌≡◌, ◌<◌, ◌^◌, All, ℕ, zero, suc, ◌+◌, ◌*◌, ◌%◌, Bool, true, false, List, [], ◌∷◌, ◌++◌, length, get_or, sum, decimal, codes, slice_index_or}
 use Rattle.std.specs.Int.{div_ceil}
 use Rattle.std.specs.List.{join_by}
 use Rattle.hex.specs.Hex.{encode_lower}
@@ -49,6 +49,12 @@ abbrev pub numbers_of : Counts → List ℕ
 numbers_of c = c.modules ∷ c.chips ∷ c.hextants ∷ c.tables
     ∷ slice_index_or c.ports 0 0 ∷ slice_index_or c.ports 1 0 ∷ slice_index_or c.ports 2 0
     ∷ slice_index_or c.lines 0 0 ∷ slice_index_or c.lines 1 0 ∷ slice_index_or c.lines 2 0 ∷ slice_index_or c.lines 3 0 ∷ c.pins ∷ []
+
+-- twelve counts that a machine may have
+pub record AreCounts (c : Counts) : Type 0 where
+  pub ports : length c.ports ≡ 3
+  pub lines : length c.lines ≡ 4
+  pub small : All (λ n. n < 2 ^ 16) (numbers_of c)
 
 -- what a machine says of itself: the version, and its counts
 abbrev pub counts_line : Counts → List ℕ

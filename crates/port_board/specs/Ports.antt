@@ -4,6 +4,7 @@ use Rattle.hierarchy.specs.declared.Shape.{Shape}
 use Rattle.hierarchy.specs.Faults.{Faults, AreFaultsOf}
 use Rattle.tm_outside.specs.Counts.{Rose}
 use Rattle.board_rig.specs.Device.{Device}
+use Rattle.port_board.specs.Lines.{AreCounts}
 use Rattle.port_board.specs.declared.port.PortFail.{PortFail}
 use Rattle.port_board.specs.declared.port.PortFail.TheVariants as port
 
@@ -19,10 +20,10 @@ pub record PortState : Type 0 where
 abbrev pub machine_told : PortState → Option (Shape × Faults)
 machine_told p = option_map (λ d. (d.shape, d.faults)) p.device
 
--- it is open, and the faults of a told machine are those of its shape
+-- it is open; the counts of a told machine are counts of a machine, and its faults are those of its shape
 pub record Opens (p : PortState) : Type 0 where
   pub is_open : p.is_open ≡ true
-  pub told : IfSome p.device (λ d. AreFaultsOf d.shape d.faults)
+  pub told : IfSome p.device (λ d. AreCounts d.shape.counts × AreFaultsOf d.shape d.faults)
 
 -- what a refusal of `ask` says
 abbrev pub AskFails : PortFail → PortState → PortState → Type 0

@@ -3,7 +3,7 @@ ghost use Rattle.std.specs.Prelude.{◌≡◌, ◌^◌, ◌<◌, ◌≤◌, [], 
 ghost use Rattle.config_set.specs.Configuration.{cleared};
 ghost use Rattle.rig.specs.Flaky.{both_counts};
 ghost use Rattle.board_rig.specs.Device.{Device};
-ghost use Rattle.port_board.specs.Lines.{counts_line};
+ghost use Rattle.port_board.specs.Lines.{counts_line, AreCounts};
 ghost use Rattle.port_board.specs.Requests.{attach_line};
 ghost use Rattle.port_board.specs.Ports.{machine_told};
 ghost use Rattle.port_board.specs.Linked.{IsLinked, board_of};
@@ -92,10 +92,11 @@ fn attach<P: Port>(port: &mut P, link: &mut Link) -> bool
     requires open { (P.port_state port.old).is_open ≡ true }
     requires line { link.old.line.items ≡ attach_line }
     requires expected { link.old.expected.items ≡ counts_line link.old.set.config.shape.counts }
+    requires counts { AreCounts link.old.set.config.shape.counts }
+    requires told { IfSome (P.port_state port.old).device (λ d. AreCounts d.shape.counts) }
 
     ensures machine { machine_told (P.port_state port.new) ≡ machine_told (P.port_state port.old) }
     ensures later { (P.port_state port.old).failures ≤ (P.port_state port.new).failures }
-    ensures count { (P.port_state port.new).failures < 2 ^ 64 }
     ensures open { IsTrue result → (P.port_state port.new).is_open ≡ true }
     ensures line { link.new.line.items ≡ [] }
     ensures set { link.new.set ≡ link.old.set }

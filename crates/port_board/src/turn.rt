@@ -1,5 +1,5 @@
 //! A turn: a request goes out, and its reply is read.
-ghost use Rattle.std.specs.Prelude.{◌≡◌, ◌^◌, ◌<◌, ◌≤◌, ◌++◌, ◌∷◌, [], true, false, length, All, OnOk, OnErr, IfOk, IsTrue, IsFalse};
+ghost use Rattle.std.specs.Prelude.{◌≡◌, ◌^◌, ◌<◌, ◌≤◌, ◌++◌, ◌∷◌, [], true, false, length, All, OnOk, IsTrue};
 ghost use Rattle.hierarchy.specs.Shape.{pins_of};
 ghost use Rattle.rig.specs.Rig.{KeepLengths};
 ghost use Rattle.port_board.specs.Lines.{line_of, reading_line};
@@ -51,14 +51,20 @@ fn read_pins(reply: &[u8], end: usize, read: &mut PinBits)
     }
 }
 
+// How many digits the text of these pins has.
+fn digits_of(pins: &PinBits) -> usize
+    ensures { result < 2 ^ 32 }
+{
+    pins.len().div_ceil(8) as usize * 2
+}
+
 // Reads the pins of each cycle.
 fn read_all(reply: &[u8], reads: &mut [PinBits])
     ensures { KeepLengths reads.old reads.new }
 {
     let mut end = 0usize;
     'reads: for k in 0..reads.len() {
-        let digits = reads[k].len().div_ceil(8) as usize * 2;
-        end = end.saturating_add(1 + digits);
+        end = end.saturating_add(1 + digits_of(&reads[k]));
         read_pins(reply, end, &mut reads[k]);
     }
 }
@@ -85,7 +91,6 @@ pub fn turn<P: Port>(port: &mut P, link: &mut Link, drives: &[PinBits], reads: &
 
     ensures machine { machine_told (P.port_state port.new) ≡ machine_told (P.port_state port.old) }
     ensures later { (P.port_state port.old).failures ≤ (P.port_state port.new).failures }
-    ensures count { (P.port_state port.new).failures < 2 ^ 64 }
     ensures lengths { KeepLengths reads.old reads.new }
     ensures held { IsTrue result → IsKeptUp (P.port_state port.new) link.old link.new }
     ensures turned { IsTrue result → HasTurned drives.now reads.new link.old.due link.old.set.config (P.port_state port.old).device
@@ -126,7 +131,6 @@ pub fn turn_all<P: Port>(port: &mut P, link: &mut Link, drives: &[PinBits], read
 
     ensures machine { machine_told (P.port_state port.new) ≡ machine_told (P.port_state port.old) }
     ensures later { (P.port_state port.old).failures ≤ (P.port_state port.new).failures }
-    ensures count { (P.port_state port.new).failures < 2 ^ 64 }
     ensures lengths { KeepLengths reads.old reads.new }
     ensures held { IsTrue result → IsKeptUp (P.port_state port.new) link.old link.new }
     ensures turned { IsTrue result → HasTurned drives.now reads.new link.old.due link.old.set.config (P.port_state port.old).device

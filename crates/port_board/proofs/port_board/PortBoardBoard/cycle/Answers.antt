@@ -1,0 +1,4 @@
+use Rattle.port_board.proofs.port_board.PortBoardBoard.cycle.Goals as goal
+
+pub returns-clause-cycles : goal.returns-clause-cycles
+returns-clause-cycles g c = ?
