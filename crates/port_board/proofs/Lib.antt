@@ -1,5 +1,7 @@
 mod Closings
 mod Edited
+mod Held
+mod OneMachine
 mod Readings
 mod Settings
 mod Spelled

@@ -152,7 +152,7 @@ one_led n (x ∷ xs) (y ∷ ys) s t a b len e =
 abbrev sealed : List ℕ → List ℕ
 sealed body = 42 ∷ [] ++ encode_lower (sum body % 256 ∷ []) ++ 10 ∷ []
 
-at_end : (a b c d : List ℕ) → a ++ b ++ c ++ d ≡ a ++ (b ++ c ++ d)
+pub at_end : (a b c d : List ℕ) → a ++ b ++ c ++ d ≡ a ++ (b ++ c ++ d)
 at_end a b c d = append_assoc (a ++ b) c d ∙ append_assoc a b (c ++ d) ∙ ap (λ l. a ++ l) (sym (append_assoc b c d))
 
 -- a line of readings has one reading of each width and number

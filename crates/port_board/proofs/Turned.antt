@@ -63,17 +63,17 @@ module _ (d e : Device) (set : Configuration) (anew running due : Bool) (line re
     (right : AreDrivesOf set.shape drives) (len : length drives ≡ length reads) (wide : AreOf (pins_of set.shape) reads) (is : reply ≡ reading_line reads) (a : Answers d request reply e) where
 
   same_shape : e.shape ≡ set.shape
-  same_shape = a.shape ∙ l.told.0
+  same_shape = a.shape ∙ l.posted.told.0
 
   drives_too : AreDrivesOf d.shape drives
-  drives_too = subst (λ m. AreDrivesOf m drives) (sym l.told.0) right
+  drives_too = subst (λ m. AreDrivesOf m drives) (sym l.posted.told.0) right
 
   loaded : request ≡ line_of (line ++ 108 ∷ 32 ∷ [] ++ drives_text drives) → IsTurned set (paired drives reads) (record d { session = Some (record { config = set; cycles = []; spare = 0 }) }) e
   loaded asked =
-      let edits_too : All (IsEditOf d.shape) l.edits = subst (λ m. All (IsEditOf m) l.edits) (sym l.told.0) l.right in
-      let form : request ≡ load_line anew l.edits drives = asked ∙ ap (λ t. line_of (t ++ 108 ∷ 32 ∷ [] ++ drives_text drives)) l.line_is in
-      let made : Loads (start_of anew d) l.edits drives reply e = a.loads anew l.edits drives edits_too drives_too form in
-      let set_too : set ≡ e.set = l.told.1 ∙ sym made.set in
+      let edits_too : All (IsEditOf d.shape) l.posted.edits = subst (λ m. All (IsEditOf m) l.posted.edits) (sym l.posted.told.0) l.posted.right in
+      let form : request ≡ load_line anew l.posted.edits drives = asked ∙ ap (λ t. line_of (t ++ 108 ∷ 32 ∷ [] ++ drives_text drives)) l.posted.line_is in
+      let made : Loads (start_of anew d) l.posted.edits drives reply e = a.loads anew l.posted.edits drives edits_too drives_too form in
+      let set_too : set ≡ e.set = l.posted.told.1 ∙ sym made.set in
       let pairs = read_pairs e.set [] set.shape drives reads reply e same_shape len wide is made.reads in
       record {
         shape = same_shape;
@@ -124,10 +124,12 @@ module _ (d e : Device) (set : Configuration) (anew running due : Bool) (line re
 
 linked_turned : (set : Configuration) (device : Option Device) → IfSome device (λ e. (e.shape ≡ set.shape) × (set ≡ e.set) × IsSome e.session × HasRunSession e) → IsLinked device set [] false true false
 linked_turned set device known = record {
-  edits = [];
-  right = λ k e lk. absurd (omega (arith, lk));
-  line_is = refl;
-  told = parts device known;
+  posted = record {
+    edits = [];
+    right = λ k e lk. absurd (omega (arith, lk));
+    line_is = refl;
+    told = parts device known;
+  };
   loaded = λ _ _. (refl, rest device known);
 } where
   parts : (device : Option Device) → IfSome device (λ e. (e.shape ≡ set.shape) × (set ≡ e.set) × IsSome e.session × HasRunSession e)

@@ -33,13 +33,16 @@ pub record AreEdited (g : Configuration) (line : List ℕ) (h : Configuration) (
   pub line_is : more ≡ line ++ edits_text edits
   pub set_is : h ≡ edited g edits
 
--- What the machine has set, with the edits of the line that wasn't sent, is the board's own configuration. While a session runs
--- of which the machine knows, nothing waits to be sent.
-pub record IsLinked (device : Option Device) (set : Configuration) (line : List ℕ) (anew running due : Bool) : Type 0 where
+-- what the machine has set, with the edits of the line that wasn't sent, is the board's own configuration
+pub record IsPosted (device : Option Device) (set : Configuration) (line : List ℕ) (anew : Bool) : Type 0 where
   pub edits : List Edit
   pub right : All (IsEditOf set.shape) edits
   pub line_is : line ≡ start_text anew ++ edits_text edits
   pub told : IfSome device (λ d. (d.shape ≡ set.shape) × (set ≡ edited (start_of anew d) edits))
+
+-- the same; and while a session runs of which the machine knows, nothing waits to be sent
+pub record IsLinked (device : Option Device) (set : Configuration) (line : List ℕ) (anew running due : Bool) : Type 0 where
+  pub posted : IsPosted device set line anew
   pub loaded : running ≡ true → due ≡ false → (line ≡ []) × IfSome device (λ d. (set ≡ d.set) × IsSome d.session × HasRunSession d)
 
 -- these pairs came behind the others of a told session; what was driven was loaded first where it was due

@@ -6,7 +6,7 @@ ghost use Rattle.board_rig.specs.Device.{Device};
 ghost use Rattle.port_board.specs.Lines.{counts_line, AreCounts};
 ghost use Rattle.port_board.specs.Requests.{attach_line};
 ghost use Rattle.port_board.specs.Ports.{machine_told};
-ghost use Rattle.port_board.specs.Linked.{IsLinked, board_of};
+ghost use Rattle.port_board.specs.Linked.{IsPosted, board_of};
 
 use crate::edits::put_edits;
 use crate::link::Link;
@@ -79,12 +79,13 @@ fn link_of(alloc: Global, shape: Shape) -> Result<Link, AllocError>
 fn put_attach(line: &mut Vec<u8>, expected: &mut Vec<u8>, counts: Counts) -> Result<(), AllocError>
     requires line { line.old.items ≡ [] }
     requires expected { expected.old.items ≡ [] }
+    ensures right { AreCounts counts }
     ensures line { OnOk result (line.new.items ≡ attach_line) }
     ensures expected { OnOk result (expected.new.items ≡ counts_line counts) }
 {
+    put_counts(expected, counts)?;
     line.push(b'a')?;
-    put_sum(line)?;
-    put_counts(expected, counts)
+    put_sum(line)
 }
 
 // Asks the machine behind an open port what it is. False where the port fails, or it is another machine.
@@ -112,28 +113,41 @@ fn attach<P: Port>(port: &mut P, link: &mut Link) -> bool
     }
 }
 
+// Begins a load. Where memory was wanting on the way to the one before, all is cleared, and the line begins with a `z`.
+fn begin(link: &mut Link) -> Result<(), AllocError>
+    ensures shape { link.new.set.config.shape ≡ link.old.set.config.shape }
+    ensures idle { (link.new.running ≡ false) × (link.new.due ≡ false) × (link.new.lost ≡ true) }
+    ensures posted { OnOk result ((device : Option Device) → IfSome device (λ d. d.shape ≡ link.old.set.config.shape) →
+        (link.old.lost ≡ false → IsPosted device link.old.set.config link.old.line.items link.old.anew) →
+        IsPosted device link.new.set.config link.new.line.items link.new.anew) }
+{
+    let was_lost = link.lost;
+    link.running = false;
+    link.due = false;
+    link.lost = true;
+    if !was_lost {
+        return Ok(());
+    }
+    link.set.clear();
+    link.line.clear();
+    link.anew = true;
+    link.line.extend_from_slice(b"z ")?;
+    Ok(())
+}
+
 // Posts a load: its words are made, and go out with the first cycle. Where memory is wanting, all is to be set anew.
 fn post(alloc: Global, link: &mut Link, config: &Config) -> Result<(), AllocError>
     requires { link.old.set.config.shape ≡ config.now.config.shape }
 
     ensures shape { link.new.set.config.shape ≡ link.old.set.config.shape }
     ensures linked { OnOk result ((device : Option Device) → IfSome device (λ d. d.shape ≡ link.old.set.config.shape) →
-        (link.old.lost ≡ false → IsLinked device link.old.set.config link.old.line.items link.old.anew link.old.running link.old.due) →
-        IsLinked device link.new.set.config link.new.line.items link.new.anew true true) }
+        (link.old.lost ≡ false → IsPosted device link.old.set.config link.old.line.items link.old.anew) →
+        IsPosted device link.new.set.config link.new.line.items link.new.anew) }
     ensures posted { OnOk result ((link.new.set.config ≡ config.now.config) × (link.new.running ≡ true) × (link.new.due ≡ true)
         × (link.new.lost ≡ false)) }
     ensures lost { OnErr result ((link.new.running ≡ false) × (link.new.due ≡ false) × (link.new.lost ≡ true)) }
 {
-    let was_lost = link.lost;
-    link.running = false;
-    link.due = false;
-    link.lost = true;
-    if was_lost {
-        link.set.clear();
-        link.line.clear();
-        link.anew = true;
-        link.line.extend_from_slice(b"z ")?;
-    }
+    begin(link)?;
     put_edits(alloc, &mut link.line, &mut link.set, config)?;
     link.line.reserve(MOST_DRIVES)?;
     link.running = true;

@@ -2,7 +2,7 @@
 ghost use Rattle.std.specs.Prelude.{◌≡◌, ◌^◌, ◌<◌, ◌≤◌, ◌++◌, ◌∷◌, [], ◌%◌, decimal, sum, OnOk};
 ghost use Rattle.std.specs.List.{join_by};
 ghost use Rattle.hex.specs.Hex.{encode_lower};
-ghost use Rattle.port_board.specs.Lines.{line_of, bit_of, octet_at, pin_text, reading_line, counts_line, gap};
+ghost use Rattle.port_board.specs.Lines.{line_of, bit_of, octet_at, pin_text, reading_line, counts_line, AreCounts, gap};
 ghost use Rattle.port_board.specs.Requests.{On, edit_text, drives_text};
 
 use config_set::Setting;
@@ -140,7 +140,8 @@ fn put_numbers(line: &mut Vec<u8>, numbers: &[u16]) -> Result<(), AllocError>
 /// Adds the line by which a machine says what it is.
 pub fn put_counts(line: &mut Vec<u8>, c: Counts) -> Result<(), AllocError>
     requires { line.old.items ≡ [] }
-    ensures { OnOk result (line.new.items ≡ counts_line c) }
+    ensures right { AreCounts c }
+    ensures spelled { OnOk result (line.new.items ≡ counts_line c) }
 {
     line.extend_from_slice(b"=1 ")?;
     let numbers = [

@@ -1,0 +1,4 @@
+use Rattle.port_board.proofs.spelling.put_counts.Goals as goal
+
+pub returns-clause-right : goal.returns-clause-right
+returns-clause-right c = ?
