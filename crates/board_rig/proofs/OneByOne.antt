@@ -31,11 +31,11 @@ lengths_set old now k d row lt same e = same_map now k lt same ∙ e where
   same_map (x ∷ xs) zero lt same = ap (λ n. n ∷ map length xs) same
   same_map (x ∷ xs) (suc k) lt same = ap (λ l. length x ∷ l) (same_map xs k (omega (arith, lt)) same)
 
-drives_more : (ps qs : List Exchange) → drives_of (ps ++ qs) ≡ drives_of ps ++ drives_of qs
+pub drives_more : (ps qs : List Exchange) → drives_of (ps ++ qs) ≡ drives_of ps ++ drives_of qs
 drives_more [] qs = refl
 drives_more (p ∷ ps) qs = ap (λ l. p.drive ∷ l) (drives_more ps qs)
 
-readings_more : (ps qs : List Exchange) → readings_of (ps ++ qs) ≡ readings_of ps ++ readings_of qs
+pub readings_more : (ps qs : List Exchange) → readings_of (ps ++ qs) ≡ readings_of ps ++ readings_of qs
 readings_more [] qs = refl
 readings_more (p ∷ ps) qs = ap (λ l. p.reading ∷ l) (readings_more ps qs)
 

@@ -1,7 +1,7 @@
 -- What is kept of a machine goes with it.
-use Rattle.std.proofs.Common.{◌≡◌, ℕ, suc, zero, ◌+◌, ◌<◌, Bool, true, false, List, [], ◌∷◌, ◌++◌, length, get_or, All, Option, None, Some, refl, sym, ap, ◌∙◌, arith, subst}
+use Rattle.std.proofs.Common.{◌≡◌, ℕ, suc, zero, ◌+◌, ◌<◌, Bool, true, false, List, [], ◌∷◌, ◌++◌, map, take, drop, length, get_or, All, Option, None, Some, refl, sym, ap, ◌∙◌, arith, subst}
 use Rattle.std.proofs.lemmas.Bool.{false≢true}
-use Rattle.std.proofs.lemmas.List.{append-nil, append_assoc}
+use Rattle.std.proofs.lemmas.List.{append-nil, append_assoc, map-append, ext_get_or}
 use Rattle.std.proofs.lemmas.List.Elements.{All-append}
 use Rattle.std.proofs.lemmas.List.Sums.{fold-append}
 use Rattle.std.proofs.lemmas.Grind.{flat_map-append}
@@ -11,7 +11,8 @@ use Rattle.hierarchy.specs.Circuit.{Pins}
 use Rattle.config_set.specs.Configuration.{Configuration, cleared}
 use Rattle.config_set.specs.Faulty.{IsRun, circuit_of}
 use Rattle.config_set.specs.Run.{none, at_load}
-use Rattle.rig.specs.Rig.{Exchange, Session, drives_of, readings_of}
+use Rattle.rig.specs.Rig.{Exchange, Session, KeepLengths, drives_of, readings_of}
+use borrow.Rule.Slice.PartMut.{mid_of, post_of, put_mid, put_same}
 use Rattle.board_rig.specs.Device.{Device, HasRunSession, IsInSession, GoesOnWith, WhereTold}
 use Rattle.board_rig.proofs.OneByOne.{told_more, drives_more, readings_more}
 use Rattle.port_board.specs.declared.link.Link.{Link}
@@ -111,3 +112,23 @@ not_turned set line anew running due device l runs = record { pairs = []; driven
   stays None false e l = refl
   stays (Some d) true e l = same (record d { session = Some (record { config = set; cycles = []; spare = 0 }) }) (record { outputs = at_load (circuit_of d.faults set); cycles = none })
   stays (Some d) false e l = same d (l.loaded runs e).1.2
+
+-- rows in the middle are read anew
+pub put_lengths : (a k : ℕ) (begun rows ys : List Pins) → KeepLengths begun rows → KeepLengths (mid_of a k rows) ys → KeepLengths begun (put_mid a k rows ys)
+put_lengths a k begun rows ys keep same =
+    let behind = post_of a k rows in
+    map-append length (take a rows) (ys ++ behind)
+    ∙ ap (λ l. map length (take a rows) ++ l) (map-append length ys behind ∙ ap (λ l. l ++ map length behind) same ∙ sym (map-append length (mid_of a k rows) behind))
+    ∙ sym (map-append length (take a rows) (mid_of a k rows ++ behind))
+    ∙ ap (λ (l : List Pins). map length l) (put_same a k rows)
+    ∙ keep
+
+split_take : (xs : List Pins) (a k n : ℕ) → n ≡ a + k → take a xs ++ take k (drop a xs) ≡ take n xs
+split_take [] a k n e = ext_get_or [] (take a [] ++ take k (drop a [])) (take n []) none (λ i lt. none_at i) where
+  none : length (take a [] ++ take k (drop a [])) ≡ length (take n [])
+  none = simp () refl
+  none_at : (i : ℕ) → get_or (take a [] ++ take k (drop a [])) i [] ≡ get_or (take n []) i []
+  none_at i = simp () refl
+split_take (x ∷ xs) zero k n e = ap (λ m. take m (x ∷ xs)) (let same : k ≡ n = omega (arith, e) in same)
+split_take (x ∷ xs) (suc a) k zero e = absurd (omega (arith, e))
+split_take (x ∷ xs) (suc a) k (suc n) e = ap (λ l. x ∷ l) (split_take xs a k n (omega (arith, e)))

@@ -1,27 +1,35 @@
 -- A line of counts is that of one machine.
-use Rattle.std.proofs.Common.{◌≡◌, ℕ, suc, zero, ◌+◌, ◌%◌, ◌^◌, ◌<◌, ◌≤◌, List, [], ◌∷◌, ◌++◌, drop, map, length, get_or, All, refl, sym, ap, ◌∙◌, arith, subst}
+use Rattle.std.proofs.Common.{◌≡◌, ℕ, suc, zero, ◌+◌, ◌%◌, ◌^◌, ◌<◌, ◌≤◌, List, [], ◌∷◌, ◌++◌, drop, map, length, get_or, All, Option, None, Some, refl, sym, ap, ◌∙◌, arith, subst}
 use Rattle.std.proofs.lemmas.List.{append_assoc, ext_get_or}
 use Rattle.std.proofs.lemmas.Fmt.{decimal_injective, decimal_digit, decimal-digits_of}
-use Rattle.std.specs.Prelude.{flat_map, sum, decimal, codes}
+use Rattle.std.specs.Prelude.{flat_map, sum, decimal, codes, IfSome}
 use Rattle.std.specs.List.{join_by}
 use Rattle.std.specs.Int.Digits.{digits_of}
 use Rattle.hex.specs.Hex.{encode_lower}
+use Rattle.std.proofs.Math.Bridge.{le_prop}
 use Rattle.hierarchy.specs.declared.Counts.{Counts}
+use Rattle.hierarchy.specs.declared.Shape.{Shape}
+use Rattle.hierarchy.specs.Counts.{levels_from, IsFull}
+use Rattle.hierarchy.specs.Walk.{size, tables_in, wires_in, crosses_in, nodes_in}
+use Rattle.config_set.specs.Configuration.{cleared}
+use Rattle.board_rig.specs.Device.{Device, WhereTold}
+use Rattle.port_board.specs.Answers.{Answers}
+use Rattle.port_board.specs.Requests.{attach_line}
 use Rattle.port_board.specs.Lines.{numbers_of, AreCounts, counts_line}
 use Rattle.port_board.proofs.Spelled.{led}
 use Rattle.port_board.proofs.Readings.{sealed, at_end}
 
-AreDigits : List ℕ → Type 0
+abbrev AreDigits : List ℕ → Type 0
 AreDigits [] = Unit {0}
 AreDigits (c ∷ cs) = (48 ≤ c) × AreDigits cs
 
-BeginsLow : List ℕ → Type 0
+abbrev BeginsLow : List ℕ → Type 0
 BeginsLow [] = ⊥
 BeginsLow (c ∷ cs) = c < 48
 
 mapped : (ds : List ℕ) → AreDigits (map (λ d. 48 + d) ds)
 mapped [] = tt
-mapped (d ∷ ds) = (omega arith, mapped ds)
+mapped (d ∷ ds) = (let h : 48 ≤ 48 + d = omega arith in h, mapped ds)
 
 digits : (n : ℕ) → n < 2 ^ 64 → AreDigits (decimal n)
 digits zero h = subst AreDigits (sym (decimal_digit zero (omega arith))) (omega arith, tt)
@@ -29,8 +37,8 @@ digits (suc n) h = subst AreDigits (sym (decimal-digits_of (suc n) (omega arith)
 
 cut_low : (a b r q : List ℕ) → AreDigits a → AreDigits b → BeginsLow r → BeginsLow q → a ++ r ≡ b ++ q → (a ≡ b) × (r ≡ q)
 cut_low [] [] r q da db lr lq e = (refl, e)
-cut_low [] (y ∷ b) r q da db lr lq e = absurd (let low : y < 48 = subst BeginsLow e lr in let high = db.0 in omega (arith, low, high))
-cut_low (x ∷ a) [] r q da db lr lq e = absurd (let low : x < 48 = subst BeginsLow (sym e) lq in let high = da.0 in omega (arith, low, high))
+cut_low [] (y ∷ b) r q da db lr lq e = absurd (let low : BeginsLow (y ∷ b ++ q) = subst BeginsLow e lr in let high = db.0 in omega (arith, low, high))
+cut_low (x ∷ a) [] r q da db lr lq e = absurd (let low : BeginsLow (x ∷ a ++ r) = subst BeginsLow (sym e) lq in let high = da.0 in omega (arith, low, high))
 cut_low (x ∷ a) (y ∷ b) r q da db lr lq e =
     let heads : x ≡ y = cc in
     let tails : a ++ r ≡ b ++ q = cc in
@@ -41,11 +49,10 @@ low : (xs s : List ℕ) → BeginsLow (flat_map (led decimal) xs ++ 42 ∷ s)
 low [] s = omega arith
 low (x ∷ xs) s = omega arith
 
-AreSmall : List ℕ → Type 0
+abbrev AreSmall : List ℕ → Type 0
 AreSmall xs = All (λ n. n < 2 ^ 16) xs
 
 same_numbers : (xs ys s t : List ℕ) → AreSmall xs → AreSmall ys → length xs ≡ length ys → flat_map (led decimal) xs ++ 42 ∷ s ≡ flat_map (led decimal) ys ++ 42 ∷ t → xs ≡ ys
-unfolding AreSmall
 same_numbers [] [] s t a b len e = refl
 same_numbers [] (y ∷ ys) s t a b len e = absurd (omega (arith, len))
 same_numbers (x ∷ xs) [] s t a b len e = absurd (omega (arith, len))
@@ -92,3 +99,31 @@ one_machine a b h g e =
     let whole : body_of a ++ sealed (body_of a) ≡ body_of b ++ sealed (body_of b)
         = sym (at_end (body_of a) (42 ∷ []) (encode_lower (sum (body_of a) % 256 ∷ [])) (10 ∷ [])) ∙ e ∙ at_end (body_of b) (42 ∷ []) (encode_lower (sum (body_of b) % 256 ∷ [])) (10 ∷ []) in
     same_counts a b h g (same_numbers (numbers_of a) (numbers_of b) (drop 1 (sealed (body_of a))) (drop 1 (sealed (body_of b))) h.small g.small refl (ap (λ l. 32 ∷ drop 3 l) whole))
+
+abbrev ShapeFacts : Counts → Type 0
+ShapeFacts c = IsFull c × (size tables_in (levels_from c) ≤ 4096) × (size wires_in (levels_from c) ≤ 16384) × (size crosses_in (levels_from c) ≤ 4194304) × (size nodes_in (levels_from c) ≤ 16384)
+
+abbrev made : (c : Counts) → ShapeFacts c → Shape
+made c p = record { counts = c; full = p.0; few_tables = p.1; few_wires = p.2; few_crosses = p.3; few_nodes = p.4 }
+
+facts-prop : (c : Counts) → IsProp (ShapeFacts c)
+facts-prop c = hlevel le_prop
+
+made-same : (c d : Counts) (p : ShapeFacts c) (q : ShapeFacts d) → c ≡ d → made c p ≡ made d q
+made-same c d p q same =
+    (subst (λ (e : Counts). (other : ShapeFacts e) → made c p ≡ made e other) same (λ other. ap (λ (facts : ShapeFacts c). made c facts) (facts-prop c p other))) q
+
+-- a shape is what its counts are
+same-shape : (m n : Shape) → m.counts ≡ n.counts → m ≡ n
+same-shape m n same =
+    made-same m.counts n.counts (m.full, m.few_tables, m.few_wires, m.few_crosses, m.few_nodes) (n.full, n.few_tables, n.few_wires, n.few_crosses, n.few_nodes) same
+
+-- the machine that answered an attach with these counts has this shape, and nothing set
+pub attached : (old new : Option Device) (request reply expected : List ℕ) (m : Shape) → WhereTold (λ d e. Answers d request reply e) old new → request ≡ attach_line → reply ≡ expected
+    → expected ≡ counts_line m.counts → AreCounts m.counts → IfSome old (λ d. AreCounts d.shape.counts) → IfSome new (λ d. (d.shape ≡ m) × (d.set ≡ cleared m))
+attached None new request reply expected m w asked same right counts told = rw w tt
+attached (Some d) None request reply expected m w asked same right counts told = absurd w
+attached (Some d) (Some e) request reply expected m w asked same right counts told =
+    let fresh = w.attaches asked in
+    let one : d.shape ≡ m = same-shape d.shape m (one_machine d.shape.counts m.counts told counts (sym fresh.reply_is ∙ same ∙ right)) in
+    (w.shape ∙ one, fresh.cleared ∙ ap cleared one)

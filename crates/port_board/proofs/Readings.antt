@@ -149,7 +149,7 @@ one_led n (x ∷ xs) (y ∷ ys) s t a b len e =
     ap (λ z. z ∷ xs) (one_text x y wide text)
     ∙ ap (λ l. y ∷ l) (one_led n xs ys s t (λ k d lt. a (suc k) d (omega (arith, lt))) (λ k d lt. b (suc k) d (omega (arith, lt))) (omega (arith, len)) parts.1)
 
-abbrev sealed : List ℕ → List ℕ
+abbrev pub sealed : List ℕ → List ℕ
 sealed body = 42 ∷ [] ++ encode_lower (sum body % 256 ∷ []) ++ 10 ∷ []
 
 pub at_end : (a b c d : List ℕ) → a ++ b ++ c ++ d ≡ a ++ (b ++ c ++ d)

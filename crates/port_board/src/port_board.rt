@@ -79,13 +79,20 @@ fn link_of(alloc: Global, shape: Shape) -> Result<Link, AllocError>
 fn put_attach(line: &mut Vec<u8>, expected: &mut Vec<u8>, counts: Counts) -> Result<(), AllocError>
     requires line { line.old.items ≡ [] }
     requires expected { expected.old.items ≡ [] }
-    ensures right { AreCounts counts }
+    ensures right { OnOk result (AreCounts counts) }
     ensures line { OnOk result (line.new.items ≡ attach_line) }
     ensures expected { OnOk result (expected.new.items ≡ counts_line counts) }
 {
     put_counts(expected, counts)?;
     line.push(b'a')?;
     put_sum(line)
+}
+
+// Whether a line is another, byte by byte.
+fn is_line(reply: &[u8], expected: &[u8]) -> bool
+    ensures { IsTrue result → reply.now ≡ expected.now }
+{
+    reply == expected
 }
 
 // Asks the machine behind an open port what it is. False where the port fails, or it is another machine.
@@ -108,7 +115,7 @@ fn attach<P: Port>(port: &mut P, link: &mut Link) -> bool
     let asked = port.ask(&link.line, &mut link.reply);
     link.line.clear();
     match asked {
-        Ok(count) => &link.reply[..count] == link.expected.as_slice(),
+        Ok(count) => is_line(&link.reply[..count], &link.expected),
         Err(_) => false,
     }
 }

@@ -1,5 +1,5 @@
 //! How requests and replies are spelled.
-ghost use Rattle.std.specs.Prelude.{◌≡◌, ◌^◌, ◌<◌, ◌≤◌, ◌++◌, ◌∷◌, [], ◌%◌, decimal, sum, OnOk};
+ghost use Rattle.std.specs.Prelude.{◌≡◌, ◌^◌, ◌<◌, ◌≤◌, ◌++◌, ◌∷◌, [], ◌%◌, All, decimal, sum, OnOk};
 ghost use Rattle.std.specs.List.{join_by};
 ghost use Rattle.hex.specs.Hex.{encode_lower};
 ghost use Rattle.port_board.specs.Lines.{line_of, bit_of, octet_at, pin_text, reading_line, counts_line, AreCounts, gap};
@@ -128,7 +128,8 @@ pub fn put_sum(line: &mut Vec<u8>) -> Result<(), AllocError>
 
 // Adds numbers with spaces between them.
 fn put_numbers(line: &mut Vec<u8>, numbers: &[u16]) -> Result<(), AllocError>
-    ensures { OnOk result (line.new.items ≡ line.old.items ++ join_by decimal (32 ∷ []) numbers.now) }
+    ensures small { All (λ n. n < 2 ^ 16) numbers.now }
+    ensures spelled { OnOk result (line.new.items ≡ line.old.items ++ join_by decimal (32 ∷ []) numbers.now) }
 {
     'numbers: for k in 0..numbers.len() {
         put_gap(line, k)?;
@@ -140,7 +141,7 @@ fn put_numbers(line: &mut Vec<u8>, numbers: &[u16]) -> Result<(), AllocError>
 /// Adds the line by which a machine says what it is.
 pub fn put_counts(line: &mut Vec<u8>, c: Counts) -> Result<(), AllocError>
     requires { line.old.items ≡ [] }
-    ensures right { AreCounts c }
+    ensures right { OnOk result (AreCounts c) }
     ensures spelled { OnOk result (line.new.items ≡ counts_line c) }
 {
     line.extend_from_slice(b"=1 ")?;

@@ -1,3 +1,4 @@
+use Rattle.std.proofs.Common.{arith}
 use Rattle.port_board.proofs.spelling.put_counts.Goals as goal
 
 pub returns-clause-right : goal.returns-clause-right
