@@ -1,11 +1,13 @@
 -- What is kept of a machine goes with it.
-use Rattle.std.proofs.Common.{◌≡◌, ℕ, suc, zero, ◌+◌, ◌<◌, Bool, true, false, List, [], ◌∷◌, ◌++◌, map, take, drop, length, get_or, All, Option, None, Some, refl, sym, ap, ◌∙◌, arith, subst}
+use Rattle.std.proofs.Common.{◌≡◌, ℕ, suc, zero, ◌+◌, ◌-◌, ◌<◌, ◌≤◌, Bool, true, false, List, [], ◌∷◌, ◌++◌, map, take, drop, length, get_or, All, Option, None, Some, refl, sym, ap, ◌∙◌, arith, subst}
 use Rattle.std.proofs.lemmas.Bool.{false≢true}
-use Rattle.std.proofs.lemmas.List.{append-nil, append_assoc, map-append, ext_get_or}
+use Rattle.std.proofs.lemmas.List.{append-nil, append_assoc, map-append, ext_get_or, length-map, length-drop, length-take-le}
 use Rattle.std.proofs.lemmas.List.Elements.{All-append}
+use Rattle.std.proofs.lemmas.Slice.{take-put_mid}
 use Rattle.std.proofs.lemmas.List.Sums.{fold-append}
 use Rattle.std.proofs.lemmas.Grind.{flat_map-append}
-use Rattle.std.specs.Prelude.{IfSome, IsSome}
+use Rattle.std.proofs.Math.Seq.{take-append_seam}
+use Rattle.std.specs.Prelude.{IfSome, IsSome, Result, Ok, Err, OnOk}
 use Rattle.hierarchy.specs.declared.Shape.{Shape}
 use Rattle.hierarchy.specs.Circuit.{Pins}
 use Rattle.config_set.specs.Configuration.{Configuration, cleared}
@@ -123,12 +125,40 @@ put_lengths a k begun rows ys keep same =
     ∙ ap (λ (l : List Pins). map length l) (put_same a k rows)
     ∙ keep
 
+none_left : (n : ℕ) → take n ([] : List Pins) ≡ []
+none_left zero = refl
+none_left (suc n) = refl
+
 split_take : (xs : List Pins) (a k n : ℕ) → n ≡ a + k → take a xs ++ take k (drop a xs) ≡ take n xs
-split_take [] a k n e = ext_get_or [] (take a [] ++ take k (drop a [])) (take n []) none (λ i lt. none_at i) where
-  none : length (take a [] ++ take k (drop a [])) ≡ length (take n [])
-  none = simp () refl
-  none_at : (i : ℕ) → get_or (take a [] ++ take k (drop a [])) i [] ≡ get_or (take n []) i []
-  none_at i = simp () refl
+split_take [] zero k n e = none_left k ∙ sym (none_left n)
+split_take [] (suc a) k n e = none_left k ∙ sym (none_left n)
 split_take (x ∷ xs) zero k n e = ap (λ m. take m (x ∷ xs)) (let same : k ≡ n = omega (arith, e) in same)
 split_take (x ∷ xs) (suc a) k zero e = absurd (omega (arith, e))
 split_take (x ∷ xs) (suc a) k (suc n) e = ap (λ l. x ∷ l) (split_take xs a k n (omega (arith, e)))
+
+-- as many rows come as were asked for
+pub mid_length : (a k : ℕ) (rows ys : List Pins) → KeepLengths (mid_of a k rows) ys → a + k ≤ length rows → length ys ≡ k
+mid_length a k rows ys same within =
+    let left : length (drop a rows) ≡ length rows - a = length-drop a rows in
+    sym (length-map ys) ∙ ap length same ∙ length-map (mid_of a k rows) ∙ length-take-le k (drop a rows) (omega (arith, left, within))
+
+-- one more turn
+pub turned_next : (set other : Configuration) (drives rows ys : List Pins) (at end : ℕ) (due mid_due new_due : Bool) (old mid new : Option Device) → other ≡ set → at ≤ end → end ≤ length rows
+    → KeepLengths (mid_of at (end - at) rows) ys → HasTurned (take at drives) (take at rows) due set old mid_due mid → HasTurned (take (end - at) (drop at drives)) ys mid_due other mid new_due new
+    → HasTurned (take end drives) (take end (put_mid at (end - at) rows ys)) due set old new_due new
+turned_next set other drives rows ys at end due mid_due new_due old mid new same le within keep a b =
+    let many : length ys ≡ end - at = mid_length at (end - at) rows ys keep (omega (arith, le, within)) in
+    let read : take end (put_mid at (end - at) rows ys) ≡ take at rows ++ ys = take-put_mid at (end - at) rows ys end (omega (arith, many, le)) (omega (arith, le, within)) in
+    let more : HasTurned (take (end - at) (drop at drives)) ys mid_due set mid new_due new
+        = subst (λ (s : Configuration). HasTurned (take (end - at) (drop at drives)) ys mid_due s mid new_due new) same b in
+    subst (λ (l : List Pins). HasTurned (take end drives) l due set old new_due new) (sym read)
+        (subst (λ (l : List Pins). HasTurned l (take at rows ++ ys) due set old new_due new) (split_take drives at (end - at) end (omega (arith, le)))
+            (turned_more set (take at drives) (take (end - at) (drop at drives)) (take at rows) ys due mid_due new_due old mid new a more))
+
+-- a buffer that was lent as a whole
+pub seam : (now old : List ℕ) (len : ℕ) → length now ≡ length old → len ≡ length old → take len (now ++ drop (length now) old) ≡ now
+seam now old len same is = ap (λ n. take n (now ++ drop (length now) old)) (is ∙ sym same) ∙ take-append_seam now (drop (length now) old)
+
+pub any_ok : {T E : Type 0} (r : Result T E) (P : Type 0) → P → OnOk r P
+any_ok (Ok x) P p = p
+any_ok (Err x) P p = tt
