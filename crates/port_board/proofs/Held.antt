@@ -140,7 +140,7 @@ split_take (x ∷ xs) (suc a) k (suc n) e = ap (λ l. x ∷ l) (split_take xs a 
 pub mid_length : (a k : ℕ) (rows ys : List Pins) → KeepLengths (mid_of a k rows) ys → a + k ≤ length rows → length ys ≡ k
 mid_length a k rows ys same within =
     let left : length (drop a rows) ≡ length rows - a = length-drop a rows in
-    sym (length-map ys) ∙ ap length same ∙ length-map (mid_of a k rows) ∙ length-take-le k (drop a rows) (omega (arith, left, within))
+    sym (length-map ys length) ∙ ap length same ∙ length-map (mid_of a k rows) length ∙ length-take-le k (drop a rows) (omega (arith, left, within))
 
 -- one more turn
 pub turned_next : (set other : Configuration) (drives rows ys : List Pins) (at end : ℕ) (due mid_due new_due : Bool) (old mid new : Option Device) → other ≡ set → at ≤ end → end ≤ length rows

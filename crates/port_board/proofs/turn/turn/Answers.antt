@@ -10,7 +10,7 @@ use Rattle.port_board.proofs.turn.turn.Goals as goal
 
 module _ (g : Over) (c : goal.After-link-3-1 g) where
   many : length c.args.reads.now ≡ length c.read_all.new.reads
-  many = sym (length-map c.args.reads.now) ∙ ap length (sym c.read_all.ensures) ∙ length-map c.read_all.new.reads
+  many = sym (length-map c.args.reads.now length) ∙ ap length (sym c.read_all.ensures) ∙ length-map c.read_all.new.reads length
 
   stands : StandsTurned c.args.link.now.set.config c.args.drives.now c.read_all.new.reads c.args.link.now.due (g.P.Port.port_state c.args.port.now).device (g.P.Port.port_state c.ask.new.self).device
   stands =
