@@ -125,7 +125,10 @@ put_lengths a k begun rows ys keep same =
     ∙ ap (λ (l : List Pins). map length l) (put_same a k rows)
     ∙ keep
 
-none_left : (n : ℕ) → take n ([] : List Pins) ≡ []
+abbrev no_rows : List Pins
+no_rows = []
+
+none_left : (n : ℕ) → take n no_rows ≡ no_rows
 none_left zero = refl
 none_left (suc n) = refl
 
