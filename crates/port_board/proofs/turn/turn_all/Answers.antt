@@ -1,7 +1,8 @@
-use Rattle.std.proofs.Common.{◌≡◌, ◌∙◌, ◌+◌, ◌-◌, ◌≤◌, ◌<◌, ◌++◌, All, take, drop, length, refl, sym, ap, subst, arith}
+use Rattle.std.proofs.Common.{ℕ, ◌≡◌, ◌∙◌, ◌+◌, ◌-◌, ◌≤◌, ◌<◌, ◌++◌, All, take, drop, length, refl, sym, ap, subst, arith}
 use Rattle.std.proofs.lemmas.List.Elements.{All-take, All-drop}
 use Rattle.std.proofs.lemmas.Slice.{take-put_mid}
 use Rattle.hierarchy.specs.Shape.{pins_of}
+use Rattle.hierarchy.specs.Circuit.{Pins}
 use Rattle.board_rig.proofs.Driven.{kept_lengths}
 use Rattle.port_board.specs.Linked.{HasTurned}
 use Rattle.port_board.proofs.Held.{put_lengths, not_turned, turned_next}
@@ -21,7 +22,7 @@ pub turn-requires-clause-reads : goal.turn-requires-clause-reads
 turn-requires-clause-reads g c =
     let n = pins_of c.args.link.now.set.config.shape in
     let rows = kept_lengths n c.args.reads.now c.turns.reads c.turns.invariant.2 c.requires.reads in
-    let wide = λ w. All (λ row. length row ≡ w) (take (c.min-end.result - c.turns.at) (drop c.turns.at c.turns.reads)) in
+    let wide : ℕ → Type 0 = λ w. All (λ (row : Pins). length row ≡ w) (take (c.min-end.result - c.turns.at) (drop c.turns.at c.turns.reads)) in
     subst wide (sym (ap (λ s. pins_of s.shape) c.turns.invariant.3.set))
         (All-take (λ row. length row ≡ n) (c.min-end.result - c.turns.at) (drop c.turns.at c.turns.reads) (All-drop (λ row. length row ≡ n) c.turns.at c.turns.reads rows))
 
