@@ -2,7 +2,7 @@
 ghost use Rattle.std.specs.Prelude.{◌≡◌, ◌-◌, ◌^◌, None, [], min, option_map, string_bytes};
 ghost use Rattle.std.proofs.Props.{props};
 ghost use Rattle.rig.specs.Rig.{IsDetached};
-ghost use Rattle.board_rig.specs.Codes.{coded_config_told, coded_cycles_told};
+ghost use Rattle.board_rig.specs.Codes.{coded_config_told as configs, coded_cycles_told as cycles};
 ghost use Rattle.board_rig.specs.Device.{faults_told};
 ghost use Rattle.board_rig.specs.Kept.{session_of};
 ghost use Rattle.board_rig.specs.Linked.{IsLinked};
@@ -25,7 +25,7 @@ pub struct BoardRig<B: Board> {
     machine: Option<AskedMachine>,
     kept: Option<Kept>,
     loads: u64,
-    ghost linked: { IsLinked (B.board_state board) (option_map (λ m. m.shape) machine) kept } by { Prim.hlevel (props, coded_config_told, coded_cycles_told) },
+    ghost linked: { IsLinked (B.board_state board) (option_map (λ m. m.shape) machine) kept } by { Prim.hlevel (props, configs, cycles) },
 }
 
 impl<B: Board> BoardRig<B> {

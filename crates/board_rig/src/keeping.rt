@@ -92,7 +92,8 @@ impl Kept {
         requires { vec_len self.old.rows < vec_capacity self.old.rows }
 
         ensures config { (session_of self.new).config ≡ (session_of self.old).config }
-        ensures cycles { (session_of self.new).cycles ≡ (session_of self.old).cycles ++ record { drive = row.drive; reading = row.reading } ∷ [] }
+        ensures cycles { (session_of self.new).cycles ≡ (session_of self.old).cycles
+            ++ record { drive = row.drive; reading = row.reading } ∷ [] }
         ensures blank { self.new.blank ≡ self.old.blank }
         ensures spare { min (length self.old.blank.items + 1) (vec_capacity self.old.rows - vec_len self.old.rows)
             ≤ (session_of self.new).spare + 1 }
@@ -134,7 +135,8 @@ impl Kept {
 
         ensures shape { self.new.shape ≡ self.old.shape }
         ensures config { (session_of self.new).config ≡ (session_of self.old).config }
-        ensures cycles { (session_of self.new).cycles ≡ (session_of self.old).cycles ++ record { drive = drive.now; reading = read.now } ∷ [] }
+        ensures cycles { (session_of self.new).cycles ≡ (session_of self.old).cycles
+            ++ record { drive = drive.now; reading = read.now } ∷ [] }
         ensures wide { AreBlank (length drive.now) self.new.blank.items }
         ensures blank { length self.new.blank.items + 1 ≡ length self.old.blank.items }
         ensures rows { vec_len self.new.rows ≡ vec_len self.old.rows + 1 }

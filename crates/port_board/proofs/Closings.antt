@@ -81,6 +81,7 @@ opened g gone k x c lt at after further = by_bit (x == c.0) refl where
   split [] k lt = absurd (omega (arith, lt))
   split (y ∷ xs) zero lt = refl
   split (y ∷ xs) (suc k) lt = split xs k (omega (arith, lt))
+
   by_bit : (b : Bool) → (x == c.0) ≡ b → 1 ≤ times x (drop (k + 1) gone)
   by_bit true e = absurd (false≢true (sym (is_closed-open g c.0 x ∙ ap (λ b. if b then false else is_closed g x) e) ∙ after))
   by_bit false e =
@@ -88,7 +89,7 @@ opened g gone k x c lt at after further = by_bit (x == c.0) refl where
       let some = further was in
       let next : k + 1 ≡ suc k = omega arith in
       let parts : times x (drop k gone) ≡ one_at x (get_or gone k c) + times x (drop (suc k) gone)
-          = ap (times x) (split gone k lt) ∙ sum_by-cons (one_at x) (get_or gone k c) (drop (suc k) gone) in
+      = ap (times x) (split gone k lt) ∙ sum_by-cons (one_at x) (get_or gone k c) (drop (suc k) gone) in
       let other : (c.0 == x) ≡ false = grind (arith, nat_tests, e) in
       let none : one_at x (get_or gone k c) ≡ 0 = ap (one_at x) (sym at) ∙ ap (λ b. if b then 1 else 0) other in
       let same : times x (drop (k + 1) gone) ≡ times x (drop (suc k) gone) = ap (λ n. times x (drop n gone)) next in
@@ -129,12 +130,14 @@ pub gone_next : (n : ℕ) (h : Configuration) (xs gone more : List Cross) (k : �
     → All (λ c. c.0 < n) gone × ((x : ℕ) → is_closed h x ≡ false → times x (take k xs) ≤ times x gone)
     → All (λ c. c.0 < n) more × ((x : ℕ) → is_closed h x ≡ false → times x (take (k + 1) xs) ≤ times x more)
 gone_next n h xs gone more k d true lt at within kept went inv = (
-    subst (All (λ (c : Cross). c.0 < n)) (sym (kept refl)) inv.0,
-    λ x sought. subst (λ l. times x (take (k + 1) xs) ≤ times x l) (sym (kept refl)) (passed h xs k x (times x gone) d lt (sym at) sought (inv.1 x sought)))
+  subst (All (λ (c : Cross). c.0 < n)) (sym (kept refl)) inv.0,
+  λ x sought. subst (λ l. times x (take (k + 1) xs) ≤ times x l) (sym (kept refl)) (passed h xs k x (times x gone) d lt (sym at) sought (inv.1 x sought)),
+)
 gone_next n h xs gone more k d false lt at within kept gone_is inv =
     let all : All (λ (c : Cross). c.0 < n) (gone ++ get_or xs k d ∷ []) = All-append (λ (c : Cross). c.0 < n) gone (get_or xs k d ∷ []) inv.0 (one within) in (
-    subst (All (λ (c : Cross). c.0 < n)) (sym (gone_is refl)) all,
-    λ x sought. subst (λ l. times x (take (k + 1) xs) ≤ times x l) (sym (gone_is refl)) (went xs gone k x d lt (inv.1 x sought))) where
-  one : (get_or xs k d).0 < n → All (λ (c : Cross). c.0 < n) (get_or xs k d ∷ [])
-  one p zero e lk = p
-  one p (suc j) e lk = absurd (omega (arith, lk))
+      subst (All (λ (c : Cross). c.0 < n)) (sym (gone_is refl)) all,
+      λ x sought. subst (λ l. times x (take (k + 1) xs) ≤ times x l) (sym (gone_is refl)) (went xs gone k x d lt (inv.1 x sought)),
+    ) where
+      one : (get_or xs k d).0 < n → All (λ (c : Cross). c.0 < n) (get_or xs k d ∷ [])
+      one p zero e lk = p
+      one p (suc j) e lk = absurd (omega (arith, lk))

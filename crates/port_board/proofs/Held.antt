@@ -76,6 +76,7 @@ fresh_held port m l opened set line anew running known = record {
   shapes : (device : Option Device) → IfSome device (λ d. (d.shape ≡ m) × (d.set ≡ cleared m)) → IfSome device (λ d. d.shape ≡ l.set.config.shape)
   shapes None k = tt
   shapes (Some d) k = k.0 ∙ sym (ap (λ g. g.shape) set)
+
   sets : (device : Option Device) → IfSome device (λ d. (d.shape ≡ m) × (d.set ≡ cleared m))
       → IfSome device (λ d. (d.shape ≡ l.set.config.shape) × (l.set.config ≡ edited (start_of l.anew d) []))
   sets None k = tt
@@ -109,6 +110,7 @@ pub not_turned : (set : Configuration) (line : List ℕ) (anew running due : Boo
 not_turned set line anew running due device l runs = record { pairs = []; driven = refl; read = refl; turned = stays device due refl l } where
   same : (d : Device) → HasRunSession d → GoesOnWith [] d d
   same d run = record { goes_on = λ g cycles i. record { config = i.config; so_far = i.so_far ∙ ap Some (sym (append-nil cycles)) }; run = run }
+
   stays : (device : Option Device) (b : Bool) → due ≡ b → IsLinked device set line anew running due → WhereTold (GoesOnWith []) (told_with b set device) (told_with b set device)
   stays None true e l = refl
   stays None false e l = refl
@@ -153,10 +155,10 @@ turned_next set other drives rows ys at end due mid_due new_due old mid new same
     let many : length ys ≡ end - at = mid_length at (end - at) rows ys keep (omega (arith, le, within)) in
     let read : take end (put_mid at (end - at) rows ys) ≡ take at rows ++ ys = take-put_mid at (end - at) rows ys end (omega (arith, many, le)) (omega (arith, le, within)) in
     let more : HasTurned (take (end - at) (drop at drives)) ys mid_due set mid new_due new
-        = subst (λ (s : Configuration). HasTurned (take (end - at) (drop at drives)) ys mid_due s mid new_due new) same b in
+    = subst (λ (s : Configuration). HasTurned (take (end - at) (drop at drives)) ys mid_due s mid new_due new) same b in
     subst (λ (l : List Pins). HasTurned (take end drives) l due set old new_due new) (sym read)
-        (subst (λ (l : List Pins). HasTurned l (take at rows ++ ys) due set old new_due new) (split_take drives at (end - at) end (omega (arith, le)))
-            (turned_more set (take at drives) (take (end - at) (drop at drives)) (take at rows) ys due mid_due new_due old mid new a more))
+    (subst (λ (l : List Pins). HasTurned l (take at rows ++ ys) due set old new_due new) (split_take drives at (end - at) end (omega (arith, le)))
+    (turned_more set (take at drives) (take (end - at) (drop at drives)) (take at rows) ys due mid_due new_due old mid new a more))
 
 -- a buffer that was lent as a whole
 pub seam : (now old : List ℕ) (len : ℕ) → length now ≡ length old → len ≡ length old → take len (now ++ drop (length now) old) ≡ now

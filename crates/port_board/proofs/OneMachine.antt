@@ -62,7 +62,7 @@ same_numbers (x ∷ xs) (y ∷ ys) s t a b len e =
     let r = flat_map (led decimal) xs ++ 42 ∷ s in
     let q = flat_map (led decimal) ys ++ 42 ∷ t in
     let whole : decimal x ++ r ≡ decimal y ++ q
-        = ap (λ l. drop 1 l) (sym (append_assoc (led decimal x) (flat_map (led decimal) xs) (42 ∷ s)) ∙ e ∙ append_assoc (led decimal y) (flat_map (led decimal) ys) (42 ∷ t)) in
+    = ap (λ l. drop 1 l) (sym (append_assoc (led decimal x) (flat_map (led decimal) xs) (42 ∷ s)) ∙ e ∙ append_assoc (led decimal y) (flat_map (led decimal) ys) (42 ∷ t)) in
     let parts = cut_low (decimal x) (decimal y) r q (digits x small) (digits y small_too) (low xs s) (low ys t) whole in
     ap (λ z. z ∷ xs) (decimal_injective x y small small_too parts.0)
     ∙ ap (λ l. y ∷ l) (same_numbers xs ys s t (λ k d lt. a (suc k) d (omega (arith, lt))) (λ k d lt. b (suc k) d (omega (arith, lt))) (omega (arith, len)) parts.1)
@@ -97,7 +97,7 @@ pub one_machine : (a b : Counts) → AreCounts a → AreCounts b → counts_line
 one_machine a b h g e =
     let body_of : Counts → List ℕ = λ c. codes "=1 " ++ join_by decimal (32 ∷ []) (numbers_of c) in
     let whole : body_of a ++ sealed (body_of a) ≡ body_of b ++ sealed (body_of b)
-        = sym (at_end (body_of a) (42 ∷ []) (encode_lower (sum (body_of a) % 256 ∷ [])) (10 ∷ [])) ∙ e ∙ at_end (body_of b) (42 ∷ []) (encode_lower (sum (body_of b) % 256 ∷ [])) (10 ∷ []) in
+    = sym (at_end (body_of a) (42 ∷ []) (encode_lower (sum (body_of a) % 256 ∷ [])) (10 ∷ [])) ∙ e ∙ at_end (body_of b) (42 ∷ []) (encode_lower (sum (body_of b) % 256 ∷ [])) (10 ∷ []) in
     same_counts a b h g (same_numbers (numbers_of a) (numbers_of b) (drop 1 (sealed (body_of a))) (drop 1 (sealed (body_of b))) h.small g.small refl (ap (λ l. 32 ∷ drop 3 l) whole))
 
 abbrev ShapeFacts : Counts → Type 0

@@ -56,18 +56,25 @@ bits_same : (xs ys : Pins) (i : ℕ) → octet_at xs i ≡ octet_at ys i → (r 
 bits_same xs ys i e r lt = by_place r lt where
   p0 : (bit_of xs i ≡ bit_of ys i) × (behind1 xs i ≡ behind1 ys i)
   p0 = peel (bit_of xs i) (bit_of ys i) (behind1 xs i) (behind1 ys i) (few xs i) (few ys i) (omega (arith, e))
+
   p1 : (bit_of xs (i + 1) ≡ bit_of ys (i + 1)) × (behind2 xs i ≡ behind2 ys i)
   p1 = peel (bit_of xs (i + 1)) (bit_of ys (i + 1)) (behind2 xs i) (behind2 ys i) (few xs (i + 1)) (few ys (i + 1)) p0.1
+
   p2 : (bit_of xs (i + 2) ≡ bit_of ys (i + 2)) × (behind3 xs i ≡ behind3 ys i)
   p2 = peel (bit_of xs (i + 2)) (bit_of ys (i + 2)) (behind3 xs i) (behind3 ys i) (few xs (i + 2)) (few ys (i + 2)) p1.1
+
   p3 : (bit_of xs (i + 3) ≡ bit_of ys (i + 3)) × (behind4 xs i ≡ behind4 ys i)
   p3 = peel (bit_of xs (i + 3)) (bit_of ys (i + 3)) (behind4 xs i) (behind4 ys i) (few xs (i + 3)) (few ys (i + 3)) p2.1
+
   p4 : (bit_of xs (i + 4) ≡ bit_of ys (i + 4)) × (behind5 xs i ≡ behind5 ys i)
   p4 = peel (bit_of xs (i + 4)) (bit_of ys (i + 4)) (behind5 xs i) (behind5 ys i) (few xs (i + 4)) (few ys (i + 4)) p3.1
+
   p5 : (bit_of xs (i + 5) ≡ bit_of ys (i + 5)) × (behind6 xs i ≡ behind6 ys i)
   p5 = peel (bit_of xs (i + 5)) (bit_of ys (i + 5)) (behind6 xs i) (behind6 ys i) (few xs (i + 5)) (few ys (i + 5)) p4.1
+
   p6 : (bit_of xs (i + 6) ≡ bit_of ys (i + 6)) × (bit_of xs (i + 7) ≡ bit_of ys (i + 7))
   p6 = peel (bit_of xs (i + 6)) (bit_of ys (i + 6)) (bit_of xs (i + 7)) (bit_of ys (i + 7)) (few xs (i + 6)) (few ys (i + 6)) p5.1
+
   by_place : (r : ℕ) → r < 8 → bit_of xs (i + r) ≡ bit_of ys (i + r)
   by_place zero lt = let same : i ≡ i + 0 = omega arith in subst (λ j. bit_of xs j ≡ bit_of ys j) same p0.0
   by_place (suc zero) lt = p1.0
@@ -84,8 +91,10 @@ octet_same xs ys zero e j lt = absurd (omega (arith, lt))
 octet_same xs ys (suc n) e j lt = by_order (j == n) refl (λ t le. octet_same xs ys n t j le) where
   heads : octet_at xs (8 * n) ≡ octet_at ys (8 * n)
   heads = cc
+
   tails : octets_below xs n ≡ octets_below ys n
   tails = cc
+
   by_order : (b : Bool) → (j == n) ≡ b → (octets_below xs n ≡ octets_below ys n → j < n → octet_at xs (8 * j) ≡ octet_at ys (8 * j)) → octet_at xs (8 * j) ≡ octet_at ys (8 * j)
   by_order true at more = let same : n ≡ j = grind (arith, nat_tests, at) in subst (λ k. octet_at xs (8 * k) ≡ octet_at ys (8 * k)) same heads
   by_order false at more = more tails (grind (arith, nat_tests, at, lt))
@@ -107,13 +116,16 @@ pub one_text : (xs ys : Pins) → length xs ≡ length ys → pin_text xs ≡ pi
 one_text xs ys len e = ext_get_or false xs ys len at where
   n : ℕ
   n = div_ceil (length xs) 8
+
   texts : encode_lower (octets_below xs n) ≡ encode_lower (octets_below ys n)
   texts = e ∙ ap (λ m. encode_lower (octets_below ys (div_ceil m 8))) (sym len)
+
   octets : octets_below xs n ≡ octets_below ys n
   octets =
       let both : Ok (octets_below xs n) ≡ Ok (octets_below ys n)
-          = sym (decode_of-encode_lower (octets_below xs n) (are_bytes xs n)) ∙ ap decode_of texts ∙ decode_of-encode_lower (octets_below ys n) (are_bytes ys n) in
+      = sym (decode_of-encode_lower (octets_below xs n) (are_bytes xs n)) ∙ ap decode_of texts ∙ decode_of-encode_lower (octets_below ys n) (are_bytes ys n) in
       cc
+
   at : (k : ℕ) → k < length xs → get_or xs k false ≡ get_or ys k false
   at k lt =
       let within : k / 8 < n = omega (arith, lt) in
@@ -144,7 +156,7 @@ one_led n (x ∷ xs) (y ∷ ys) s t a b len e =
     let wide : length x ≡ length y = a 0 [] (omega arith) ∙ sym (b 0 [] (omega arith)) in
     let texts : length (led pin_text x) ≡ length (led pin_text y) = ap suc (length_text x ∙ ap (λ m. 2 * div_ceil m 8) wide ∙ sym (length_text y)) in
     let parts = cut (led pin_text x) (led pin_text y) (flat_map (led pin_text) xs ++ s) (flat_map (led pin_text) ys ++ t) texts
-        (sym (append_assoc (led pin_text x) (flat_map (led pin_text) xs) s) ∙ e ∙ append_assoc (led pin_text y) (flat_map (led pin_text) ys) t) in
+    (sym (append_assoc (led pin_text x) (flat_map (led pin_text) xs) s) ∙ e ∙ append_assoc (led pin_text y) (flat_map (led pin_text) ys) t) in
     let text : pin_text x ≡ pin_text y = let led_same : 32 ∷ pin_text x ≡ 32 ∷ pin_text y = parts.0 in cc in
     ap (λ z. z ∷ xs) (one_text x y wide text)
     ∙ ap (λ l. y ∷ l) (one_led n xs ys s t (λ k d lt. a (suc k) d (omega (arith, lt))) (λ k d lt. b (suc k) d (omega (arith, lt))) (omega (arith, len)) parts.1)
@@ -162,6 +174,6 @@ one_reading n [] (y ∷ ys) a b len e = absurd (omega (arith, len))
 one_reading n (x ∷ xs) [] a b len e = absurd (omega (arith, len))
 one_reading n (x ∷ xs) (y ∷ ys) a b len e =
     let whole : reading_body (x ∷ xs) ++ sealed (reading_body (x ∷ xs)) ≡ reading_body (y ∷ ys) ++ sealed (reading_body (y ∷ ys))
-        = sym (at_end (reading_body (x ∷ xs)) (42 ∷ []) (encode_lower (sum (reading_body (x ∷ xs)) % 256 ∷ [])) (10 ∷ [])) ∙ e
-          ∙ at_end (reading_body (y ∷ ys)) (42 ∷ []) (encode_lower (sum (reading_body (y ∷ ys)) % 256 ∷ [])) (10 ∷ []) in
+    = sym (at_end (reading_body (x ∷ xs)) (42 ∷ []) (encode_lower (sum (reading_body (x ∷ xs)) % 256 ∷ [])) (10 ∷ [])) ∙ e
+    ∙ at_end (reading_body (y ∷ ys)) (42 ∷ []) (encode_lower (sum (reading_body (y ∷ ys)) % 256 ∷ [])) (10 ∷ []) in
     one_led n (x ∷ xs) (y ∷ ys) (sealed (reading_body (x ∷ xs))) (sealed (reading_body (y ∷ ys))) a b len (ap (λ l. 32 ∷ drop 1 l) whole)

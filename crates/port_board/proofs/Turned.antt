@@ -61,7 +61,6 @@ has_session (Some s) cycles e = refl
 
 module _ (d e : Device) (set : Configuration) (anew running due : Bool) (line request reply : List ℕ) (drives reads : List Pins) (l : IsLinked (Some d) set line anew running due)
     (right : AreDrivesOf set.shape drives) (len : length drives ≡ length reads) (wide : AreOf (pins_of set.shape) reads) (is : reply ≡ reading_line reads) (a : Answers d request reply e) where
-
   same_shape : e.shape ≡ set.shape
   same_shape = a.shape ∙ l.posted.told.0
 
@@ -95,6 +94,7 @@ module _ (d e : Device) (set : Configuration) (anew running due : Bool) (line re
   driven runs idle asked = by_session d.session refl known.1.1 (a.goes_on drives drives_too (asked known.0)) where
     known : (line ≡ []) × ((set ≡ d.set) × IsSome d.session × HasRunSession d)
     known = l.loaded runs idle
+
     by_session : (s : Option Session) → d.session ≡ s → IsSome s → IfSome s (λ s. Drives d s.config s.cycles drives reply e) → IsTurned set (paired drives reads) d e
     by_session None same some made = absurd (false≢true some)
     by_session (Some s) same some made =
@@ -136,6 +136,7 @@ linked_turned set device known = record {
       → IfSome device (λ d. (d.shape ≡ set.shape) × (set ≡ edited (start_of false d) []))
   parts None k = tt
   parts (Some e) k = (k.0, k.1)
+
   rest : (device : Option Device) → IfSome device (λ e. (e.shape ≡ set.shape) × (set ≡ e.set) × IsSome e.session × HasRunSession e)
       → IfSome device (λ d. (set ≡ d.set) × IsSome d.session × HasRunSession d)
   rest None k = tt
@@ -170,6 +171,7 @@ turn_stands old new set anew running due line request reply drives reads l right
     by_due : (b : Bool) → WhereTold (IsTurned set (paired drives reads)) (told_with b set (Some d)) (Some e) → WhereTold (GoesOnWith (paired drives reads)) (told_with b set (Some d)) (Some e)
     by_due true t = t.went
     by_due false t = t.went
+
   known : (old new : Option Device) → IsLinked old set line anew running due → WhereTold (λ d e. Answers d request reply e) old new
       → IfSome new (λ e. (e.shape ≡ set.shape) × (set ≡ e.set) × IsSome e.session × HasRunSession e)
   known None new l w = rw w tt

@@ -38,7 +38,8 @@ pub record Drives (d : Device) (g : Configuration) (cycles : List Exchange) (dri
   pub set : e.set ≡ d.set
   pub reads : Reads g cycles drives reply e
 
--- a device, a request, the reply that came and the device then; of other requests, and of drives where nothing is loaded, nothing is said
+-- a device, a request, the reply that came and the device then; of other requests, and of drives where nothing is loaded,
+-- nothing is said
 pub record Answers (d : Device) (request reply : List ℕ) (e : Device) : Type 0 where
   pub shape : e.shape ≡ d.shape
   pub faults : e.faults ≡ d.faults

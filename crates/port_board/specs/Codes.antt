@@ -18,7 +18,8 @@ coded_session = code_by (Configuration × (List Exchange × ℕ)) (coded× coded
 abbrev pub coded_device : Coded Device
 coded_device = code_by ((Shape × Faults) × (Configuration × Option Session))
     (coded× (coded× shape.the_row.coded coded_faults) (coded× coded_configuration (coded_option coded_session)))
-    (λ d. ((d.shape, d.faults), (d.set, d.session))) (λ p. record { shape = p.0.0; faults = p.0.1; set = p.1.0; session = p.1.1 }) (λ _. refl)
+    (λ d. ((d.shape, d.faults), (d.set, d.session)))
+    (λ p. record { shape = p.0.0; faults = p.0.1; set = p.1.0; session = p.1.1 }) (λ _. refl)
 
 abbrev pub coded_board : Coded PortBoardState
 coded_board = code_by ((Option Shape × (Bool × Bool)) × (Option Device × ℕ))

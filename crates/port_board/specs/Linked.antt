@@ -46,7 +46,8 @@ pub record IsLinked (device : Option Device) (set : Configuration) (line : List 
   pub loaded : running ≡ true → due ≡ false → (line ≡ []) × IfSome device (λ d. (set ≡ d.set) × IsSome d.session × HasRunSession d)
 
 -- these pairs came behind the others of a told session; what was driven was loaded first where it was due
-pub record HasTurned (drives readings : List Pins) (due : Bool) (set : Configuration) (old : Option Device) (due_now : Bool) (new : Option Device) : Type 0 where
+pub record HasTurned (drives readings : List Pins) (due : Bool) (set : Configuration) (old : Option Device)
+    (due_now : Bool) (new : Option Device) : Type 0 where
   pub pairs : List Exchange
   pub driven : drives_of pairs ≡ drives
   pub read : readings_of pairs ≡ readings

@@ -58,7 +58,12 @@ fn is_same(a: Option<Setting>, b: Option<Setting>) -> bool
 }
 
 // Gives a table its setting, in the line and here; where it has it, nothing is sent.
-fn give(line: &mut Vec<u8>, set: &mut Config, t: Table, s: Option<Setting>) -> Result<(), AllocError>
+fn give(
+    line: &mut Vec<u8>,
+    set: &mut Config,
+    t: Table,
+    s: Option<Setting>,
+) -> Result<(), AllocError>
     requires within { t.0 < tables_of set.old.config.shape }
 
     ensures shape { set.new.config.shape ≡ set.old.config.shape }
@@ -129,7 +134,12 @@ fn gone_of(alloc: Global, set: &Config, config: &Config) -> Result<Vec<Cross>, A
 }
 
 // Opens what is closed here and open there.
-fn open_gone(alloc: Global, line: &mut Vec<u8>, set: &mut Config, config: &Config) -> Result<(), AllocError>
+fn open_gone(
+    alloc: Global,
+    line: &mut Vec<u8>,
+    set: &mut Config,
+    config: &Config,
+) -> Result<(), AllocError>
     requires { set.old.config.shape ≡ config.now.config.shape }
 
     ensures shape { set.new.config.shape ≡ set.old.config.shape }
@@ -180,7 +190,12 @@ fn give_all(line: &mut Vec<u8>, set: &mut Config, config: &Config) -> Result<(),
 }
 
 /// Adds the words that make the one configuration of the other, and makes it here. The words cost what differs.
-pub fn put_edits(alloc: Global, line: &mut Vec<u8>, set: &mut Config, config: &Config) -> Result<(), AllocError>
+pub fn put_edits(
+    alloc: Global,
+    line: &mut Vec<u8>,
+    set: &mut Config,
+    config: &Config,
+) -> Result<(), AllocError>
     requires { set.old.config.shape ≡ config.now.config.shape }
 
     ensures shape { set.new.config.shape ≡ set.old.config.shape }

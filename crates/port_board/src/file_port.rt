@@ -1,9 +1,9 @@
 //! Files of the system as a port.
-ghost use Rattle.std.specs.Prelude.{◌≡◌, ◌-◌, ◌^◌, ◌<◌, ◌≤◌, false, min, length, take, is_some, IfSome, IfOk, IfErr, OnOk, OnErr};
-ghost use Rattle.tm_outside.specs.Counts.{next_count};
+ghost use Rattle.std.specs.Prelude.{◌≡◌, ◌^◌, ◌<◌, ◌≤◌, true, false, length, take, is_some, IfSome, IfOk, IfErr, OnOk, OnErr, IsErrOf};
+ghost use Rattle.tm_outside.specs.Counts.{Rose, next_count};
 ghost use Rattle.board_rig.specs.Device.{WhereTold};
 ghost use Rattle.port_board.specs.Answers.{Answers};
-ghost use Rattle.port_board.specs.Ports.{machine_told, AskFails};
+ghost use Rattle.port_board.specs.Ports.{machine_told, Opens, AskFails};
 ghost use Rattle.port_board.specs.FilePorts.{file_port_state};
 
 use crate::{Port, PortFail};
@@ -124,7 +124,11 @@ fn read_line<F: Read>(from: &mut F, rest: &mut Rest, into: &mut [u8]) -> Option<
 }
 
 // Sends a request, and reads the line that answers. `None` where a file fails or the other end refuses.
-fn talk<F: Read + Write + Drop>(ends: &mut Ends<F>, request: &[u8], reply: &mut [u8]) -> Option<usize>
+fn talk<F: Read + Write + Drop>(
+    ends: &mut Ends<F>,
+    request: &[u8],
+    reply: &mut [u8],
+) -> Option<usize>
     ensures length { length reply.new ≡ length reply.old }
     ensures within { IfSome result (λ n. n ≤ length reply.new) }
 {
@@ -159,7 +163,16 @@ impl<R: Files + Drop> FilePort<R> {
 impl<R: Files + Drop> Port for FilePort<R> {
     ghost port_state = { λ p. file_port_state (is_some p.ends) p.failures };
 
-    fn open(&mut self, name: &str) -> Result<(), PortFail> {
+    /// What was open is closed first, and what was read is dropped. The number of asks stays.
+    fn open(&mut self, name: &str) -> Result<(), PortFail>
+        ensures later { (⟦<FilePort<R> as Port>⟧.port_state self.old).failures ≤ (⟦<FilePort<R> as Port>⟧.port_state self.new).failures }
+        ensures count { (⟦<FilePort<R> as Port>⟧.port_state self.new).failures < 2 ^ 64 }
+        ensures opens { OnOk result (Opens (⟦<FilePort<R> as Port>⟧.port_state self.new)) }
+        ensures closed { OnErr result ((⟦<FilePort<R> as Port>⟧.port_state self.new).is_open ≡ false) }
+        ensures refused { IsErrOf result PortFail.Failed → Rose (⟦<FilePort<R> as Port>⟧.port_state self.old).failures
+            (⟦<FilePort<R> as Port>⟧.port_state self.new).failures }
+        ensures asks { self.new.asks ≡ self.old.asks }
+    {
         self.ends = None;
         match open_ends(self.alloc, &self.rt, without_times(name)) {
             Ok(ends) => {
@@ -174,7 +187,24 @@ impl<R: Files + Drop> Port for FilePort<R> {
         }
     }
 
-    fn ask(&mut self, request: &[u8], reply: &mut [u8]) -> Result<usize, PortFail> {
+    /// One ask more, whatever it answers.
+    fn ask(&mut self, request: &[u8], reply: &mut [u8]) -> Result<usize, PortFail>
+        requires { (⟦<FilePort<R> as Port>⟧.port_state self.old).is_open ≡ true }
+
+        ensures machine { machine_told (⟦<FilePort<R> as Port>⟧.port_state self.new)
+            ≡ machine_told (⟦<FilePort<R> as Port>⟧.port_state self.old) }
+        ensures later { (⟦<FilePort<R> as Port>⟧.port_state self.old).failures ≤ (⟦<FilePort<R> as Port>⟧.port_state self.new).failures }
+        ensures count { (⟦<FilePort<R> as Port>⟧.port_state self.new).failures < 2 ^ 64 }
+        ensures length { length reply.new ≡ length reply.old }
+        ensures within { IfOk result (λ n. n ≤ length reply.new) }
+        ensures stays { OnOk result ((⟦<FilePort<R> as Port>⟧.port_state self.new).is_open ≡ true) }
+        ensures told { IfOk result (λ n. WhereTold (λ d e. Answers d request.now (take n reply.new) e)
+            (⟦<FilePort<R> as Port>⟧.port_state self.old).device (⟦<FilePort<R> as Port>⟧.port_state self.new).device) }
+        ensures closed { OnErr result ((⟦<FilePort<R> as Port>⟧.port_state self.new).is_open ≡ false) }
+        ensures refused { IfErr result (λ e. AskFails e (⟦<FilePort<R> as Port>⟧.port_state self.old)
+            (⟦<FilePort<R> as Port>⟧.port_state self.new)) }
+        ensures asks { self.new.asks ≡ next_count self.old.asks }
+    {
         self.asks = self.asks.saturating_add(1);
         let Some(mut ends) = self.ends.take() else {
             unreachable!()

@@ -108,7 +108,8 @@ fn attach<P: Port>(port: &mut P, link: &mut Link) -> bool
     ensures open { IsTrue result → (P.port_state port.new).is_open ≡ true }
     ensures line { link.new.line.items ≡ [] }
     ensures set { link.new.set ≡ link.old.set }
-    ensures idle { (link.new.anew ≡ link.old.anew) × (link.new.running ≡ link.old.running) × (link.new.due ≡ link.old.due) × (link.new.lost ≡ link.old.lost) }
+    ensures idle { (link.new.anew ≡ link.old.anew) × (link.new.running ≡ link.old.running) × (link.new.due ≡ link.old.due)
+        × (link.new.lost ≡ link.old.lost) }
     ensures fresh { IsTrue result → IfSome (P.port_state port.new).device (λ d. (d.shape ≡ link.old.set.config.shape)
         × (d.set ≡ cleared link.old.set.config.shape)) }
 {
@@ -166,8 +167,13 @@ fn post(alloc: Global, link: &mut Link, config: &Config) -> Result<(), AllocErro
 impl<P: Port> PortBoard<P> {
     /// A board over this port, which isn't up.
     pub fn new(alloc: Global, port: P) -> Self
-        ensures { result ≡ record { found = None; is_up = false; in_session = false; device = (P.port_state port).device;
-            failures = both_counts 0 (P.port_state port).failures } }
+        ensures { result ≡ record {
+          found = None;
+          is_up = false;
+          in_session = false;
+          device = (P.port_state port).device;
+          failures = both_counts 0 (P.port_state port).failures;
+        } }
     {
         PortBoard {
             alloc,
@@ -222,7 +228,12 @@ impl<P: Port> Board for PortBoard<P> {
         let Some(mut link) = self.link.take() else {
             unreachable!()
         };
-        if !turn(&mut self.port, &mut link, slice::from_ref(drive), slice::from_mut(read)) {
+        if !turn(
+            &mut self.port,
+            &mut link,
+            slice::from_ref(drive),
+            slice::from_mut(read),
+        ) {
             self.failures = self.failures.saturating_add(1);
             return Err(RigFail::Failed);
         }

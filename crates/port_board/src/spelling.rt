@@ -25,7 +25,11 @@ fn bit_at(pins: &PinBits, k: u64) -> u8
     ensures bit { result ≡ bit_of pins.now k }
     ensures small { result ≤ 1 }
 {
-    if k < u64::from(pins.len()) && pins.get(k as u32) { 1 } else { 0 }
+    if k < u64::from(pins.len()) && pins.get(k as u32) {
+        1
+    } else {
+        0
+    }
 }
 
 // Eight pins as a byte.

@@ -81,9 +81,15 @@ fn is_right(reply: &[u8], expected: &mut Vec<u8>, reads: &[PinBits]) -> bool
 }
 
 /// Sends what is due with these drives, and reads what comes. False where the port fails or the line isn't right.
-pub fn turn<P: Port>(port: &mut P, link: &mut Link, drives: &[PinBits], reads: &mut [PinBits]) -> bool
+pub fn turn<P: Port>(
+    port: &mut P,
+    link: &mut Link,
+    drives: &[PinBits],
+    reads: &mut [PinBits],
+) -> bool
     requires open { (P.port_state port.old).is_open ≡ true }
-    requires linked { IsLinked (P.port_state port.old).device link.old.set.config link.old.line.items link.old.anew link.old.running link.old.due }
+    requires linked { IsLinked (P.port_state port.old).device link.old.set.config link.old.line.items link.old.anew link.old.running
+        link.old.due }
     requires running { link.old.running ≡ true }
     requires drives { AreDrivesOf link.old.set.config.shape drives.now }
     requires reads { All (λ row. length row ≡ pins_of link.old.set.config.shape) reads.old }
@@ -121,9 +127,15 @@ fn most_drives(pins: u32) -> usize
 }
 
 /// Sends all drives, in as few requests as their replies allow. False where a turn fails.
-pub fn turn_all<P: Port>(port: &mut P, link: &mut Link, drives: &[PinBits], reads: &mut [PinBits]) -> bool
+pub fn turn_all<P: Port>(
+    port: &mut P,
+    link: &mut Link,
+    drives: &[PinBits],
+    reads: &mut [PinBits],
+) -> bool
     requires open { (P.port_state port.old).is_open ≡ true }
-    requires linked { IsLinked (P.port_state port.old).device link.old.set.config link.old.line.items link.old.anew link.old.running link.old.due }
+    requires linked { IsLinked (P.port_state port.old).device link.old.set.config link.old.line.items link.old.anew link.old.running
+        link.old.due }
     requires running { link.old.running ≡ true }
     requires drives { All (λ row. length row ≡ pins_of link.old.set.config.shape) drives.now }
     requires reads { All (λ row. length row ≡ pins_of link.old.set.config.shape) reads.old }

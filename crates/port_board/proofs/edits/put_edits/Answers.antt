@@ -10,8 +10,8 @@ returns-clause-made c =
     let line = c.args.line.now.items in
     let g = c.args.set.now.config in
     more_edits g c.give_all.new.set.config c.give_ticks.new.set.config line c.give_all.new.line.items c.give_ticks.new.line.items third
-        (more_edits g c.close_new.new.set.config c.give_all.new.set.config line c.close_new.new.line.items c.give_all.new.line.items second
-            (more_edits g c.open_gone.new.set.config c.close_new.new.set.config line c.open_gone.new.line.items c.close_new.new.line.items first
-                c.in_ok-open_gone.ensures.made c.in_ok-close_new.ensures.made)
-            c.in_ok-give_all.ensures.made)
-        c.in_ok-give_ticks.ensures.made
+    (more_edits g c.close_new.new.set.config c.give_all.new.set.config line c.close_new.new.line.items c.give_all.new.line.items second
+    (more_edits g c.open_gone.new.set.config c.close_new.new.set.config line c.open_gone.new.line.items c.close_new.new.line.items first
+    c.in_ok-open_gone.ensures.made c.in_ok-close_new.ensures.made)
+    c.in_ok-give_all.ensures.made)
+    c.in_ok-give_ticks.ensures.made

@@ -9,7 +9,7 @@ pub octets-preserved : goal.octets-preserved
 octets-preserved c =
     ap (λ l. l ++ encode_lower (octets_below c.args.pins.now (c.div_ceil-count.result - (c.octets.k + 1)))) c.in_ok-put_byte.ensures
     ∙ octet_next c.args.pins.now c.octets.line.items c.div_ceil-count.result c.octets.k c.octet.result c.octets-test.true
-        (c.octet.ensures ∙ ap (λ n. octet_at c.args.pins.now (n * 8)) c.from.ensures)
+    (c.octet.ensures ∙ ap (λ n. octet_at c.args.pins.now (n * 8)) c.from.ensures)
     ∙ c.octets.invariant
 
 pub returns : goal.returns

@@ -11,7 +11,7 @@ invariant-turns g l = (machine_told (g.P.Port.port_state l.port) ≡ machine_tol
     × KeepLengths l.initial.reads l.reads
     × IsKeptUp (g.P.Port.port_state l.port) l.initial.link l.link
     × HasTurned (take l.at l.drives) (take l.at l.reads) l.initial.link.due l.initial.link.set.config (g.P.Port.port_state l.initial.port).device
-        l.link.due (g.P.Port.port_state l.port).device
+    l.link.due (g.P.Port.port_state l.port).device
     × (l.at ≤ length l.drives)
 
 abbrev pub decreases-turns : goal.decreases-turns

@@ -14,7 +14,7 @@ returns-clause-cycles g c =
     let port = (g.P.Port.port_state c.self.inside.port).device in
     let now = (g.P.Port.port_state c.turn.new.port).device in
     let old : told_with c.in-Some.link.due c.in-Some.link.set.config port ≡ c.args.self.now.device
-        = ap (λ (o : Option Link). option_map_or (λ l. told_with l.due l.set.config port) o port) c.in-Some.ensures.value ∙ ap (λ s. s.device) c.self.view_is in
+    = ap (λ (o : Option Link). option_map_or (λ l. told_with l.due l.set.config port) o port) c.in-Some.ensures.value ∙ ap (λ s. s.device) c.self.view_is in
     let went = subst (λ (d : Option Device). WhereTold (GoesOnWith turned.pairs) d (told_with c.turn.new.link.due c.in-Some.link.set.config now)) old turned.turned in
     let told = subst (λ (s : Configuration). WhereTold (GoesOnWith turned.pairs) c.args.self.now.device (told_with c.turn.new.link.due s now)) (sym held.set) went in
     record {

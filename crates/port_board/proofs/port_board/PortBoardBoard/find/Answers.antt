@@ -14,7 +14,7 @@ attach-requires-clause-counts g c =
 pub invariant_of-self-2 : goal.invariant_of-self-2
 invariant_of-self-2 g c =
     fresh_held (g.P.Port.port_state c.attach.new.port) c.args.shape.now c.attach.new.link (c.attach.ensures.open c.if-not-attach.false)
-        (ap (λ s. s.config) c.attach.ensures.set ∙ c.in-Ok.ensures.set) c.attach.ensures.line (c.attach.ensures.idle.0 ∙ c.in-Ok.ensures.idle.0)
-        (c.attach.ensures.idle.1 ∙ c.in-Ok.ensures.idle.1)
-        (subst (λ m. IfSome (g.P.Port.port_state c.attach.new.port).device (λ d. (d.shape ≡ m) × (d.set ≡ cleared m))) (ap (λ s. s.shape) c.in-Ok.ensures.set)
-            (c.attach.ensures.fresh c.if-not-attach.false))
+    (ap (λ s. s.config) c.attach.ensures.set ∙ c.in-Ok.ensures.set) c.attach.ensures.line (c.attach.ensures.idle.0 ∙ c.in-Ok.ensures.idle.0)
+    (c.attach.ensures.idle.1 ∙ c.in-Ok.ensures.idle.1)
+    (subst (λ m. IfSome (g.P.Port.port_state c.attach.new.port).device (λ d. (d.shape ≡ m) × (d.set ≡ cleared m))) (ap (λ s. s.shape) c.in-Ok.ensures.set)
+    (c.attach.ensures.fresh c.if-not-attach.false))
