@@ -34,7 +34,9 @@ pub record Loads (start : Configuration) (edits : List Edit) (drives : List Pins
   pub set : e.set ≡ edited start edits
   pub reads : Reads e.set [] drives reply e
 
-pub record Drives (d : Device) (g : Configuration) (cycles : List Exchange) (drives : List Pins) (reply : List ℕ) (e : Device) : Type 0 where
+-- what is set stays, and the session is driven on
+pub record Drives (d : Device) (g : Configuration) (cycles : List Exchange) (drives : List Pins) (reply : List ℕ)
+    (e : Device) : Type 0 where
   pub set : e.set ≡ d.set
   pub reads : Reads g cycles drives reply e
 
