@@ -4,7 +4,6 @@ use Rattle.std.proofs.lemmas.List.{append-nil, append_assoc}
 use Rattle.std.proofs.lemmas.List.Elements.{All-append}
 use Rattle.std.proofs.lemmas.Grind.{flat_map-append}
 use Rattle.std.proofs.lemmas.List.Sums.{fold-append}
-use Rattle.std.specs.Prelude.{fold}
 use Rattle.config_set.specs.Configuration.{Configuration}
 use Rattle.port_board.specs.Requests.{Edit, edited, edited_by, edit_text, edits_text, IsEditOf}
 use Rattle.port_board.specs.Linked.{AreEdited}

@@ -1,24 +1,24 @@
 -- What is kept of a machine goes with it.
-use Rattle.std.proofs.Common.{◌≡◌, ℕ, suc, zero, ◌+◌, ◌-◌, ◌<◌, ◌≤◌, Bool, true, false, List, [], ◌∷◌, ◌++◌, map, take, drop, length, get_or, All, Option, None, Some, refl, sym, ap, ◌∙◌, arith, subst}
+use Rattle.std.proofs.Common.{◌≡◌, ℕ, suc, zero, ◌+◌, ◌-◌, ◌≤◌, Bool, true, false, List, [], ◌∷◌, ◌++◌, map, take, drop, length, get_or, All, Option, None, Some, refl, sym, ap, ◌∙◌, arith, subst}
 use Rattle.std.proofs.lemmas.Bool.{false≢true}
-use Rattle.std.proofs.lemmas.List.{append-nil, append_assoc, map-append, ext_get_or, length-map, length-drop, length-take-le}
+use Rattle.std.proofs.lemmas.List.{append-nil, append_assoc, map-append, length-map, length-drop, length-take-le}
 use Rattle.std.proofs.lemmas.List.Elements.{All-append}
 use Rattle.std.proofs.lemmas.Slice.{take-put_mid}
 use Rattle.std.proofs.lemmas.List.Sums.{fold-append}
 use Rattle.std.proofs.lemmas.Grind.{flat_map-append}
 use Rattle.std.proofs.Math.Seq.{take-append_seam}
-use Rattle.std.specs.Prelude.{IfSome, IsSome, Result, Ok, Err, OnOk}
+use Rattle.std.specs.Prelude.{IfSome, Result, Ok, Err, OnOk}
 use Rattle.hierarchy.specs.declared.Shape.{Shape}
 use Rattle.hierarchy.specs.Circuit.{Pins}
 use Rattle.config_set.specs.Configuration.{Configuration, cleared}
-use Rattle.config_set.specs.Faulty.{IsRun, circuit_of}
+use Rattle.config_set.specs.Faulty.{circuit_of}
 use Rattle.config_set.specs.Run.{none, at_load}
-use Rattle.rig.specs.Rig.{Exchange, Session, KeepLengths, drives_of, readings_of}
+use Rattle.rig.specs.Rig.{Exchange, KeepLengths, drives_of, readings_of}
 use borrow.Rule.Slice.PartMut.{mid_of, post_of, put_mid, put_same}
-use Rattle.board_rig.specs.Device.{Device, HasRunSession, IsInSession, GoesOnWith, WhereTold}
+use Rattle.board_rig.specs.Device.{Device, HasRunSession, GoesOnWith, WhereTold}
 use Rattle.board_rig.proofs.OneByOne.{told_more, drives_more, readings_more}
 use Rattle.port_board.specs.declared.link.Link.{Link}
-use Rattle.port_board.specs.Requests.{Edit, edited, edited_by, edit_text, edits_text, start_text, IsEditOf}
+use Rattle.port_board.specs.Requests.{edited, edited_by, edits_text, start_text, IsEditOf}
 use Rattle.port_board.specs.Answers.{start_of}
 use Rattle.port_board.specs.Ports.{PortState}
 use Rattle.port_board.specs.Linked.{AreEdited, IsPosted, IsLinked, HasTurned, told_with}

@@ -1,16 +1,16 @@
 -- What a turn makes of the machine is what is kept of it.
-use Rattle.std.proofs.Common.{◌≡◌, ℕ, suc, zero, ◌+◌, ◌<◌, Bool, true, false, List, [], ◌∷◌, ◌++◌, map, length, All, Option, None, Some, refl, sym, ap, ◌∙◌, arith, subst}
+use Rattle.std.proofs.Common.{◌≡◌, ℕ, suc, Bool, true, false, List, [], ◌∷◌, ◌++◌, length, All, Option, None, Some, refl, sym, ap, ◌∙◌, arith, subst}
 use Rattle.std.proofs.lemmas.Bool.{false≢true}
-use Rattle.std.specs.Prelude.{IfSome, IsSome, option_map, if◌then◌else◌}
+use Rattle.std.specs.Prelude.{IfSome, IsSome, option_map}
 use Rattle.hierarchy.specs.declared.Shape.{Shape}
 use Rattle.hierarchy.specs.Shape.{pins_of}
 use Rattle.hierarchy.specs.Circuit.{Pins}
 use Rattle.config_set.specs.Configuration.{Configuration}
 use Rattle.rig.specs.Rig.{Exchange, Session, drives_of, readings_of}
-use Rattle.board_rig.specs.Device.{Device, IsInSession, HasRunSession, GoesOnWith, WhereTold}
+use Rattle.board_rig.specs.Device.{Device, HasRunSession, GoesOnWith, WhereTold}
 use Rattle.board_rig.proofs.Driven.{same_pairs}
 use Rattle.port_board.specs.Lines.{line_of, reading_line}
-use Rattle.port_board.specs.Requests.{Edit, edited, edits_text, start_text, IsEditOf, AreDrivesOf, drives_text, drives_line, load_line}
+use Rattle.port_board.specs.Requests.{edited, IsEditOf, AreDrivesOf, drives_text, drives_line, load_line}
 use Rattle.port_board.specs.Answers.{Answers, Reads, Loads, Drives, start_of}
 use Rattle.port_board.specs.Linked.{IsLinked, HasTurned, told_with}
 use Rattle.port_board.proofs.Readings.{AreOf, one_reading}

@@ -1,5 +1,5 @@
 -- What a board over a port means, by what it keeps.
-use Rattle.std.specs.Prelude.{◌≡◌, ℕ, Bool, true, false, Option, None, Some, IfSome, is_some, option_map}
+use Rattle.std.specs.Prelude.{◌≡◌, ℕ, true, false, Option, Some, IfSome, is_some}
 use Rattle.std.specs.Option.{option_map_or}
 use Rattle.hierarchy.specs.declared.Shape.{Shape}
 use Rattle.rig.specs.Flaky.{both_counts}

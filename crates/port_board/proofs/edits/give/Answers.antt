@@ -1,4 +1,4 @@
-use Rattle.std.proofs.Common.{◌∙◌, sym, ap, Some, None}
+use Rattle.std.proofs.Common.{◌∙◌, sym, ap}
 use Rattle.port_board.specs.Requests.{On, Off}
 use Rattle.port_board.proofs.Edited.{one_edit}
 use Rattle.port_board.proofs.Settings.{same_given}

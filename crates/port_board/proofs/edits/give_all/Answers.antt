@@ -1,4 +1,4 @@
-use Rattle.std.proofs.Common.{◌≡◌, ◌<◌, ◌∙◌, length, sym, ap, arith}
+use Rattle.std.proofs.Common.{◌≡◌, ◌∙◌, length, ap, arith}
 use Rattle.hierarchy.specs.Shape.{tables_of}
 use Rattle.config_set.specs.Configuration.{setting_of}
 use Rattle.port_board.proofs.Edited.{more_edits}

@@ -1,6 +1,5 @@
-use Rattle.std.proofs.Common.{◌≡◌, ◌<◌, true, get_or, subst}
+use Rattle.std.proofs.Common.{◌<◌, get_or, subst}
 use Rattle.hierarchy.specs.Shape.{crosses_of}
-use Rattle.config_set.specs.Configuration.{is_closed}
 use Rattle.port_board.proofs.Closings.{closed_at, gone_next}
 use Rattle.port_board.proofs.edits.gone_of.Goals as goal
 

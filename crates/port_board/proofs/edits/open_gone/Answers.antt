@@ -1,4 +1,4 @@
-use Rattle.std.proofs.Common.{◌≡◌, ◌<◌, ◌∙◌, length, sym, ap, arith}
+use Rattle.std.proofs.Common.{◌<◌, ◌∙◌, length, sym, ap, arith}
 use Rattle.config_set.specs.Configuration.{is_closed}
 use Rattle.port_board.proofs.Edited.{more_edits}
 use Rattle.port_board.proofs.Closings.{opened}

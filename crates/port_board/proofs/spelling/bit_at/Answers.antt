@@ -1,4 +1,4 @@
-use Rattle.std.proofs.Common.{◌≡◌, sym, ap, arith, false}
+use Rattle.std.proofs.Common.{sym, ap, arith, false}
 use Rattle.std.proofs.lemmas.List.{get_or_past}
 use Rattle.std.proofs.lemmas.Option.{get_or_from_slice_get}
 use Rattle.port_board.specs.Lines.{pin_bit}

@@ -1,4 +1,4 @@
-use Rattle.std.proofs.Common.{◌≡◌, ◌++◌, ◌∷◌, [], take}
+use Rattle.std.proofs.Common.{◌≡◌, ◌∷◌, [], take}
 use Rattle.std.specs.List.{join_by}
 use Rattle.port_board.specs.Lines.{pin_text}
 use Rattle.port_board.proofs.spelling.put_readings.Given as goal

@@ -1,4 +1,4 @@
-use Rattle.std.proofs.Common.{◌≡◌, ◌<◌, length, arith}
+use Rattle.std.proofs.Common.{◌<◌, length, arith}
 use Rattle.board_rig.proofs.OneByOne.{lengths_set}
 use Rattle.port_board.proofs.turn.read_all.Goals as goal
 

@@ -1,4 +1,3 @@
-use Rattle.std.proofs.Common.{◌≡◌}
 use Rattle.rig.specs.Rig.{KeepLengths}
 use Rattle.port_board.proofs.turn.read_all.Given as goal
 

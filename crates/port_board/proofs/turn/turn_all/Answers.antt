@@ -1,10 +1,8 @@
-use Rattle.std.proofs.Common.{ℕ, ◌≡◌, ◌∙◌, ◌+◌, ◌-◌, ◌≤◌, ◌<◌, ◌++◌, All, take, drop, length, refl, sym, ap, subst, arith}
+use Rattle.std.proofs.Common.{ℕ, ◌≡◌, ◌∙◌, ◌-◌, ◌≤◌, All, take, drop, length, refl, sym, ap, subst, arith}
 use Rattle.std.proofs.lemmas.List.Elements.{All-take, All-drop}
-use Rattle.std.proofs.lemmas.Slice.{take-put_mid}
 use Rattle.hierarchy.specs.Shape.{pins_of}
 use Rattle.hierarchy.specs.Circuit.{Pins}
 use Rattle.board_rig.proofs.Driven.{kept_lengths}
-use Rattle.port_board.specs.Linked.{HasTurned}
 use Rattle.port_board.proofs.Held.{put_lengths, not_turned, turned_next}
 use Rattle.port_board.proofs.turn.turn_all.Goals as goal
 

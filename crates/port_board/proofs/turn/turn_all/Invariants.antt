@@ -1,4 +1,4 @@
-use Rattle.std.proofs.Common.{◌≡◌, ◌-◌, ◌≤◌, true, take, length}
+use Rattle.std.proofs.Common.{◌≡◌, ◌-◌, ◌≤◌, take, length}
 use Rattle.rig.specs.Rig.{KeepLengths}
 use Rattle.port_board.specs.Ports.{machine_told}
 use Rattle.port_board.specs.Linked.{HasTurned}
