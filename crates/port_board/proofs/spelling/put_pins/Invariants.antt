@@ -1,0 +1,7 @@
+use Rattle.std.proofs.Common.{◌≡◌, ◌-◌, ◌++◌}
+use Rattle.hex.specs.Hex.{encode_lower}
+use Rattle.port_board.specs.Lines.{octets_below}
+use Rattle.port_board.proofs.spelling.put_pins.Given as goal
+
+abbrev pub invariant-octets : goal.invariant-octets
+invariant-octets l = l.line.items ++ encode_lower (octets_below l.pins (l.count - l.k)) ≡ l.initial.line.items ++ encode_lower (octets_below l.pins l.count)

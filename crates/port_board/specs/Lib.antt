@@ -1,0 +1,9 @@
+-- The lines between the tool and a machine behind a port, and what they mean.
+pub mod Answers
+pub mod Boards
+pub mod Codes
+pub mod FilePorts
+pub mod Linked
+pub mod Lines
+pub mod Ports
+pub mod Requests

@@ -1,0 +1,14 @@
+//! A machine behind a port: a board that is asked and answers by lines of text.
+#![tactic(auto)]
+
+mod edits;
+mod file_port;
+mod link;
+mod port;
+mod port_board;
+mod spelling;
+mod turn;
+
+pub use file_port::FilePort;
+pub use port::{Port, PortFail};
+pub use port_board::PortBoard;

@@ -1,0 +1,255 @@
+//! A board over a port.
+ghost use Rattle.std.specs.Prelude.{◌≡◌, ◌^◌, ◌<◌, ◌≤◌, [], true, false, Option, None, Some, IfSome, IfOk, OnOk, OnErr, IsTrue};
+ghost use Rattle.config_set.specs.Configuration.{cleared};
+ghost use Rattle.rig.specs.Flaky.{both_counts};
+ghost use Rattle.board_rig.specs.Device.{Device};
+ghost use Rattle.port_board.specs.Lines.{counts_line, AreCounts};
+ghost use Rattle.port_board.specs.Requests.{attach_line};
+ghost use Rattle.port_board.specs.Ports.{machine_told};
+ghost use Rattle.port_board.specs.Linked.{IsPosted, board_of};
+
+use crate::edits::put_edits;
+use crate::link::Link;
+use crate::port::{Port, PortFail};
+use crate::spelling::{put_counts, put_sum};
+use crate::turn::{turn, turn_all};
+use board_rig::Board;
+use config_set::Config;
+use hierarchy::{Counts, Shape};
+use rig::{PinBits, RigFail};
+use std::alloc::{AllocError, Global};
+use std::marker::Model;
+use std::slice;
+
+/// A line longer than this is no right reply.
+const MOST_REPLY: usize = 4101;
+
+/// What a request may take behind the words of its edits: a load's `l`, the drives of the most cycles, and the sum.
+const MOST_DRIVES: usize = 8192;
+
+/// A machine behind a port, as a board: it speaks the lines of its protocol, and tells the machine that its port tells.
+///
+/// It is up from an `Ok` of `find` until the first failure. A load goes out with the cycles that follow it.
+#[derive(Drop)]
+pub struct PortBoard<P: Port> {
+    alloc: Global,
+    port: P,
+    found: Option<Shape>,
+    // While the board is up.
+    link: Option<Link>,
+    failures: u64,
+}
+
+impl<P: Port> Model for PortBoard<P> {
+    ghost use Rattle.rig.specs.Flaky.{both_counts};
+    ghost use Rattle.port_board.specs.Linked.{PortBoardState};
+    ghost use Rattle.port_board.specs.Codes.{coded_board};
+
+    ghost Value = { PortBoardState };
+
+    ghost coded = { coded_board };
+
+    ghost use Rattle.port_board.specs.Boards.{state_of, IsUp};
+
+    ghost view = { λ b. state_of (P.port_state b.port) b.found b.link b.failures };
+
+    ghost invariant = { λ b. IsUp (P.port_state b.port) b.found b.link };
+}
+
+// What is kept of a machine on which nothing is set, with nothing to be sent.
+fn link_of(alloc: Global, shape: Shape) -> Result<Link, AllocError>
+    ensures set { IfOk result (λ l. l.set.config ≡ cleared shape) }
+    ensures line { IfOk result (λ l. l.line.items ≡ []) }
+    ensures expected { IfOk result (λ l. l.expected.items ≡ []) }
+    ensures idle { IfOk result (λ l. (l.anew ≡ false) × (l.running ≡ false) × (l.due ≡ false) × (l.lost ≡ false)) }
+{
+    Ok(Link {
+        set: Config::with_room(alloc, shape, 0)?,
+        line: Vec::with_capacity(alloc, MOST_DRIVES)?,
+        anew: false,
+        running: false,
+        due: false,
+        lost: false,
+        reply: vec![in alloc; 0u8; MOST_REPLY]?,
+        expected: Vec::with_capacity(alloc, MOST_REPLY)?,
+    })
+}
+
+// Makes the line that asks what machine it is, and that of the right answer.
+fn put_attach(line: &mut Vec<u8>, expected: &mut Vec<u8>, counts: Counts) -> Result<(), AllocError>
+    requires line { line.old.items ≡ [] }
+    requires expected { expected.old.items ≡ [] }
+    ensures right { OnOk result (AreCounts counts) }
+    ensures line { OnOk result (line.new.items ≡ attach_line) }
+    ensures expected { OnOk result (expected.new.items ≡ counts_line counts) }
+{
+    put_counts(expected, counts)?;
+    line.push(b'a')?;
+    put_sum(line)
+}
+
+// Whether a line is another, byte by byte.
+fn is_line(reply: &[u8], expected: &[u8]) -> bool
+    ensures { IsTrue result → reply.now ≡ expected.now }
+{
+    reply == expected
+}
+
+// Asks the machine behind an open port what it is. False where the port fails, or it is another machine.
+fn attach<P: Port>(port: &mut P, link: &mut Link) -> bool
+    requires open { (P.port_state port.old).is_open ≡ true }
+    requires line { link.old.line.items ≡ attach_line }
+    requires expected { link.old.expected.items ≡ counts_line link.old.set.config.shape.counts }
+    requires counts { AreCounts link.old.set.config.shape.counts }
+    requires told { IfSome (P.port_state port.old).device (λ d. AreCounts d.shape.counts) }
+
+    ensures machine { machine_told (P.port_state port.new) ≡ machine_told (P.port_state port.old) }
+    ensures later { (P.port_state port.old).failures ≤ (P.port_state port.new).failures }
+    ensures open { IsTrue result → (P.port_state port.new).is_open ≡ true }
+    ensures line { link.new.line.items ≡ [] }
+    ensures set { link.new.set ≡ link.old.set }
+    ensures idle { (link.new.anew ≡ link.old.anew) × (link.new.running ≡ link.old.running) × (link.new.due ≡ link.old.due)
+        × (link.new.lost ≡ link.old.lost) }
+    ensures fresh { IsTrue result → IfSome (P.port_state port.new).device (λ d. (d.shape ≡ link.old.set.config.shape)
+        × (d.set ≡ cleared link.old.set.config.shape)) }
+{
+    let asked = port.ask(&link.line, &mut link.reply);
+    link.line.clear();
+    match asked {
+        Ok(count) => is_line(&link.reply[..count], &link.expected),
+        Err(_) => false,
+    }
+}
+
+// Begins a load. Where memory was wanting on the way to the one before, all is cleared, and the line begins with a `z`.
+fn begin(link: &mut Link) -> Result<(), AllocError>
+    ensures shape { link.new.set.config.shape ≡ link.old.set.config.shape }
+    ensures idle { (link.new.running ≡ false) × (link.new.due ≡ false) × (link.new.lost ≡ true) }
+    ensures posted { OnOk result ((device : Option Device) → IfSome device (λ d. d.shape ≡ link.old.set.config.shape) →
+        (link.old.lost ≡ false → IsPosted device link.old.set.config link.old.line.items link.old.anew) →
+        IsPosted device link.new.set.config link.new.line.items link.new.anew) }
+{
+    let was_lost = link.lost;
+    link.running = false;
+    link.due = false;
+    link.lost = true;
+    if !was_lost {
+        return Ok(());
+    }
+    link.set.clear();
+    link.line.clear();
+    link.anew = true;
+    link.line.extend_from_slice(b"z ")?;
+    Ok(())
+}
+
+// Posts a load: its words are made, and go out with the first cycle. Where memory is wanting, all is to be set anew.
+fn post(alloc: Global, link: &mut Link, config: &Config) -> Result<(), AllocError>
+    requires { link.old.set.config.shape ≡ config.now.config.shape }
+
+    ensures shape { link.new.set.config.shape ≡ link.old.set.config.shape }
+    ensures linked { OnOk result ((device : Option Device) → IfSome device (λ d. d.shape ≡ link.old.set.config.shape) →
+        (link.old.lost ≡ false → IsPosted device link.old.set.config link.old.line.items link.old.anew) →
+        IsPosted device link.new.set.config link.new.line.items link.new.anew) }
+    ensures posted { OnOk result ((link.new.set.config ≡ config.now.config) × (link.new.running ≡ true) × (link.new.due ≡ true)
+        × (link.new.lost ≡ false)) }
+    ensures lost { OnErr result ((link.new.running ≡ false) × (link.new.due ≡ false) × (link.new.lost ≡ true)) }
+{
+    begin(link)?;
+    put_edits(alloc, &mut link.line, &mut link.set, config)?;
+    link.line.reserve(MOST_DRIVES)?;
+    link.running = true;
+    link.due = true;
+    link.lost = false;
+    Ok(())
+}
+
+impl<P: Port> PortBoard<P> {
+    /// A board over this port, which isn't up.
+    pub fn new(alloc: Global, port: P) -> Self
+        ensures { result ≡ record {
+          found = None;
+          is_up = false;
+          in_session = false;
+          device = (P.port_state port).device;
+          failures = both_counts 0 (P.port_state port).failures;
+        } }
+    {
+        PortBoard {
+            alloc,
+            port,
+            found: None,
+            link: None,
+            failures: 0,
+        }
+    }
+}
+
+impl<P: Port> Board for PortBoard<P> {
+    ghost board_state = { board_of };
+
+    fn find(&mut self, shape: &Shape, name: &str) -> Result<(), RigFail> {
+        self.found = None;
+        self.link = None;
+        let Ok(mut link) = link_of(self.alloc, *shape) else {
+            return Err(RigFail::Memory);
+        };
+        if put_attach(&mut link.line, &mut link.expected, shape.counts()).is_err() {
+            return Err(RigFail::Memory);
+        }
+        match self.port.open(name) {
+            Ok(()) => {}
+            Err(PortFail::Memory) => return Err(RigFail::Memory),
+            Err(PortFail::Failed) => return Err(RigFail::Failed),
+        }
+        if !attach(&mut self.port, &mut link) {
+            self.failures = self.failures.saturating_add(1);
+            return Err(RigFail::Failed);
+        }
+        self.found = Some(*shape);
+        self.link = Some(link);
+        Ok(())
+    }
+
+    fn set_up(&mut self, config: &Config) -> Result<(), RigFail> {
+        let Some(mut link) = self.link.take() else {
+            self.failures = self.failures.saturating_add(1);
+            return Err(RigFail::Failed);
+        };
+        let posted = post(self.alloc, &mut link, config);
+        self.link = Some(link);
+        match posted {
+            Ok(()) => Ok(()),
+            Err(_) => Err(RigFail::Memory),
+        }
+    }
+
+    fn cycle(&mut self, drive: &PinBits, read: &mut PinBits) -> Result<(), RigFail> {
+        let Some(mut link) = self.link.take() else {
+            unreachable!()
+        };
+        if !turn(
+            &mut self.port,
+            &mut link,
+            slice::from_ref(drive),
+            slice::from_mut(read),
+        ) {
+            self.failures = self.failures.saturating_add(1);
+            return Err(RigFail::Failed);
+        }
+        self.link = Some(link);
+        Ok(())
+    }
+
+    fn cycles(&mut self, drives: &[PinBits], reads: &mut [PinBits]) -> Result<(), RigFail> {
+        let Some(mut link) = self.link.take() else {
+            unreachable!()
+        };
+        if !turn_all(&mut self.port, &mut link, drives, reads) {
+            self.failures = self.failures.saturating_add(1);
+            return Err(RigFail::Failed);
+        }
+        self.link = Some(link);
+        Ok(())
+    }
+}
