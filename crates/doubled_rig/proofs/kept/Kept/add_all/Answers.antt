@@ -1,0 +1,19 @@
+use Rattle.std.proofs.Common.{◌≡◌, ◌∙◌, ◌<◌, ◌++◌, [], ◌∷◌, List, take, get_or, length, ◌+◌, ap, sym, append_assoc, arith}
+use Rattle.std.proofs.lemmas.List.{take_more}
+use Rattle.hierarchy.specs.Circuit.{Pins}
+use Rattle.doubled_rig.specs.Repeats.{IsKept}
+use Rattle.doubled_rig.proofs.kept.Kept.add_all.Goals as goal
+
+pub cycles-preserved : goal.cycles-preserved
+cycles-preserved c =
+    let k = c.cycles.k in
+    let ds = c.args.drives.now in
+    let rs = c.args.readings.now in
+    let here : k < length rs = omega (arith, c.cycles-test.true, c.requires.as_many) in
+    let d : take (k + 1) ds ≡ take k ds ++ get_or ds k [] ∷ [] = take_more ds k [] c.cycles-test.true in
+    let r : take (k + 1) rs ≡ take k rs ++ get_or rs k [] ∷ [] = take_more rs k [] here in
+    record {
+      config = c.add.ensures.config ∙ c.cycles.invariant.config;
+      roomy = c.add.ensures.roomy;
+      kept = λ before after h. rw (d, r, sym (append_assoc before (take k ds) (get_or ds k [] ∷ [])), sym (append_assoc after (take k rs) (get_or rs k [] ∷ []))) (c.add.ensures.kept _ _ (c.cycles.invariant.kept before after h));
+    }
