@@ -1,6 +1,7 @@
 -- What a simulated machine is to its callers.
-use Rattle.std.specs.Prelude.{◌≡◌, ℕ, ◌+◌, ◌≤◌, Bool, Option, IsSome, IfSome, List, [], ◌∷◌, ◌++◌, refl}
+use Rattle.std.specs.Prelude.{◌≡◌, ℕ, ◌+◌, ◌≤◌, Bool, Option, Some, IsSome, IfSome, option_map, All, List, [], ◌∷◌, ◌++◌, length, refl}
 use Rattle.std.specs.Coded.{Coded, code_by, coded×, coded_ℕ, coded_bool, coded_list, coded_option}
+use Rattle.hierarchy.specs.Shape.{pins_of}
 use Rattle.hierarchy.specs.Circuit.{Pins}
 use Rattle.hierarchy.specs.Faults.{Faults}
 use Rattle.config_set.specs.Faulty.{IsRun}
@@ -37,3 +38,35 @@ pub record GoesOnFrom (f : Faults) (drive read : Pins) (old new : Session) : Typ
 pub record HasGoneOn (drive read : Pins) (old new : SimState) : Type 0 where
   pub session : IsSome new.session
   pub goes_on : IfSome old.session (λ s. IfSome new.session (λ t. GoesOnFrom old.machine.faults drive read s t))
+
+-- the session has room for so many cycles more, and is else as it was
+pub record HasRoomFrom (f : Faults) (more : ℕ) (old new : Session) : Type 0 where
+  pub config : new.config ≡ old.config
+  pub cycles : new.cycles ≡ old.cycles
+  pub no_less : old.spare ≤ new.spare
+  pub room : more ≤ new.spare
+  pub run : IsRun f new.config (drives_of new.cycles) (readings_of new.cycles)
+
+-- the same of a machine that has a session
+pub record HasRoomFor (more : ℕ) (old new : SimState) : Type 0 where
+  pub session : IsSome new.session
+  pub has_room : IfSome old.session (λ s. IfSome new.session (λ t. HasRoomFrom old.machine.faults more s t))
+
+-- the session goes on by as many cycles as were driven, takes at most as many places, and its readings are the run
+pub record GoesOnByFrom (f : Faults) (drives readings : List Pins) (old new : Session) : Type 0 where
+  pub more : List Exchange
+  pub driven : drives_of more ≡ drives
+  pub read : readings_of more ≡ readings
+  pub config : new.config ≡ old.config
+  pub cycles : new.cycles ≡ old.cycles ++ more
+  pub spare : old.spare ≤ new.spare + length drives
+  pub run : IsRun f new.config (drives_of new.cycles) (readings_of new.cycles)
+
+-- the same of a machine that has a session
+pub record HasGoneOnBy (drives readings : List Pins) (old new : SimState) : Type 0 where
+  pub session : IsSome new.session
+  pub goes_on : IfSome old.session (λ s. IfSome new.session (λ t. GoesOnByFrom old.machine.faults drives readings s t))
+
+-- each of these rows has a bit for each pin of the session's machine
+abbrev pub AreWide : SimState → List Pins → Type 0
+AreWide m rows = All (λ row. option_map (λ s. pins_of s.config.shape) m.session ≡ Some (length row)) rows

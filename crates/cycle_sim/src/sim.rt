@@ -1,10 +1,11 @@
 //! A machine with its session.
 
-ghost use Rattle.std.specs.Prelude.{◌≡◌, ◌+◌, ◌*◌, ◌<◌, ◌≤◌, Some, None, [], ◌++◌, length, IfOk, IfSome, OnOk, OnErr, option_map};
+ghost use Rattle.std.specs.Prelude.{◌≡◌, ◌+◌, ◌*◌, ◌<◌, ◌≤◌, Some, None, [], ◌++◌, length, IfOk, IsSome, IfSome, OnOk, OnErr, option_map};
 ghost use Rattle.hierarchy.specs.Shape.{pins_of};
 ghost use Rattle.hierarchy.specs.Faults.{AreFaultsOf};
 ghost use Rattle.rig.specs.Rig.{Session};
-ghost use Rattle.cycle_sim.specs.States.{HasGoneOn};
+ghost use Rattle.rig.specs.Rig.{KeepLengths};
+ghost use Rattle.cycle_sim.specs.States.{HasGoneOn, HasRoomFor, HasGoneOnBy, AreWide};
 
 use crate::bit_log::BitLog;
 use crate::board::{Board, load, prepare};
@@ -48,21 +49,21 @@ impl Model for Sim {
     ghost invariant = { IsSim };
 }
 
-/// For how many cycles there is room once there is room for one more than were used.
-fn grow(log: &mut BitLog, used: u64, room: u64, pins: u32) -> Result<u64, AllocError>
+/// For how many cycles there is room once there is room for so many more than were used.
+fn grow(log: &mut BitLog, used: u64, room: u64, pins: u32, more: u64) -> Result<u64, AllocError>
     requires used { used ≤ room }
     requires room { room * (2 * pins) ≤ log.old.room }
     ensures bits { log.new.bits ≡ log.old.bits }
     ensures no_less { log.old.room ≤ log.new.room }
-    ensures more { IfOk result (λ n. (used < n) × (room ≤ n) × (n * (2 * pins) ≤ log.new.room)) }
-    ensures full { OnErr result (used ≡ room) }
+    ensures more { IfOk result (λ n. (used + more ≤ n) × (room ≤ n) × (n * (2 * pins) ≤ log.new.room)) }
+    ensures full { OnErr result (room < used + more) }
 {
-    if used < room {
-        return Ok(room);
-    }
-    let Some(next) = used.checked_add(1) else {
+    let Some(next) = used.checked_add(more) else {
         return Err(AllocError);
     };
+    if next <= room {
+        return Ok(room);
+    }
     let Some(bits) = next.checked_mul(2 * u64::from(pins)) else {
         return Err(AllocError);
     };
@@ -144,11 +145,45 @@ impl Sim {
         ensures full { OnErr result (IfSome self.old.session (λ s. s.spare ≡ 0)) }
         ensures read { OnErr result (read.new ≡ read.old) }
     {
-        self.room = grow(&mut self.log, self.used, self.room, self.pins)?;
+        self.room = grow(&mut self.log, self.used, self.room, self.pins, 1)?;
         cycle(&mut self.board, &self.faults, self.ticks, drive, read);
         push_pins(&mut self.log, drive);
         push_pins(&mut self.log, read);
         self.used += 1;
+        Ok(())
+    }
+
+    /// Makes room for so many cycles more. Where memory is wanting for that, all is as it was.
+    fn make_room(&mut self, more: u64) -> Result<(), AllocError>
+        requires { IsSome self.old.session }
+        ensures machine { self.new.machine ≡ self.old.machine }
+        ensures room { OnOk result (HasRoomFor more self.old self.new) }
+        ensures kept { OnErr result (self.new.session ≡ self.old.session) }
+        ensures full { OnErr result (IfSome self.old.session (λ s. s.spare < more)) }
+    {
+        self.room = grow(&mut self.log, self.used, self.room, self.pins, more)?;
+        Ok(())
+    }
+
+    /// Makes as many cycles as there are drives, one after the other. Memory is wanting only where there is room for
+    /// fewer, and then the session is as it was and nothing was driven.
+    pub fn cycles(&mut self, drives: &[PinBits], reads: &mut [PinBits]) -> Result<(), AllocError>
+        requires session { IsSome self.old.session }
+        requires drives { AreWide self.old drives.now }
+        requires reads { AreWide self.old reads.old }
+        requires as_many { length drives.now ≡ length reads.old }
+        ensures machine { self.new.machine ≡ self.old.machine }
+        ensures lengths { KeepLengths reads.old reads.new }
+        ensures done { OnOk result (HasGoneOnBy drives.now reads.new self.old self.new) }
+        ensures kept { OnErr result (self.new.session ≡ self.old.session) }
+        ensures full { OnErr result (IfSome self.old.session (λ s. s.spare < length drives.now)) }
+    {
+        self.make_room(drives.len() as u64)?;
+        'turns: for k in 0..drives.len() {
+            if self.cycle(&drives[k], &mut reads[k]).is_err() {
+                unreachable!()
+            }
+        }
         Ok(())
     }
 }

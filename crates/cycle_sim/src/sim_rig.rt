@@ -1,11 +1,12 @@
 //! The simulated rig.
 
-ghost use Rattle.std.specs.Prelude.{◌≡◌, ◌⊎◌, ◌^◌, ◌<◌, ◌≤◌, [], None, Some, IfOk, IfErr, IsErrOf, OnOk, OnErr, length, option_map};
+ghost use Rattle.std.specs.Prelude.{◌≡◌, ◌⊎◌, ◌^◌, ◌<◌, ◌≤◌, [], None, Some, IsSome, IfOk, IfErr, IsErrOf, OnOk, OnErr, length, option_map};
 ghost use Rattle.std.specs.Prelude.{option_and_then, string_bytes};
 ghost use Rattle.hierarchy.specs.Faults.{AreFaultsOf};
 ghost use Rattle.tm_outside.specs.Counts.{next_count, Rose};
 ghost use Rattle.tm_outside.specs.Told.{absent};
 ghost use Rattle.rig.specs.Rig.{shape_of, width_of, IsDetached, Attaches, AttachFails, HasFaultsOf, Begins, LoadFails, GoesOn, CycleFails};
+ghost use Rattle.rig.specs.Rig.{GoesOnBy, CyclesFail, AreRows, KeepLengths};
 ghost use Rattle.rig.specs.declared.rig.RigFail.TheVariants as work;
 ghost use Rattle.cycle_sim.specs.Named.{generated_of, texts_of, AreNamed, TellsNamed, Asks, AsksAtMost, NamesFail};
 
@@ -221,6 +222,38 @@ impl<S: Store + Drop> Rig for SimRig<S> {
             unreachable!()
         };
         let done = attached.sim.cycle(drive, read);
+        self.attached = Some(attached);
+        match done {
+            Ok(()) => Ok(()),
+            Err(_) => Err(RigFail::Memory),
+        }
+    }
+
+    /// The store stays as it is, and the rig doesn't fail.
+    fn cycles(&mut self, drives: &[PinBits], reads: &mut [PinBits]) -> Result<(), RigFail>
+        requires session { IsSome (⟦<SimRig<S> as Rig>⟧.rig_state self.old).session }
+        requires drive_pins { AreRows (⟦<SimRig<S> as Rig>⟧.rig_state self.old) drives.now }
+        requires read_pins { AreRows (⟦<SimRig<S> as Rig>⟧.rig_state self.old) reads.old }
+        requires as_many { length drives.now ≡ length reads.old }
+        ensures machine { (⟦<SimRig<S> as Rig>⟧.rig_state self.new).machine ≡ (⟦<SimRig<S> as Rig>⟧.rig_state self.old).machine }
+        ensures loads { (⟦<SimRig<S> as Rig>⟧.rig_state self.new).loads ≡ (⟦<SimRig<S> as Rig>⟧.rig_state self.old).loads }
+        ensures later { (⟦<SimRig<S> as Rig>⟧.rig_state self.old).failures ≤ (⟦<SimRig<S> as Rig>⟧.rig_state self.new).failures }
+        ensures count { (⟦<SimRig<S> as Rig>⟧.rig_state self.new).failures < 2 ^ 64 }
+        ensures lengths { KeepLengths reads.old reads.new }
+        ensures cycles { OnOk result (GoesOnBy drives.now reads.new (⟦<SimRig<S> as Rig>⟧.rig_state self.old)
+            (⟦<SimRig<S> as Rig>⟧.rig_state self.new)) }
+        ensures refused { IfErr result (λ e. CyclesFail e (length drives.now) (⟦<SimRig<S> as Rig>⟧.rig_state self.old)
+            (⟦<SimRig<S> as Rig>⟧.rig_state self.new)) }
+        ensures store { self.new.store ≡ self.old.store }
+        ensures never_fails { IfErr result (λ e. e ≡ work.Memory) }
+        ensures no_failure { (⟦<SimRig<S> as Rig>⟧.rig_state self.new).failures ≡ (⟦<SimRig<S> as Rig>⟧.rig_state self.old).failures }
+    {
+        // A count that was read is known to be a u64.
+        let _failures = self.failures;
+        let Some(mut attached) = self.attached.take() else {
+            unreachable!()
+        };
+        let done = attached.sim.cycles(drives, reads);
         self.attached = Some(attached);
         match done {
             Ok(()) => Ok(()),

@@ -1,5 +1,5 @@
 -- A rig: a machine that is attached by name, loaded and driven.
-use Rattle.std.specs.Prelude.{◌≡◌, ℕ, ◌+◌, ◌<◌, ◌≤◌, List, [], ◌∷◌, ◌++◌, map, length, Option, None, Some, IfSome, option_map}
+use Rattle.std.specs.Prelude.{◌≡◌, ℕ, ◌+◌, ◌<◌, ◌≤◌, List, [], ◌∷◌, ◌++◌, map, length, All, Option, None, Some, IfSome, option_map}
 use Rattle.std.specs.Option.{option_map_or}
 use Rattle.hierarchy.specs.declared.Shape.{Shape}
 use Rattle.hierarchy.specs.Shape.{pins_of}
@@ -146,7 +146,30 @@ pub record GoesOn (drive reading : Pins) (old new : RigState) : Type 0 where
   pub spare : spare_of old ≤ spare_of new + 1
   pub told : IsTold new
 
+-- the session goes on by as many cycles as were driven, one after the other
+pub record GoesOnBy (drives readings : List Pins) (old new : RigState) : Type 0 where
+  pub more : List Exchange
+  pub driven : drives_of more ≡ drives
+  pub read : readings_of more ≡ readings
+  pub config : config_of new ≡ config_of old
+  pub cycles : cycles_of new ≡ cycles_of old ++ more
+  pub spare : spare_of old ≤ spare_of new + length drives
+  pub told : IsTold new
+
 -- what a refusal of `cycle` says
 abbrev pub CycleFails : RigFail → RigState → RigState → Type 0
 CycleFails work.Failed old new = Rose old.failures new.failures × (new.session ≡ None)
 CycleFails work.Memory old new = (spare_of old ≡ 0) × (new.session ≡ old.session)
+
+-- what a refusal of `cycles` says, where so many were asked for
+abbrev pub CyclesFail : RigFail → ℕ → RigState → RigState → Type 0
+CyclesFail work.Failed count old new = Rose old.failures new.failures × (new.session ≡ None)
+CyclesFail work.Memory count old new = (spare_of old < count) × (new.session ≡ old.session)
+
+-- each of these rows has a bit for each pin of the session's machine
+abbrev pub AreRows : RigState → List Pins → Type 0
+AreRows rig rows = All (λ row. width_of rig ≡ Some (length row)) rows
+
+-- rows that are as many and as long as they were
+abbrev pub KeepLengths : List Pins → List Pins → Type 0
+KeepLengths old new = map length new ≡ map length old

@@ -1,7 +1,8 @@
 //! Calls of a rig in a box.
-ghost use Rattle.std.specs.Prelude.{◌≡◌, ◌^◌, ◌<◌, ◌≤◌, None, Some, IfErr, OnOk, OnErr, length};
+ghost use Rattle.std.specs.Prelude.{◌≡◌, ◌^◌, ◌<◌, ◌≤◌, None, Some, IsSome, IfErr, OnOk, OnErr, length};
 ghost use Rattle.tm_outside.specs.Counts.{next_count};
-ghost use Rattle.rig.specs.Rig.{shape_of, width_of, HasFaultsOf, Begins, LoadFails, GoesOn, CycleFails};
+ghost use Rattle.rig.specs.Rig.{shape_of, width_of, HasFaultsOf, Begins, LoadFails, GoesOn, CycleFails, GoesOnBy};
+ghost use Rattle.rig.specs.Rig.{CyclesFail, AreRows, KeepLengths};
 
 use crate::{PinBits, Rig, RigFail};
 use config_set::Config;
@@ -38,4 +39,26 @@ pub fn cycle(rig: &mut Box<dyn Rig>, drive: &PinBits, read: &mut PinBits) -> Res
     ensures refused { IfErr result (λ e. CycleFails e (rig_state rig.old) (rig_state rig.new)) }
 {
     rig.cycle(drive, read)
+}
+
+/// Makes several cycles, as [`Rig::cycles`] does. What it says has names here, which proofs cite.
+pub fn cycles(
+    rig: &mut Box<dyn Rig>,
+    drives: &[PinBits],
+    reads: &mut [PinBits],
+) -> Result<(), RigFail>
+    requires session { IsSome (rig_state rig.old).session }
+    requires drive_pins { AreRows (rig_state rig.old) drives.now }
+    requires read_pins { AreRows (rig_state rig.old) reads.old }
+    requires as_many { length drives.now ≡ length reads.old }
+
+    ensures machine { (rig_state rig.new).machine ≡ (rig_state rig.old).machine }
+    ensures loads { (rig_state rig.new).loads ≡ (rig_state rig.old).loads }
+    ensures later { (rig_state rig.old).failures ≤ (rig_state rig.new).failures }
+    ensures count { (rig_state rig.new).failures < 2 ^ 64 }
+    ensures lengths { KeepLengths reads.old reads.new }
+    ensures cycles { OnOk result (GoesOnBy drives.now reads.new (rig_state rig.old) (rig_state rig.new)) }
+    ensures refused { IfErr result (λ e. CyclesFail e (length drives.now) (rig_state rig.old) (rig_state rig.new)) }
+{
+    rig.cycles(drives, reads)
 }

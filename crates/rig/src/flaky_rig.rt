@@ -1,8 +1,8 @@
 //! A rig that fails at chosen calls.
-ghost use Rattle.std.specs.Prelude.{◌≡◌, ◌⊎◌, ◌-◌, ◌^◌, ◌<◌, ◌≤◌, [], None, Some, min, length, IfErr, OnOk, OnErr, IsErrOf};
+ghost use Rattle.std.specs.Prelude.{◌≡◌, ◌⊎◌, ◌-◌, ◌^◌, ◌<◌, ◌≤◌, [], None, Some, IsSome, min, length, IfErr, OnOk, OnErr, IsErrOf};
 ghost use Rattle.tm_outside.specs.Counts.{Rose, next_count};
 ghost use Rattle.rig.specs.Rig.{Asked, shape_of, width_of, IsDetached, Attaches, AttachFails, HasFaultsOf, Begins, LoadFails, GoesOn};
-ghost use Rattle.rig.specs.Rig.{CycleFails};
+ghost use Rattle.rig.specs.Rig.{CycleFails, GoesOnBy, CyclesFail, AreRows, KeepLengths};
 ghost use Rattle.rig.specs.Flaky.{flaky_state, IsChosen, WantsMemory};
 
 use crate::{AskedMachines, AttachFail, PinBits, Rig, RigFail};
@@ -10,7 +10,7 @@ use config_set::Config;
 use hierarchy::Shape;
 use std::alloc::Global;
 
-/// Fails at chosen calls of `attach`, `load` and `cycle`, which are numbered together from 1.
+/// Fails at chosen calls of `attach`, `load`, `cycle` and `cycles`, which are numbered together from 1.
 ///
 /// A chosen call answers `Failed` and doesn't reach the inner rig; every other call is passed on. It keeps the
 /// machines asked itself, and an `attach` that finds no room for one more answers `Memory` and doesn't reach the
@@ -170,6 +170,39 @@ impl<R: Rig> Rig for FlakyRig<R> {
             return Err(RigFail::Failed);
         }
         self.inner.cycle(drive, read)
+    }
+
+    fn cycles(&mut self, drives: &[PinBits], reads: &mut [PinBits]) -> Result<(), RigFail>
+        requires session { IsSome (⟦<FlakyRig<R> as Rig>⟧.rig_state self.old).session }
+        requires drive_pins { AreRows (⟦<FlakyRig<R> as Rig>⟧.rig_state self.old) drives.now }
+        requires read_pins { AreRows (⟦<FlakyRig<R> as Rig>⟧.rig_state self.old) reads.old }
+        requires as_many { length drives.now ≡ length reads.old }
+
+        ensures machine { (⟦<FlakyRig<R> as Rig>⟧.rig_state self.new).machine ≡ (⟦<FlakyRig<R> as Rig>⟧.rig_state self.old).machine }
+        ensures loads { (⟦<FlakyRig<R> as Rig>⟧.rig_state self.new).loads ≡ (⟦<FlakyRig<R> as Rig>⟧.rig_state self.old).loads }
+        ensures later { (⟦<FlakyRig<R> as Rig>⟧.rig_state self.old).failures ≤ (⟦<FlakyRig<R> as Rig>⟧.rig_state self.new).failures }
+        ensures count { (⟦<FlakyRig<R> as Rig>⟧.rig_state self.new).failures < 2 ^ 64 }
+        ensures lengths { KeepLengths reads.old reads.new }
+        ensures cycles { OnOk result (GoesOnBy drives.now reads.new (⟦<FlakyRig<R> as Rig>⟧.rig_state self.old)
+            (⟦<FlakyRig<R> as Rig>⟧.rig_state self.new)) }
+        ensures refused { IfErr result (λ e. CyclesFail e (length drives.now) (⟦<FlakyRig<R> as Rig>⟧.rig_state self.old)
+            (⟦<FlakyRig<R> as Rig>⟧.rig_state self.new)) }
+
+        // A chosen call fails and doesn't reach the inner rig; another call fails only where that one's count rose.
+        ensures fails { self.new.fails.items ≡ self.old.fails.items }
+        ensures calls { self.new.calls ≡ next_count self.old.calls }
+        ensures chosen { IsChosen self.old.fails.items self.old.calls → IsErrOf result RigFail.Failed }
+        ensures unreached { IsChosen self.old.fails.items self.old.calls → R.rig_state self.new.inner ≡ R.rig_state self.old.inner }
+        ensures failed { IsErrOf result RigFail.Failed → IsChosen self.old.fails.items self.old.calls
+            ⊎ Rose (R.rig_state self.old.inner).failures (R.rig_state self.new.inner).failures }
+    {
+        self.calls = self.calls.saturating_add(1);
+        if self.fails.contains(&self.calls) {
+            self.in_session = false;
+            self.failures = self.failures.saturating_add(1);
+            return Err(RigFail::Failed);
+        }
+        self.inner.cycles(drives, reads)
     }
 
     fn loads(&self) -> u64 {

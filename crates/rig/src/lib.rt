@@ -3,7 +3,7 @@
 //! The trait says what every machine under test must do: what was asked and is attached, that a refusal leaves nothing attached
 //! or no session, that a failure is answered only where a count rose, which stays below 2^64, that want of memory for a cycle
 //! comes only where no room is left, that after a load the told faults are faults of the configuration's shape, and that where
-//! the faults are told all readings of a session are the run of its configuration. `load` and `cycle` are the same calls of a
+//! the faults are told all readings of a session are the run of its configuration. `load`, `cycle` and `cycles` are the same calls of a
 //! boxed rig. `LogRig` passes each load on once, and counts none that is refused. `FlakyRig` fails at exactly the chosen calls
 //! and doesn't reach the rig inside at these. Where it wants memory itself at `attach`, it doesn't reach that one either
 //! (`wanting`).
@@ -17,7 +17,7 @@ mod pin_bits;
 mod rig;
 
 pub use asked::{AskedMachine, AskedMachines};
-pub use boxed::{cycle, load};
+pub use boxed::{cycle, cycles, load};
 pub use flaky_rig::FlakyRig;
 pub use log_rig::LogRig;
 pub use pin_bits::PinBits;

@@ -1,7 +1,8 @@
 //! A rig that counts its loads.
-ghost use Rattle.std.specs.Prelude.{◌≡◌, ◌^◌, ◌<◌, ◌≤◌, None, Some, IfErr, OnOk, OnErr, length};
+ghost use Rattle.std.specs.Prelude.{◌≡◌, ◌^◌, ◌<◌, ◌≤◌, None, Some, IsSome, IfErr, OnOk, OnErr, length};
 ghost use Rattle.tm_outside.specs.Counts.{next_count};
 ghost use Rattle.rig.specs.Rig.{shape_of, width_of, IsDetached, Attaches, AttachFails, HasFaultsOf, Begins, LoadFails, GoesOn, CycleFails};
+ghost use Rattle.rig.specs.Rig.{GoesOnBy, CyclesFail, AreRows, KeepLengths};
 
 use crate::{AttachFail, PinBits, Rig, RigFail};
 use config_set::Config;
@@ -86,6 +87,28 @@ impl<R: Rig> Rig for LogRig<R> {
         ensures inner_loads { (R.rig_state self.new.inner).loads ≡ (R.rig_state self.old.inner).loads }
     {
         self.inner.cycle(drive, read)
+    }
+
+    /// The inner rig's loads stay as they are.
+    fn cycles(&mut self, drives: &[PinBits], reads: &mut [PinBits]) -> Result<(), RigFail>
+        requires session { IsSome (⟦<LogRig<R> as Rig>⟧.rig_state self.old).session }
+        requires drive_pins { AreRows (⟦<LogRig<R> as Rig>⟧.rig_state self.old) drives.now }
+        requires read_pins { AreRows (⟦<LogRig<R> as Rig>⟧.rig_state self.old) reads.old }
+        requires as_many { length drives.now ≡ length reads.old }
+
+        ensures machine { (⟦<LogRig<R> as Rig>⟧.rig_state self.new).machine ≡ (⟦<LogRig<R> as Rig>⟧.rig_state self.old).machine }
+        ensures loads { (⟦<LogRig<R> as Rig>⟧.rig_state self.new).loads ≡ (⟦<LogRig<R> as Rig>⟧.rig_state self.old).loads }
+        ensures later { (⟦<LogRig<R> as Rig>⟧.rig_state self.old).failures ≤ (⟦<LogRig<R> as Rig>⟧.rig_state self.new).failures }
+        ensures count { (⟦<LogRig<R> as Rig>⟧.rig_state self.new).failures < 2 ^ 64 }
+        ensures lengths { KeepLengths reads.old reads.new }
+        ensures cycles { OnOk result (GoesOnBy drives.now reads.new (⟦<LogRig<R> as Rig>⟧.rig_state self.old)
+            (⟦<LogRig<R> as Rig>⟧.rig_state self.new)) }
+        ensures refused { IfErr result (λ e. CyclesFail e (length drives.now) (⟦<LogRig<R> as Rig>⟧.rig_state self.old)
+            (⟦<LogRig<R> as Rig>⟧.rig_state self.new)) }
+
+        ensures inner_loads { (R.rig_state self.new.inner).loads ≡ (R.rig_state self.old.inner).loads }
+    {
+        self.inner.cycles(drives, reads)
     }
 
     fn loads(&self) -> u64 {

@@ -1,8 +1,8 @@
 //! A rig as a trait.
-ghost use Rattle.std.specs.Prelude.{◌≡◌, ◌^◌, ◌<◌, ◌≤◌, None, Some, IfErr, OnOk, OnErr, length};
+ghost use Rattle.std.specs.Prelude.{◌≡◌, ◌^◌, ◌<◌, ◌≤◌, None, Some, IsSome, IfErr, OnOk, OnErr, length};
 ghost use Rattle.tm_outside.specs.Counts.{next_count};
 ghost use Rattle.rig.specs.Rig.{RigState, shape_of, width_of, IsDetached, Attaches, AttachFails, HasFaultsOf, Begins, LoadFails, GoesOn};
-ghost use Rattle.rig.specs.Rig.{CycleFails};
+ghost use Rattle.rig.specs.Rig.{CycleFails, GoesOnBy, CyclesFail, AreRows, KeepLengths};
 
 use crate::PinBits;
 use config_set::Config;
@@ -98,6 +98,25 @@ pub trait Rig: Drop {
         ensures cycles { OnOk result (GoesOn drive.now read.new (rig_state self.old) (rig_state self.new)) }
         ensures kept { OnErr result (read.new ≡ read.old) }
         ensures refused { IfErr result (λ e. CycleFails e (rig_state self.old) (rig_state self.new)) };
+
+    /// Makes as many cycles as there are drives, one after the other, and reads the pins in each: what as many calls of
+    /// [`Rig::cycle`] that answer `Ok` do. A rig to which a turn costs more than a reading may make them in one.
+    ///
+    /// After `Failed` the count rose and there is no session. `Memory` comes only where there is room for fewer cycles,
+    /// and then nothing was driven and the session is as before. After a refusal `reads` has its lengths, and any bits.
+    fn cycles(&mut self, drives: &[PinBits], reads: &mut [PinBits]) -> Result<(), RigFail>
+        requires session { IsSome (rig_state self.old).session }
+        requires drive_pins { AreRows (rig_state self.old) drives.now }
+        requires read_pins { AreRows (rig_state self.old) reads.old }
+        requires as_many { length drives.now ≡ length reads.old }
+
+        ensures machine { (rig_state self.new).machine ≡ (rig_state self.old).machine }
+        ensures loads { (rig_state self.new).loads ≡ (rig_state self.old).loads }
+        ensures later { (rig_state self.old).failures ≤ (rig_state self.new).failures }
+        ensures count { (rig_state self.new).failures < 2 ^ 64 }
+        ensures lengths { KeepLengths reads.old reads.new }
+        ensures cycles { OnOk result (GoesOnBy drives.now reads.new (rig_state self.old) (rig_state self.new)) }
+        ensures refused { IfErr result (λ e. CyclesFail e (length drives.now) (rig_state self.old) (rig_state self.new)) };
 
     /// How many loads there were since the rig was made, up to the last `u64`.
     fn loads(&self) -> u64
