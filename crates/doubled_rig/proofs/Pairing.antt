@@ -1,8 +1,9 @@
 -- Two rigs side by side.
 use Rattle.std.proofs.Common.{◌≡◌, ℕ, zero, suc, ◌+◌, ◌<◌, ◌≤◌, Option, None, Some, IfSome, List, [], ◌∷◌, ◌++◌, length, map, refl, sym, ap, ◌∙◌, subst, arith}
-use Rattle.std.specs.Prelude.{option_map, IsSome}
+use Rattle.std.specs.Prelude.{option_map, IsSome, Result, Ok, Err, OnOk, IsOk}
 use Rattle.std.specs.Option.{option_map_or}
 use Rattle.std.proofs.lemmas.List.{map-append, append_cancel_left}
+use Rattle.std.proofs.lemmas.Bool.{false≢true}
 use Rattle.hierarchy.specs.Circuit.{Pins}
 use Rattle.hierarchy.specs.Faults.{Faults}
 use Rattle.hierarchy.specs.Shape.{pins_of}
@@ -27,7 +28,7 @@ cycles_failed work.Failed count old new some fails = fails.0
 cycles_failed work.Memory count old new some fails = absurd (let no : ⊥ = omega (arith, some, fails.0) in no)
 
 -- a session of a configuration, as it is told
-IsToldBy : Option Faults → Option Configuration → List Exchange → Type 0
+abbrev IsToldBy : Option Faults → Option Configuration → List Exchange → Type 0
 IsToldBy told config cycles = IfSome told (λ f. IfSome config (λ g. IsRun f g (drives_of cycles) (readings_of cycles)))
 
 told_by : (told : Option Faults) (c d : Option Configuration) (xs ys : List Exchange) → c ≡ d → xs ≡ ys → IsToldBy told c xs → IsToldBy told d ys
@@ -38,25 +39,22 @@ runs_alike : (f : Faults) (first second : RigState) → first.machine.faults ≡
     → config_of first ≡ config_of second → IsSome (config_of first) → drives_of (cycles_of first) ≡ drives_of (cycles_of second) → readings_of (cycles_of first) ≡ readings_of (cycles_of second)
 runs_alike f first second one other first_told second_told config some drives =
     by (config_of first) some
-      (subst (λ (o : Option Faults). IsToldBy o (config_of first) (cycles_of first)) one first_told)
-      (subst (λ (c : Option Configuration). IsToldBy (Some f) c (cycles_of second)) (sym config) (subst (λ (o : Option Faults). IsToldBy o (config_of second) (cycles_of second)) other second_told))
+    (subst (λ (o : Option Faults). IsToldBy o (config_of first) (cycles_of first)) one first_told)
+    (subst (λ (c : Option Configuration). IsToldBy (Some f) c (cycles_of second)) (sym config) (subst (λ (o : Option Faults). IsToldBy o (config_of second) (cycles_of second)) other second_told))
   where
     by : (c : Option Configuration) → IsSome c → IsToldBy (Some f) c (cycles_of first) → IsToldBy (Some f) c (cycles_of second) → readings_of (cycles_of first) ≡ readings_of (cycles_of second)
-    by None some t u = absurd some
+    by None some t u = absurd (false≢true some)
     by (Some g) some t u = Runs-unique (circuit_of f g) (subst (λ (ds : List Pins). IsRun f g ds (readings_of (cycles_of first))) drives t) u
 
 last_same : (xs : List Pins) (x y : Pins) → xs ++ x ∷ [] ≡ xs ++ y ∷ [] → x ≡ y
 last_same xs x y e = let tails = append_cancel_left xs (x ∷ []) (y ∷ []) e in cc
 
 has_config : (c : Option Configuration) (n : ℕ) → option_map (λ (g : Configuration). pins_of g.shape) c ≡ Some n → IsSome c
-has_config (Some g) n e = tt
+has_config (Some g) n e = refl
 has_config None n e = absurd (let no : ⊥ = cc in no)
 
 module _ {f : Faults} {p : Pair} {first first_new second second_new : RigState} (pairs : ArePaired p first second)
     (one : first_new.machine.faults ≡ Some f) (other : second_new.machine.faults ≡ Some f) where
-  some_config : config_of first_new ≡ config_of first → IsSome (config_of first_new)
-  some_config e = subst IsSome (sym e) (has_config (config_of first) (length p.read) pairs.width)
-
   pub reads_alike : (drive reading second_reading : Pins) → GoesOn drive reading first first_new → GoesOn drive second_reading second second_new → reading ≡ second_reading
   reads_alike drive reading second_reading goes also =
       let start : cycles_of second_new ≡ cycles_of first ++ record { drive = drive; reading = second_reading } ∷ [] = also.cycles ∙ ap (λ xs. xs ++ record { drive = drive; reading = second_reading } ∷ []) (sym pairs.cycles) in
@@ -64,7 +62,7 @@ module _ {f : Faults} {p : Pair} {first first_new second second_new : RigState} 
       let other_drives = ap drives_of start ∙ map-append (λ (c : Exchange). c.drive) (cycles_of first) _ in
       let one_reads = ap readings_of goes.cycles ∙ map-append (λ (c : Exchange). c.reading) (cycles_of first) _ in
       let other_reads = ap readings_of start ∙ map-append (λ (c : Exchange). c.reading) (cycles_of first) _ in
-      let alike = runs_alike f first_new second_new one other goes.told also.told (goes.config ∙ pairs.config ∙ sym also.config) (some_config goes.config) (one_drives ∙ sym other_drives) in
+      let alike = runs_alike f first_new second_new one other goes.told also.told (goes.config ∙ pairs.config ∙ sym also.config) (subst IsSome (sym goes.config) (has_config (config_of first) (length p.read) pairs.width)) (one_drives ∙ sym other_drives) in
       last_same (readings_of (cycles_of first)) reading second_reading (sym one_reads ∙ alike ∙ other_reads)
 
   pub read_alike_by : (drives readings second_readings : List Pins) → GoesOnBy drives readings first first_new → GoesOnBy drives second_readings second second_new → readings ≡ second_readings
@@ -74,7 +72,7 @@ module _ {f : Faults} {p : Pair} {first first_new second second_new : RigState} 
       let other_drives = ap drives_of start ∙ map-append (λ (c : Exchange). c.drive) (cycles_of first) also.more ∙ ap (λ xs. drives_of (cycles_of first) ++ xs) also.driven in
       let one_reads = ap readings_of goes.cycles ∙ map-append (λ (c : Exchange). c.reading) (cycles_of first) goes.more ∙ ap (λ xs. readings_of (cycles_of first) ++ xs) goes.read in
       let other_reads = ap readings_of start ∙ map-append (λ (c : Exchange). c.reading) (cycles_of first) also.more ∙ ap (λ xs. readings_of (cycles_of first) ++ xs) also.read in
-      let alike = runs_alike f first_new second_new one other goes.told also.told (goes.config ∙ pairs.config ∙ sym also.config) (some_config goes.config) (one_drives ∙ sym other_drives) in
+      let alike = runs_alike f first_new second_new one other goes.told also.told (goes.config ∙ pairs.config ∙ sym also.config) (subst IsSome (sym goes.config) (has_config (config_of first) (length p.read) pairs.width)) (one_drives ∙ sym other_drives) in
       append_cancel_left (readings_of (cycles_of first)) readings second_readings (sym one_reads ∙ alike ∙ other_reads)
 
 -- cycles with the same drives and readings
@@ -139,12 +137,12 @@ session_cycles n None = refl
 session_cycles n (Some s) = refl
 
 session_spare : (n : ℕ) (s : Option Session) → IsSome s → option_map_or (λ (t : Session). t.spare) (session_with (Some n) s) 0 ≡ n
-session_spare n None some = absurd some
+session_spare n None some = absurd (false≢true some)
 session_spare n (Some s) some = refl
 
 has_session : (s : Option Session) → IsSome (option_map (λ (t : Session). t.config) s) → IsSome s
-has_session None some = absurd some
-has_session (Some s) some = tt
+has_session None some = absurd (false≢true some)
+has_session (Some s) some = refl
 
 module _ (p q : Pair) (first first_new second second_new : RigState) (pairs : ArePaired p first second) where
   was : IsSome first.session
@@ -182,3 +180,8 @@ module _ (p q : Pair) (first first_new second second_new : RigState) (pairs : Ar
   -- what is left of the room
   pub pair_spare : spare_of (paired (Some p) first second) ≡ p.spare
   pair_spare = session_spare p.spare first.session was
+
+-- what an answer that is no refusal says
+pub on_ok : {T E : Type 0} {P : Type 0} (r : Result T E) → OnOk r P → IsOk r → P
+on_ok (Ok x) h is = h
+on_ok (Err e) h is = absurd (false≢true is)

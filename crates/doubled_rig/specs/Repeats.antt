@@ -1,5 +1,6 @@
 -- A rig that asks its machine again.
-use Rattle.std.specs.Prelude.{◌≡◌, ◌⊎◌, ℕ, ◌+◌, ◌-◌, ◌^◌, ◌≤◌, ◌<◌, min, Bool, true, ◌&&◌, ◌==◌, if◌then◌else◌, List, [], ◌∷◌, map, length, take, All}
+use Rattle.std.specs.Prelude.{◌≡◌, ◌⊎◌, ℕ, ◌+◌, ◌-◌, ◌^◌, ◌≤◌, ◌<◌, min, Bool, true, ◌&&◌, ◌==◌, if◌then◌else◌, List, [], ◌∷◌, map, length}
+use Rattle.std.specs.Prelude.{take, All}
 use Rattle.std.specs.Prelude.{Option, None, Some, IfSome, is_some, nat_le}
 use Rattle.hierarchy.specs.declared.Cross.{Cross}
 use Rattle.hierarchy.specs.Circuit.{Pins}
@@ -60,26 +61,25 @@ times_named [] = 1
 times_named (digit ∷ []) = 1
 times_named (digit ∷ mark ∷ rest) = if (nat_le 50 digit && nat_le digit 57) && (mark == 120) then digit - 48 else 1
 
--- a rig that asks again: what its inner rig means, how often it asks, whether the inner rig's session is its own, and
--- its own counts
-pub record Repeated : Type 0 where
-  pub inner : RigState
+-- a rig that asks again: its inner rig, how often it asks, whether the inner rig's session is its own, and its own counts
+pub record Repeated (I : Type 0) : Type 0 where
+  pub inner : I
   pub times : ℕ
   pub stands : Bool
   pub loads : ℕ
   pub failures : ℕ
 
--- what it means as a rig
-abbrev pub repeat_state : Repeated → RigState
-repeat_state r = record r.inner {
-  session = if r.stands then r.inner.session else None;
+-- what it means as a rig, by what its inner rig means
+abbrev pub repeat_state : {I : Type 0} → RigState → Repeated I → RigState
+repeat_state inner r = record inner {
+  session = if r.stands then inner.session else None;
   loads = r.loads;
-  failures = both_counts r.failures r.inner.failures;
+  failures = both_counts r.failures inner.failures;
 }
 
--- how many loads of the inner rig a load takes: with a session as many as it asks, and else one
-abbrev pub loads_taken : Repeated → ℕ
-loads_taken r = if is_some (repeat_state r).session then r.times else 1
+-- how many loads of the inner rig a load takes: with a session as many as it is asked, and else one
+abbrev pub loads_taken : RigState → ℕ → ℕ
+loads_taken rig times = if is_some rig.session then times else 1
 
 -- what is kept is the inner rig's session, and where its faults are told, their run
 pub record IsOfSession (k : Kept) (inner : RigState) : Type 0 where

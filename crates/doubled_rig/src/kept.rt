@@ -1,5 +1,6 @@
 //! A session that can be asked again.
-ghost use Rattle.std.specs.Prelude.{◌≡◌, ◌^◌, ◌-◌, ◌+◌, ◌<◌, ◌≤◌, ◌++◌, [], ◌∷◌, List, None, Some, true, min, length, IfSome, IsSome, IfOk, IfErr, OnOk};
+ghost use Rattle.std.specs.Prelude.{◌≡◌, ◌^◌, ◌-◌, ◌+◌, ◌<◌, ◌≤◌, ◌++◌, [], ◌∷◌, List, None, Some, true, min, length, IfSome, IsSome, IfOk};
+ghost use Rattle.std.specs.Prelude.{IfErr, OnOk};
 ghost use Rattle.hierarchy.specs.Circuit.{Pins};
 ghost use Rattle.hierarchy.specs.Shape.{pins_of};
 ghost use Rattle.config_set.specs.Faulty.{IsRun};

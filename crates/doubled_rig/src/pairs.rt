@@ -1,9 +1,10 @@
 //! The calls of two rigs side by side.
-ghost use Rattle.std.specs.Prelude.{◌≡◌, ◌⊎◌, ◌-◌, ◌<◌, ◌≤◌, None, Some, false, true, length, IfOk, IfSome, IsSome, IsErrOf, OnOk, OnErr};
+ghost use Rattle.std.specs.Prelude.{◌≡◌, ◌⊎◌, ◌-◌, ◌<◌, ◌≤◌, None, Some, false, true, length, take, IfOk, IfErr, IfSome, IsSome, IsErrOf};
+ghost use Rattle.std.specs.Prelude.{OnOk, OnErr};
 ghost use Rattle.hierarchy.specs.Faults.{Faults, AreFaultsOf};
 ghost use Rattle.hierarchy.specs.Shape.{pins_of};
 ghost use Rattle.tm_outside.specs.Counts.{Rose};
-ghost use Rattle.rig.specs.Rig.{shape_of, width_of, spare_of, AreRows, Begins, GoesOn, GoesOnBy, HasFaultsOf, KeepLengths};
+ghost use Rattle.rig.specs.Rig.{shape_of, width_of, spare_of, AreRows, Begins, CyclesFail, GoesOn, GoesOnBy, HasFaultsOf, KeepLengths};
 ghost use Rattle.doubled_rig.specs.Repeats.{AreWide};
 ghost use Rattle.doubled_rig.specs.Twins.{ArePaired, BothGoOn, BothGoOnBy, paired};
 
@@ -152,7 +153,7 @@ pub fn cycle_both<A: Rig, B: Rig>(
     ensures kept { OnErr result (read.new ≡ read.old) }
     ensures failed { IsErrOf result RigFail.Failed → pair.new ≡ None }
     ensures full { IsErrOf result RigFail.Memory → (spare_of (paired pair.old (A.rig_state first.old) (B.rig_state second.old)) ≡ 0)
-        × (pair.new ≡ pair.old) × (A.rig_state first.new ≡ A.rig_state first.old) × (B.rig_state second.new ≡ B.rig_state second.old) }
+        × (pair.new ≡ pair.old) × (first.new ≡ first.old) × (second.new ≡ second.old) }
     ensures caused { (f : Faults) → (A.rig_state first.old).machine.faults ≡ Some f → (B.rig_state second.old).machine.faults ≡ Some f →
         IsErrOf result RigFail.Failed → Rose (A.rig_state first.old).failures (A.rig_state first.new).failures
         ⊎ Rose (B.rig_state second.old).failures (B.rig_state second.new).failures }
@@ -170,6 +171,25 @@ pub fn cycle_both<A: Rig, B: Rig>(
     read.copy_from(&both.read);
     *pair = Some(both);
     Ok(())
+}
+
+// Makes several cycles with the second, and reads into the first of these rows.
+fn read_others<B: Rig>(
+    second: &mut B,
+    drives: &[PinBits],
+    others: &mut [PinBits],
+) -> Result<(), RigFail>
+    requires session { IsSome (B.rig_state second.old).session }
+    requires drive_pins { AreRows (B.rig_state second.old) drives.now }
+    requires read_pins { AreRows (B.rig_state second.old) others.old }
+    requires room { length drives.now ≤ length others.old }
+    ensures machine { (B.rig_state second.new).machine ≡ (B.rig_state second.old).machine }
+    ensures lengths { KeepLengths others.old others.new }
+    ensures cycles { OnOk result (GoesOnBy drives.now (take (length drives.now) others.new) (B.rig_state second.old)
+        (B.rig_state second.new)) }
+    ensures refused { IfErr result (λ e. CyclesFail e (length drives.now) (B.rig_state second.old) (B.rig_state second.new)) }
+{
+    second.cycles(drives, &mut others[..drives.len()])
 }
 
 // Makes several cycles with both. False where one refuses or the second reads otherwise. Where both tell the same faults, it is
@@ -195,15 +215,15 @@ fn drive_both_by<A: Rig, B: Rig>(
         result ≡ false → Rose (A.rig_state first.old).failures (A.rig_state first.new).failures
         ⊎ Rose (B.rig_state second.old).failures (B.rig_state second.new).failures }
 {
-    let count = drives.len();
+    let spare = pair.spare;
     if first.cycles(drives, reads).is_err() {
         return false;
     }
-    if second.cycles(drives, &mut pair.others[..count]).is_err() {
+    if read_others(second, drives, &mut pair.others).is_err() {
         return false;
     }
-    pair.spare -= count as u32;
-    are_same(reads, &pair.others[..count])
+    pair.spare = spare - drives.len() as u32;
+    are_same(reads, &pair.others[..drives.len()])
 }
 
 /// Makes several cycles with both, in a session of both.
@@ -233,7 +253,7 @@ pub fn cycles_both<A: Rig, B: Rig>(
     ensures failed { IsErrOf result RigFail.Failed → pair.new ≡ None }
     ensures full { IsErrOf result RigFail.Memory →
         (spare_of (paired pair.old (A.rig_state first.old) (B.rig_state second.old)) < length drives.now)
-        × (pair.new ≡ pair.old) × (A.rig_state first.new ≡ A.rig_state first.old) × (B.rig_state second.new ≡ B.rig_state second.old) }
+        × (pair.new ≡ pair.old) × (first.new ≡ first.old) × (second.new ≡ second.old) }
     ensures caused { (f : Faults) → (A.rig_state first.old).machine.faults ≡ Some f → (B.rig_state second.old).machine.faults ≡ Some f →
         IsErrOf result RigFail.Failed → Rose (A.rig_state first.old).failures (A.rig_state first.new).failures
         ⊎ Rose (B.rig_state second.old).failures (B.rig_state second.new).failures }

@@ -1,5 +1,6 @@
 //! A rig that asks its machine again.
-ghost use Rattle.std.specs.Prelude.{◌≡◌, ◌+◌, ◌-◌, ◌^◌, ◌<◌, ◌≤◌, None, Some, true, min, length, IfOk, IfSome, IsSome, IfErr, OnOk, OnErr, IsErrOf};
+ghost use Rattle.std.specs.Prelude.{◌≡◌, ◌+◌, ◌-◌, ◌^◌, ◌<◌, ◌≤◌, None, Some, true, min, length, IfOk, IfSome, IsSome, IfErr, OnOk, OnErr};
+ghost use Rattle.std.specs.Prelude.{IsErrOf};
 ghost use Rattle.std.specs.Prelude.{is_some, if◌then◌else◌};
 ghost use Rattle.tm_outside.specs.Counts.{Rose, next_count};
 ghost use Rattle.rig.specs.Rig.{shape_of, width_of, IsDetached, Attaches, AttachFails, HasFaultsOf, Begins, LoadFails, GoesOn, CycleFails};
@@ -35,10 +36,10 @@ pub struct RepeatRig<R: Rig> {
 impl<R: Rig> Model for RepeatRig<R> {
     ghost use Rattle.doubled_rig.specs.Repeats.{Repeated, IsRepeating};
 
-    ghost Value = { Repeated };
+    ghost Value = { Repeated R };
 
     ghost view = { λ a. record {
-      inner = R.rig_state a.inner;
+      inner = a.inner;
       times = a.times;
       stands = a.stands;
       loads = a.loads;
@@ -157,7 +158,7 @@ fn go_on_by<R: Rig>(
 impl<R: Rig> RepeatRig<R> {
     /// A rig over this one, which asks each session once until a machine is attached.
     pub fn new(alloc: Global, inner: R) -> Self
-        ensures { result ≡ record { inner = R.rig_state inner; times = 1; stands = true; loads = 0; failures = 0 } }
+        ensures { result ≡ record { inner = inner; times = 1; stands = true; loads = 0; failures = 0 } }
     {
         RepeatRig {
             alloc,
@@ -172,23 +173,27 @@ impl<R: Rig> RepeatRig<R> {
 }
 
 impl<R: Rig> Rig for RepeatRig<R> {
-    ghost rig_state = { repeat_state };
+    ghost rig_state = { λ s. repeat_state (R.rig_state s.inner) s };
 
     /// The name is passed on whole. The inner rig's loads stay as they are, and it fails only where its count rose.
     fn attach(&mut self, shape: &Shape, name: &str) -> Result<(), AttachFail>
-        ensures texts { (repeat_state self.new).machine.texts ≡ (repeat_state self.old).machine.texts }
-        ensures loads { (repeat_state self.new).loads ≡ (repeat_state self.old).loads }
-        ensures later { (repeat_state self.old).failures ≤ (repeat_state self.new).failures }
-        ensures count { (repeat_state self.new).failures < 2 ^ 64 }
-        ensures attached { OnOk result (Attaches (record { shape = shape.now; name = name.now }) (repeat_state self.old)
-            (repeat_state self.new)) }
-        ensures detached { OnErr result (IsDetached (repeat_state self.new)) }
-        ensures refused { IfErr result (λ e. AttachFails e (record { shape = shape.now; name = name.now }) (repeat_state self.old)
-            (repeat_state self.new)) }
+        ensures texts { (⟦<RepeatRig<R> as Rig>⟧.rig_state self.new).machine.texts ≡
+            (⟦<RepeatRig<R> as Rig>⟧.rig_state self.old).machine.texts }
+        ensures loads { (⟦<RepeatRig<R> as Rig>⟧.rig_state self.new).loads ≡ (⟦<RepeatRig<R> as Rig>⟧.rig_state self.old).loads }
+        ensures later { (⟦<RepeatRig<R> as Rig>⟧.rig_state self.old).failures ≤ (⟦<RepeatRig<R> as Rig>⟧.rig_state self.new).failures }
+        ensures count { (⟦<RepeatRig<R> as Rig>⟧.rig_state self.new).failures < 2 ^ 64 }
+        ensures attached { OnOk result (Attaches (record { shape = shape.now; name = name.now })
+            (⟦<RepeatRig<R> as Rig>⟧.rig_state self.old)
+            (⟦<RepeatRig<R> as Rig>⟧.rig_state self.new)) }
+        ensures detached { OnErr result (IsDetached (⟦<RepeatRig<R> as Rig>⟧.rig_state self.new)) }
+        ensures refused { IfErr result (λ e. AttachFails e (record { shape = shape.now; name = name.now })
+            (⟦<RepeatRig<R> as Rig>⟧.rig_state self.old)
+            (⟦<RepeatRig<R> as Rig>⟧.rig_state self.new)) }
 
         ensures times { OnOk result (self.new.times ≡ times_named name.now) }
-        ensures inner_loads { self.new.inner.loads ≡ self.old.inner.loads }
-        ensures caused { IsErrOf result AttachFail.Failed → Rose self.old.inner.failures self.new.inner.failures }
+        ensures inner_loads { (R.rig_state self.new.inner).loads ≡ (R.rig_state self.old.inner).loads }
+        ensures caused { IsErrOf result AttachFail.Failed →
+            Rose (R.rig_state self.old.inner).failures (R.rig_state self.new.inner).failures }
     {
         self.kept = None;
         self.times = times_of(name);
@@ -198,22 +203,26 @@ impl<R: Rig> Rig for RepeatRig<R> {
     /// The inner rig loads as often as a session is asked where there was one, and else once. Where it tells its faults,
     /// this one fails only where its count rose.
     fn load(&mut self, config: &Config, room: u32) -> Result<(), RigFail>
-        requires { shape_of (repeat_state self.old) ≡ Some config.now.config.shape }
+        requires { shape_of (⟦<RepeatRig<R> as Rig>⟧.rig_state self.old) ≡ Some config.now.config.shape }
 
-        ensures machine { (repeat_state self.new).machine ≡ (repeat_state self.old).machine }
-        ensures later { (repeat_state self.old).failures ≤ (repeat_state self.new).failures }
-        ensures count { (repeat_state self.new).failures < 2 ^ 64 }
-        ensures begins { OnOk result (Begins config.now.config room (repeat_state self.new)) }
-        ensures told { OnOk result (HasFaultsOf config.now.config.shape (repeat_state self.new)) }
-        ensures counted { OnOk result ((repeat_state self.new).loads ≡ next_count (repeat_state self.old).loads) }
-        ensures ended { OnErr result ((repeat_state self.new).session ≡ None) }
-        ensures not_counted { OnErr result ((repeat_state self.new).loads ≡ (repeat_state self.old).loads) }
-        ensures refused { IfErr result (λ e. LoadFails e (repeat_state self.old) (repeat_state self.new)) }
+        ensures machine { (⟦<RepeatRig<R> as Rig>⟧.rig_state self.new).machine ≡ (⟦<RepeatRig<R> as Rig>⟧.rig_state self.old).machine }
+        ensures later { (⟦<RepeatRig<R> as Rig>⟧.rig_state self.old).failures ≤ (⟦<RepeatRig<R> as Rig>⟧.rig_state self.new).failures }
+        ensures count { (⟦<RepeatRig<R> as Rig>⟧.rig_state self.new).failures < 2 ^ 64 }
+        ensures begins { OnOk result (Begins config.now.config room (⟦<RepeatRig<R> as Rig>⟧.rig_state self.new)) }
+        ensures told { OnOk result (HasFaultsOf config.now.config.shape (⟦<RepeatRig<R> as Rig>⟧.rig_state self.new)) }
+        ensures counted { OnOk result ((⟦<RepeatRig<R> as Rig>⟧.rig_state self.new).loads ≡ next_count
+            (⟦<RepeatRig<R> as Rig>⟧.rig_state self.old).loads) }
+        ensures ended { OnErr result ((⟦<RepeatRig<R> as Rig>⟧.rig_state self.new).session ≡ None) }
+        ensures not_counted { OnErr result ((⟦<RepeatRig<R> as Rig>⟧.rig_state self.new).loads ≡
+            (⟦<RepeatRig<R> as Rig>⟧.rig_state self.old).loads) }
+        ensures refused { IfErr result (λ e. LoadFails e (⟦<RepeatRig<R> as Rig>⟧.rig_state self.old)
+            (⟦<RepeatRig<R> as Rig>⟧.rig_state self.new)) }
 
         ensures times { self.new.times ≡ self.old.times }
-        ensures repeats { OnOk result (self.new.inner.loads ≡ min (self.old.inner.loads + loads_taken self.old) (2 ^ 64 - 1)) }
-        ensures caused { IsSome self.old.inner.machine.faults → IsErrOf result RigFail.Failed →
-            Rose self.old.inner.failures self.new.inner.failures }
+        ensures repeats { OnOk result ((R.rig_state self.new.inner).loads ≡ min ((R.rig_state self.old.inner).loads + loads_taken
+            (⟦<RepeatRig<R> as Rig>⟧.rig_state self.old) self.old.times) (2 ^ 64 - 1)) }
+        ensures caused { IsSome (R.rig_state self.old.inner).machine.faults → IsErrOf result RigFail.Failed →
+            Rose (R.rig_state self.old.inner).failures (R.rig_state self.new.inner).failures }
     {
         let kept = self.kept.take();
         self.stands = false;
@@ -231,43 +240,47 @@ impl<R: Rig> Rig for RepeatRig<R> {
 
     /// The inner rig's loads stay as they are, and it fails only where its count rose.
     fn cycle(&mut self, drive: &PinBits, read: &mut PinBits) -> Result<(), RigFail>
-        requires drive_pins { width_of (repeat_state self.old) ≡ Some (length drive.now) }
-        requires read_pins { width_of (repeat_state self.old) ≡ Some (length read.old) }
+        requires drive_pins { width_of (⟦<RepeatRig<R> as Rig>⟧.rig_state self.old) ≡ Some (length drive.now) }
+        requires read_pins { width_of (⟦<RepeatRig<R> as Rig>⟧.rig_state self.old) ≡ Some (length read.old) }
 
-        ensures machine { (repeat_state self.new).machine ≡ (repeat_state self.old).machine }
-        ensures loads { (repeat_state self.new).loads ≡ (repeat_state self.old).loads }
-        ensures later { (repeat_state self.old).failures ≤ (repeat_state self.new).failures }
-        ensures count { (repeat_state self.new).failures < 2 ^ 64 }
+        ensures machine { (⟦<RepeatRig<R> as Rig>⟧.rig_state self.new).machine ≡ (⟦<RepeatRig<R> as Rig>⟧.rig_state self.old).machine }
+        ensures loads { (⟦<RepeatRig<R> as Rig>⟧.rig_state self.new).loads ≡ (⟦<RepeatRig<R> as Rig>⟧.rig_state self.old).loads }
+        ensures later { (⟦<RepeatRig<R> as Rig>⟧.rig_state self.old).failures ≤ (⟦<RepeatRig<R> as Rig>⟧.rig_state self.new).failures }
+        ensures count { (⟦<RepeatRig<R> as Rig>⟧.rig_state self.new).failures < 2 ^ 64 }
         ensures length { length read.new ≡ length read.old }
-        ensures cycles { OnOk result (GoesOn drive.now read.new (repeat_state self.old) (repeat_state self.new)) }
+        ensures cycles { OnOk result (GoesOn drive.now read.new (⟦<RepeatRig<R> as Rig>⟧.rig_state self.old)
+            (⟦<RepeatRig<R> as Rig>⟧.rig_state self.new)) }
         ensures kept { OnErr result (read.new ≡ read.old) }
-        ensures refused { IfErr result (λ e. CycleFails e (repeat_state self.old) (repeat_state self.new)) }
+        ensures refused { IfErr result (λ e. CycleFails e (⟦<RepeatRig<R> as Rig>⟧.rig_state self.old)
+            (⟦<RepeatRig<R> as Rig>⟧.rig_state self.new)) }
 
         ensures times { self.new.times ≡ self.old.times }
-        ensures inner_loads { self.new.inner.loads ≡ self.old.inner.loads }
-        ensures caused { IsErrOf result RigFail.Failed → Rose self.old.inner.failures self.new.inner.failures }
+        ensures inner_loads { (R.rig_state self.new.inner).loads ≡ (R.rig_state self.old.inner).loads }
+        ensures caused { IsErrOf result RigFail.Failed → Rose (R.rig_state self.old.inner).failures (R.rig_state self.new.inner).failures }
     {
         go_on(&mut self.inner, &mut self.kept, drive, read)
     }
 
     /// The inner rig's loads stay as they are, and it fails only where its count rose.
     fn cycles(&mut self, drives: &[PinBits], reads: &mut [PinBits]) -> Result<(), RigFail>
-        requires session { IsSome (repeat_state self.old).session }
-        requires drive_pins { AreRows (repeat_state self.old) drives.now }
-        requires read_pins { AreRows (repeat_state self.old) reads.old }
+        requires session { IsSome (⟦<RepeatRig<R> as Rig>⟧.rig_state self.old).session }
+        requires drive_pins { AreRows (⟦<RepeatRig<R> as Rig>⟧.rig_state self.old) drives.now }
+        requires read_pins { AreRows (⟦<RepeatRig<R> as Rig>⟧.rig_state self.old) reads.old }
         requires as_many { length drives.now ≡ length reads.old }
 
-        ensures machine { (repeat_state self.new).machine ≡ (repeat_state self.old).machine }
-        ensures loads { (repeat_state self.new).loads ≡ (repeat_state self.old).loads }
-        ensures later { (repeat_state self.old).failures ≤ (repeat_state self.new).failures }
-        ensures count { (repeat_state self.new).failures < 2 ^ 64 }
+        ensures machine { (⟦<RepeatRig<R> as Rig>⟧.rig_state self.new).machine ≡ (⟦<RepeatRig<R> as Rig>⟧.rig_state self.old).machine }
+        ensures loads { (⟦<RepeatRig<R> as Rig>⟧.rig_state self.new).loads ≡ (⟦<RepeatRig<R> as Rig>⟧.rig_state self.old).loads }
+        ensures later { (⟦<RepeatRig<R> as Rig>⟧.rig_state self.old).failures ≤ (⟦<RepeatRig<R> as Rig>⟧.rig_state self.new).failures }
+        ensures count { (⟦<RepeatRig<R> as Rig>⟧.rig_state self.new).failures < 2 ^ 64 }
         ensures lengths { KeepLengths reads.old reads.new }
-        ensures cycles { OnOk result (GoesOnBy drives.now reads.new (repeat_state self.old) (repeat_state self.new)) }
-        ensures refused { IfErr result (λ e. CyclesFail e (length drives.now) (repeat_state self.old) (repeat_state self.new)) }
+        ensures cycles { OnOk result (GoesOnBy drives.now reads.new (⟦<RepeatRig<R> as Rig>⟧.rig_state self.old)
+            (⟦<RepeatRig<R> as Rig>⟧.rig_state self.new)) }
+        ensures refused { IfErr result (λ e. CyclesFail e (length drives.now) (⟦<RepeatRig<R> as Rig>⟧.rig_state self.old)
+            (⟦<RepeatRig<R> as Rig>⟧.rig_state self.new)) }
 
         ensures times { self.new.times ≡ self.old.times }
-        ensures inner_loads { self.new.inner.loads ≡ self.old.inner.loads }
-        ensures caused { IsErrOf result RigFail.Failed → Rose self.old.inner.failures self.new.inner.failures }
+        ensures inner_loads { (R.rig_state self.new.inner).loads ≡ (R.rig_state self.old.inner).loads }
+        ensures caused { IsErrOf result RigFail.Failed → Rose (R.rig_state self.old.inner).failures (R.rig_state self.new.inner).failures }
     {
         go_on_by(&mut self.inner, &mut self.kept, drives, reads)
     }

@@ -40,11 +40,11 @@ impl<A: Rig, B: Rig> Model for TwinRig<A, B> {
     ghost use Rattle.std.specs.Prelude.{option_map, string_bytes};
     ghost use Rattle.doubled_rig.specs.Twins.{Twins, AreTwins};
 
-    ghost Value = { Twins };
+    ghost Value = { Twins A B };
 
     ghost view = { λ a. record {
-      first = A.rig_state a.first;
-      second = B.rig_state a.second;
+      first = a.first;
+      second = a.second;
       asked = a.asked;
       attached = option_map (λ m. record { shape = m.shape; name = string_bytes m.name }) a.machine;
       refused = record { times = a.refused; last = a.last };
@@ -54,21 +54,21 @@ impl<A: Rig, B: Rig> Model for TwinRig<A, B> {
     } };
 
     ghost invariant = { λ a. AreTwins (option_map (λ m. record { shape = m.shape; name = string_bytes m.name }) a.machine) a.pair
-      (A.rig_state a.first) (B.rig_state a.second) };
+        (A.rig_state a.first) (B.rig_state a.second) };
 }
 
 impl<A: Rig, B: Rig> TwinRig<A, B> {
     /// These two side by side, with nothing attached. The second will be attached under this name.
     pub fn new(alloc: Global, first: A, second: B, name: String) -> Self
         ensures { result ≡ record {
-            first = A.rig_state first;
-            second = B.rig_state second;
-            asked = [];
-            attached = None;
-            refused = record { times = 0; last = None };
-            spare = None;
-            loads = 0;
-            failures = 0;
+          first = first;
+          second = second;
+          asked = [];
+          attached = None;
+          refused = record { times = 0; last = None };
+          spare = None;
+          loads = 0;
+          failures = 0;
         } }
     {
         TwinRig {
@@ -88,22 +88,25 @@ impl<A: Rig, B: Rig> TwinRig<A, B> {
 }
 
 impl<A: Rig, B: Rig> Rig for TwinRig<A, B> {
-    ghost rig_state = { twin_state };
+    ghost rig_state = { λ t. twin_state (A.rig_state t.first) (B.rig_state t.second) t };
 
     /// A failure is one of the two rigs.
     fn attach(&mut self, shape: &Shape, name: &str) -> Result<(), AttachFail>
-        ensures texts { (twin_state self.new).machine.texts ≡ (twin_state self.old).machine.texts }
-        ensures loads { (twin_state self.new).loads ≡ (twin_state self.old).loads }
-        ensures later { (twin_state self.old).failures ≤ (twin_state self.new).failures }
-        ensures count { (twin_state self.new).failures < 2 ^ 64 }
-        ensures attached { OnOk result (Attaches (record { shape = shape.now; name = name.now }) (twin_state self.old)
-            (twin_state self.new)) }
-        ensures detached { OnErr result (IsDetached (twin_state self.new)) }
-        ensures refused { IfErr result (λ e. AttachFails e (record { shape = shape.now; name = name.now }) (twin_state self.old)
-            (twin_state self.new)) }
+        ensures texts { (⟦<TwinRig<A, B> as Rig>⟧.rig_state self.new).machine.texts ≡
+            (⟦<TwinRig<A, B> as Rig>⟧.rig_state self.old).machine.texts }
+        ensures loads { (⟦<TwinRig<A, B> as Rig>⟧.rig_state self.new).loads ≡ (⟦<TwinRig<A, B> as Rig>⟧.rig_state self.old).loads }
+        ensures later { (⟦<TwinRig<A, B> as Rig>⟧.rig_state self.old).failures ≤ (⟦<TwinRig<A, B> as Rig>⟧.rig_state self.new).failures }
+        ensures count { (⟦<TwinRig<A, B> as Rig>⟧.rig_state self.new).failures < 2 ^ 64 }
+        ensures attached { OnOk result (Attaches (record { shape = shape.now; name = name.now })
+            (⟦<TwinRig<A, B> as Rig>⟧.rig_state self.old)
+            (⟦<TwinRig<A, B> as Rig>⟧.rig_state self.new)) }
+        ensures detached { OnErr result (IsDetached (⟦<TwinRig<A, B> as Rig>⟧.rig_state self.new)) }
+        ensures refused { IfErr result (λ e. AttachFails e (record { shape = shape.now; name = name.now })
+            (⟦<TwinRig<A, B> as Rig>⟧.rig_state self.old)
+            (⟦<TwinRig<A, B> as Rig>⟧.rig_state self.new)) }
 
-        ensures caused { IsErrOf result AttachFail.Failed → Rose self.old.first.failures self.new.first.failures
-            ⊎ Rose self.old.second.failures self.new.second.failures }
+        ensures caused { IsErrOf result AttachFail.Failed → Rose (A.rig_state self.old.first).failures (A.rig_state self.new.first).failures
+            ⊎ Rose (B.rig_state self.old.second).failures (B.rig_state self.new.second).failures }
     {
         // A count that was read is known to be a u64.
         let _failures = self.failures;
@@ -115,13 +118,7 @@ impl<A: Rig, B: Rig> Rig for TwinRig<A, B> {
         if self.asked.add(shape, name).is_err() {
             return Err(AttachFail::Memory);
         }
-        match attach_both(
-            &mut self.first,
-            &mut self.second,
-            shape,
-            name,
-            &self.other,
-        ) {
+        match attach_both(&mut self.first, &mut self.second, shape, name, &self.other) {
             Ok(()) => {
                 self.machine = Some(AskedMachine {
                     shape: *shape,
@@ -147,22 +144,26 @@ impl<A: Rig, B: Rig> Rig for TwinRig<A, B> {
 
     /// Both sessions have this configuration. A failure is one of the two rigs.
     fn load(&mut self, config: &Config, room: u32) -> Result<(), RigFail>
-        requires { shape_of (twin_state self.old) ≡ Some config.now.config.shape }
+        requires { shape_of (⟦<TwinRig<A, B> as Rig>⟧.rig_state self.old) ≡ Some config.now.config.shape }
 
-        ensures machine { (twin_state self.new).machine ≡ (twin_state self.old).machine }
-        ensures later { (twin_state self.old).failures ≤ (twin_state self.new).failures }
-        ensures count { (twin_state self.new).failures < 2 ^ 64 }
-        ensures begins { OnOk result (Begins config.now.config room (twin_state self.new)) }
-        ensures told { OnOk result (HasFaultsOf config.now.config.shape (twin_state self.new)) }
-        ensures counted { OnOk result ((twin_state self.new).loads ≡ next_count (twin_state self.old).loads) }
-        ensures ended { OnErr result ((twin_state self.new).session ≡ None) }
-        ensures not_counted { OnErr result ((twin_state self.new).loads ≡ (twin_state self.old).loads) }
-        ensures refused { IfErr result (λ e. LoadFails e (twin_state self.old) (twin_state self.new)) }
+        ensures machine { (⟦<TwinRig<A, B> as Rig>⟧.rig_state self.new).machine ≡ (⟦<TwinRig<A, B> as Rig>⟧.rig_state self.old).machine }
+        ensures later { (⟦<TwinRig<A, B> as Rig>⟧.rig_state self.old).failures ≤ (⟦<TwinRig<A, B> as Rig>⟧.rig_state self.new).failures }
+        ensures count { (⟦<TwinRig<A, B> as Rig>⟧.rig_state self.new).failures < 2 ^ 64 }
+        ensures begins { OnOk result (Begins config.now.config room (⟦<TwinRig<A, B> as Rig>⟧.rig_state self.new)) }
+        ensures told { OnOk result (HasFaultsOf config.now.config.shape (⟦<TwinRig<A, B> as Rig>⟧.rig_state self.new)) }
+        ensures counted { OnOk result ((⟦<TwinRig<A, B> as Rig>⟧.rig_state self.new).loads ≡ next_count
+            (⟦<TwinRig<A, B> as Rig>⟧.rig_state self.old).loads) }
+        ensures ended { OnErr result ((⟦<TwinRig<A, B> as Rig>⟧.rig_state self.new).session ≡ None) }
+        ensures not_counted { OnErr result ((⟦<TwinRig<A, B> as Rig>⟧.rig_state self.new).loads ≡
+            (⟦<TwinRig<A, B> as Rig>⟧.rig_state self.old).loads) }
+        ensures refused { IfErr result (λ e. LoadFails e (⟦<TwinRig<A, B> as Rig>⟧.rig_state self.old)
+            (⟦<TwinRig<A, B> as Rig>⟧.rig_state self.new)) }
 
-        ensures shared { ShareSession self.new }
+        ensures shared { ShareSession (⟦<TwinRig<A, B> as Rig>⟧.rig_state self.new) (A.rig_state self.new.first)
+            (B.rig_state self.new.second) }
         ensures spare { OnOk result (self.new.spare ≡ Some room) }
-        ensures caused { IsErrOf result RigFail.Failed → Rose self.old.first.failures self.new.first.failures
-            ⊎ Rose self.old.second.failures self.new.second.failures }
+        ensures caused { IsErrOf result RigFail.Failed → Rose (A.rig_state self.old.first).failures (A.rig_state self.new.first).failures
+            ⊎ Rose (B.rig_state self.old.second).failures (B.rig_state self.new.second).failures }
     {
         let _failures = self.failures;
         self.pair = None;
@@ -183,23 +184,27 @@ impl<A: Rig, B: Rig> Rig for TwinRig<A, B> {
 
     /// Both sessions have this pair of drive and reading. Where both rigs tell the same faults, a failure is one of theirs.
     fn cycle(&mut self, drive: &PinBits, read: &mut PinBits) -> Result<(), RigFail>
-        requires drive_pins { width_of (twin_state self.old) ≡ Some (length drive.now) }
-        requires read_pins { width_of (twin_state self.old) ≡ Some (length read.old) }
+        requires drive_pins { width_of (⟦<TwinRig<A, B> as Rig>⟧.rig_state self.old) ≡ Some (length drive.now) }
+        requires read_pins { width_of (⟦<TwinRig<A, B> as Rig>⟧.rig_state self.old) ≡ Some (length read.old) }
 
-        ensures machine { (twin_state self.new).machine ≡ (twin_state self.old).machine }
-        ensures loads { (twin_state self.new).loads ≡ (twin_state self.old).loads }
-        ensures later { (twin_state self.old).failures ≤ (twin_state self.new).failures }
-        ensures count { (twin_state self.new).failures < 2 ^ 64 }
+        ensures machine { (⟦<TwinRig<A, B> as Rig>⟧.rig_state self.new).machine ≡ (⟦<TwinRig<A, B> as Rig>⟧.rig_state self.old).machine }
+        ensures loads { (⟦<TwinRig<A, B> as Rig>⟧.rig_state self.new).loads ≡ (⟦<TwinRig<A, B> as Rig>⟧.rig_state self.old).loads }
+        ensures later { (⟦<TwinRig<A, B> as Rig>⟧.rig_state self.old).failures ≤ (⟦<TwinRig<A, B> as Rig>⟧.rig_state self.new).failures }
+        ensures count { (⟦<TwinRig<A, B> as Rig>⟧.rig_state self.new).failures < 2 ^ 64 }
         ensures length { length read.new ≡ length read.old }
-        ensures cycles { OnOk result (GoesOn drive.now read.new (twin_state self.old) (twin_state self.new)) }
+        ensures cycles { OnOk result (GoesOn drive.now read.new (⟦<TwinRig<A, B> as Rig>⟧.rig_state self.old)
+            (⟦<TwinRig<A, B> as Rig>⟧.rig_state self.new)) }
         ensures kept { OnErr result (read.new ≡ read.old) }
-        ensures refused { IfErr result (λ e. CycleFails e (twin_state self.old) (twin_state self.new)) }
+        ensures refused { IfErr result (λ e. CycleFails e (⟦<TwinRig<A, B> as Rig>⟧.rig_state self.old)
+            (⟦<TwinRig<A, B> as Rig>⟧.rig_state self.new)) }
 
-        ensures shared { ShareSession self.new }
+        ensures shared { ShareSession (⟦<TwinRig<A, B> as Rig>⟧.rig_state self.new) (A.rig_state self.new.first)
+            (B.rig_state self.new.second) }
         ensures unreached { IsErrOf result RigFail.Memory → self.new ≡ self.old }
-        ensures caused { (f : Faults) → self.old.first.machine.faults ≡ Some f → self.old.second.machine.faults ≡ Some f →
-            IsErrOf result RigFail.Failed → Rose self.old.first.failures self.new.first.failures
-            ⊎ Rose self.old.second.failures self.new.second.failures }
+        ensures caused { (f : Faults) → (A.rig_state self.old.first).machine.faults ≡ Some f →
+            (B.rig_state self.old.second).machine.faults ≡ Some f →
+            IsErrOf result RigFail.Failed → Rose (A.rig_state self.old.first).failures (A.rig_state self.new.first).failures
+            ⊎ Rose (B.rig_state self.old.second).failures (B.rig_state self.new.second).failures }
     {
         let _failures = self.failures;
         match cycle_both(
@@ -220,24 +225,28 @@ impl<A: Rig, B: Rig> Rig for TwinRig<A, B> {
 
     /// Both sessions have these pairs of drive and reading. Where both rigs tell the same faults, a failure is one of theirs.
     fn cycles(&mut self, drives: &[PinBits], reads: &mut [PinBits]) -> Result<(), RigFail>
-        requires session { IsSome (twin_state self.old).session }
-        requires drive_pins { AreRows (twin_state self.old) drives.now }
-        requires read_pins { AreRows (twin_state self.old) reads.old }
+        requires session { IsSome (⟦<TwinRig<A, B> as Rig>⟧.rig_state self.old).session }
+        requires drive_pins { AreRows (⟦<TwinRig<A, B> as Rig>⟧.rig_state self.old) drives.now }
+        requires read_pins { AreRows (⟦<TwinRig<A, B> as Rig>⟧.rig_state self.old) reads.old }
         requires as_many { length drives.now ≡ length reads.old }
 
-        ensures machine { (twin_state self.new).machine ≡ (twin_state self.old).machine }
-        ensures loads { (twin_state self.new).loads ≡ (twin_state self.old).loads }
-        ensures later { (twin_state self.old).failures ≤ (twin_state self.new).failures }
-        ensures count { (twin_state self.new).failures < 2 ^ 64 }
+        ensures machine { (⟦<TwinRig<A, B> as Rig>⟧.rig_state self.new).machine ≡ (⟦<TwinRig<A, B> as Rig>⟧.rig_state self.old).machine }
+        ensures loads { (⟦<TwinRig<A, B> as Rig>⟧.rig_state self.new).loads ≡ (⟦<TwinRig<A, B> as Rig>⟧.rig_state self.old).loads }
+        ensures later { (⟦<TwinRig<A, B> as Rig>⟧.rig_state self.old).failures ≤ (⟦<TwinRig<A, B> as Rig>⟧.rig_state self.new).failures }
+        ensures count { (⟦<TwinRig<A, B> as Rig>⟧.rig_state self.new).failures < 2 ^ 64 }
         ensures lengths { KeepLengths reads.old reads.new }
-        ensures cycles { OnOk result (GoesOnBy drives.now reads.new (twin_state self.old) (twin_state self.new)) }
-        ensures refused { IfErr result (λ e. CyclesFail e (length drives.now) (twin_state self.old) (twin_state self.new)) }
+        ensures cycles { OnOk result (GoesOnBy drives.now reads.new (⟦<TwinRig<A, B> as Rig>⟧.rig_state self.old)
+            (⟦<TwinRig<A, B> as Rig>⟧.rig_state self.new)) }
+        ensures refused { IfErr result (λ e. CyclesFail e (length drives.now) (⟦<TwinRig<A, B> as Rig>⟧.rig_state self.old)
+            (⟦<TwinRig<A, B> as Rig>⟧.rig_state self.new)) }
 
-        ensures shared { ShareSession self.new }
+        ensures shared { ShareSession (⟦<TwinRig<A, B> as Rig>⟧.rig_state self.new) (A.rig_state self.new.first)
+            (B.rig_state self.new.second) }
         ensures unreached { IsErrOf result RigFail.Memory → self.new ≡ self.old }
-        ensures caused { (f : Faults) → self.old.first.machine.faults ≡ Some f → self.old.second.machine.faults ≡ Some f →
-            IsErrOf result RigFail.Failed → Rose self.old.first.failures self.new.first.failures
-            ⊎ Rose self.old.second.failures self.new.second.failures }
+        ensures caused { (f : Faults) → (A.rig_state self.old.first).machine.faults ≡ Some f →
+            (B.rig_state self.old.second).machine.faults ≡ Some f →
+            IsErrOf result RigFail.Failed → Rose (A.rig_state self.old.first).failures (A.rig_state self.new.first).failures
+            ⊎ Rose (B.rig_state self.old.second).failures (B.rig_state self.new.second).failures }
     {
         let _failures = self.failures;
         match cycles_both(

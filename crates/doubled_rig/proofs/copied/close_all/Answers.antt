@@ -13,4 +13,4 @@ closed-preserved c =
     let closed = c.args.closed.now in
     let x : Cross = get_or closed c.closed.k none in
     rw (take_more closed c.closed.k none c.closed-test.true, set_more (take c.closed.k closed) x)
-        (c.in_ok-close_cross.ensures.closed ∙ ap (λ (g : Configuration). with_closed g x.0) c.closed.invariant)
+    (c.in_ok-close_cross.ensures.closed ∙ ap (λ (g : Configuration). with_closed g x.0) c.closed.invariant)

@@ -18,7 +18,7 @@ returns c =
     let closed = c.closed-closed.result.now in
     let start : c.in_ok-copy.copy.config ≡ cleared g.shape = c.in_ok-copy.ensures.cleared ∙ ap cleared c.shape.ensures.shape in
     let crosses : c.close_all.new.copy.config ≡ record (cleared g.shape) { closed = g.closed } =
-        c.in_ok-close_all.ensures ∙ ap (λ (h : Configuration). with_crosses h closed) start ∙ ap (λ s. record (cleared g.shape) { closed = s }) (closed_is g closed c.closed-closed.ensures) in
+    c.in_ok-close_all.ensures ∙ ap (λ (h : Configuration). with_crosses h closed) start ∙ ap (λ s. record (cleared g.shape) { closed = s }) (closed_is g closed c.closed-closed.ensures) in
     ap (λ (r : Roomy). r.config) c.set_ticks.ensures
     ∙ ap (λ (h : Configuration). with_ticks h c.ticks.result) (c.set_tables.ensures ∙ ap (λ (h : Configuration). record h { tables = g.tables }) crosses)
     ∙ ap (λ n. record g { ticks = n }) c.ticks.ensures
