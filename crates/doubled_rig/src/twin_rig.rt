@@ -105,6 +105,7 @@ impl<A: Rig, B: Rig> Rig for TwinRig<A, B> {
             (⟦<TwinRig<A, B> as Rig>⟧.rig_state self.old)
             (⟦<TwinRig<A, B> as Rig>⟧.rig_state self.new)) }
 
+        ensures rises { IsErrOf result AttachFail.Failed → self.new.failures ≡ next_count self.old.failures }
         ensures caused { IsErrOf result AttachFail.Failed → Rose (A.rig_state self.old.first).failures (A.rig_state self.new.first).failures
             ⊎ Rose (B.rig_state self.old.second).failures (B.rig_state self.new.second).failures }
     {
@@ -162,6 +163,7 @@ impl<A: Rig, B: Rig> Rig for TwinRig<A, B> {
         ensures shared { ShareSession (⟦<TwinRig<A, B> as Rig>⟧.rig_state self.new) (A.rig_state self.new.first)
             (B.rig_state self.new.second) }
         ensures spare { OnOk result (self.new.spare ≡ Some room) }
+        ensures rises { IsErrOf result RigFail.Failed → self.new.failures ≡ next_count self.old.failures }
         ensures caused { IsErrOf result RigFail.Failed → Rose (A.rig_state self.old.first).failures (A.rig_state self.new.first).failures
             ⊎ Rose (B.rig_state self.old.second).failures (B.rig_state self.new.second).failures }
     {
@@ -200,6 +202,7 @@ impl<A: Rig, B: Rig> Rig for TwinRig<A, B> {
 
         ensures shared { ShareSession (⟦<TwinRig<A, B> as Rig>⟧.rig_state self.new) (A.rig_state self.new.first)
             (B.rig_state self.new.second) }
+        ensures rises { IsErrOf result RigFail.Failed → self.new.failures ≡ next_count self.old.failures }
         ensures unreached { IsErrOf result RigFail.Memory → self.new ≡ self.old }
         ensures caused { (f : Faults) → (A.rig_state self.old.first).machine.faults ≡ Some f →
             (B.rig_state self.old.second).machine.faults ≡ Some f →
@@ -242,6 +245,7 @@ impl<A: Rig, B: Rig> Rig for TwinRig<A, B> {
 
         ensures shared { ShareSession (⟦<TwinRig<A, B> as Rig>⟧.rig_state self.new) (A.rig_state self.new.first)
             (B.rig_state self.new.second) }
+        ensures rises { IsErrOf result RigFail.Failed → self.new.failures ≡ next_count self.old.failures }
         ensures unreached { IsErrOf result RigFail.Memory → self.new ≡ self.old }
         ensures caused { (f : Faults) → (A.rig_state self.old.first).machine.faults ≡ Some f →
             (B.rig_state self.old.second).machine.faults ≡ Some f →

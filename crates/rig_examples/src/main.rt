@@ -4,9 +4,6 @@
 //! what the command wrote and its status.
 #![tactic(auto)]
 
-mod turn;
-mod turn_rig;
-
 use cycle_sim::SimRig;
 use doubled_rig::{RepeatRig, TwinRig};
 use rig::{FlakyRig, LogRig, Rig};

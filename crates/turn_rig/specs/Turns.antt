@@ -1,8 +1,8 @@
 -- A rig that turns a bit of one reading.
-use Rattle.std.specs.Prelude.{◌≡◌, ◌⊎◌, ℕ, zero, suc, ◌+◌, ◌-◌, ◌^◌, ◌<◌, min, Bool, not, List, [], ◌∷◌, length, slice_index_or, slice_set, Option, None, Some, IfSome, option_map}
+use Rattle.std.specs.Prelude.{◌≡◌, ◌⊎◌, ℕ, zero, suc, ◌+◌, ◌-◌, ◌^◌, ◌<◌, min, Bool, not, List, [], ◌∷◌, length, slice_index_or, slice_set, Option, None, Some, IsSome, IfSome, option_map}
 use Rattle.hierarchy.specs.Circuit.{Pins}
-use Rattle.rig.specs.Rig.{Exchange, Session, RigState}
-use Rattle.rig_examples.specs.declared.turn.Turn.{Turn}
+use Rattle.rig.specs.Rig.{Exchange, Session, RigState, cycles_of}
+use Rattle.turn_rig.specs.declared.turn.Turn.{Turn}
 
 -- the reading with its first bit turned
 abbrev pub turned : Pins → Pins
@@ -45,6 +45,11 @@ turn_state inner place = record inner {
   session = option_map (λ (s : Session). record s { cycles = turned_in place s.cycles }) inner.session;
 }
 
--- the readings of the session are counted, and the one that was turned is among them
+-- these cycles are counted, and the one that was turned is among them
+pub record Counts (t : Turn) (cycles : List Exchange) : Type 0 where
+  pub made : t.made ≡ min (length cycles) (2 ^ 64 - 1)
+  pub place : IfSome t.place (λ k. k < length cycles)
+
+-- the cycles of a session are counted
 abbrev pub IsTurning : Turn → RigState → Type 0
-IsTurning t inner = IfSome inner.session (λ s. (t.made ≡ min (length s.cycles) (2 ^ 64 - 1)) × IfSome t.place (λ k. k < length s.cycles))
+IsTurning t inner = IsSome inner.session → Counts t (cycles_of inner)

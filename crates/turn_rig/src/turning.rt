@@ -1,6 +1,6 @@
 //! A rig that turns a bit of one of its readings.
 ghost use Rattle.std.specs.Prelude.{◌≡◌, None};
-ghost use Rattle.rig_examples.specs.Turns.{turn_state};
+ghost use Rattle.turn_rig.specs.Turns.{turn_state};
 
 use crate::turn::Turn;
 use config_set::Config;
@@ -17,7 +17,7 @@ pub struct TurnRig<R: Rig> {
 }
 
 impl<R: Rig> Model for TurnRig<R> {
-    ghost use Rattle.rig_examples.specs.Turns.{Turning, IsTurning};
+    ghost use Rattle.turn_rig.specs.Turns.{Turning, IsTurning};
 
     ghost Value = { Turning R };
 

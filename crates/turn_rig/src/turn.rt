@@ -1,7 +1,7 @@
 //! Readings, one of which is turned.
-ghost use Rattle.std.specs.Prelude.{◌≡◌, length, [], ◌∷◌};
+ghost use Rattle.std.specs.Prelude.{◌≡◌, ◌+◌, ◌-◌, ◌^◌, ◌<◌, min, None, IfSome, length, [], ◌∷◌};
 ghost use Rattle.rig.specs.Rig.{KeepLengths};
-ghost use Rattle.rig_examples.specs.Turns.{Passes, turned};
+ghost use Rattle.turn_rig.specs.Turns.{Passes, turned};
 
 use rig::PinBits;
 
