@@ -1,10 +1,13 @@
 -- A reading that is turned.
-use Rattle.std.proofs.Common.{◌≡◌, ◌⊎◌, inl, inr, ℕ, zero, suc, ◌+◌, ◌-◌, ◌^◌, ◌<◌, ◌≤◌, min, Option, None, Some, IfSome, List, [], ◌∷◌, ◌++◌, length, get_or, set, map, refl, sym, ap, ◌∙◌, subst, arith}
+use Rattle.std.proofs.Common.{◌≡◌, ◌⊎◌, inl, inr, ℕ, zero, suc, ◌+◌, ◌<◌, Option, None, Some, IfSome, List, [], ◌∷◌, ◌++◌, length, get_or, set, map, refl, sym, ap, ◌∙◌, subst, arith}
 use Rattle.std.specs.Prelude.{option_map, IsSome}
 use Rattle.std.specs.Option.{option_map_or}
-use Rattle.std.proofs.lemmas.List.{length-map, length-append, map-append}
+use Rattle.std.proofs.lemmas.List.{length-map, length-append}
+use Rattle.std.proofs.lemmas.Bool.{false≢true}
 use Rattle.hierarchy.specs.Circuit.{Pins}
-use Rattle.rig.specs.Rig.{RigState, Session, Exchange, GoesOn, GoesOnBy, config_of, cycles_of, spare_of, drives_of, readings_of}
+use Rattle.hierarchy.specs.Shape.{pins_of}
+use Rattle.config_set.specs.Configuration.{Configuration}
+use Rattle.rig.specs.Rig.{RigState, Session, Exchange, GoesOn, GoesOnBy, config_of, width_of, cycles_of, drives_of, readings_of}
 use Rattle.turn_rig.specs.declared.turn.Turn.{Turn}
 use Rattle.turn_rig.specs.Turns.{turned, turned_at, turned_in, turn_state, IsTurned, Passes, Counts}
 
@@ -14,7 +17,7 @@ turned_more zero (x ∷ xs) ys h = refl
 turned_more (suc k) (x ∷ xs) ys h = ap (λ l. x ∷ l) (turned_more k xs ys (omega (arith, h)))
 
 turned_new : (k : ℕ) (xs ys : List Exchange) → turned_at (length xs + k) (xs ++ ys) ≡ xs ++ turned_at k ys
-turned_new k [] ys = refl
+turned_new k [] ys = let e : length {A = Exchange} [] + k ≡ k = omega arith in ap (λ n. turned_at n ys) e
 turned_new k (x ∷ xs) ys =
     let e : length (x ∷ xs) + k ≡ suc (length xs + k) = omega arith in
     ap (λ n. turned_at n (x ∷ xs ++ ys)) e ∙ ap (λ l. x ∷ l) (turned_new k xs ys)
@@ -150,3 +153,21 @@ one_of drive read before after goes = by goes.more refl
           spare = goes.spare;
           told = goes.told;
         }
+
+-- where a session is told there is one
+pub some_told : (s : Option Session) (p : Option ℕ) → IsSome (option_map (λ (t : Session). record t { cycles = turned_in p t.cycles }) s) → IsSome s
+some_told None p is = absurd (false≢true is)
+some_told (Some s) p is = refl
+
+pub some_width : (r : RigState) (p : Option ℕ) (n : ℕ) → width_of (turn_state r p) ≡ Some n → IsSome r.session
+some_width r p n = by r.session
+  where
+    by : (s : Option Session) → option_map (λ (g : Configuration). pins_of g.shape) (option_map (λ (t : Session). t.config) (option_map (λ (t : Session). record t { cycles = turned_in p t.cycles }) s)) ≡ Some n → IsSome s
+    by None e = absurd (let no : ⊥ = cc in no)
+    by (Some s) e = refl
+
+-- rows of which one is changed and keeps its length
+pub lengths_set : (k : ℕ) (rows : List Pins) (row d : Pins) → k < length rows → length row ≡ length (get_or rows k d) → map length (set rows k row) ≡ map length rows
+lengths_set k [] row d h e = absurd (let no : ⊥ = omega (arith, h) in no)
+lengths_set zero (x ∷ xs) row d h e = ap (λ n. n ∷ map length xs) e
+lengths_set (suc k) (x ∷ xs) row d h e = ap (λ l. length x ∷ l) (lengths_set k xs row d (omega (arith, h)) e)

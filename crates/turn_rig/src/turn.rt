@@ -65,7 +65,7 @@ impl Turn {
     {
         let made = self.made;
         if let Some(_) = self.count(1) {
-            turn(read);
+            turn_first_bit(read);
             self.place = Some(made);
         }
     }
@@ -77,14 +77,14 @@ impl Turn {
     {
         let made = self.made;
         if let Some(k) = self.count(reads.len() as u64) {
-            turn(&mut reads[k as usize]);
+            turn_first_bit(&mut reads[k as usize]);
             self.place = Some(made + k);
         }
     }
 }
 
 // Turns the first bit.
-fn turn(reading: &mut PinBits)
+fn turn_first_bit(reading: &mut PinBits)
     ensures turned { reading.new ≡ turned reading.old }
     ensures length { length reading.new ≡ length reading.old }
 {
