@@ -1,5 +1,5 @@
 -- What is kept of a session.
-use Rattle.std.proofs.Common.{◌≡◌, ℕ, zero, suc, ◌+◌, ◌<◌, ◌≤◌, ◌^◌, min, All, Bool, List, [], ◌∷◌, ◌++◌, map, length, take, drop, get_or, set, refl, sym, ap, ◌∙◌, subst, arith}
+use Rattle.std.proofs.Common.{◌≡◌, ℕ, zero, suc, ◌+◌, ◌<◌, ◌≤◌, List, [], ◌∷◌, ◌++◌, map, length, take, drop, set, sym, ap, ◌∙◌, subst, arith}
 use Rattle.std.proofs.lemmas.List.{take_more_set, take-append-le, take_all, length-set, length-append, length-map, map-append, take-append-drop}
 use Rattle.std.proofs.lemmas.List.Elements.{All-set}
 use Rattle.hierarchy.specs.Circuit.{Pins}
@@ -7,7 +7,7 @@ use Rattle.hierarchy.specs.Shape.{pins_of}
 use Rattle.config_set.specs.Configuration.{Roomy}
 use Rattle.rig.specs.Rig.{KeepLengths}
 use Rattle.doubled_rig.specs.declared.kept.Kept.{Kept}
-use Rattle.doubled_rig.specs.Repeats.{AreWide, IsRoomy, IsKept, driven, read_then}
+use Rattle.doubled_rig.specs.Repeats.{AreWide, IsRoomy, IsKept}
 
 -- one row more of those that were made, of so many that were asked for
 module _ (rows : List Pins) (made : ℕ) (row : Pins) (all : List Pins) where

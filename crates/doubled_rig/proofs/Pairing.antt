@@ -1,5 +1,5 @@
 -- Two rigs side by side.
-use Rattle.std.proofs.Common.{◌≡◌, ℕ, zero, suc, ◌+◌, ◌<◌, ◌≤◌, Option, None, Some, IfSome, List, [], ◌∷◌, ◌++◌, length, map, refl, sym, ap, ◌∙◌, subst, arith}
+use Rattle.std.proofs.Common.{◌≡◌, ℕ, ◌+◌, ◌<◌, ◌≤◌, Option, None, Some, IfSome, List, [], ◌∷◌, ◌++◌, length, refl, sym, ap, ◌∙◌, subst, arith}
 use Rattle.std.specs.Prelude.{option_map, IsSome, Result, Ok, Err, OnOk, IsOk}
 use Rattle.std.specs.Option.{option_map_or}
 use Rattle.std.proofs.lemmas.List.{map-append, append_cancel_left}
@@ -13,7 +13,7 @@ use Rattle.config_set.proofs.Runs.{Runs-unique}
 use Rattle.tm_outside.specs.Counts.{Rose}
 use Rattle.rig.specs.declared.rig.RigFail.{RigFail}
 use Rattle.rig.specs.declared.rig.RigFail.TheVariants as work
-use Rattle.rig.specs.Rig.{RigState, Session, Exchange, AreRows, GoesOn, GoesOnBy, CycleFails, CyclesFail, IsTold, config_of, width_of, cycles_of, spare_of, drives_of, readings_of}
+use Rattle.rig.specs.Rig.{RigState, Session, Exchange, GoesOn, GoesOnBy, CycleFails, CyclesFail, IsTold, config_of, cycles_of, spare_of, drives_of, readings_of}
 use Rattle.doubled_rig.specs.declared.pairs.Pair.{Pair}
 use Rattle.doubled_rig.specs.Repeats.{AreWide}
 use Rattle.doubled_rig.specs.Twins.{ArePaired, BothGoOn, BothGoOnBy, paired, session_with}

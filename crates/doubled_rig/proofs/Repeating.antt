@@ -1,8 +1,8 @@
 -- A session that is asked again.
-use Rattle.std.proofs.Common.{◌≡◌, ◌⊎◌, inl, inr, Bool, true, ℕ, ◌≤◌, Option, None, Some, IfSome, List, [], ◌∷◌, ◌++◌, length, take, drop, get_or, map, refl, sym, ap, ◌∙◌, subst, arith}
+use Rattle.std.proofs.Common.{◌≡◌, ◌⊎◌, inl, inr, Bool, true, ℕ, ◌≤◌, Option, None, Some, IfSome, List, [], ◌∷◌, ◌++◌, length, take, drop, get_or, refl, sym, ap, ◌∙◌, subst, arith}
 use Rattle.std.specs.Prelude.{option_map, IsSome, is_some, if◌then◌else◌}
 use Rattle.std.specs.Option.{option_map_or}
-use Rattle.std.proofs.lemmas.List.{take-append-drop, length-take-le, map-append, length-map}
+use Rattle.std.proofs.lemmas.List.{take-append-drop, length-take-le, map-append}
 use Rattle.std.proofs.lemmas.Bool.{false≢true}
 use Rattle.hierarchy.specs.Circuit.{Pins}
 use Rattle.hierarchy.specs.Faults.{Faults}
@@ -11,9 +11,9 @@ use Rattle.config_set.specs.Configuration.{Configuration, Roomy}
 use Rattle.config_set.specs.Faulty.{circuit_of, IsRun}
 use Rattle.config_set.specs.Run.{Cycles, Cycles.none, at_load}
 use Rattle.config_set.proofs.Runs.{Runs-unique, Cycles-split}
-use Rattle.rig.specs.Rig.{RigState, Machine, Session, Exchange, AreRows, GoesOn, GoesOnBy, Begins, IsTold, shape_of, config_of, width_of, cycles_of, drives_of, readings_of}
+use Rattle.rig.specs.Rig.{RigState, Machine, Session, Exchange, AreRows, GoesOn, GoesOnBy, Begins, shape_of, config_of, cycles_of, drives_of, readings_of}
 use Rattle.doubled_rig.specs.declared.kept.Kept.{Kept}
-use Rattle.doubled_rig.specs.Repeats.{AreWide, IsKept, IsOfSession, IsRunUnder, IsRepeating, KeepsFor, driven, read_then}
+use Rattle.doubled_rig.specs.Repeats.{AreWide, IsKept, IsOfSession, IsRunUnder, IsRepeating, KeepsFor}
 
 -- the front of a run is one
 front_run : (f : Faults) (g : Configuration) (n : ℕ) (ds rs : List Pins) → n ≤ length ds → IsRun f g ds rs → IsRun f g (take n ds) (take n rs)

@@ -1,5 +1,6 @@
 -- A rig that turns a bit of one reading.
-use Rattle.std.specs.Prelude.{◌≡◌, ◌⊎◌, ℕ, zero, suc, ◌+◌, ◌-◌, ◌^◌, ◌<◌, min, not, List, [], ◌∷◌, length, slice_index_or, slice_set, Option, None, Some, IsSome, IfSome, option_map}
+use Rattle.std.specs.Prelude.{◌≡◌, ◌⊎◌, ℕ, zero, suc, ◌+◌, ◌-◌, ◌^◌, ◌<◌, min, not, List, [], ◌∷◌, length, slice_index_or, slice_set}
+use Rattle.std.specs.Prelude.{Option, None, Some, IsSome, IfSome, option_map}
 use Rattle.hierarchy.specs.Circuit.{Pins}
 use Rattle.rig.specs.Rig.{Exchange, Session, RigState, cycles_of}
 use Rattle.turn_rig.specs.declared.turn.Turn.{Turn}

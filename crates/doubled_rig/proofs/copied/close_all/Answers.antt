@@ -1,4 +1,4 @@
-use Rattle.std.proofs.Common.{◌≡◌, ◌∙◌, ap, take, get_or}
+use Rattle.std.proofs.Common.{◌∙◌, ap, take, get_or}
 use Rattle.std.proofs.lemmas.List.{take_more}
 use Rattle.hierarchy.specs.declared.Cross.{Cross}
 use Rattle.config_set.specs.Configuration.{Configuration, with_closed}

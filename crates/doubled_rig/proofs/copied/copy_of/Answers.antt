@@ -1,7 +1,7 @@
 use Rattle.std.proofs.Common.{◌≡◌, ◌<◌, ◌∙◌, ap, sym, subst, get_or}
 use Rattle.hierarchy.specs.declared.Shape.{Shape}
 use Rattle.hierarchy.specs.Shape.{crosses_of}
-use Rattle.config_set.specs.Configuration.{Configuration, Roomy, cleared, is_closed, with_ticks}
+use Rattle.config_set.specs.Configuration.{Configuration, Roomy, cleared, with_ticks}
 use Rattle.doubled_rig.specs.Repeats.{with_crosses}
 use Rattle.doubled_rig.proofs.Copying.{closed_is, is_listed}
 use Rattle.doubled_rig.proofs.copied.copy_of.Goals as goal

@@ -1,4 +1,4 @@
-use Rattle.std.proofs.Common.{◌≡◌, ◌∙◌, ap}
+use Rattle.std.proofs.Common.{◌∙◌, ap}
 use Rattle.rig.specs.Rig.{Machine}
 use Rattle.doubled_rig.proofs.Repeating.{reads_again}
 use Rattle.doubled_rig.proofs.kept.ask.Goals as goal

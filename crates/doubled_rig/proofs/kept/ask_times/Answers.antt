@@ -1,4 +1,4 @@
-use Rattle.std.proofs.Common.{◌≡◌, ◌∙◌, arith}
+use Rattle.std.proofs.Common.{◌∙◌, arith}
 use Rattle.hierarchy.specs.Shape.{pins_of}
 use Rattle.doubled_rig.proofs.Keeping.{wide_still, many_still}
 use Rattle.doubled_rig.proofs.kept.ask_times.Goals as goal

@@ -1,6 +1,5 @@
-use Rattle.std.proofs.Common.{rules, ◌≡◌, ◌∙◌, Some, sym, ap, false}
+use Rattle.std.proofs.Common.{rules, ◌≡◌, ◌∙◌, sym, ap}
 use Rattle.std.proofs.lemmas.Bool.{false≢true}
-use Rattle.hierarchy.specs.Faults.{Faults}
 use Rattle.rig.specs.Rig.{GoesOn, Machine}
 use Rattle.doubled_rig.proofs.Pairing.{reads_alike}
 use Rattle.doubled_rig.proofs.pairs.drive_both.Goals as goal

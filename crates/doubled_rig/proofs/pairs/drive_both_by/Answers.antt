@@ -1,7 +1,6 @@
-use Rattle.std.proofs.Common.{rules, ◌≡◌, ◌∙◌, ◌+◌, ◌-◌, ◌++◌, List, Some, refl, sym, ap, subst, false, length, take, drop, arith}
+use Rattle.std.proofs.Common.{rules, ◌≡◌, ◌∙◌, ◌++◌, List, refl, sym, ap, subst, length, take, drop, arith}
 use Rattle.std.proofs.lemmas.Bool.{false≢true}
 use Rattle.hierarchy.specs.Circuit.{Pins}
-use Rattle.hierarchy.specs.Faults.{Faults}
 use Rattle.rig.specs.Rig.{GoesOnBy, Machine}
 use Rattle.doubled_rig.specs.Repeats.{AreWide}
 use Rattle.doubled_rig.proofs.Keeping.{many_still, wide_still, refill}

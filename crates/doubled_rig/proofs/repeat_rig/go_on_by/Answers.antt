@@ -1,10 +1,9 @@
-use Rattle.std.proofs.Common.{◌≡◌, Option, IfSome, subst}
+use Rattle.std.proofs.Common.{Option, IfSome, subst}
 use Rattle.hierarchy.specs.Shape.{pins_of}
 use Rattle.doubled_rig.specs.declared.kept.Kept.{Kept}
 use Rattle.doubled_rig.specs.Repeats.{IsOfSession}
 use Rattle.doubled_rig.proofs.Keeping.{wide_still}
 use Rattle.doubled_rig.proofs.Repeating.{goes_kept_by, wide_rows}
-use Rattle.doubled_rig.proofs.repeat_rig.go_on_by.Given.{Over}
 use Rattle.doubled_rig.proofs.repeat_rig.go_on_by.Goals as goal
 
 pub add_all-requires-clause-read_pins : goal.add_all-requires-clause-read_pins

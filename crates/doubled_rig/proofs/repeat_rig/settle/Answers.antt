@@ -1,4 +1,4 @@
-use Rattle.std.proofs.Common.{◌≡◌, Option, IfSome, subst}
+use Rattle.std.proofs.Common.{Option, IfSome, subst}
 use Rattle.doubled_rig.specs.declared.kept.Kept.{Kept}
 use Rattle.doubled_rig.specs.Repeats.{IsOfSession}
 use Rattle.doubled_rig.proofs.Repeating.{run_under}

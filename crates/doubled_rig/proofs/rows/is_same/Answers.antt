@@ -1,4 +1,4 @@
-use Rattle.std.proofs.Common.{◌≡◌, ◌∙◌, true, List, sym, subst}
+use Rattle.std.proofs.Common.{◌≡◌, ◌∙◌, true, sym, subst}
 use Rattle.std.proofs.Math.Bool.{beq}
 use lib.Pointwise.{pointwise}
 use Rattle.doubled_rig.proofs.Sameness.{same_bits, bits_same}

@@ -1,7 +1,5 @@
-use Rattle.std.proofs.Common.{◌≡◌, ◌∙◌, ◌<◌, ◌++◌, [], ◌∷◌, List, take, get_or, length, ◌+◌, ap, sym, append_assoc, arith}
+use Rattle.std.proofs.Common.{◌≡◌, ◌∙◌, ◌<◌, ◌++◌, [], ◌∷◌, take, length, ◌+◌, ap, sym, append_assoc, arith}
 use Rattle.std.proofs.lemmas.List.{take_more}
-use Rattle.hierarchy.specs.Circuit.{Pins}
-use Rattle.doubled_rig.specs.Repeats.{IsKept}
 use Rattle.doubled_rig.proofs.kept.Kept.add_all.Goals as goal
 
 pub cycles-preserved : goal.cycles-preserved

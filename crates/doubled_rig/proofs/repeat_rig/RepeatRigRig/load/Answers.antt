@@ -1,8 +1,8 @@
-use Rattle.std.proofs.Common.{◌≡◌, ◌∙◌, ◌+◌, ◌-◌, ◌^◌, ℕ, min, true, if◌then◌else◌, Option, Some, sym, ap, arith}
+use Rattle.std.proofs.Common.{◌≡◌, ◌∙◌, ◌+◌, ◌-◌, ◌^◌, min, if◌then◌else◌, Option, Some, ap}
 use Rattle.std.specs.Prelude.{option_map, is_some}
-use Rattle.rig.specs.Rig.{Machine, RigState, shape_of}
+use Rattle.rig.specs.Rig.{Machine, shape_of}
 use Rattle.doubled_rig.specs.declared.kept.Kept.{Kept}
-use Rattle.doubled_rig.specs.Repeats.{Repeated, repeat_state, loads_taken}
+use Rattle.doubled_rig.specs.Repeats.{repeat_state, loads_taken}
 use Rattle.doubled_rig.proofs.Repeating.{repeats_on, taken}
 use Rattle.doubled_rig.proofs.repeat_rig.RepeatRigRig.load.Goals as goal
 
