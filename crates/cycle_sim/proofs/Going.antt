@@ -18,10 +18,9 @@ use Rattle.cycle_sim.specs.Sims.{config_of_sim, cycles_of_sim, state_of_sim, IsR
 use Rattle.cycle_sim.specs.Tracks.{GivesCycle}
 use Rattle.cycle_sim.proofs.Sessions.{has_session, config_is, cycles_more, run_more}
 
-pub room_for : (used n p bits room : ℕ) → bits ≡ used * (2 * p) → used < n → n * (2 * p) ≤ room → bits + (p + p) ≤ room
+pub room_for : (used n p bits room : ℕ) → bits ≡ used * (2 * p) → used + 1 ≤ n → n * (2 * p) ≤ room → bits + (p + p) ≤ room
 room_for used n p bits room e h r =
-    let le : used + 1 ≤ n = omega (arith, h) in
-    let m : 2 * p * (used + 1) ≤ 2 * p * n = mul-le-mul_left (2 * p) le in
+    let m : 2 * p * (used + 1) ≤ 2 * p * n = mul-le-mul_left (2 * p) h in
     omega (arith, e, r, m)
 
 module _ (a : Inside) (s : SimState) (view : state_of_sim a ≡ s) (n : ℕ) (width : option_map (λ (t : Session). pins_of t.config.shape) s.session ≡ Some n) where

@@ -20,3 +20,4 @@ mod Reading
 mod Pulling
 mod Eventing
 mod Periods
+mod Turns
