@@ -7,7 +7,7 @@ use Rattle.hierarchy.specs.Shape.{pins_of}
 use Rattle.config_set.specs.Configuration.{Roomy}
 use Rattle.rig.specs.Rig.{KeepLengths}
 use Rattle.doubled_rig.specs.declared.kept.Kept.{Kept}
-use Rattle.doubled_rig.specs.Repeats.{AreWide, IsRoomy, IsKept}
+use Rattle.doubled_rig.specs.Repeats.{HaveWidth, IsRoomy, IsKept}
 
 -- one row more of those that were made, of so many that were asked for
 module _ (rows : List Pins) (made : ℕ) (row : Pins) (all : List Pins) where
@@ -19,7 +19,7 @@ module _ (rows : List Pins) (made : ℕ) (row : Pins) (all : List Pins) where
 fronts : {m n : ℕ} {xs ys : List Pins} (zs : List Pins) → m ≡ n → xs ≡ ys → take n ys ≡ take n zs → take m xs ≡ take m zs
 fronts {m} {n} {xs} {ys} zs count same front = ap (take m) same ∙ subst (λ k. take k ys ≡ take k zs) (sym count) front
 
-wide_more : (n : ℕ) (rows : List Pins) (at : ℕ) (row : Pins) → length row ≡ n → AreWide n rows → AreWide n (set rows at row)
+wide_more : (n : ℕ) (rows : List Pins) (at : ℕ) (row : Pins) → length row ≡ n → HaveWidth n rows → HaveWidth n (set rows at row)
 wide_more n rows at row is wide = All-set (λ (r : Pins). length r ≡ n) rows at row is wide
 
 module _ (k : Kept) (drive reading : Pins) where
@@ -46,9 +46,9 @@ module _ (k : Kept) (drive reading : Pins) where
         let r : length new.readings.items ≡ length k.readings.items = ap length readings ∙ length-set k.readings.items k.made reading in
         let a : length new.again.items ≡ length k.again.items = ap length again in
         record {
-          drive_pins = subst (λ n. AreWide n new.drives.items) (sym wide) (subst (AreWide _) (sym drives) (wide_more _ k.drives.items k.made drive drive_pins h.drive_pins));
-          read_pins = subst (λ n. AreWide n new.readings.items) (sym wide) (subst (AreWide _) (sym readings) (wide_more _ k.readings.items k.made reading read_pins h.read_pins));
-          again_pins = subst (λ n. AreWide n new.again.items) (sym wide) (subst (AreWide _) (sym again) h.again_pins);
+          drive_pins = subst (λ n. HaveWidth n new.drives.items) (sym wide) (subst (HaveWidth _) (sym drives) (wide_more _ k.drives.items k.made drive drive_pins h.drive_pins));
+          read_pins = subst (λ n. HaveWidth n new.readings.items) (sym wide) (subst (HaveWidth _) (sym readings) (wide_more _ k.readings.items k.made reading read_pins h.read_pins));
+          again_pins = subst (λ n. HaveWidth n new.again.items) (sym wide) (subst (HaveWidth _) (sym again) h.again_pins);
           readings = r ∙ h.readings ∙ sym d;
           again = a ∙ h.again ∙ sym d;
           made = omega (arith, room, d, made);
@@ -72,7 +72,7 @@ module _ (k : Kept) (drive reading : Pins) where
         }
 
 -- rows that are as many and as long as they were are as wide
-pub wide_still : (n : ℕ) (rows new : List Pins) → KeepLengths rows new → AreWide n rows → AreWide n new
+pub wide_still : (n : ℕ) (rows new : List Pins) → KeepLengths rows new → HaveWidth n rows → HaveWidth n new
 wide_still n [] [] same wide = wide
 wide_still n [] (y ∷ ys) same wide = absurd (let no : ⊥ = cc in no)
 wide_still n (x ∷ xs) [] same wide = absurd (let no : ⊥ = cc in no)
@@ -81,7 +81,7 @@ wide_still n (x ∷ xs) (y ∷ ys) same wide =
     let tail : map length ys ≡ map length xs = cc in
     by (head ∙ wide 0 x (omega arith)) (wide_still n xs ys tail (λ k d h. wide (suc k) d (omega (arith, h))))
   where
-    by : length y ≡ n → AreWide n ys → AreWide n (y ∷ ys)
+    by : length y ≡ n → HaveWidth n ys → HaveWidth n (y ∷ ys)
     by first rest zero d h = first
     by first rest (suc k) d h = rest k d (omega (arith, h))
 

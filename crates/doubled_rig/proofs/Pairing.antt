@@ -15,7 +15,7 @@ use Rattle.rig.specs.declared.rig.RigFail.{RigFail}
 use Rattle.rig.specs.declared.rig.RigFail.TheVariants as work
 use Rattle.rig.specs.Rig.{RigState, Session, Exchange, GoesOn, GoesOnBy, CycleFails, CyclesFail, IsTold, config_of, cycles_of, spare_of, drives_of, readings_of}
 use Rattle.doubled_rig.specs.declared.pairs.Pair.{Pair}
-use Rattle.doubled_rig.specs.Repeats.{AreWide}
+use Rattle.doubled_rig.specs.Repeats.{HaveWidth}
 use Rattle.doubled_rig.specs.Twins.{ArePaired, BothGoOn, BothGoOnBy, paired, session_with}
 
 -- a refusal where there is room is a failure
@@ -108,7 +108,7 @@ module _ (old new : Pair) (first first_new second second_new : RigState) (pairs 
       spare = spare;
     }
 
-  module _ (wide : AreWide (length old.read) new.others.items) (many : length new.others.items ≡ length old.others.items) (read : new.read ≡ old.read) (other : new.other ≡ old.other) where
+  module _ (wide : HaveWidth (length old.read) new.others.items) (many : length new.others.items ≡ length old.others.items) (read : new.read ≡ old.read) (other : new.other ≡ old.other) where
     pub both_go_on_by : (drives readings : List Pins) → old.spare ≡ new.spare + length drives → GoesOnBy drives readings first first_new → GoesOnBy drives readings second second_new
         → BothGoOnBy drives readings old new first first_new second second_new
     both_go_on_by drives readings spare goes also = record {

@@ -13,7 +13,7 @@ use Rattle.config_set.specs.Run.{Cycles, Cycles.none, at_load}
 use Rattle.config_set.proofs.Runs.{Runs-unique, Cycles-split}
 use Rattle.rig.specs.Rig.{RigState, Machine, Session, Exchange, AreRows, GoesOn, GoesOnBy, Begins, shape_of, config_of, cycles_of, drives_of, readings_of}
 use Rattle.doubled_rig.specs.declared.kept.Kept.{Kept}
-use Rattle.doubled_rig.specs.Repeats.{AreWide, IsKept, IsOfSession, IsRunUnder, IsRepeating, KeepsFor}
+use Rattle.doubled_rig.specs.Repeats.{HaveWidth, IsKept, IsOfSession, IsRunUnder, IsRepeating, KeepsFor}
 
 -- the front of a run is one
 front_run : (f : Faults) (g : Configuration) (n : ℕ) (ds rs : List Pins) → n ≤ length ds → IsRun f g ds rs → IsRun f g (take n ds) (take n rs)
@@ -23,10 +23,10 @@ front_run f g n ds rs within run =
     record { outputs = split.0; cycles = subst (λ m. Cycles (circuit_of f g) (at_load (circuit_of f g)) (take n ds) (take m rs) split.0) (length-take-le n ds within) split.1 }
 
 -- rows as wide as the machine are rows of the session
-pub are_rows : (rig : RigState) (g : Configuration) (rows : List Pins) → config_of rig ≡ Some g → AreWide (pins_of g.shape) rows → AreRows rig rows
+pub are_rows : (rig : RigState) (g : Configuration) (rows : List Pins) → config_of rig ≡ Some g → HaveWidth (pins_of g.shape) rows → AreRows rig rows
 are_rows rig g rows is wide k d here = ap (option_map (λ (h : Configuration). pins_of h.shape)) is ∙ ap Some (sym (wide k d here))
 
-pub wide_rows : (rig : RigState) (g : Configuration) (rows : List Pins) → config_of rig ≡ Some g → AreRows rig rows → AreWide (pins_of g.shape) rows
+pub wide_rows : (rig : RigState) (g : Configuration) (rows : List Pins) → config_of rig ≡ Some g → AreRows rig rows → HaveWidth (pins_of g.shape) rows
 wide_rows rig g rows is wide k d here =
     let e : ◌≡◌ {A = Option ℕ} (Some (pins_of g.shape)) (Some (length (get_or rows k d))) = sym (ap (option_map (λ (h : Configuration). pins_of h.shape)) is) ∙ wide k d here in
     let n : pins_of g.shape ≡ length (get_or rows k d) = cc in

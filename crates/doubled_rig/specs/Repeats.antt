@@ -18,21 +18,21 @@ abbrev pub with_crosses : Configuration → List Cross → Configuration
 with_crosses g closed = record g { closed = set_of closed }
 
 -- rows with a bit for each of so many pins
-abbrev pub AreWide : ℕ → List Pins → Type 0
-AreWide pins rows = All (λ row. length row ≡ pins) rows
+abbrev pub HaveWidth : ℕ → List Pins → Type 0
+HaveWidth pins rows = All (λ row. length row ≡ pins) rows
 
 -- what was driven and read in the cycles that are kept
-abbrev pub driven : Kept → List Pins
-driven k = take k.made k.drives.items
+abbrev pub kept_drives : Kept → List Pins
+kept_drives k = take k.made k.drives.items
 
-abbrev pub read_then : Kept → List Pins
-read_then k = take k.made k.readings.items
+abbrev pub kept_reads : Kept → List Pins
+kept_reads k = take k.made k.readings.items
 
 -- its rows are as wide as its machine, and there are as many of each kind
 pub record IsRoomy (k : Kept) : Type 0 where
-  pub drive_pins : AreWide (pins_of k.config.config.shape) k.drives.items
-  pub read_pins : AreWide (pins_of k.config.config.shape) k.readings.items
-  pub again_pins : AreWide (pins_of k.config.config.shape) k.again.items
+  pub drive_pins : HaveWidth (pins_of k.config.config.shape) k.drives.items
+  pub read_pins : HaveWidth (pins_of k.config.config.shape) k.readings.items
+  pub again_pins : HaveWidth (pins_of k.config.config.shape) k.again.items
   pub readings : length k.readings.items ≡ length k.drives.items
   pub again : length k.again.items ≡ length k.drives.items
   pub made : k.made ≤ length k.drives.items
@@ -43,12 +43,12 @@ pub record IsKept (k : Kept) (drives readings : List Pins) : Type 0 where
   pub roomy : IsRoomy k
   pub as_many : length readings ≡ length drives
   pub made : k.made ≡ min (length drives) (length k.drives.items)
-  pub driven : driven k ≡ take k.made drives
-  pub read : read_then k ≡ take k.made readings
+  pub driven : kept_drives k ≡ take k.made drives
+  pub read : kept_reads k ≡ take k.made readings
 
 -- where the faults are told, what is kept is their run
 abbrev pub IsRunUnder : Option Faults → Kept → Type 0
-IsRunUnder told k = IfSome told (λ f. IsRun f k.config.config (driven k) (read_then k))
+IsRunUnder told k = IfSome told (λ f. IsRun f k.config.config (kept_drives k) (kept_reads k))
 
 -- of a new session with this configuration something is kept, unless it is asked once
 abbrev pub KeepsFor : ℕ → Configuration → Option Kept → Type 0

@@ -2,7 +2,7 @@
 use Rattle.std.specs.Prelude.{◌≡◌, ℕ, ◌+◌, ◌≤◌, List, Option, None, Some, IfSome, length, option_map}
 use Rattle.hierarchy.specs.Circuit.{Pins}
 use Rattle.rig.specs.Rig.{Asked, Session, Refused, RigState, shape_of, config_of, width_of, cycles_of, spare_of, GoesOn, GoesOnBy}
-use Rattle.doubled_rig.specs.Repeats.{AreWide}
+use Rattle.doubled_rig.specs.Repeats.{HaveWidth}
 use Rattle.doubled_rig.specs.declared.pairs.Pair.{Pair}
 
 -- two rigs side by side, and what is their own of both
@@ -47,7 +47,7 @@ pub record ArePaired (p : Pair) (first second : RigState) : Type 0 where
   pub cycles : cycles_of first ≡ cycles_of second
   pub width : width_of first ≡ Some (length p.read)
   pub other : length p.other ≡ length p.read
-  pub rows : AreWide (length p.read) p.others.items
+  pub rows : HaveWidth (length p.read) p.others.items
   pub room : p.spare ≤ length p.others.items
   pub first_spare : p.spare ≤ spare_of first
   pub second_spare : p.spare ≤ spare_of second
@@ -71,6 +71,6 @@ abbrev pub paired : Option Pair → RigState → RigState → RigState
 paired pair first second = record second { session = session_with (option_map (λ (p : Pair). p.spare) pair) first.session }
 
 -- what is attached is attached to both, and a session of both is paired
-pub record AreTwins (machine : Option Asked) (pair : Option Pair) (first second : RigState) : Type 0 where
+pub record IsTwinned (machine : Option Asked) (pair : Option Pair) (first second : RigState) : Type 0 where
   pub attached : IfSome machine (λ m. (shape_of first ≡ Some m.shape) × (shape_of second ≡ Some m.shape))
   pub paired : IfSome pair (λ p. ArePaired p first second)

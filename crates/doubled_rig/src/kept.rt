@@ -6,7 +6,7 @@ ghost use Rattle.hierarchy.specs.Shape.{pins_of};
 ghost use Rattle.config_set.specs.Faulty.{IsRun};
 ghost use Rattle.tm_outside.specs.Counts.{next_count};
 ghost use Rattle.rig.specs.Rig.{shape_of, LoadFails, KeepLengths};
-ghost use Rattle.doubled_rig.specs.Repeats.{AreWide, IsRoomy, IsKept, IsRunUnder, KeepsFor};
+ghost use Rattle.doubled_rig.specs.Repeats.{HaveWidth, IsRoomy, IsKept, IsRunUnder, KeepsFor};
 
 use crate::copied::copy_of;
 use crate::rows::{are_same, blank_rows};
@@ -68,8 +68,8 @@ impl Kept {
     pub fn add_all(&mut self, drives: &[PinBits], readings: &[PinBits])
         requires roomy { IsRoomy self.old }
         requires as_many { length drives.now ≡ length readings.now }
-        requires drive_pins { AreWide (pins_of self.old.config.config.shape) drives.now }
-        requires read_pins { AreWide (pins_of self.old.config.config.shape) readings.now }
+        requires drive_pins { HaveWidth (pins_of self.old.config.config.shape) drives.now }
+        requires read_pins { HaveWidth (pins_of self.old.config.config.shape) readings.now }
         ensures config { self.new.config ≡ self.old.config }
         ensures kept { (before after : List Pins) → IsKept self.old before after →
             IsKept self.new (before ++ drives.now) (after ++ readings.now) }
@@ -112,8 +112,8 @@ fn ask<R: Rig>(
 ) -> Result<bool, RigFail>
     requires attached { shape_of (R.rig_state inner.old) ≡ Some config.now.config.shape }
     requires few { length drives.now < 2 ^ 32 }
-    requires drive_pins { AreWide (pins_of config.now.config.shape) drives.now }
-    requires read_pins { AreWide (pins_of config.now.config.shape) again.old }
+    requires drive_pins { HaveWidth (pins_of config.now.config.shape) drives.now }
+    requires read_pins { HaveWidth (pins_of config.now.config.shape) again.old }
     requires as_many { length drives.now ≡ length again.old }
     requires read { length readings.now ≡ length drives.now }
     requires told { IfSome (R.rig_state inner.old).machine.faults (λ f. IsRun f config.now.config drives.now readings.now) }
@@ -143,8 +143,8 @@ fn ask_times<R: Rig>(
     requires times { 1 ≤ times }
     requires attached { shape_of (R.rig_state inner.old) ≡ Some config.now.config.shape }
     requires few { length drives.now < 2 ^ 32 }
-    requires drive_pins { AreWide (pins_of config.now.config.shape) drives.now }
-    requires read_pins { AreWide (pins_of config.now.config.shape) again.old }
+    requires drive_pins { HaveWidth (pins_of config.now.config.shape) drives.now }
+    requires read_pins { HaveWidth (pins_of config.now.config.shape) again.old }
     requires as_many { length drives.now ≡ length again.old }
     requires read { length readings.now ≡ length drives.now }
     requires told { IfSome (R.rig_state inner.old).machine.faults (λ f. IsRun f config.now.config drives.now readings.now) }

@@ -5,7 +5,7 @@ ghost use Rattle.hierarchy.specs.Faults.{Faults, AreFaultsOf};
 ghost use Rattle.hierarchy.specs.Shape.{pins_of};
 ghost use Rattle.tm_outside.specs.Counts.{Rose};
 ghost use Rattle.rig.specs.Rig.{shape_of, width_of, spare_of, AreRows, Begins, CyclesFail, GoesOn, GoesOnBy, HasFaultsOf, KeepLengths};
-ghost use Rattle.doubled_rig.specs.Repeats.{AreWide};
+ghost use Rattle.doubled_rig.specs.Repeats.{HaveWidth};
 ghost use Rattle.doubled_rig.specs.Twins.{ArePaired, BothGoOn, BothGoOnBy, paired};
 
 use crate::rows::{are_same, blank_rows, is_same};
@@ -33,7 +33,7 @@ impl Pair {
         ensures spare { IfOk result (λ p. p.spare ≡ room) }
         ensures read { IfOk result (λ p. length p.read ≡ pins_of config.now.config.shape) }
         ensures other { IfOk result (λ p. length p.other ≡ pins_of config.now.config.shape) }
-        ensures rows { IfOk result (λ p. AreWide (pins_of config.now.config.shape) p.others.items) }
+        ensures rows { IfOk result (λ p. HaveWidth (pins_of config.now.config.shape) p.others.items) }
         ensures room { IfOk result (λ p. length p.others.items ≡ room) }
     {
         let pins = config.shape().pins();
@@ -203,8 +203,8 @@ fn drive_both_by<A: Rig, B: Rig>(
 ) -> bool
     requires paired { ArePaired pair.old (A.rig_state first.old) (B.rig_state second.old) }
     requires some { length drives.now ≤ pair.old.spare }
-    requires drive_pins { AreWide (length pair.old.read) drives.now }
-    requires read_pins { AreWide (length pair.old.read) reads.old }
+    requires drive_pins { HaveWidth (length pair.old.read) drives.now }
+    requires read_pins { HaveWidth (length pair.old.read) reads.old }
     requires as_many { length drives.now ≡ length reads.old }
     ensures first { (A.rig_state first.new).machine ≡ (A.rig_state first.old).machine }
     ensures second { (B.rig_state second.new).machine ≡ (B.rig_state second.old).machine }

@@ -1,6 +1,6 @@
 //! Rows of bits, one for each cycle.
 ghost use Rattle.std.specs.Prelude.{◌≡◌, ◌↔◌, IfOk, IsTrue, length};
-ghost use Rattle.doubled_rig.specs.Repeats.{AreWide};
+ghost use Rattle.doubled_rig.specs.Repeats.{HaveWidth};
 
 use rig::PinBits;
 use std::alloc::{AllocError, Global};
@@ -12,7 +12,7 @@ use std::alloc::{AllocError, Global};
 /// Want of memory.
 pub fn blank_rows(alloc: Global, pins: u32, count: u32) -> Result<Vec<PinBits>, AllocError>
     ensures count { IfOk result (λ rows. length rows.items ≡ count) }
-    ensures wide { IfOk result (λ rows. AreWide pins rows.items) }
+    ensures wide { IfOk result (λ rows. HaveWidth pins rows.items) }
 {
     let mut rows = Vec::new(alloc);
     'rows: for _k in 0..count {

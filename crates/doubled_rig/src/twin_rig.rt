@@ -38,7 +38,7 @@ pub struct TwinRig<A: Rig, B: Rig> {
 
 impl<A: Rig, B: Rig> Model for TwinRig<A, B> {
     ghost use Rattle.std.specs.Prelude.{option_map, string_bytes};
-    ghost use Rattle.doubled_rig.specs.Twins.{Twins, AreTwins};
+    ghost use Rattle.doubled_rig.specs.Twins.{Twins, IsTwinned};
 
     ghost Value = { Twins A B };
 
@@ -53,7 +53,7 @@ impl<A: Rig, B: Rig> Model for TwinRig<A, B> {
       failures = a.failures;
     } };
 
-    ghost invariant = { λ a. AreTwins (option_map (λ m. record { shape = m.shape; name = string_bytes m.name }) a.machine) a.pair
+    ghost invariant = { λ a. IsTwinned (option_map (λ m. record { shape = m.shape; name = string_bytes m.name }) a.machine) a.pair
         (A.rig_state a.first) (B.rig_state a.second) };
 }
 

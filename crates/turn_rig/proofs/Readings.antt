@@ -9,7 +9,7 @@ use Rattle.hierarchy.specs.Shape.{pins_of}
 use Rattle.config_set.specs.Configuration.{Configuration}
 use Rattle.rig.specs.Rig.{RigState, Session, Exchange, GoesOn, GoesOnBy, config_of, width_of, cycles_of, drives_of, readings_of}
 use Rattle.turn_rig.specs.declared.turn.Turn.{Turn}
-use Rattle.turn_rig.specs.Turns.{turned, turned_at, turned_in, turn_state, IsTurned, Passes, Counts}
+use Rattle.turn_rig.specs.Turns.{turned, turned_at, turned_in, turn_state, IsTurned, Passes, CountsCycles}
 
 turned_more : (k : ℕ) (xs ys : List Exchange) → k < length xs → turned_at k (xs ++ ys) ≡ turned_at k xs ++ ys
 turned_more k [] ys h = absurd (let no : ⊥ = omega (arith, h) in no)
@@ -42,7 +42,7 @@ record Tells (old new : Option ℕ) (xs made : List Exchange) (after : List Pins
   reads : readings_of told ≡ after
   all : turned_in new (xs ++ made) ≡ turned_in old xs ++ told
 
-tells : (old new : Turn) (xs made : List Exchange) (after : List Pins) → Counts old xs → Passes old new (readings_of made) after → Tells old.place new.place xs made after
+tells : (old new : Turn) (xs made : List Exchange) (after : List Pins) → CountsCycles old xs → Passes old new (readings_of made) after → Tells old.place new.place xs made after
 tells old new xs made after counts passes = by passes.reads
   where
     stays : (p : Option ℕ) → IfSome p (λ k. k < length xs) → turned_in p (xs ++ made) ≡ turned_in p xs ++ made
@@ -66,7 +66,7 @@ tells old new xs made after counts passes = by passes.reads
           all = ap (λ p. turned_in p (xs ++ made)) t.place ∙ ap (λ n. turned_at n (xs ++ made)) place ∙ turned_new t.k xs made ∙ ap (λ p. turned_in p xs ++ turned_at t.k made) (sym t.first);
         }
 
-counts_more : (old new : Turn) (xs made : List Exchange) (after : List Pins) → Counts old xs → Passes old new (readings_of made) after → Counts new (xs ++ made)
+counts_more : (old new : Turn) (xs made : List Exchange) (after : List Pins) → CountsCycles old xs → Passes old new (readings_of made) after → CountsCycles new (xs ++ made)
 counts_more old new xs made after counts passes =
     let n = length-map made (λ (c : Exchange). c.reading) in
     let l = length-append xs made in
@@ -102,7 +102,7 @@ turn_spare (Some s) p = refl
 pub config_told : (r : RigState) (p : Option ℕ) → config_of (turn_state r p) ≡ config_of r
 config_told r p = turn_config r.session p
 
-module _ (old new : Turn) (before after : RigState) (counts : Counts old (cycles_of before)) where
+module _ (old new : Turn) (before after : RigState) (counts : CountsCycles old (cycles_of before)) where
   module _ (drives reads told : List Pins) (goes : GoesOnBy drives reads before after) (passes : Passes old new reads told) where
     counted : Passes old new (readings_of goes.more) told
     counted = subst (λ (rs : List Pins). Passes old new rs told) (sym goes.read) passes
@@ -121,8 +121,8 @@ module _ (old new : Turn) (before after : RigState) (counts : Counts old (cycles
       told = tt;
     }
 
-    pub still_counts : Counts new (cycles_of after)
-    still_counts = subst (Counts new) (sym goes.cycles) (counts_more old new (cycles_of before) goes.more told counts counted)
+    pub still_counts : CountsCycles new (cycles_of after)
+    still_counts = subst (CountsCycles new) (sym goes.cycles) (counts_more old new (cycles_of before) goes.more told counts counted)
 
 -- a cycle as several
 pub one_more : (drive read : Pins) (before after : RigState) → GoesOn drive read before after → GoesOnBy (drive ∷ []) (read ∷ []) before after

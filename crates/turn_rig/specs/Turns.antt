@@ -47,10 +47,10 @@ turn_state inner place = record inner {
 }
 
 -- these cycles are counted, and the one that was turned is among them
-pub record Counts (t : Turn) (cycles : List Exchange) : Type 0 where
+pub record CountsCycles (t : Turn) (cycles : List Exchange) : Type 0 where
   pub made : t.made ≡ min (length cycles) (2 ^ 64 - 1)
   pub place : IfSome t.place (λ k. k < length cycles)
 
 -- the cycles of a session are counted
 abbrev pub IsTurning : Turn → RigState → Type 0
-IsTurning t inner = IsSome inner.session → Counts t (cycles_of inner)
+IsTurning t inner = IsSome inner.session → CountsCycles t (cycles_of inner)

@@ -2,7 +2,7 @@ use Rattle.std.proofs.Common.{rules, ◌≡◌, ◌∙◌, ◌++◌, List, refl,
 use Rattle.std.proofs.lemmas.Bool.{false≢true}
 use Rattle.hierarchy.specs.Circuit.{Pins}
 use Rattle.rig.specs.Rig.{GoesOnBy, Machine}
-use Rattle.doubled_rig.specs.Repeats.{AreWide}
+use Rattle.doubled_rig.specs.Repeats.{HaveWidth}
 use Rattle.doubled_rig.proofs.Keeping.{many_still, wide_still, refill}
 use Rattle.doubled_rig.proofs.Pairing.{read_alike_by, both_go_on_by}
 use Rattle.doubled_rig.proofs.pairs.drive_both_by.Given.{Over}
@@ -40,7 +40,7 @@ pub returns-clause-goes_on : goal.returns-clause-goes_on
 returns-clause-goes_on g c = λ yes.
     let same : front g c ≡ c.cycles.new.reads = sym (c.are_same.ensures.0 yes ∙ seen g c) in
     let second = subst (λ (rs : List Pins). GoesOnBy c.args.drives.now rs (g.B.Rig.rig_state c.args.second.now) (g.B.Rig.rig_state c.read_others.new.second)) same (also g c) in
-    let wide = wide_still (length c.args.pair.now.read) c.deref_mut.result.now (rows g c) c.read_others.ensures.lengths (subst (AreWide (length c.args.pair.now.read)) (sym c.deref_mut.ensures.value) c.requires.paired.rows) in
+    let wide = wide_still (length c.args.pair.now.read) c.deref_mut.result.now (rows g c) c.read_others.ensures.lengths (subst (HaveWidth (length c.args.pair.now.read)) (sym c.deref_mut.ensures.value) c.requires.paired.rows) in
     both_go_on_by c.args.pair.now _ (g.A.Rig.rig_state c.args.first.now) (g.A.Rig.rig_state c.cycles.new.self) (g.B.Rig.rig_state c.args.second.now) (g.B.Rig.rig_state c.read_others.new.second)
-    c.requires.paired (subst (AreWide (length c.args.pair.now.read)) (sym (full g c)) wide) (ap length (full g c) ∙ many g c) refl refl
+    c.requires.paired (subst (HaveWidth (length c.args.pair.now.read)) (sym (full g c)) wide) (ap length (full g c) ∙ many g c) refl refl
     c.args.drives.now c.cycles.new.reads (omega (arith, c.requires.some)) (goes g c) second
