@@ -1,2 +1,0 @@
--- What the rigs of the examples do.
-pub mod Turns
