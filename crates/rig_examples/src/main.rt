@@ -1,11 +1,13 @@
-//! Commands over rigs that compare readings.
+//! Commands over rigs that compare readings, and over a machine behind files.
 //!
 //! The text that the command line names has a case in each line; its head says how they are written. Each is printed, with
 //! what the command wrote and its status.
 #![tactic(auto)]
 
+use board_rig::BoardRig;
 use cycle_sim::SimRig;
 use doubled_rig::{RepeatRig, TwinRig};
+use port_board::{FilePort, PortBoard};
 use rig::{FlakyRig, LogRig, Rig};
 use std::alloc::Global;
 use std::process::ExitCode;
@@ -41,6 +43,14 @@ fn twin_of(rt: &HostRuntime, name: &str) -> io::Result<Box<dyn Rig>> {
     Ok(rig)
 }
 
+// A machine behind files.
+fn port_of(rt: &HostRuntime) -> io::Result<Box<dyn Rig>> {
+    let alloc: Global = rt.alloc();
+    let board = PortBoard::new(alloc, FilePort::new(alloc, rt.clone()?));
+    let rig: Box<dyn Rig> = Box::new(alloc, LogRig::new(BoardRig::new(alloc, board)))?;
+    Ok(rig)
+}
+
 // A number; 0 where the word is none.
 fn number_of(word: &str) -> u64 {
     word.parse::<u64>().unwrap_or(0)
@@ -53,6 +63,7 @@ fn rig_of(rt: &HostRuntime, words: &[String]) -> io::Result<Option<(Box<dyn Rig>
             let rig = repeat_of(rt, number_of(turned.as_str()), number_of(failing.as_str()))?;
             Ok(Some((rig, 3)))
         }
+        [kind, ..] if kind.as_str() == "port" => Ok(Some((port_of(rt)?, 1))),
         [kind, name, ..] if kind.as_str() == "twin" => Ok(Some((twin_of(rt, name.as_str())?, 2))),
         _ => Ok(None),
     }
