@@ -7,7 +7,7 @@
 use board_rig::BoardRig;
 use cycle_sim::SimRig;
 use doubled_rig::{RepeatRig, TwinRig};
-use port_board::{FilePort, PortBoard};
+use port_board::{FilePort, Port, PortBoard};
 use rig::{FlakyRig, LogRig, Rig};
 use std::alloc::Global;
 use std::process::ExitCode;
@@ -43,10 +43,9 @@ fn twin_of(rt: &HostRuntime, name: &str) -> io::Result<Box<dyn Rig>> {
     Ok(rig)
 }
 
-// A machine behind files.
-fn port_of(rt: &HostRuntime) -> io::Result<Box<dyn Rig>> {
-    let alloc: Global = rt.alloc();
-    let board = PortBoard::new(alloc, FilePort::new(alloc, rt.clone()?));
+// A machine behind a port.
+fn port_of<P: Port>(alloc: Global, port: P) -> io::Result<Box<dyn Rig>> {
+    let board = PortBoard::new(alloc, port);
     let rig: Box<dyn Rig> = Box::new(alloc, LogRig::new(BoardRig::new(alloc, board)))?;
     Ok(rig)
 }
@@ -63,7 +62,10 @@ fn rig_of(rt: &HostRuntime, words: &[String]) -> io::Result<Option<(Box<dyn Rig>
             let rig = repeat_of(rt, number_of(turned.as_str()), number_of(failing.as_str()))?;
             Ok(Some((rig, 3)))
         }
-        [kind, ..] if kind.as_str() == "port" => Ok(Some((port_of(rt)?, 1))),
+        [kind, ..] if kind.as_str() == "port" => {
+            let alloc: Global = rt.alloc();
+            Ok(Some((port_of(alloc, FilePort::new(alloc, rt.clone()?))?, 1)))
+        },
         [kind, name, ..] if kind.as_str() == "twin" => Ok(Some((twin_of(rt, name.as_str())?, 2))),
         _ => Ok(None),
     }

@@ -6,7 +6,7 @@
 
 use board_rig::BoardRig;
 use doubled_rig::RepeatRig;
-use port_board::{FilePort, PortBoard};
+use port_board::{FilePort, Port, PortBoard};
 use rig::{LogRig, Rig};
 use std::alloc::{AllocError, Global};
 use std::process::ExitCode;
@@ -27,12 +27,10 @@ fn words(rt: &(impl Env + AllocGlobal)) -> io::Result<Vec<String>> {
     Ok(words)
 }
 
-// The machine behind the port that `attach` names. Loads are counted outermost: those that ask again aren't the tool's.
-fn machine(rt: &HostRuntime) -> Result<Box<dyn Rig>, AllocError> {
-    let alloc: Global = rt.alloc();
-    let board = PortBoard::new(alloc, FilePort::new(alloc, rt.clone()?));
-    let repeated = RepeatRig::new(alloc, BoardRig::new(alloc, board));
-    let rig: Box<dyn Rig> = Box::new(alloc, LogRig::new(repeated))?;
+// The machine behind a port. Loads are counted outermost: those that ask again aren't the tool's.
+fn machine<P: Port>(alloc: Global, port: P) -> Result<Box<dyn Rig>, AllocError> {
+    let board = BoardRig::new(alloc, PortBoard::new(alloc, port));
+    let rig: Box<dyn Rig> = Box::new(alloc, LogRig::new(RepeatRig::new(alloc, board)))?;
     Ok(rig)
 }
 
@@ -47,7 +45,7 @@ fn run(rt: &HostRuntime) -> Result<u8, AllocError> {
     };
     let mut store = FileStore::new(alloc, rt.clone()?);
     let mut sink = StdSink::new(rt.clone()?);
-    let mut rig = machine(rt)?;
+    let mut rig = machine(alloc, FilePort::new(alloc, rt.clone()?))?;
     Ok(teramac(alloc, words.as_slice(), &mut store, &mut rig, &mut sink))
 }
 
