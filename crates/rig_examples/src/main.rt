@@ -44,7 +44,7 @@ fn twin_of(rt: &HostRuntime, name: &str) -> io::Result<Box<dyn Rig>> {
 }
 
 // A machine behind a port.
-fn port_of<P: Port>(alloc: Global, port: P) -> io::Result<Box<dyn Rig>> {
+fn port_of<P: Port + 'static>(alloc: Global, port: P) -> io::Result<Box<dyn Rig>> {
     let board = PortBoard::new(alloc, port);
     let rig: Box<dyn Rig> = Box::new(alloc, LogRig::new(BoardRig::new(alloc, board)))?;
     Ok(rig)

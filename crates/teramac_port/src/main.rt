@@ -28,7 +28,7 @@ fn words(rt: &(impl Env + AllocGlobal)) -> io::Result<Vec<String>> {
 }
 
 // The machine behind a port. Loads are counted outermost: those that ask again aren't the tool's.
-fn machine<P: Port>(alloc: Global, port: P) -> Result<Box<dyn Rig>, AllocError> {
+fn machine<P: Port + 'static>(alloc: Global, port: P) -> Result<Box<dyn Rig>, AllocError> {
     let board = BoardRig::new(alloc, PortBoard::new(alloc, port));
     let rig: Box<dyn Rig> = Box::new(alloc, LogRig::new(RepeatRig::new(alloc, board)))?;
     Ok(rig)
