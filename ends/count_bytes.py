@@ -8,7 +8,8 @@ from pathlib import Path
 def spread(lines):
     """The bytes of lines with their ends: the middle one, that at 95 of 100, the most, and all."""
     sizes = sorted(len(line) + 1 for line in lines)
-    return f"{sizes[len(sizes) // 2]} bytes in the middle, {sizes[len(sizes) * 95 // 100]} at 95 of 100, {sizes[-1]} at most, {sum(sizes)} in all"
+    middle, late = (sizes[len(sizes) * share // 100] for share in (50, 95))
+    return f"{middle} bytes in the middle, {late} at 95 of 100, {sizes[-1]} at most, {sum(sizes)} in all"
 
 
 def main():

@@ -40,10 +40,14 @@ class Refusal(Exception):
 
 
 class Device:
-    """A machine with its faults that answers requests. A refused request changes nothing."""
+    """A machine with its faults that answers requests. A refused request changes nothing but a session.
 
-    def __init__(self, machine, faults, on_load=lambda: None, begin=Session):
-        self._machine, self._faults, self._on_load, self._begin = machine, faults, on_load, begin
+    `begin` begins sessions. What comes with a load is made so many `times`, each time from a load of its own, and refused where
+    the readings differ: then the machine isn't one unchanging set of faults.
+    """
+
+    def __init__(self, machine, faults, on_load=lambda: None, begin=Session, times=1):
+        self._machine, self._faults, self._on_load, self._begin, self._times = machine, faults, on_load, begin, times
         self._set, self._session = Configuration(), None
 
     def answer(self, line):
@@ -72,10 +76,19 @@ class Device:
             return counts_body(self._machine)
         if b"l" in words:
             self._load(words[: words.index(b"l")])
+            self._on_load()
         if not self._session:
             raise Refusal("load")
-        pins = self._machine.counts[-1]
-        return b"=" + b" ".join(pin_text(pins, self._session.cycle(drive)) for drive in drives)
+        readings = [self._session.cycle(drive) for drive in drives]
+        for _ in range(self._times - 1 if b"l" in words else 0):
+            self._compare(drives, readings)
+        return b"=" + b" ".join(pin_text(self._machine.counts[-1], reading) for reading in readings)
+
+    def _compare(self, drives, readings):
+        again = self._begin(self._machine, self._faults, self._set.copy())
+        if [again.cycle(drive) for drive in drives] != readings:
+            self._session = None
+            raise Refusal("twice")
 
     def _drive(self, digits):
         pins = self._machine.counts[-1]
@@ -89,15 +102,11 @@ class Device:
             edited = Configuration() if word == b"z" else self._edited(edited, word)
         self._set = edited
         self._session = self._begin(self._machine, self._faults, edited.copy())
-        self._on_load()
 
     def _edited(self, edited, word):
         kind, (number, *rest) = word[:1], word[1:].split(b",")
-        number, machine = int(number), self._machine
-        least, behind = {b"k": (1, MOST_TICKS + 1), b"c": (0, len(machine.crosses)), b"o": (0, len(machine.crosses))}.get(
-            kind, (0, len(machine.tables))
-        )
-        if not least <= number < behind:
+        number, crosses, tables = int(number), range(len(self._machine.crosses)), range(len(self._machine.tables))
+        if number not in {b"c": crosses, b"o": crosses, b"k": range(1, MOST_TICKS + 1)}.get(kind, tables):
             raise Refusal("number")
         if kind == b"c":
             edited.closed.add(number)

@@ -84,7 +84,8 @@ class Planes:
         steady = " && ".join(f"({name} | {name}_reached | {name}_begun) == {name}" for name in self._names)
         yield f"  assign steady = {steady};"
         for name in self._names:
-            yield f"  always @(posedge clk) if (flush) {name} <= 0; else if (flood) {name} <= {name} | {name}_reached | {name}_begun;"
+            flooded = f"{name} | {name}_reached | {name}_begun"
+            yield f"  always @(posedge clk) if (flush) {name} <= 0; else if (flood) {name} <= {flooded};"
 
     def crossbars(self):
         for at, node in enumerate(self._machine.nodes):
@@ -144,8 +145,8 @@ def tables(machine, faults):
     yield TABLE_RULES
     for at, pins in enumerate(machine.tables):
         wrong, ones = faults.wrong_cells(at)
-        inputs = joined("level", pins[:INPUTS])
-        yield f"  look_up #(64'h{wrong:x}, 64'h{ones:x}) table{at}(clk, set_table && number == {at}, cells, {inputs}, found[{at}]);"
+        ports = f"clk, set_table && number == {at}, cells, {joined('level', pins[:INPUTS])}, found[{at}]"
+        yield f"  look_up #(64'h{wrong:x}, 64'h{ones:x}) table{at}({ports});"
     yield f"  assign read = {joined('level', machine.pins)};"
 
 
@@ -160,6 +161,8 @@ def places(machine):
 def verilog(machine, faults):
     planes = Planes(machine, faults)
     lines = header(machine)
-    for part in (planes.registers(), tables(machine, faults), planes.crossbars(), planes.reached(), planes.begun(), places(machine)):
+    for part in (planes.registers(), tables(machine, faults), planes.crossbars()):
+        lines += part
+    for part in (planes.reached(), planes.begun(), places(machine)):
         lines += part
     return "\n".join([*lines, "endmodule"]) + "\n"

@@ -57,6 +57,7 @@ def words():
     parser.add_argument("machine", type=Path)
     parser.add_argument("faults", type=Path, nargs="?", help="a fault file; without it nothing is wrong")
     parser.add_argument("--flicker", type=float, default=0, metavar="SHARE", help="a crosspoint is open in this share of cycles")
+    parser.add_argument("--times", type=int, default=1, help="make what comes with a load so often, and refuse where it differs")
     parser.add_argument("--seed", type=int, default=1, help="which crosspoint flickers, and when")
     return parser.parse_args()
 
@@ -74,7 +75,7 @@ def main():
         cross = random.Random(given.seed).randrange(len(machine.crosses))
         begin = Flicker(cross, given.flicker, given.seed).begin
     try:
-        serve(Device(machine, faults, progress.count, begin), sys.stdin.fileno(), sys.stdout.fileno())
+        serve(Device(machine, faults, progress.count, begin, given.times), sys.stdin.fileno(), sys.stdout.fileno())
     except BrokenPipeError:
         pass  # the tool has gone
     progress.end()

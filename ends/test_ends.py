@@ -41,7 +41,7 @@ TALK = [
     ("d0f*fa", "=0f*d3"),
 ]
 # Behind them, what each end has to refuse.
-WRONG = ["l d00*00", "c9", "q", "d1", "k0 l d0f", "k4097 l d0f", "c168 l d0f", "t2,0000000000000000,0 l d0f", "dag", "l d0g", "x2 l d0f"]
+WRONG = ["l d00*00", "c9", "q", "d1", "dag", "l d0g", "k0 l d0f", "k4097 l d0f", "c168 l d0f", "x2 l d0f", "t2,0000000000000000,0 l d0f"]
 # Lines that the end in Python refuses, though others may take them.
 STRICT = ["d0f ", "d0F", "d1f", " d0f", "c00 l d0f", "t1,0,0 l d0f", "c0 l", "a ", "d0f*fA", "l d0f l d0f", "z d0f"]
 
@@ -61,7 +61,8 @@ class Texts(unittest.TestCase):
 
     def test_wrong_machines(self):
         text = (EXAMPLES / "tiny.machine").read_text()
-        for wrong in ("", text + "end\n", text.replace("tables 2", "tables 0"), text.replace("pins 4", "pins 4 4"), text.replace("end", "")):
+        changes = (("tables 2", "tables 0"), ("pins 4", "pins 4 4"), ("end", ""), ("teramac 1", "teramac 2"))
+        for wrong in ("", text + "end\n", *(text.replace(*change) for change in changes)):
             with self.assertRaises(Refused):
                 read_machine(wrong)
 
@@ -133,16 +134,32 @@ class Lines(unittest.TestCase):
         self.assertEqual(self.device.answer(b"d0f*fa"), b"!load\n")
         self.assertEqual(self.device.answer(b"z c1 l d0f"), with_sum(b"=0f"))
 
+    def test_readings_that_differ_are_refused(self):
+        chance = random.Random(1)
+
+        def flicker(machine, faults, configuration):
+            return Session(machine, faults, Configuration() if chance.random() < 0.5 else configuration)
+
+        joined, apart, refused = with_sum(b"=0c"), with_sum(b"=0e"), b"!twice\n"
+        for times, answers in ((1, {joined, apart}), (2, {joined, apart, refused}), (20, {refused})):
+            device = Device(TINY, Faults(), begin=flicker, times=times)
+            self.assertEqual({device.answer(b"z c0 c4 l d0e") for _ in range(20)}, answers)
+
     def test_edits_lead_from_one_to_the_other(self):
         chance, before = random.Random(3), Configuration()
         for _ in range(50):
             after = compare.random_load(TINY, chance, before)
-            device = Device(TINY, Faults(), begin=lambda machine, faults, configuration: self.begun.append(configuration) or self)
             self.begun = []
+            device = Device(TINY, Faults(), begin=self.begin)
             device.answer(b" ".join([*edits(Configuration(), before), b"l d0f"]))
             device.answer(b" ".join([*edits(before, after), b"l d0f"]))
             self.assertEqual(self.begun, [before, after])
             before = after
+
+    def begin(self, _machine, _faults, configuration):
+        """Notes what is loaded, and stands for its session."""
+        self.begun.append(configuration)
+        return self
 
     def cycle(self, _):
         return 0
@@ -153,7 +170,8 @@ class Askers(unittest.TestCase):
 
     def test_wrong_replies(self):
         right = with_sum(b"=0f")
-        for wrong in (b"", b"!no\n", b"=0f*d4\n", b"=0F*b3\n", b"=0f*d3\r\n", with_sum(b"=1f"), with_sum(b"=0f 0f"), with_sum(b"=f"), right[:-1]):
+        bodies = [with_sum(body) for body in (b"=1f", b"=0f 0f", b"=f", b"=0f ", b"0f")]
+        for wrong in (b"", b"!no\n", b"=0f*d4\n", b"=0F*b3\n", b"=0f*d3\r\n", right[:-1], *bodies):
             port = DevicePort(Device(TINY, Faults()))
             asker = Asker(port, TINY)
             asker.load(Configuration())

@@ -50,7 +50,8 @@ over_port() { # MACHINE END COMMAND WORD ..
   "$teramac_port" "$command" "$machine/machine" "$port" "$@" > "$machine/$kind.$command"
   finished=$(date +%s.%N)
   wait "$end"
-  if cmp -s "$machine/$kind.$command" "$machine/simulated.$command"; then same="as simulated"; else same=DIFFERS; fail "$machine $kind $command"; fi
+  same="as simulated"
+  cmp -s "$machine/$kind.$command" "$machine/simulated.$command" || { same=DIFFERS; fail "$machine $kind $command"; }
   printf '%-6s %-9s %-9s %-14s %8.2f s, %s\n' "$machine" "$kind" "$command" "$same" \
     "$(echo "$finished $begun" | awk '{ print $1 - $2 }')" "$(tr '\r' '\n' < "$machine/$kind.progress" | grep loads | tail -n 1)"
 }

@@ -11,7 +11,8 @@
  */
 #include "board.h"
 
-enum { PIN_BYTES = (PINS + 7) / 8, ONE_READING = 2 * PIN_BYTES + 1, ROOM = ONE_READING > 4096 ? ONE_READING : 4096, MOST_TICKS = 4096 };
+enum { PIN_BYTES = (PINS + 7) / 8, ONE_READING = 2 * PIN_BYTES + 1, MOST_TICKS = 4096 };
+enum { ROOM = ONE_READING > 4096 ? ONE_READING : 4096 }; /* for a reply */
 enum asked { NOTHING, COUNTS_ASKED, READINGS_ASKED };
 typedef unsigned long long number;
 
@@ -190,21 +191,30 @@ static int read_word(int byte)
     return next();
 }
 
-static void answer(void)
+static void put_refusal(void)
+{
+    for (const char *text = "!wrong"; *text; text++)
+        put(*text);
+}
+
+static void put_reply(void)
 {
     unsigned char check = 0;
-    if (is_wrong || asked == NOTHING) {
-        for (const char *text = "!wrong"; *text; text++)
-            put(*text);
-    } else {
-        for (unsigned k = 0; k < length; k++) {
-            check += reply[k];
-            put(reply[k]);
-        }
-        put('*');
-        put(hex(check >> 4));
-        put(hex(check));
+    for (unsigned k = 0; k < length; k++) {
+        check += reply[k];
+        put(reply[k]);
     }
+    put('*');
+    put(hex(check >> 4));
+    put(hex(check));
+}
+
+static void answer(void)
+{
+    if (is_wrong || asked == NOTHING)
+        put_refusal();
+    else
+        put_reply();
     put('\n');
     flush();
 }
