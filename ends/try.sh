@@ -5,13 +5,13 @@
 #   ends/try.sh TERAMAC TERAMAC_PORT [MACHINE/END ..]
 #
 # TERAMAC and TERAMAC_PORT are the built programs. Without further words it tries all pairs of `tiny` and `small` with
-# python, c, terminal (c behind a pseudo terminal), switch, device, and `tiny` with serial. WORK (default: a folder that is
-# deleted) gets what is made. Status 1 where anything differs.
+# python, c, terminal (c behind a pseudo terminal), switch, device, and `tiny` with serial. MACHINE may be `bench` too, the machine
+# of studies/, without faults. WORK (default: a folder that is deleted) gets what is made. Status 1 where anything differs.
 set -u
 if [ $# -lt 2 ]; then sed -n '2,10s/^# \{0,1\}//p' "$0"; exit 2; fi
 here=$(cd "$(dirname "$0")" && pwd)
 teramac=$(realpath "$1"); teramac_port=$(realpath "$2"); shift 2
-declare -A designs=([tiny]=and [small]=lfsr)
+declare -A designs=([tiny]=and [small]=lfsr [bench]=lfsr)
 [ $# -gt 0 ] || set -- {tiny,small}/{python,c,terminal,switch,device} tiny/serial
 work=${WORK:-$(mktemp -d)}
 [ -n "${WORK:-}" ] || trap 'rm -rf "$work"' EXIT
@@ -60,15 +60,16 @@ over_port() { # MACHINE END COMMAND WORD ..
 begin_machine() { # MACHINE
   local design=${designs[$1]}
   mkdir -p "$1"
-  cp "$here/../examples/$1.machine" "$1/machine"; cp "$here/../examples/$1.faults" "$1/faults"
+  cat "$here"/../{examples,studies}/"$1.machine" 2> /dev/null > "$1/machine"
+  cp "$here/../examples/$1.faults" "$1/faults" 2> /dev/null || : > "$1/faults"
   cp "$here/../examples/$design.blif" "$1/blif"; cp "$here/../examples/$design.vec" "$1/vec"
   "$teramac" diagnose "$1/machine" "$1/faults" > "$1/simulated.diagnose" || fail "teramac diagnose $1"
   "$teramac" go "$1/machine" "$1/faults" "$1/blif" "$1/vec" > "$1/simulated.go" || fail "teramac go $1"
-  make_end "$1" python || fail "make.py python"
-  tee "$1/requests" < to | "$1/python/end" 2> /dev/null | tee "$1/replies" > from & end=$!
+  make_end "$1" c || { fail "make.py c for $1"; return; }
+  tee "$1/requests" < to | "$1/c/end" 2> /dev/null | tee "$1/replies" > from & end=$!
   "$teramac_port" diagnose "$1/machine" "$work/to,$work/from" > "$1/counted.diagnose"
   wait "$end"
-  cmp -s "$1/counted.diagnose" "$1/simulated.diagnose" || fail "$1 python diagnose"
+  cmp -s "$1/counted.diagnose" "$1/simulated.diagnose" || fail "$1 c diagnose"
   python3 "$here/count_bytes.py" "$1/requests" "$1/replies"
 }
 
@@ -83,7 +84,8 @@ try_end() { # MACHINE END
     printf '%-6s %-9s ' "$1" "$2"; python3 "$here/compare.py" "$1/machine" "$1/faults" "$port" 100 || fail "$1 $2 random loads"
     wait "$end"
   fi
-  [ "$1" = small ] || over_port "$1" "$2" diagnose
+  # `go` diagnoses too: where that takes minutes, once is enough.
+  [ "$1" != tiny ] || over_port "$1" "$2" diagnose
   over_port "$1" "$2" go "$1/blif" "$1/vec"
 }
 
