@@ -15,10 +15,12 @@ FIRST_LINES = """module machine(
   input [`NODE_BITS-1:0] node, input [`ROW_BITS-1:0] row, input [`COLUMN_BITS-1:0] column,
   input set_table, input switch_off, input [`TABLE_BITS-1:0] number, input [63:0] cells, input [1:0] flags,
   // a session
-  input load, input flush, input flood, input tick, input clock_edge, input [`PINS-1:0] drive,
+  input load, input begin_cycle, input [`PINS-1:0] driven, input flush, input flood, input tick, input clock_edge,
   output steady, output [`PINS-1:0] read,
   // where the crosspoints of a node lie
-  output reg [`CROSS_BITS-1:0] lines_of, output reg [`CROSS_BITS-1:0] first_of, output reg [`CROSS_BITS-1:0] end_of);"""
+  output reg [`CROSS_BITS-1:0] lines_of, output reg [`CROSS_BITS-1:0] first_of, output reg [`CROSS_BITS-1:0] end_of);
+  reg [`PINS-1:0] drive = {`PINS{1'b1}};
+  always @(posedge clk) if (begin_cycle) drive <= driven;"""
 
 TABLE_RULES = """  reg [`TABLES-1:0] on = 0, latched = 0, initial_bit = 0, out = 0;
   wire [`TABLES-1:0] found;

@@ -35,11 +35,12 @@ public:
 
 private:
   void clock() {
-    device.clk = 0;
+    device.clk = device.machine_clk = 0;
     device.eval();
     if (device.loaded_now)
       progress.count();
     device.clk = 1;
+    device.machine_clk = device.machine_works;
     device.eval();
     clocks++;
   }
