@@ -68,7 +68,10 @@ public:
     }
   }
 
-  void end() const { progress.end(clocks); }
+  void end() const {
+    progress.end(clocks);
+    fprintf(stderr, "lights %02x\n", board.lights);
+  }
 
 private:
   void note(char byte) {
