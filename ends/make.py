@@ -26,7 +26,7 @@ from machine import Refused, read_faults, read_machine
 
 HERE = Path(__file__).resolve().parent
 PYTHON_FILES = ("python_end.py", "lines.py", "machine.py", "model.py", "progress.py")
-VERILATOR = "verilator -Wno-fatal -Wno-WIDTH -O3 --x-assign fast --noassert --cc --exe --build -Mdir made"
+VERILATOR = "verilator -Wno-fatal -Wno-WIDTH -O3 --x-assign fast --noassert --cc --exe --build -MAKEFLAGS OPT_FAST=-O2 -Mdir made"
 SIMULATED_DIVISOR = 4  # of a simulated serial line nothing hangs on how long a bit takes
 
 
@@ -75,12 +75,12 @@ def overlay(given):
 
 def make_device(given):
     loads = given.parts.most_loads
-    commands = [f"{VERILATOR} --top device machine.v device.v device_main.cpp -CFLAGS '-O2 -DMOST_LOADS={loads}'", "cp made/Vdevice end"]
+    commands = [f"{VERILATOR} --top device machine.v device.v device_main.cpp -CFLAGS -DMOST_LOADS={loads}", "cp made/Vdevice end"]
     return Made(overlay(given), ("verilog/device.v", "verilog/device_main.cpp", "verilog/progress.h"), commands)
 
 
 def make_serial(given):
-    flags = f"-O2 -DMOST_LOADS={given.parts.most_loads} -DDIVISOR={SIMULATED_DIVISOR}"
+    flags = f"-DMOST_LOADS={given.parts.most_loads} -DDIVISOR={SIMULATED_DIVISOR}"
     sources = f"-GDIVISOR={SIMULATED_DIVISOR} machine.v device.v board.v board_main.cpp"
     commands = [f"{VERILATOR} --top board {sources} -CFLAGS '{flags}'", "cp made/Vboard end"]
     files = ("verilog/device.v", "verilog/board.v", "verilog/board_main.cpp", "verilog/progress.h")
