@@ -12,8 +12,6 @@ from collections import namedtuple
 from dataclasses import dataclass
 from itertools import islice
 
-import networkx
-
 FILE_LIMIT = 16_777_216
 WIRE_LIMIT, CROSS_LIMIT, TABLE_LIMIT = 16_384, 4_194_304, 4_096
 FAULT_LIMIT, CLOSED_LIMIT = 65_536, 1_048_576
@@ -82,6 +80,11 @@ class Machine:
         self.table_numbers = {name: number for number, name in enumerate(self.table_names)}
         self.lines = {wire: (node, k) for node in self.nodes for k, wire in enumerate(node.lines)}
         self._taps = {(node.name, wire): k for node in self.nodes for k, wire in enumerate(node.taps)}
+        # Of each tap the nodes, from the root down, in whose crossbars it is one: of a port two.
+        self.taps = {}
+        for node in self.nodes:
+            for wire in node.taps:
+                self.taps.setdefault(wire, []).append(node)
 
     def _add(self, level, name):
         """Adds a node and all below it in the order of their numbers."""
@@ -111,6 +114,14 @@ class Machine:
         node, b = self.lines.get(line, (None, 0))
         a = self._taps.get((node.name, tap)) if node else None
         return None if a is None else node.first + a * len(node.lines) + b
+
+    def along(self, wire):
+        """The crosspoints of a wire in the order in which it passes them."""
+        if wire in self.lines:
+            node, k = self.lines[wire]
+            return range(node.first + k, node.first + len(node.taps) * len(node.lines), len(node.lines))
+        rows = [node.first + len(node.lines) * self._taps[node.name, wire] for node in self.taps[wire]]
+        return [cross for node, row in zip(self.taps[wire], rows) for cross in range(row, row + len(node.lines))]
 
     def node_of_cross(self, cross):
         return self.nodes[bisect(self.nodes, cross, key=lambda node: node.first) - 1]
@@ -253,7 +264,13 @@ def short_groups(machine, faults):
 
 def groups(pairs):
     """The sets that pairs hold together, ascending by their least member."""
-    return sorted(map(sorted, networkx.connected_components(networkx.from_edgelist(pairs))))
+    of = {}
+    for one, other in pairs:
+        small, large = sorted((of.setdefault(one, [one]), of.setdefault(other, [other])), key=len)
+        if small is not large:
+            large += small
+            of.update(dict.fromkeys(small, large))
+    return sorted(map(sorted, {id(group): group for group in of.values()}.values()))
 
 
 class Defects(dict):
