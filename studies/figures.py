@@ -90,7 +90,7 @@ def facets(rows, columns=("machine", "kind")):
 def curve(axes, across, points, off, style, **more):
     """A curve of shares or means with the bars of their intervals, a little to the side of others."""
     values, low, high = zip(*(point[:3] for point in points))
-    bars = [[value - bound for value, bound in zip(values, low)], [bound - value for value, bound in zip(values, high)]]
+    bars = [[abs(value - bound) for value, bound in zip(values, bounds)] for bounds in (low, high)]
     line, marker = style[:2]
     axes.errorbar([x + off for x in across], values, bars, linestyle=line, marker=marker, markersize=4, capsize=2, linewidth=1.4, **more)
 
