@@ -19,11 +19,10 @@ COMMANDS = {
     "pair": "machine rig first second vectors",
 }  # fmt: skip
 ENDINGS = {".machine": "machine", ".faults": "rig", ".defects": "defects", ".image": "image", ".blif": "design", ".vec": "vectors"}
-STATUSES = {"memory": "memory was wanting: close what else runs, or take a smaller machine"}
 KINDS = {
     "after": "something stands behind the end",
-    "byte": "a byte that may not stand in a text; of a file that an editor saved as UTF-16, every second one",
-    "doubled": "this stands there already: an entry a second time, or a signal that two lines drive",
+    "byte": "a byte that may not stand in a text; of a file that was saved as UTF-16 every second one",
+    "doubled": "this stands there already: a second time, or a signal that two lines drive",
     "against": "an earlier line says the other value of the same part",
     "cyclic": "covers that read each other in a circle without a latch, from this line's cover on",
     "undriven": "no .inputs, .names or .latch gives a value to the signal that is named",
@@ -36,6 +35,7 @@ KINDS = {
     "magic": "the file doesn't begin as an image: was the compile that wrote it refused? Its first line says so",
     "short": "the file ends too early: was it cut off?",
     "shape": "the image is of a machine of other counts",
+    "number": "a count is from 1 to 65,535, without leading zeros",
 }
 
 
@@ -43,25 +43,19 @@ def roles_of(words):
     """The file of each role: by the places of a command's words, or by endings."""
     if words and words[0] in COMMANDS:
         return dict(zip(COMMANDS[words[0]].split(), words[1:]))
-    roles = {}
-    for word in words:
-        role = ENDINGS.get(os.path.splitext(word)[1], "?")
-        roles["second" if role == "design" and "design" in roles else role] = word
-    return roles
+    return {ENDINGS.get(os.path.splitext(word)[1], "?"): word for word in words}
 
 
 def words_wrong(words):
     """What is wrong with the words of a command."""
-    if not words:
-        return "the words after the program's name aren't right; give them after the line, as in: explain.py 'refused words' go x.machine .."
-    if words[0] not in COMMANDS:
-        return f"`{words[0]}` is no command; commands are {', '.join(COMMANDS)}"
+    if not words or words[0] not in COMMANDS:
+        return f"`{words[0] if words else ''}` is no command; commands are {', '.join(COMMANDS)}"
     wanted = COMMANDS[words[0]].split()
     if len(words) - 1 != len(wanted):
         return f"`{words[0]}` takes {len(wanted)} words ({' '.join(wanted).upper()}), and {len(words) - 1} were given"
-    dashed = [word for word in words if word.startswith("-")]
-    if dashed:
-        return f"`{dashed[0]}` begins with -, and there are no options; of a file with this name write ./{dashed[0]}"
+    for word in words:
+        if word.startswith("-"):
+            return f"`{word}` begins with -, and there are no options; of a file with this name write ./{word}"
     return f"`{words[1]}` is no number from 0 to 4,294,967,295 without leading zeros" if words[0] == "bench" else "the words look right"
 
 
@@ -75,35 +69,18 @@ def file_wrong(role, path):
     return None if os.access(path, os.R_OK) else f"{path}, the {role} file, may not be read"
 
 
-def store_wrong(roles):
-    found = [file_wrong(role, path) for role, path in roles.items() if role not in ("rig", "number")]
-    return next(filter(None, found), "every file can be read, so the output failed: is the disk full, or the pipe closed?")
-
-
-def rig_wrong(roles):
-    name = roles.get("rig", "")
+def rig_wrong(name):
     if re.fullmatch("@0[0-9]+", name):
         return f"{name} is a file's name, since a number has no leading zeros"
-    if not name or re.fullmatch("@[0-9]+", name):
-        return "the simulated rig failed; its fault file was not given here"
-    return file_wrong("fault", name) or "the fault file can be read, so the rig itself failed"
-
-
-def line_of(data, number):
-    lines = data.decode("utf-8", "surrogateescape").split("\n")
-    return lines[number - 1] if 0 < number <= len(lines) else ""
+    wrong = None if re.fullmatch("@[0-9]+|", name) else file_wrong("fault", name)
+    return wrong or "no fault file is missing here, so the rig itself failed"
 
 
 def machine_limit(data):
     """Which limit the counts of a machine pass."""
     counts = [int(word) for word in re.findall(r"\b[0-9]+\b", re.sub("#.*", "", data.decode()))[1:13]]
-    m, c, h, t, p1, p2, p3, l0, l1, l2, l3, n = counts
-    found = {"tables": (m * c * h * t, texts.TABLE_LIMIT)}
-    found["wires"] = n + l0 + m * (p1 + l1 + c * (p2 + l2 + h * (p3 + l3 + 7 * t))), texts.WIRE_LIMIT
-    crosses = (n + m * p1) * l0 + m * ((p1 + c * p2) * l1 + c * ((p2 + h * p3) * l2 + h * (p3 + 7 * t) * l3))
-    found["crosspoints"] = crosses, texts.CROSS_LIMIT
-    passed = [f"{count:,} {name}, and at most {most:,} may be" for name, (count, most) in found.items() if count > most]
-    return "its counts give " + "; ".join(passed)
+    found = zip(("tables", "wires", "crosspoints"), texts.sizes_of(counts), texts.LIMITS)
+    return "its counts give " + "; ".join(f"{count:,} {name}, and at most {most:,} may be" for name, count, most in found if count > most)
 
 
 def vectors_width(line, roles, read):
@@ -120,7 +97,7 @@ def name_wrong(machine, words):
         if word not in machine.numbers and word not in machine.table_numbers:
             node, _, part = word.rpartition(".")
             last = [name for name in known if name.rpartition(".")[0] == node and name.rpartition(".")[2][:1] == part[:1]]
-            return f"`{word}` is no part of this machine" + (f"; the last of its kind there is {last[-1]}" if last else f", which has no node {node}")
+            return f"`{word}` is no part of this machine" + (f"; the last of its kind there is {last[-1]}" if last else f": no node {node}")
     if len(words) == 2 and machine.number("cross", words[::-1]) is not None:
         return f"the tap comes first and then the line: {words[1]} {words[0]}"
     return f"`{' '.join(words)}`: these have no crosspoint; a line is crossed by the taps of its own node"
@@ -128,7 +105,7 @@ def name_wrong(machine, words):
 
 def text_wrong(file, number, kind, roles):
     """What is wrong with a line of a text."""
-    role = "rig" if file == "faults" else file if file in roles else "design" if file in ("first", "second") else file
+    role = {"faults": "rig"}.get(file, file)
     if role not in roles:
         return f"give the {file} file after the line, to hear more of its line {number}"
 
@@ -136,29 +113,24 @@ def text_wrong(file, number, kind, roles):
         with open(roles[which], "rb") as found:
             return found.read()
 
-    line = line_of(read(role), number)
+    line = dict(enumerate(read(role).decode("utf-8", "surrogateescape").split("\n"), 1)).get(number, "")
     words = line.split("#")[0].split()
-    if kind == "limit":
-        return machine_limit(read(role)) if file == "machine" and number else f"more than {file} may hold (docs/FORMATS.md)"
-    if file == "vectors" and kind == "width":
-        return vectors_width(line, roles, read)
-    if "\r" in line and file == "defects":
-        return "the line ends with CR LF, as editors of Windows write it; a list of defects has LF alone: tr -d '\\r' < OLD > NEW"
-    if file == "defects" and kind == "word":
-        return f"`{line}` isn't spelled as a list of defects is: single blanks, no comments" + "; is this a fault file?" * (words[:1] != ["defects"])
-    if file == "defects" and kind == "machine":
-        return f"the list is for {' '.join(words[1:])}, and the machine {' '.join(map(str, texts.read_machine(read('machine')).counts))}"
-    if kind in ("wire", "cross", "name") and "machine" in roles:
-        return name_wrong(texts.read_machine(read("machine")), words[1:])
-    if file == "machine" and kind == "number":
-        return f"`{line.strip()}`: a count is from 1 to 65,535, without leading zeros"
-    return KINDS.get(kind, "see docs/FORMATS.md for this kind") + (f". The line: {line.strip()}" if line.strip() and file != "image" else "")
-
-
-def noroom(resource, node, need, have, *nets):
-    at = "the machine" if node == "r" else f"node {node}"
-    nets = f" (for the nets {' '.join(nets)})" if nets else ""
-    return f"{at} has {have} {resource} that serve, and the design's plan in order wants {need}{nets}; studies/size.py gives a machine with room"
+    match file, kind:
+        case "machine", "limit" if number:
+            return machine_limit(read(role))
+        case _, "limit":
+            return f"more than {file} may hold (docs/FORMATS.md)"
+        case "vectors", "width":
+            return vectors_width(line, roles, read)
+        case "defects", "word" if "\r" in line:
+            return "the line ends with CR LF, as editors of Windows write it; a list of defects has LF alone: tr -d '\\r' < OLD > NEW"
+        case "defects", "word":
+            return f"`{line}` isn't spelled as in a list of defects: single blanks, no comments" + "; is this a fault file?" * (number == 1)
+        case "defects", "machine":
+            return f"the list is for {' '.join(words[1:])}, the machine {' '.join(map(str, texts.read_machine(read('machine')).counts))}"
+        case _, "wire" | "cross" | "name" if "machine" in roles:
+            return name_wrong(texts.read_machine(read("machine")), words[1:])
+    return KINDS.get(kind, "see docs/FORMATS.md for this kind") + (f". The line: {line.strip()}" if words and file != "image" else "")
 
 
 def explain(line, words):
@@ -168,13 +140,15 @@ def explain(line, words):
         case ["refused", "words"]:
             return words_wrong(words)
         case ["refused", "store"]:
-            return store_wrong(roles)
+            found = filter(None, (file_wrong(role, path) for role, path in roles.items() if role not in ("rig", "number")))
+            return next(found, "every file can be read, so the output failed: is the disk full, or the pipe closed?")
         case ["refused", "rig"]:
-            return rig_wrong(roles)
-        case ["refused", "noroom", resource, node, need, have, *nets]:
-            return noroom(resource, node, need, have, *nets)
+            return rig_wrong(roles.get("rig", ""))
+        case ["refused", "noroom", resource, node, need, have, *_]:
+            where = "the machine" if node == "r" else f"node {node}"
+            return f"{where} has {have} {resource} that serve, the plan in order wants {need}; studies/size.py gives a machine with room"
         case ["refused", "memory"]:
-            return STATUSES["memory"]
+            return "memory was wanting: close what else runs, or take a smaller machine"
         case ["refused", file, number, kind, *_] if number.isdigit():
             return text_wrong(file, int(number), kind, roles)
     return "no line of a refusal; these begin with `refused`"

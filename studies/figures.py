@@ -23,12 +23,12 @@ DECIDED = ("0", "3", "wrong")
 LEVELS = ("root", "module", "chip", "hextant")
 # How each list is drawn, named, and modelled.
 STYLES = {
-    "exact": ("-", "o", "exact list", "every fault and nothing else is listed, as if it were known; compile, run"),
-    "diagnosed": ((0, (5, 2)), "s", "own diagnosis", "the list that diagnose makes from the pins; compile, run"),
+    "exact": ("-", "o", "exact list", "every fault and nothing else is listed; compile, run"),
+    "diagnosed": ((0, (5, 2)), "s", "own diagnosis", "the list of diagnose; compile, run"),
     "wires": ((0, (1, 1.5)), "^", "spare rows and columns", "of each faulty crosspoint its tap or line is given up, of each faulty table its output"),
-    "hextants": ("-.", "D", "whole hextants dropped", "a hextant with a fault in it is given up, above them the exact list"),
-    "none": ((0, (8, 2, 1, 2)), "x", "no list", "the design as it is, on an undiagnosed machine; right where its rows are"),
-    "triplicated": ((0, (3, 1, 1, 1)), "v", "three copies with voters", "a voter behind each latch of each copy and before each output; undiagnosed"),
+    "hextants": ("-.", "D", "whole hextants dropped", "a hextant with a fault is given up, above the exact list"),
+    "none": ((0, (8, 2, 1, 2)), "x", "no list", "the design as it is, undiagnosed; right where its rows are"),
+    "triplicated": ((0, (3, 1, 1, 1)), "v", "three copies with voters", "voters at latches and outputs, undiagnosed"),
 }
 
 
@@ -54,7 +54,7 @@ def split(rows, *columns):
     found = {}
     for row in rows:
         found.setdefault(tuple(row[column] for column in columns), []).append(row)
-    return dict(sorted(found.items(), key=lambda item: tuple(("", value) if isinstance(value, str) else (value or 0, "") for value in item[0])))
+    return dict(sorted(found.items(), key=lambda item: [value or 0 for value in item[0]]))
 
 
 def share(rows, holds=lambda row: row["status"] == "0"):
@@ -210,8 +210,8 @@ def against(rows, series, column):
     for names, part in split(rows, *series).items():
         points = {x: mean([row[column] for row in runs]) for (x,), runs in split(part, along).items()}
         table += [[*names, x, *point] for x, point in points.items()]
-        words = [STYLES[name][2] if column_ == "list" else f"rate {name:g}" if column_ == "rate" else name for column_, name in zip(series, names)]
-        curve(axes, points, points.values(), 0, ("-", next(marks)), label=", ".join(map(str, words)))
+        words = [f"rate {name:g}" if isinstance(name, float) else STYLES[name][2] if name in STYLES else name for name in names]
+        curve(axes, points, points.values(), 0, ("-", next(marks)), label=", ".join(words))
     axes.set(xlabel=label, yscale="log", **({"xscale": "log"} if len(sizes) > 1 else {}))
     return picture, axes, [*series, along, "mean", "low", "high", "count"], table
 
@@ -229,14 +229,13 @@ def seconds(rows, _):
 
 def loads(rows, per_second):
     """Loads of a diagnosis, and what they take on a machine of so many loads a second"""
-    rows = [row for row in diagnoses(rows, "loads") if row["loads"]]
+    rows = diagnoses(rows, "loads")
     if not rows:
         return nothing("no loads were told: build crates/teramac_report (rt run there) or name it by TERAMAC_REPORT"), ["rate"], []
-    several = len({row["crosspoints"] for row in rows}) > 1
-    picture, axes, columns, table = against(rows, ("kind", "rate") if several else ("machine", "kind"), "loads")
-    if several:
-        sizes = sorted({row["crosspoints"] for row in rows})
-        axes.plot(sizes, [16 * size for size in sizes], color="grey", linestyle=":", label="16 for each crosspoint (promised, with those of wires and tables)")
+    sizes = sorted({row["crosspoints"] for row in rows})
+    picture, axes, columns, table = against(rows, ("kind", "rate") if len(sizes) > 1 else ("machine", "kind"), "loads")
+    if len(sizes) > 1:
+        axes.plot(sizes, [16 * size for size in sizes], color="grey", linestyle=":", label="16 a crosspoint, of what is promised at most")
     axes.set_ylabel("loads (mean, bars: 95 %)")
     if per_second:
         right = axes.secondary_yaxis("right", functions=(lambda count: count / per_second, lambda time: time * per_second))
@@ -275,43 +274,36 @@ def redundancy(rows, _):
 
 def compare(rows, _):
     """Schemes on machines of one size: the share of runs that are right, by the rate of faults"""
-    rows = [row for row in rows if row["spare"] is not None]
+    largest = max(row["spare"] for row in rows)
     picture, parts = facets(rows, ("design", "kind"))
     table = []
     for axes, names, part in parts:
-        largest = max(row["spare"] for row in part)
-        for (kind,), runs in sorted(split(part, "list").items(), key=lambda item: list(STYLES).index(item[0][0])):
-            points = []
-            for (rate,), of_rate in split(runs, "rate").items():
-                by_spare = {spare: share(of) for (spare,), of in split(of_rate, "spare").items()}
-                sizes = {row["spare"]: row["crosspoints"] for row in of_rate}
-                enough = min((sizes[spare] for spare, point in by_spare.items() if point[0] >= 0.95), default=None)
-                closed = [row["closed"] for row in of_rate if row["closed"] and row["spare"] == largest]
-                used = [row["tables"] for row in of_rate if row["tables"] and row["spare"] == largest]
-                sums = [sum(found) / len(found) if found else "" for found in (used, closed)]
-                points.append((rate, by_spare[largest]))
-                table.append([*names, kind, rate, largest, sizes[largest], *by_spare[largest], enough or "", *sums, STYLES[kind][3]])
-            places = range(len(points))
-            curve(axes, places, [point for _, point in points], 0.04 * (list(STYLES).index(kind) - 2), STYLES[kind], label=STYLES[kind][2])
-            axes.set_xticks(list(places), [f"{rate:g}" for rate, _ in points])
+        for at, kind in enumerate(kind for kind in STYLES if any(row["list"] == kind for row in part)):
+            by_rate = split([row for row in part if row["list"] == kind], "rate")
+            for (rate,), runs in by_rate.items():
+                by_size = {size: share(of) for (size,), of in split(runs, "crosspoints").items()}
+                enough = next((size for size, point in by_size.items() if point[0] >= 0.95), "")
+                laid = [row for row in runs if row["closed"] and row["spare"] == largest]
+                used = [sum(row[name] for row in laid) / len(laid) if laid else "" for name in ("tables", "closed")]
+                table.append([*names, kind, rate, max(by_size), *by_size[max(by_size)], enough, *used, STYLES[kind][3]])
+            shares = [line[5:8] for line in table[-len(by_rate) :]]
+            curve(axes, range(len(shares)), shares, 0.04 * (at - 2), STYLES[kind], label=STYLES[kind][2])
+        axes.set_xticks(range(len(by_rate)), [f"{rate:g}" for (rate,) in by_rate])
         axes.set_xlabel(f"rate of faults; each kind of parts with {largest:.0%} to spare")
         of_shares(axes)
-    columns = ["design", "kind", "list", "rate", "spare", "crosspoints", *SHARE, "enough", "tables", "closed", "model"]
-    return picture, columns, table
+    return picture, ["design", "kind", "list", "rate", "crosspoints", *SHARE, "enough", "tables", "closed", "model"], table
 
 
 def compare_text(columns, table):
     """The table of schemes for reading, as Markdown."""
     rows = [dict(zip(columns, line)) for line in table]
     rates = sorted({row["rate"] for row in rows})
-    heads = [f"yield at {rate:g}" for rate in rates] + [f"crosspoints for 95 % at {rate:g}" for rate in rates]
+    heads = [f"Yield at {rate:g}" for rate in rates] + [f"Crosspoints for 95 % at {rate:g}" for rate in rates]
     lines = ["| Design, scheme | " + " | ".join(heads) + " | Tables, closed crosspoints | Modelled as |", "|---" * (len(heads) + 3) + "|"]
     for (design, kind), part in split(rows, "design", "list").items():
-        at = {row["rate"]: row for row in part}
-        cells = [f"{at[rate]['share']:.2f} ({at[rate]['low']:.2f}-{at[rate]['high']:.2f})" for rate in rates]
-        cells += [f"{at[rate]['enough']:,.0f}" if at[rate]["enough"] else "none tried" for rate in rates]
-        used = next(([row["tables"], row["closed"]] for row in part if row["tables"]), None)
-        cells.append("{:.0f}, {:.0f}".format(*used) if used else "-")
+        cells = ["{share:.2f} ({low:.2f}-{high:.2f})".format(**row) for row in part]
+        cells += [f"{row['enough']:,.0f}" if row["enough"] else "none tried" for row in part]
+        cells.append(next((f"{row['tables']:.0f}, {row['closed']:.0f}" for row in part if row["tables"]), "-"))
         lines.append(f"| {design}, {STYLES[kind][2]} | " + " | ".join([*cells, STYLES[kind][3]]) + " |")
     return "\n".join([*lines, ""])
 

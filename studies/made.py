@@ -25,7 +25,7 @@ def blif_text(design):
 
 
 def filling(tables, seed=1):
-    """A random design of so many tables, each of which feeds the next: covers of some inputs and tables just before, and last two latches."""
+    """A random design of so many tables, each of which feeds the next: covers of tables just before and some inputs, then two latches."""
     chance, inputs = random.Random(f"{tables} {seed}"), [f"x{k}" for k in range(INPUTS)]
     states = [f"s{k}" for k in range(LATCHES)]
     known, covers = [*inputs, *states], []

@@ -10,8 +10,8 @@ import os
 import re
 import subprocess
 import sys
+from collections import namedtuple
 from concurrent.futures import ThreadPoolExecutor
-from dataclasses import dataclass, field
 from pathlib import Path
 
 import yaml
@@ -30,19 +30,13 @@ KNOWN = {
 SCRIPTS = [os.path.join(HERE, name + ".py") for name in ("trial", "faults", "teramac_texts", "program", "made")]
 
 
-@dataclass
-class Trial:
-    """What one call of trial.py is given, and the files that it reads."""
-
-    words: list
-    inputs: list = field(default_factory=list)
+class Trial(namedtuple("Trial", "words inputs")):
+    """The words of one call of trial.py, and the files that it reads."""
 
     def key(self):
         """A sum of all that decides about its rows."""
-        found = hashlib.sha256("\n".join(self.words).encode())
-        for path in [*self.inputs, *SCRIPTS]:
-            found.update(hashlib.sha256(Path(path).read_bytes()).digest())
-        return found.hexdigest()
+        sums = [hashlib.sha256(Path(path).read_bytes()).hexdigest() for path in [*self.inputs, *SCRIPTS]]
+        return hashlib.sha256("\n".join([*self.words, *sums]).encode()).hexdigest()
 
 
 def names_of(paths):

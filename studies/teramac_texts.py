@@ -13,7 +13,7 @@ from dataclasses import dataclass
 from itertools import islice
 
 FILE_LIMIT = 16_777_216
-WIRE_LIMIT, CROSS_LIMIT, TABLE_LIMIT = 16_384, 4_194_304, 4_096
+LIMITS = 4_096, 16_384, 4_194_304  # tables, wires, crosspoints
 FAULT_LIMIT, CLOSED_LIMIT = 65_536, 1_048_576
 PARTS = ("wire", "cross", "table")
 LEVELS = ("root", "module", "chip", "hextant")
@@ -147,12 +147,17 @@ class Machine:
         return None if None in wires else self.cross(*wires) if kind == "cross" else wires[0]
 
 
-def are_within_limits(counts):
-    """Whether a machine may have these counts."""
+def sizes_of(counts):
+    """How many tables, wires and crosspoints these counts give."""
     m, c, h, t, p1, p2, p3, l0, l1, l2, l3, n = counts
     wires = n + l0 + m * (p1 + l1 + c * (p2 + l2 + h * (p3 + l3 + 7 * t)))
     crosses = (n + m * p1) * l0 + m * ((p1 + c * p2) * l1 + c * ((p2 + h * p3) * l2 + h * (p3 + 7 * t) * l3))
-    return m * c * h * t <= TABLE_LIMIT and wires <= WIRE_LIMIT and crosses <= CROSS_LIMIT
+    return m * c * h * t, wires, crosses
+
+
+def are_within_limits(counts):
+    """Whether a machine may have these counts."""
+    return all(count <= most for count, most in zip(sizes_of(counts), LIMITS))
 
 
 MACHINE_WORDS = {"teramac": 2, "modules": 2, "chips": 2, "hextants": 2, "tables": 2, "ports": 4, "lines": 5, "pins": 2, "end": 1}

@@ -32,7 +32,8 @@ SMALL = texts.Machine((1, 2, 2, 4, 20, 20, 20, 24, 24, 24, 24, 16))
 
 def rows_of(**columns):
     """Rows of a study: for each combination of the columns' lists one, other columns alike in all."""
-    rows = [{"machine": "m", "kind": "open", "design": "d", "list": "exact", "status": "0", "refusal": "", **dict.fromkeys(figures.NUMBERS, 1.0)}]
+    alike = {"machine": "m", "kind": "open", "design": "d", "list": "exact", "status": "0", "refusal": ""}
+    rows = [alike | dict.fromkeys(figures.NUMBERS, 1.0)]
     for column, values in columns.items():
         rows = [{**row, column: value} for row in rows for value in values]
     return rows
@@ -70,17 +71,13 @@ class Figures(unittest.TestCase):
             with self.assertRaisesRegex(SystemExit, "line 3: a run that ended with status 5"):
                 figures.read_rows(path)
 
-    def test_loads_that_were_not_told(self):
+    def test_axes_ticks_and_legends(self):
+        """What wasn't told is said; one machine is drawn against the rate; ticks are plain, and curves differ in the legend."""
         picture, _, _ = figures.loads(rows_of(list=["diagnosed"], loads=[None]), 0)
         self.assertIn("teramac_report", picture.axes[0].texts[0].get_text())
-
-    def test_one_machine_is_drawn_against_the_rate(self):
-        for crosspoints, label in ([[100.0], "rate of faults"], [[100.0, 200.0], "crosspoints of the machine"]):
-            rows = rows_of(list=["diagnosed"], crosspoints=crosspoints, rate=[0.1, 0.2])
-            picture, _, _ = figures.loads([{**row, "machine": row["crosspoints"]} for row in rows], 100)
-            self.assertEqual(picture.axes[0].get_xlabel(), label)
-
-    def test_ticks_and_legends_are_readable(self):
+        for machines, label in ((["1"], "rate of faults"), (["1", "2"], "crosspoints of the machine")):
+            rows = [{**row, "crosspoints": float(row["machine"])} for row in rows_of(list=["diagnosed"], machine=machines, rate=[0.1, 0.2])]
+            self.assertEqual(figures.loads(rows, 100)[0].axes[0].get_xlabel(), label)
         picture, _, _ = figures.thrown(rows_of(list=["diagnosed"], rate=[0.1, 0.2], thrown_wires=[2000.0]), 0)
         self.assertEqual([tick.get_text() for tick in picture.axes[0].get_yticklabels()], ["0", "1", "10", "100", "1,000", "10,000"])
         self.assertGreater(figures.plt.rcParams["legend.handlelength"], 3)
@@ -185,8 +182,8 @@ class Runs(unittest.TestCase):
         self.write(rates='["0.0", "0.02"]')
 
     def write(self, **more):
-        lines = {"folder": self.folder / "out", "machines": f"[{self.folder}/tiny.machine]", "kinds": "[open]", "seeds": "1", "lists": "[exact]"}
-        lines |= {"designs": f'{{"{self.folder}/and.blif": "{self.folder}/and.vec"}}', "figures": "[fits]", **more}
+        lines = {"folder": self.folder / "out", "machines": f"[{self.folder}/tiny.machine]", "kinds": "[open]", "seeds": "1"}
+        lines |= {"lists": "[exact]", "designs": f'{{"{self.folder}/and.blif": "{self.folder}/and.vec"}}', "figures": "[fits]", **more}
         self.settings.write_text("".join(f"{key}: {value}\n" for key, value in lines.items()))
 
     def study(self):
@@ -233,7 +230,8 @@ class Runs(unittest.TestCase):
                 (self.folder / name).write_text(f"#!/bin/sh\n{line}\n")
                 (self.folder / name).chmod(0o755)
             words = ["sh", os.path.join(HERE, "setup"), *lean.split()]
-            ran = subprocess.run(words, env={**os.environ, "PATH": f"{self.folder}:{os.environ['PATH']}"}, capture_output=True, text=True, check=True)
+            path = {**os.environ, "PATH": f"{self.folder}:{os.environ['PATH']}"}
+            ran = subprocess.run(words, env=path, capture_output=True, text=True, check=True)
             self.assertTrue(ran.stdout.splitlines()[1].startswith(said))
             self.assertEqual("snakemake" in ran.stdout, not lean)
 

@@ -12,9 +12,8 @@ others they end the script with status 1, and a study with it. So does an answer
 import argparse
 import csv
 import io
-import os
 import sys
-from collections import namedtuple
+from pathlib import Path
 
 import made
 import teramac_texts as texts
@@ -31,35 +30,25 @@ UNDIAGNOSED = ("none", "triplicated")
 NO_RUN = (1, 2, 4, 5)
 
 
-# A mix of faults: its name, the weight of each kind, and in clusters of which size and shape they lie, or None.
-Mix = namedtuple("Mix", "name weights clusters")
-
-
 def mix(word):
-    """The mix that a word says: `open`, `mixed:open+wires*0.1`, `rows:open in rows of 24`."""
+    """Name, weights of kinds, and clusters or none, of a mix: `open`, `mixed:open+wires*0.1`, `rows:open in rows of 24`."""
     name, colon, parts = word.rpartition(":")
     parts, lie, shape = parts.partition(" in ")
     shape, _, size = shape.partition(" of ")
     weights = {}
     try:
-        for part in parts.split("+"):
-            kind, star, weight = part.strip().partition("*")
+        for kind, star, weight in (part.strip().partition("*") for part in parts.split("+")):
             weights[kind] = float(weight) if star else 1.0
         clusters = (float(size), shape) if lie else None
     except ValueError as error:
         raise argparse.ArgumentTypeError(f"{word}: {error}") from error
     if not weights.keys() <= KINDS.keys() or min(weights.values()) <= 0 or (lie and shape not in SHAPES):
         raise argparse.ArgumentTypeError(f"{word}: kinds are {', '.join(KINDS)}, shapes {', '.join(SHAPES)}, a weight is above 0")
-    return Mix(name if colon else word, weights, clusters)
-
-
-def amounts_of(weights, rate):
-    """The amount of each kind at a rate: a share for each part by itself, or a count of all."""
-    return {kind: rate * weight if isinstance(rate, float) else round(rate * weight) for kind, weight in weights.items()}
+    return name if colon else word, weights, clusters
 
 
 def wires_list(machine, faults):
-    """Wires alone: of each faulty crosspoint its tap or its line, the one with the most of them first, and of each faulty table its output."""
+    """Wires alone: of each faulty crosspoint its tap or line, the one with the most of them first, and of each faulty table its output."""
     exact, listed, of = texts.exact_list(machine, faults), texts.Defects(), {}
     listed["wire"] = exact["wire"] | {machine.table_pins[table][6] for table in exact["table"]}
     for cross in exact["cross"]:
@@ -100,10 +89,12 @@ class Trial:
         self.args = args
         self.machine = texts.read_text(texts.read_machine, args.machine)
         name, weights, clusters = args.kind
-        amounts, clusters = amounts_of(weights, args.rate), clusters or (args.clustered, args.shape)
-        self.faults = make_faults(self.machine, amounts, args.seed, *clusters)
+        amounts = {kind: args.rate * weight for kind, weight in weights.items()}
+        if isinstance(args.rate, int):
+            amounts = {kind: round(count) for kind, count in amounts.items()}
+        self.faults = make_faults(self.machine, amounts, args.seed, *(clusters or (args.clustered, args.shape)))
         self.fault_text = texts.faults_text(self.machine, self.faults).encode()
-        given = (args.name or stem(args.machine), self.machine.sizes["cross"], name, args.rate, args.seed, self.faults.count)
+        given = (args.name or Path(args.machine).stem, self.machine.sizes["cross"], name, args.rate, args.seed, self.faults.count)
         self.head = dict(zip(COLUMNS, given)) | {"spare": args.spare}
 
     def call(self, *words):
@@ -115,15 +106,9 @@ class Trial:
 
     def row(self, design, kind, listed, answer, **more):
         """A row of the table about one design on one list."""
-        row = {
-            **self.head,
-            "design": design,
-            "list": kind,
-            "status": {-1: "cut off", -2: "wrong"}.get(answer.status, answer.status),
-            "refusal": " ".join(answer.refusal[1:4]),
-            "seconds": round(answer.seconds, 3),
-            **more,
-        }
+        status = {-1: "cut off", -2: "wrong"}.get(answer.status, answer.status)
+        row = {**self.head, "design": design, "list": kind, "status": status, "seconds": round(answer.seconds, 3), **more}
+        row["refusal"] = " ".join(answer.refusal[1:4])
         if listed:
             defects = texts.read_defects(self.machine, listed)
             thrown = texts.sound_listed(self.machine, self.faults, defects)
@@ -145,7 +130,7 @@ class Trial:
                 if not promised:
                     answer.status = -2
                     return answer
-                kept = f"wrong-{os.path.basename(design)}-{self.head['kind']}-{self.args.rate}-{self.args.seed}.faults"
+                kept = f"wrong-{Path(design).name}-{self.head['kind']}-{self.args.rate}-{self.args.seed}.faults"
                 texts.write_new(kept, self.fault_text)
                 sys.exit(f"{design}: the rows are not those of eval; the faults are in {kept}")
         return answer
@@ -202,24 +187,13 @@ class Trial:
         return self.row(name, "diagnosed", listed, answer, **more)
 
 
-def stem(path):
-    return os.path.splitext(os.path.basename(path))[0]
-
-
 def named_pair(word):
     """A design and its vectors with a name, as [NAME=]DESIGN:VECTORS."""
     name, _, rest = word.rpartition("=")
     design, colon, vectors = rest.partition(":")
     if not colon:
         raise argparse.ArgumentTypeError(f"{word}: not of the form DESIGN:VECTORS")
-    return name or stem(design), design, vectors
-
-
-def lists(word):
-    found = word.split(",")
-    if not set(found) <= set(LISTS):
-        raise argparse.ArgumentTypeError(f"{word}: not some of {', '.join(LISTS)}")
-    return found
+    return name or Path(design).stem, design, vectors
 
 
 def main():
@@ -231,7 +205,7 @@ def main():
     parser.add_argument("--rate", type=amount, required=True, help="their rate, as 0.01 or 1%%, or their number")
     add_clusters(parser)
     parser.add_argument("--seed", type=int, default=1, help="the fault set's seed (default: 1)")
-    parser.add_argument("--lists", type=lists, default=["exact", "diagnosed"], help=f"of {','.join(LISTS)} (default: exact,diagnosed)")
+    parser.add_argument("--lists", default="exact,diagnosed", help=f"of {','.join(LISTS)} (default: %(default)s)")
     parser.add_argument("--seconds", type=float, default=600, help="no call takes longer; it is cut off (default: 600)")
     parser.add_argument("--steps", action="store_true", help="one diagnose for all designs in place of one go for each")
     parser.add_argument("--report", default=REPORT, help="the built teramac_report, which tells loads; '' for none (default: %(default)s)")
@@ -240,6 +214,9 @@ def main():
     parser.add_argument("-o", "--output", default="-", help="a new file (default: standard output)")
     add_program(parser)
     args = parser.parse_args()
+    args.lists = args.lists.split(",")
+    if not set(args.lists) <= set(LISTS):
+        sys.exit(f"--lists: some of {', '.join(LISTS)}")
     try:
         rows = list(Trial(args).rows())
     except ValueError as error:
