@@ -6,6 +6,7 @@ import csv
 import math
 import os
 import sys
+import textwrap
 from collections import Counter
 from itertools import cycle
 
@@ -25,7 +26,7 @@ LEVELS = ("root", "module", "chip", "hextant")
 STYLES = {
     "exact": ("-", "o", "exact list", "every fault and nothing else is listed; compile, run"),
     "diagnosed": ((0, (5, 2)), "s", "own diagnosis", "the list of diagnose; compile, run"),
-    "wires": ((0, (1, 1.5)), "^", "spare rows and columns", "of each faulty crosspoint its tap or line is given up, of each faulty table its output"),
+    "wires": ((0, (1, 1.5)), "^", "spare rows and columns", "of a faulty crosspoint its tap or line is given up, of a table its output"),
     "hextants": ("-.", "D", "whole hextants dropped", "a hextant with a fault is given up, above the exact list"),
     "none": ((0, (8, 2, 1, 2)), "x", "no list", "the design as it is, undiagnosed; right where its rows are"),
     "triplicated": ((0, (3, 1, 1, 1)), "v", "three copies with voters", "voters at latches and outputs, undiagnosed"),
@@ -83,7 +84,8 @@ def facets(rows, columns=("machine", "kind")):
     for spare in axes.flat[len(parts) :]:
         spare.remove()
     for here, names in zip(axes.flat, parts):
-        here.set_title(", ".join(f"{name} faults" if column == "kind" else str(name) for column, name in zip(columns, names)), fontsize=10)
+        named = {"kind": lambda name: f"{name} faults", "list": lambda name: STYLES[name][2]}
+        here.set_title(", ".join(named.get(column, str)(name) for column, name in zip(columns, names)), fontsize=10)
     return picture, list(zip(axes.flat, parts, parts.values()))
 
 
@@ -95,16 +97,19 @@ def curve(axes, across, points, off, style, **more):
     axes.errorbar([x + off for x in across], values, bars, linestyle=line, marker=marker, markersize=4, capsize=2, linewidth=1.4, **more)
 
 
-def undecided_marks(axes, rows, column="rate"):
+def undecided_marks(axes, rows, places, column="rate"):
     """Runs that were cut off or found no memory, as a curve of their own."""
     parts = split(rows, column)
     if any(row["status"] in UNDECIDED for row in rows):
         marks = [sum(row["status"] in UNDECIDED for row in part) / len(part) for part in parts.values()]
-        axes.plot([key[0] for key in parts], marks, color="grey", marker="P", linestyle=":", label="undecided (cut off, no memory), left out")
+        places = places or [key[0] for key in parts]
+        axes.plot(places, marks, color="grey", marker="P", linestyle=":", label="undecided (cut off, no memory), left out")
 
 
-def of_shares(axes):
-    axes.set(ylim=(-0.04, 1.04), ylabel="share of runs (bars: 95 %, Wilson)")
+def of_shares(axes, rows, across, places=None, column="rate"):
+    """What all axes of shares have."""
+    undecided_marks(axes, rows, places, column)
+    axes.set(ylim=(-0.04, 1.04), xlabel=across, ylabel="share of runs (bars: 95 %, Wilson)")
     axes.legend(loc="best")
 
 
@@ -119,18 +124,16 @@ def fits(rows, _):
             points = {rate: share(of) for (rate,), of in split(runs, "rate").items()}
             table += [[*names, design, kind, rate, *point] for rate, point in points.items()]
             curve(axes, points, points.values(), shift * (k - 2), STYLES[kind], color=colours[design], label=f"{design}, {STYLES[kind][2]}")
-        undecided_marks(axes, part)
-        axes.set_xlabel("rate of faults")
-        of_shares(axes)
+        of_shares(axes, part, "rate of faults")
     return picture, ["machine", "kind", "design", "list", "rate", *SHARE], table
 
 
 def cause(row):
-    """What was short in a run that didn't fit: the resource, and the level of its node."""
+    """What was short in a run that didn't fit: the resource, and the level of its node; None where it fits."""
     _, resource, node = (row["refusal"].split() + ["", "", ""])[:3]
-    if resource in ("tables", "pins") or not node:
-        return resource or "unknown"
-    return f"{resource} of {LEVELS[node.count('.') + (node != 'r')]}s"
+    if row["status"] != "3" or resource in ("tables", "pins"):
+        return resource or None
+    return f"{resource} of the root" if node == "r" else f"{resource} of {LEVELS[node.count('.') + 1]}s"
 
 
 def why(rows, _):
@@ -139,25 +142,21 @@ def why(rows, _):
     shown = "diagnosed" if "diagnosed" in kinds else min(kinds)
     rows = [row for row in rows if row["list"] == shown]
     picture, parts = facets(rows, ("machine", "design", "kind"))
-    causes = [found for found, _ in Counter(cause(row) for row in rows if row["status"] == "3").most_common()]
-    colours, table = dict(zip(causes, cycle(plt.get_cmap("tab10").colors))), []
+    causes = [found for found, _ in Counter(map(cause, rows)).most_common() if found]
+    table = []
     for axes, names, part in parts:
         by_rate, below = split(part, "rate"), Counter()
-        gaps = sorted(rate for (rate,) in by_rate)
-        width = 0.8 * min((b - a for a, b in zip(gaps, gaps[1:])), default=0.01)
-        for found in causes:
-            for (rate,), runs in by_rate.items():
-                point = share(runs, lambda row, found=found: row["status"] == "3" and cause(row) == found)
+        for found, colour in zip(causes, cycle(plt.get_cmap("tab10").colors)):
+            for place, ((rate,), runs) in enumerate(by_rate.items()):
+                point = share(runs, lambda row, found=found: cause(row) == found)
                 table.append([*names, shown, rate, found, *point])
-                label = found if rate == gaps[0] else None
-                axes.bar(rate, point[0], width, bottom=below[rate], color=colours[found], edgecolor="white", linewidth=0.4, label=label)
+                axes.bar(place, point[0], 0.8, bottom=below[rate], color=colour, label="" if place else found)
                 below[rate] += 0 if math.isnan(point[0]) else point[0]
-        undecided_marks(axes, part)
+        undecided_marks(axes, part, range(len(by_rate)))
+        axes.set_xticks(range(len(by_rate)), [f"{rate:g}" for (rate,) in by_rate])
         axes.set(ylim=(0, 1.02), xlabel="rate of faults", ylabel=f"share of runs ({STYLES[shown][2]})")
-        if causes:
-            axes.legend(loc="upper left")
-        else:
-            axes.text(0.5, 0.5, "every run fits", ha="center", transform=axes.transAxes)
+    if causes:
+        parts[min(2, len(parts) - 1)][0].legend(loc="upper left", bbox_to_anchor=(1, 1))
     return picture, ["machine", "design", "kind", "list", "rate", "short", *SHARE], table
 
 
@@ -247,28 +246,22 @@ def loads(rows, per_second):
 
 def redundancy(rows, _):
     """What share of the machines has room, against what is to spare; grey: the crosspoints paid, of those of the least machine"""
-    rows = [row for row in rows if row["spare"] is not None]
-    if not rows:
-        return nothing("no row of these tells what was to spare"), ["design"], []
     picture, parts = facets(rows, ("design", "list", "kind"))
     table = []
     for axes, names, part in parts:
         sizes = {spare: runs[0]["crosspoints"] for (spare,), runs in split(part, "spare").items()}
-        least, right = sizes[min(sizes)], axes.twinx()
+        least, right = min(sizes.values()), axes.twinx()
         right.fill_between([100 * spare for spare in sizes], [size / least for size in sizes.values()], color="grey", alpha=0.15)
         right.set(ylim=(0, 1.15 * max(sizes.values()) / least), ylabel=f"crosspoints, of {least:,.0f}")
         right.grid(False)
         axes.set_zorder(right.get_zorder() + 1)
         axes.patch.set_visible(False)
-        shift = 100 * max(sizes) / 250
         for k, ((rate,), runs) in enumerate(split(part, "rate").items()):
             points = {spare: share(of) for (spare,), of in split(runs, "spare").items()}
             table += [[*names, rate, spare, sizes[spare], *point] for spare, point in points.items()]
-            style = ("-", "os^Dv"[k % 5])
-            curve(axes, [100 * spare for spare in points], points.values(), shift * (k - 1), style, color=f"C{k}", label=f"rate {rate:g}")
-        axes.set_title(f"{names[0]}, {STYLES[names[1]][2]}, {names[2]} faults", fontsize=10)
-        axes.set_xlabel("spare parts of each kind, of 100 that the plan wants")
-        of_shares(axes)
+            places = [100 * spare for spare in points]
+            curve(axes, places, points.values(), max(places) * (k - 1) / 250, ("-", "os^Dv"[k % 5]), color=f"C{k}", label=f"rate {rate:g}")
+        of_shares(axes, part, "spare parts of each kind, of 100 that the plan wants", places, "spare")
     return picture, ["design", "list", "kind", "rate", "spare", "crosspoints", *SHARE], table
 
 
@@ -289,8 +282,7 @@ def compare(rows, _):
             shares = [line[5:8] for line in table[-len(by_rate) :]]
             curve(axes, range(len(shares)), shares, 0.04 * (at - 2), STYLES[kind], label=STYLES[kind][2])
         axes.set_xticks(range(len(by_rate)), [f"{rate:g}" for (rate,) in by_rate])
-        axes.set_xlabel(f"rate of faults; each kind of parts with {largest:.0%} to spare")
-        of_shares(axes)
+        of_shares(axes, part, f"rate of faults; each kind of parts with {largest:.0%} to spare", range(len(by_rate)))
     return picture, ["design", "kind", "list", "rate", "crosspoints", *SHARE, "enough", "tables", "closed", "model"], table
 
 
@@ -316,18 +308,20 @@ def main():
     parser.add_argument("rows", help="the CSV of a study")
     parser.add_argument("--figures", default="fits,thrown,seconds,loads", help=f"of {','.join(FIGURES)} (default: %(default)s)")
     parser.add_argument("--folder", default=".", help="where fits.svg, fits.csv and the others are written (default: here)")
-    parser.add_argument("--loads-per-second", type=float, default=0, help="how many loads a machine takes in a second, for the time of a diagnosis")
+    parser.add_argument("--loads-per-second", type=float, default=0, help="of a machine, for the time of a diagnosis")
     parser.add_argument("--force", action="store_true", help="write over figures that stand there")
     args = parser.parse_args()
     rows, names = read_rows(args.rows), args.figures.split(",")
     if not set(names) <= FIGURES.keys():
         sys.exit(f"--figures: some of {', '.join(FIGURES)}")
+    if {"redundancy", "compare"} & set(names) and any(row["spare"] is None for row in rows):
+        sys.exit(f"{args.rows}: no rows of a study with spares, which redundancy and compare show")
     paths = {name: os.path.join(args.folder, name) for name in names}
     if not args.force and any(os.path.exists(path + end) for path in paths.values() for end in (".svg", ".csv")):
         sys.exit(f"{args.folder}: figures stand there already; nothing was written (--force writes over them)")
     for name, path in paths.items():
         picture, columns, table = FIGURES[name](rows, args.loads_per_second)
-        picture.suptitle(FIGURES[name].__doc__, fontsize=10)
+        picture.suptitle(textwrap.fill(FIGURES[name].__doc__, round(11 * picture.get_figwidth())), fontsize=10)
         picture.savefig(path + ".svg", metadata={"Date": None})
         plt.close(picture)
         with open(path + ".csv", "w", encoding="utf-8", newline="") as file:

@@ -12,6 +12,7 @@ import subprocess
 import sys
 from collections import namedtuple
 from concurrent.futures import ThreadPoolExecutor
+from functools import lru_cache
 from pathlib import Path
 
 import yaml
@@ -30,13 +31,18 @@ KNOWN = {
 SCRIPTS = [os.path.join(HERE, name + ".py") for name in ("trial", "faults", "teramac_texts", "program", "made")]
 
 
+@lru_cache(None)
+def sum_of(path):
+    """A sum of a file as it was when the study began."""
+    return hashlib.sha256(Path(path).read_bytes()).hexdigest()
+
+
 class Trial(namedtuple("Trial", "words inputs")):
     """The words of one call of trial.py, and the files that it reads."""
 
     def key(self):
         """A sum of all that decides about its rows."""
-        sums = [hashlib.sha256(Path(path).read_bytes()).hexdigest() for path in [*self.inputs, *SCRIPTS]]
-        return hashlib.sha256("\n".join([*self.words, *sums]).encode()).hexdigest()
+        return hashlib.sha256("\n".join([*self.words, *map(sum_of, self.inputs), *map(sum_of, SCRIPTS)]).encode()).hexdigest()
 
 
 def names_of(paths):
