@@ -17,7 +17,7 @@ import teramac_texts as texts
 import trial
 from explain import explain
 from faults import Places, largest_rate, make_faults
-from program import DEFAULT, HERE
+from program import DEFAULT, HERE, call
 from study import KNOWN, Study, names_of
 
 try:
@@ -37,6 +37,11 @@ def rows_of(**columns):
     for column, values in columns.items():
         rows = [{**row, column: value} for row in rows for value in values]
     return rows
+
+
+def run(command, script, *words, **more):
+    """What a script of this folder wrote, and its status."""
+    return subprocess.run([command, os.path.join(HERE, script), *words], capture_output=True, text=True, check=False, **more)
 
 
 @unittest.skipIf(figures is None, "matplotlib isn't there")
@@ -115,8 +120,7 @@ class Kinds(unittest.TestCase):
         self.assertLess(found[30], 1.4 * found[28])
 
     def test_help_and_the_largest_rate(self):
-        ran = subprocess.run([sys.executable, os.path.join(HERE, "faults.py"), "--help"], capture_output=True, text=True, check=True)
-        self.assertNotIn("%%", ran.stdout)
+        self.assertNotIn("%%", run(sys.executable, "faults.py", "--help").stdout)
         large = texts.Machine((2, 2, 4, 16, 32, 32, 32, 48, 48, 48, 48, 40))
         with self.assertRaisesRegex(ValueError, "65,536 in all; of open 0.[0-9]+ is the largest rate that fits"):
             make_faults(large, {"open": 0.9}, 1)
@@ -225,42 +229,42 @@ class Runs(unittest.TestCase):
 
     def test_setup(self):
         """With and without root; apt-get, sudo and id are stand-ins here."""
-        for user, lean, said in (("0", "--lean", "apt-get install"), ("1000", "", "sudo apt-get install")):
+        for user, lean, said in (("0", ["--lean"], "apt-get install"), ("1000", [], "sudo apt-get install")):
             for name, line in (("apt-get", 'echo "apt-get $*"'), ("sudo", 'echo "sudo $*"'), ("id", f"echo {user}")):
                 (self.folder / name).write_text(f"#!/bin/sh\n{line}\n")
                 (self.folder / name).chmod(0o755)
-            words = ["sh", os.path.join(HERE, "setup"), *lean.split()]
             path = {**os.environ, "PATH": f"{self.folder}:{os.environ['PATH']}"}
-            ran = subprocess.run(words, env=path, capture_output=True, text=True, check=True)
+            ran = run("sh", "setup", *lean, env=path)
             self.assertTrue(ran.stdout.splitlines()[1].startswith(said))
             self.assertEqual("snakemake" in ran.stdout, not lean)
 
     def test_used_nodes(self):
-        words = [sys.executable, os.path.join(HERE, "draw.py"), os.path.join(EXAMPLES, "tiny.machine"), "--level", "chip", "--used"]
-        for image, status in (([], 1), (["--image", os.path.join(EXAMPLES, "and.image")], 0)):
-            ran = subprocess.run([*words, *image], capture_output=True, text=True, check=False)
+        for image, status in (([], 1), (["--image", f"{EXAMPLES}/and.image"], 0)):
+            ran = run(sys.executable, "draw.py", f"{EXAMPLES}/tiny.machine", "--level", "chip", "--used", *image)
             self.assertEqual(ran.returncode, status)
 
     def test_explained(self):
-        machine, vectors = os.path.join(EXAMPLES, "tiny.machine"), self.folder / "w.vec"
-        vectors.write_text("101\n")
-        exchanged, ended = self.folder / "x.faults", self.folder / "x.defects"
-        exchanged.write_text("open r.l0 r.p0\n")
-        ended.write_bytes(Path(EXAMPLES, "tiny.defects").read_bytes().replace(b"\n", b"\r\n"))
-        large = self.folder / "large.machine"
-        large.write_text(Path(machine).read_text().replace("tables 2", "tables 5000"))
-        for line, words, said in (
-            ("refused vectors 1 width", [f"{EXAMPLES}/and.blif", vectors], "3 columns, and the design 2 inputs: a b"),
-            ("refused words", ["go", "x", "y"], "takes 4 words (MACHINE RIG DESIGN VECTORS), and 2 were given"),
-            ("refused store", ["run", machine, "none", "no.image", "no.vec"], "the image file no.image isn't there"),
-            ("refused store", ["diagnose", EXAMPLES, "@1"], "is a directory"),
-            ("refused rig", ["diagnose", machine, "no.faults"], "the fault file no.faults isn't there"),
-            ("refused machine 9 limit", [large], "5,000 tables, and at most 4,096"),
-            ("refused faults 1 cross", ["diagnose", machine, exchanged], "the tap comes first and then the line: r.p0 r.l0"),
-            ("refused defects 1 word", [machine, ended], "CR LF"),
-            ("refused noroom lines m0 3 2 0 1 2", [], "node m0 has 2 lines"),
+        """Of lines that the program itself writes."""
+        machine, design, defects = [f"{EXAMPLES}/{name}" for name in ("tiny.machine", "and.blif", "tiny.defects")]
+        wide, exchanged, ended, large = [str(self.folder / name) for name in ("w.vec", "x.faults", "x.defects", "large.machine")]
+        Path(wide).write_text("101\n")
+        Path(exchanged).write_text("open r.l0 r.p0\n")
+        Path(ended).write_bytes(Path(defects).read_bytes().replace(b"\n", b"\r\n"))
+        Path(large).write_text(Path(machine).read_text().replace("tables 2", "tables 5000"))
+        for words, said in (
+            (["eval", design, wide], "3 columns, and the design 2 inputs: a b"),
+            (["go", "x", "y"], "takes 4 words (MACHINE RIG DESIGN VECTORS), and 2 were given"),
+            (["run", machine, "@1", "no.image", "no.vec"], "the image file no.image isn't there"),
+            (["diagnose", EXAMPLES, "@1"], "is a directory"),
+            (["diagnose", machine, "no.faults"], "the fault file no.faults isn't there"),
+            (["diagnose", large, "@1"], "5,000 tables, and at most 4,096"),
+            (["diagnose", machine, exchanged], "the tap comes first and then the line: r.p0 r.l0"),
+            (["diagnose", machine, f"{EXAMPLES}/small.faults"], "is no part of this machine"),
+            (["compile", machine, ended, design], "CR LF"),
+            (["run", machine, "@1", defects, wide], "doesn't begin as an image"),
+            (["compile", machine, defects, f"{EXAMPLES}/lfsr.blif"], "the plan in order wants 10"),
         ):
-            self.assertIn(said, explain(line, list(map(str, words))))
+            self.assertIn(said, explain(" ".join(call(DEFAULT, *words).refusal), words))
 
 
 if __name__ == "__main__":
