@@ -130,6 +130,8 @@ class Places:
     def faults(self, kind, count):
         """A fault of a kind as `Faults.add` takes it, or of a broken wire several; none for a pair that isn't one."""
         at = self.part(KINDS[kind][0], count)
+        if kind in ("open", "closed"):
+            return [(kind, at, 1)]
         if kind == "broken":
             return [("open", cross, 1) for cross in self.broken(at)]
         if kind in ("cells", "registers"):

@@ -119,6 +119,12 @@ class Kinds(unittest.TestCase):
         self.assertLess(found[31], 1.25 * found[30])
         self.assertLess(found[30], 1.4 * found[28])
 
+    def test_seeds_give_what_they_gave(self):
+        machine = texts.read_text(texts.read_machine, f"{EXAMPLES}/uart.machine")
+        amounts = {"open": 0.001, "closed": 1, "wires": 1, "cells": 1, "registers": 1, "bridges": 1}
+        found = texts.faults_text(machine, make_faults(machine, amounts, 3))
+        self.assertEqual(found, Path(EXAMPLES, "uart.faults").read_text(encoding="utf-8"))
+
     def test_help_and_the_largest_rate(self):
         self.assertNotIn("%%", run(sys.executable, "faults.py", "--help").stdout)
         large = texts.Machine((2, 2, 4, 16, 32, 32, 32, 48, 48, 48, 48, 40))
