@@ -136,7 +136,7 @@ class Study:
                 for rate in self.settings["rates"]:
                     for seed in range(first, first + self.settings["seeds"]):
                         words = [machine, *pairs, "--name", name, *spared, "--kind", kind, "--rate", str(rate), "--seed", str(seed), *more]
-                        yield f"{name}-{re.sub('[^a-z0-9.*+]+', '_', kind)}-{rate}-{seed}", Trial(words, inputs)
+                        yield f"{name}-{re.sub('[^a-z0-9.]+', '_', kind)}-{rate}-{seed}", Trial(words, inputs)
 
     def path(self, name):
         return os.path.join(self.folder, "trials", name + ".csv")

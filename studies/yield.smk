@@ -4,6 +4,7 @@ What is to be run, and all files that a trial reads, is said by study.py; a chan
 """
 
 import os
+import shlex
 import sys
 
 sys.path.insert(0, os.path.dirname(os.path.abspath(workflow.snakefile)))
@@ -16,7 +17,7 @@ OUT = STUDY.folder
 rule figures:
     input: f"{OUT}/rows.csv", f"{HERE}/figures.py"
     output: [f"{OUT}/{name}.svg" for name in STUDY.figures]
-    params: STUDY.figure_words()
+    params: shlex.join(STUDY.figure_words())
     shell: "{sys.executable} {HERE}/figures.py {input[0]} {params}"
 
 
@@ -29,5 +30,5 @@ rule table:
 rule trial:
     input: lambda found: [*STUDY.trials[found.name].inputs, *SCRIPTS]
     output: OUT + "/trials/{name}.csv"
-    params: lambda found: STUDY.trials[found.name].words
-    shell: "{sys.executable} {HERE}/trial.py {params:q} -o {output:q}"
+    params: lambda found: shlex.join(STUDY.trials[found.name].words)
+    shell: "{sys.executable} {HERE}/trial.py {params} -o {output:q}"
