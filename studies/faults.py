@@ -81,18 +81,20 @@ class Places:
             if 0 <= found < parts:
                 return found
 
+    def middle(self, group):
+        """What a new cluster lies around: a part, or a hextant."""
+        return self.chance.choice(self.hextants) if self.shape == "hextants" else self.chance.randrange(self.machine.sizes[group])
+
     def part(self, group, count):
         """A wire, crosspoint or table, of so many faults."""
-        parts = self.machine.sizes[group]
         if not self.clustered:
-            return self.chance.randrange(parts)
-        clusters = max(1, round(count / self.clustered))
-        inside = self.shape == "hextants"
-        draw = (lambda: self.chance.choice(self.hextants)) if inside else (lambda: self.chance.randrange(parts))
-        middle = self.chance.choice(self.middles.setdefault(group, [draw() for _ in range(clusters)]))
-        if inside:
+            return self.chance.randrange(self.machine.sizes[group])
+        if group not in self.middles:
+            self.middles[group] = [self.middle(group) for _ in range(max(1, round(count / self.clustered)))]
+        middle = self.chance.choice(self.middles[group])
+        if self.shape == "hextants":
             return self.inside(middle, group)
-        return self.crosspoint(middle) if group == "cross" else self.near(parts, middle, self.clustered)
+        return self.crosspoint(middle) if group == "cross" else self.near(self.machine.sizes[group], middle, self.clustered)
 
     def inside(self, node, group):
         """A part of a hextant."""
@@ -154,10 +156,14 @@ def make_faults(machine, amounts, seed, clustered=0, shape="spots"):
             rate = f"; of {kind} {largest_rate(room, parts):.4f} is the largest rate that fits" if isinstance(wanted, float) else ""
             raise ValueError(f"{kind}: {count} faults, and a fault file holds at most {texts.FAULT_LIMIT:,} in all{rate}")
         for _ in range(count):
-            # What stands there already or against another is drawn anew.
-            drawn = (places.faults(kind, count) for _ in range(TRIES))
-            if not any([faults.add(*fault) is None for fault in group].count(True) for group in drawn):
-                raise ValueError(f"{kind}: {count} are too many for this machine" + (" in clusters so dense" if clustered else ""))
+            # What stands there already or against another is drawn anew; where clusters seem to be full, one more is begun.
+            for tried in range(TRIES):
+                if [faults.add(*fault) is None for fault in places.faults(kind, count)].count(True):
+                    break
+                if clustered and tried % 100 == 99:
+                    places.middles[KINDS[kind][0]].append(places.middle(KINDS[kind][0]))
+            else:
+                raise ValueError(f"{kind}: {count} are too many for this machine")
             if faults.count > texts.FAULT_LIMIT:
                 raise ValueError(f"{kind}: so many wires open more crosspoints than the {texts.FAULT_LIMIT:,} faults of a file")
     return faults

@@ -1,7 +1,6 @@
 """Tests of studies and their figures: python3 -m unittest. Those of figures want matplotlib, some the built program."""
 
 import argparse
-import csv
 import os
 import random
 import subprocess
@@ -68,11 +67,8 @@ class Figures(unittest.TestCase):
 
     def test_a_run_that_was_none_stops_the_figures(self):
         with tempfile.TemporaryDirectory() as folder:
-            path = os.path.join(folder, "rows.csv")
-            with open(path, "w", encoding="utf-8", newline="") as file:
-                writer = csv.DictWriter(file, list(rows_of()[0]))
-                writer.writeheader()
-                writer.writerows(rows_of(status=["0", "5"]))
+            path = Path(folder, "rows.csv")
+            path.write_text("machine,kind,rate,design,list,status\nm,open,0,d,exact,0\nm,open,0,d,exact,5\n", encoding="utf-8")
             with self.assertRaisesRegex(SystemExit, "line 3: a run that ended with status 5"):
                 figures.read_rows(path)
 
