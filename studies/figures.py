@@ -282,7 +282,7 @@ def compare(rows, _):
             shares = [line[5:8] for line in table[-len(by_rate) :]]
             curve(axes, range(len(shares)), shares, 0.04 * (at - 2), STYLES[kind], label=STYLES[kind][2])
         axes.set_xticks(range(len(by_rate)), [f"{rate:g}" for (rate,) in by_rate])
-        of_shares(axes, part, f"rate of faults; each kind of parts with {largest:.0%} to spare", range(len(by_rate)))
+        of_shares(axes, part, f"rate of faults; machines of {max(by_size):,.0f} crosspoints", range(len(by_rate)))
     return picture, ["design", "kind", "list", "rate", "crosspoints", *SHARE, "enough", "tables", "closed", "model"], table
 
 

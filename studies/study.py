@@ -97,14 +97,19 @@ class Study:
         return str(path)
 
     def sized(self, blif, name):
-        """For each share of spare parts a machine of the design, all on one tree: that of the settings, or the best without any."""
-        network = designs.plain_network(checked_design(self.program, blif))
+        """For each share of spare parts a machine of the design, all on one tree: that of the settings, or the best without any.
+
+        `three` is what three copies with voters want, and a quarter more.
+        """
+        design = checked_design(self.program, blif)
+        network, three = map(designs.plain_network, (design, made.triplicated(design)))
         tree = self.settings.get("tree") or best_machine(network, TREES, 0.0).counts[:3]
         for spare in self.settings["spares"]:
-            counts = counts_for(network, tree, spare)
+            counts = counts_for(three, tree, 0.25) if spare == "three" else counts_for(network, tree, spare)
             if not texts.are_within_limits(counts):
-                sys.exit(f"{blif}: with {spare:.0%} to spare the machine is beyond its limits")
-            yield spare, self.made_file(f"{name}-spare{round(100 * spare)}.machine", texts.Machine(counts).text)
+                sys.exit(f"{blif}: with {spare} to spare the machine is beyond its limits")
+            machine, share = texts.Machine(counts), 1.25 * len(three.tables) / len(network.tables) - 1 if spare == "three" else spare
+            yield share, self.made_file(f"{name}-spare{round(100 * share)}.machine", machine.text)
 
     def filled(self, machine, name):
         """The designs that fill shares of a machine's tables."""
