@@ -57,11 +57,6 @@ def count_of(wanted, parts, chance):
         found += 1
 
 
-def places_for(machine, kind):
-    """In how many places of a machine a fault of a kind may be."""
-    return machine.sizes[KINDS[kind][0]] * PLACES.get(kind, 1)
-
-
 def largest_rate(room, parts):
     """The rate at which of so many parts nearly never (once in 30,000 draws) more than `room` are faulty."""
     return min(1.0, (math.sqrt(room + 4) - 2) ** 2 / parts)
@@ -150,7 +145,7 @@ def make_faults(machine, amounts, seed, clustered=0, shape="spots"):
     chance, faults = random.Random(seed), texts.Faults()
     places = Places(machine, chance, clustered, shape)
     for kind, wanted in amounts.items():
-        parts, room = places_for(machine, kind), texts.FAULT_LIMIT - faults.count
+        parts, room = machine.sizes[KINDS[kind][0]] * PLACES.get(kind, 1), texts.FAULT_LIMIT - faults.count
         count = count_of(wanted, parts, chance)
         if count > room:
             rate = f"; of {kind} {largest_rate(room, parts):.4f} is the largest rate that fits" if isinstance(wanted, float) else ""

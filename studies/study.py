@@ -13,6 +13,7 @@ import sys
 from collections import namedtuple
 from concurrent.futures import ThreadPoolExecutor
 from functools import lru_cache
+from itertools import product
 from pathlib import Path
 
 import yaml
@@ -133,15 +134,15 @@ class Study:
         more = ["--lists", ",".join(get("lists", ["exact", "diagnosed"])), "--seconds", str(get("seconds", 600))]
         more += ["--clustered", str(get("clustered", 0)), "--shape", get("shape", "spots"), "--program", self.program, "--report", REPORT]
         more += ["--steps"] * bool(get("steps", True))
-        for name, machine, spare, listed in self.on_machines():
-            pairs = [f"{design}={blif}:{vectors}" for design, (blif, vectors) in listed.items()]
-            inputs = [self.program, machine, *(file for pair in listed.values() for file in pair), *([REPORT] if REPORT else [])]
-            spared = [] if spare is None else ["--spare", str(spare)]
-            for kind in self.settings["kinds"]:
-                for rate in self.settings["rates"]:
-                    for seed in range(first, first + self.settings["seeds"]):
-                        words = [machine, *pairs, "--name", name, *spared, "--kind", kind, "--rate", str(rate), "--seed", str(seed), *more]
-                        yield f"{name}-{re.sub('[^a-z0-9.]+', '_', kind)}-{rate}-{seed}", Trial(words, inputs)
+        places = list(self.on_machines())
+        # Seed by seed, so that one can see early how a study comes out.
+        for seed in range(first, first + self.settings["seeds"]):
+            for (name, machine, spare, listed), kind, rate in product(places, self.settings["kinds"], self.settings["rates"]):
+                pairs = [f"{design}={blif}:{vectors}" for design, (blif, vectors) in listed.items()]
+                inputs = [self.program, machine, *(file for pair in listed.values() for file in pair), *([REPORT] if REPORT else [])]
+                spared = [] if spare is None else ["--spare", str(spare)]
+                words = [machine, *pairs, "--name", name, *spared, "--kind", kind, "--rate", str(rate), "--seed", str(seed), *more]
+                yield f"{name}-{re.sub('[^a-z0-9.]+', '_', kind)}-{rate}-{seed}", Trial(words, inputs)
 
     def path(self, name):
         return os.path.join(self.folder, "trials", name + ".csv")

@@ -221,7 +221,9 @@ class Runs(unittest.TestCase):
         other.mkdir()
         (other / "tiny.machine").write_bytes((self.folder / "tiny.machine").read_bytes())
         self.write(machines=f"[{self.folder}/tiny.machine, {other}/tiny.machine]", rates='["0.0"]')
-        self.assertEqual(len(Study(str(self.settings), DEFAULT).trials), 2)
+        trials = Study(str(self.settings), DEFAULT).trials
+        self.assertEqual(len(trials), 2)
+        self.assertTrue(all(os.path.abspath(DEFAULT) in found.inputs for found in trials.values()))
 
     def test_settings_are_documented(self):
         text = Path(HERE, "README.md").read_text(encoding="utf-8")

@@ -1,12 +1,9 @@
 #!/usr/bin/env python3
-"""One machine with one set of faults; on each of some lists every design. Writes rows of CSV.
+"""One machine with one set of faults; on each of some lists every design. Writes rows of CSV (README.md says what of each list).
 
-By the exact list a design is compiled and run. By the tool's own diagnosis it goes through the command go or, with --steps,
-through diagnose (once for all designs), compile and run, which is what go does. By the lists of other schemes it is compiled and
-run too: `wires` retires a wire for each faulty crosspoint and table (spare rows and columns), `hextants` drops each hextant that
-has a fault, and above them has the exact list; `none` lists nothing, and `triplicated` neither, for a design in three copies
-with voters. Every run's rows are compared with eval's; by the last two lists rows that differ are a run that went wrong, by the
-others they end the script with status 1, and a study with it. So does an answer of status 1, 2, 4 or 5: a run that was never one.
+By the tool's own diagnosis a design goes through the command go or, with --steps, through diagnose (once for all designs), compile
+and run, which is what go does; by other lists through compile and run. Every run's rows are compared with eval's. An answer of
+status 1, 2, 4 or 5 was never a run, and ends the script with status 1, as do rows that differ where a list was made.
 """
 
 import argparse
