@@ -252,7 +252,7 @@ def redundancy(rows, _):
         sizes = {spare: runs[0]["crosspoints"] for (spare,), runs in split(part, "spare").items()}
         least, right = min(sizes.values()), axes.twinx()
         right.fill_between([100 * spare for spare in sizes], [size / least for size in sizes.values()], color="grey", alpha=0.15)
-        right.set(ylim=(0, 1.15 * max(sizes.values()) / least), ylabel=f"crosspoints, of {least:,.0f}")
+        right.set(ylim=(0, 1.15 * max(sizes.values()) / least), ylabel=f"crosspoints, in times {least:,.0f}")
         right.grid(False)
         axes.set_zorder(right.get_zorder() + 1)
         axes.patch.set_visible(False)
