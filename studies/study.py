@@ -60,7 +60,7 @@ class Study:
     """The trials of some settings by their names."""
 
     def __init__(self, path, program=None, folder=None):
-        path = path if os.path.exists(path) else os.path.join(HERE, path + ".yaml")
+        path = path if os.path.isfile(path) else os.path.join(HERE, path + ".yaml")
         try:
             with open(path, encoding="utf-8") as file:
                 self.settings = yaml.safe_load(file)
