@@ -170,7 +170,7 @@ def nothing(title):
     """A picture that says why it shows nothing."""
     picture, axes = plt.subplots(figsize=(7.2, 4.4))
     axes.axis("off")
-    axes.text(0.5, 0.5, title, ha="center", va="center", fontsize=13)
+    axes.text(0.5, 0.5, textwrap.fill(title, 50), ha="center", va="center", fontsize=12)
     return picture
 
 
@@ -292,7 +292,7 @@ def compare_text(columns, table):
     rates = sorted({row["rate"] for row in rows})
     heads = [f"Yield at {rate:g}" for rate in rates] + [f"Crosspoints for 95 % at {rate:g}" for rate in rates]
     lines = ["| Design, scheme | " + " | ".join(heads) + " | Tables, closed crosspoints | Modelled as |", "|---" * (len(heads) + 3) + "|"]
-    for (design, kind), part in split(rows, "design", "list").items():
+    for (design, kind), part in sorted(split(rows, "design", "list").items(), key=lambda item: (item[0][0], [*STYLES].index(item[0][1]))):
         cells = ["{share:.2f} ({low:.2f}-{high:.2f})".format(**row) for row in part]
         cells += [f"{row['enough']:,.0f}" if row["enough"] else "none tried" for row in part]
         cells.append(next((f"{row['tables']:.0f}, {row['closed']:.0f}" for row in part if row["tables"]), "-"))
@@ -321,7 +321,7 @@ def main():
         sys.exit(f"{args.folder}: figures stand there already; nothing was written (--force writes over them)")
     for name, path in paths.items():
         picture, columns, table = FIGURES[name](rows, args.loads_per_second)
-        picture.suptitle(textwrap.fill(FIGURES[name].__doc__, round(11 * picture.get_figwidth())), fontsize=10)
+        picture.suptitle(textwrap.fill(FIGURES[name].__doc__, round(13 * picture.get_figwidth())), fontsize=10)
         picture.savefig(path + ".svg", metadata={"Date": None})
         plt.close(picture)
         with open(path + ".csv", "w", encoding="utf-8", newline="") as file:
