@@ -68,11 +68,16 @@ def share(rows, holds=lambda row: row["status"] == "0"):
 SHARE = ["share", "low", "high", "runs", "undecided"]
 
 
+# Student's quantiles for 1 to 8 degrees of freedom.
+STUDENT = (12.71, 4.303, 3.182, 2.776, 2.571, 2.447, 2.365, 2.306)
+
+
 def mean(values):
-    """The mean with its interval of 95 % by the normal law, and how many there are."""
-    middle, count = sum(values) / len(values), len(values)
-    half = 1.96 * math.sqrt(sum((value - middle) ** 2 for value in values) / max(1, count - 1) / count)
-    return [middle, max(0.0, middle - half), middle + half, count]
+    """The mean with its interval of 95 % by Student's law, and how many there are."""
+    middle, free = sum(values) / len(values), max(1, len(values) - 1)
+    quantile = STUDENT[free - 1] if free <= len(STUDENT) else 1.96 + 2.6 / free
+    half = quantile * math.sqrt(sum((value - middle) ** 2 for value in values) / free / len(values))
+    return [middle, max(0.0, middle - half), middle + half, len(values)]
 
 
 def facets(rows, columns=("machine", "kind")):

@@ -84,6 +84,10 @@ class Figures(unittest.TestCase):
         self.assertGreater(figures.plt.rcParams["legend.handlelength"], 3)
         self.assertEqual(len({style[1] for style in figures.STYLES.values()}), len(trial.LISTS))
 
+    def test_means(self):
+        self.assertEqual(figures.mean([5.0, 5.0, 5.0]), [5, 5, 5, 3])
+        self.assertAlmostEqual(figures.mean([1.0, 2.0, 3.0])[2], 2 + 4.303 / 3**0.5, 3)
+
     def test_why(self):
         rows = rows_of(status=["3"], refusal=["noroom lines m0.c1", "noroom lines m1.c0", "noroom tables r", "noroom ports m0"])
         _, columns, table = figures.why(rows, 0)
