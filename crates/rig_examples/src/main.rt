@@ -7,46 +7,57 @@
 use board_rig::BoardRig;
 use cycle_sim::SimRig;
 use doubled_rig::{RepeatRig, TwinRig};
-use port_board::{FilePort, Port, PortBoard};
-use rig::{FlakyRig, LogRig, Rig};
+use port_board::{FilePort, PortBoard};
+use rig::Rig;
 use std::alloc::Global;
 use std::process::ExitCode;
 use std::rt::Env;
 use std::{env, fs, io};
 use tera_top::teramac;
-use tm_outside::{FileStore, StdSink};
+use tm_outside::{File, FileStore, MemoryStore, StdSink};
 use turn_rig::TurnRig;
 
-// A simulated rig over files.
-fn sim_of(rt: &HostRuntime) -> io::Result<SimRig<FileStore<HostRuntime>>> {
-    let alloc: Global = rt.alloc();
-    Ok(SimRig::new(alloc, FileStore::new(alloc, rt.clone()?)))
+/// The fault texts that simulated rigs find, by name.
+const FAULTS: [(&str, &str); 5] = [
+    ("none", ""),
+    ("2xnone", ""),
+    ("3xnone", ""),
+    ("stuck", "stuck0 r.l0\n"),
+    ("wrong", "stuck2 r.l0\n"),
+];
+
+// A simulated rig.
+fn sim_of(alloc: Global) -> io::Result<SimRig<MemoryStore>> {
+    let mut files = Vec::new(alloc);
+    for (name, text) in FAULTS {
+        files.push(File {
+            name: String::from_str(alloc, name)?,
+            bytes: Vec::from_slice(alloc, text.as_bytes())?,
+        })?;
+    }
+    Ok(SimRig::new(alloc, MemoryStore::new(alloc, files, Vec::new(alloc))))
 }
 
-// A rig that asks again, over one that turns the reading of a number and fails at the call of a number.
-fn repeat_of(rt: &HostRuntime, turned: u64, failing: u64) -> io::Result<Box<dyn Rig>> {
-    let alloc: Global = rt.alloc();
-    let sim = SimRig::new(alloc, FileStore::new(alloc, rt.clone()?));
-    let mut fails = Vec::new(alloc);
-    fails.push(failing)?;
-    let inner = FlakyRig::new(alloc, TurnRig::new(sim, turned), fails);
-    let rig: Box<dyn Rig> = Box::new(alloc, LogRig::new(RepeatRig::new(alloc, inner)))?;
+// A rig that asks again, over one that turns the reading of a number.
+fn repeat_of(alloc: Global, turned: u64) -> io::Result<Box<dyn Rig>> {
+    let inner = TurnRig::new(sim_of(alloc)?, turned);
+    let rig: Box<dyn Rig> = Box::new(alloc, RepeatRig::new(alloc, inner))?;
     Ok(rig)
 }
 
 // Two rigs side by side, the second under this name.
-fn twin_of(rt: &HostRuntime, name: &str) -> io::Result<Box<dyn Rig>> {
-    let alloc: Global = rt.alloc();
+fn twin_of(alloc: Global, name: &str) -> io::Result<Box<dyn Rig>> {
     let name = String::from_str(alloc, name)?;
-    let twin = TwinRig::new(alloc, sim_of(rt)?, sim_of(rt)?, name);
-    let rig: Box<dyn Rig> = Box::new(alloc, LogRig::new(twin))?;
+    let twin = TwinRig::new(alloc, sim_of(alloc)?, sim_of(alloc)?, name);
+    let rig: Box<dyn Rig> = Box::new(alloc, twin)?;
     Ok(rig)
 }
 
-// A machine behind a port.
-fn port_of<P: Port + 'static>(alloc: Global, port: P) -> io::Result<Box<dyn Rig>> {
-    let board = PortBoard::new(alloc, port);
-    let rig: Box<dyn Rig> = Box::new(alloc, LogRig::new(BoardRig::new(alloc, board)))?;
+// A machine behind files.
+fn port_of(rt: &HostRuntime) -> io::Result<Box<dyn Rig>> {
+    let alloc: Global = rt.alloc();
+    let board = PortBoard::new(alloc, FilePort::new(alloc, rt.clone()?));
+    let rig: Box<dyn Rig> = Box::new(alloc, BoardRig::new(alloc, board))?;
     Ok(rig)
 }
 
@@ -57,16 +68,16 @@ fn number_of(word: &str) -> u64 {
 
 // The rig of a case, and how many words say it.
 fn rig_of(rt: &HostRuntime, words: &[String]) -> io::Result<Option<(Box<dyn Rig>, usize)>> {
+    let alloc: Global = rt.alloc();
     match words {
-        [kind, turned, failing, ..] if kind.as_str() == "repeat" => {
-            let rig = repeat_of(rt, number_of(turned.as_str()), number_of(failing.as_str()))?;
-            Ok(Some((rig, 3)))
+        [kind, turned, ..] if kind.as_str() == "repeat" => {
+            Ok(Some((repeat_of(alloc, number_of(turned.as_str()))?, 2)))
         }
-        [kind, ..] if kind.as_str() == "port" => {
-            let alloc: Global = rt.alloc();
-            Ok(Some((port_of(alloc, FilePort::new(alloc, rt.clone()?))?, 1)))
-        },
-        [kind, name, ..] if kind.as_str() == "twin" => Ok(Some((twin_of(rt, name.as_str())?, 2))),
+        [kind, name, ..] if kind.as_str() == "twin" => Ok(Some((
+            twin_of(alloc, name.as_str())?,
+            2,
+        ))),
+        [kind, ..] if kind.as_str() == "port" => Ok(Some((port_of(rt)?, 1))),
         _ => Ok(None),
     }
 }
