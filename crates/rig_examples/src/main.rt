@@ -4,6 +4,8 @@
 //! what the command wrote and its status.
 #![tactic(auto)]
 
+ghost use Rattle.std.specs.Prelude.{◌≡◌, None, IfOk};
+
 use board_rig::BoardRig;
 use cycle_sim::SimRig;
 use doubled_rig::{RepeatRig, TwinRig};
@@ -26,8 +28,10 @@ const FAULTS: [(&str, &str); 5] = [
     ("wrong", "stuck2 r.l0\n"),
 ];
 
-// A simulated rig.
-fn sim_of(alloc: Global) -> io::Result<SimRig<MemoryStore>> {
+// A simulated rig, in no session.
+fn sim_of(alloc: Global) -> io::Result<SimRig<MemoryStore>>
+    ensures { IfOk result (λ rig. (⟦<SimRig<MemoryStore> as Rig>⟧.rig_state rig).session ≡ None) }
+{
     let mut files = Vec::new(alloc);
     for (name, text) in FAULTS {
         files.push(File {
@@ -43,22 +47,16 @@ fn number_of(word: &str) -> u64 {
     word.parse::<u64>().unwrap_or(0)
 }
 
-// Runs a command over this rig, and prints its status.
-fn answer(rt: &HostRuntime, rig: &mut Box<dyn Rig>, words: &[String]) -> io::Result<bool> {
-    let alloc: Global = rt.alloc();
-    let mut store = FileStore::new(alloc, rt.clone()?);
-    let mut sink = StdSink::new(rt.clone()?);
-    let status = teramac(alloc, words, &mut store, rig, &mut sink);
-    println!(rt; "status {status}")?;
-    Ok(true)
-}
-
 // Over a rig that asks again, over one that turns the reading of a number.
 fn try_repeat(rt: &HostRuntime, turned: &str, words: &[String]) -> io::Result<bool> {
     let alloc: Global = rt.alloc();
     let inner = TurnRig::new(sim_of(alloc)?, number_of(turned));
     let mut rig: Box<dyn Rig> = Box::new(alloc, RepeatRig::new(alloc, inner))?;
-    answer(rt, &mut rig, words)
+    let mut store = FileStore::new(alloc, rt.clone()?);
+    let mut sink = StdSink::new(rt.clone()?);
+    let status = teramac(alloc, words, &mut store, &mut rig, &mut sink);
+    println!(rt; "status {status}")?;
+    Ok(true)
 }
 
 // Over two rigs side by side, the second under this name.
@@ -67,7 +65,11 @@ fn try_twin(rt: &HostRuntime, name: &str, words: &[String]) -> io::Result<bool> 
     let name = String::from_str(alloc, name)?;
     let twin = TwinRig::new(alloc, sim_of(alloc)?, sim_of(alloc)?, name);
     let mut rig: Box<dyn Rig> = Box::new(alloc, twin)?;
-    answer(rt, &mut rig, words)
+    let mut store = FileStore::new(alloc, rt.clone()?);
+    let mut sink = StdSink::new(rt.clone()?);
+    let status = teramac(alloc, words, &mut store, &mut rig, &mut sink);
+    println!(rt; "status {status}")?;
+    Ok(true)
 }
 
 // Over a machine behind files.
@@ -75,7 +77,11 @@ fn try_port(rt: &HostRuntime, words: &[String]) -> io::Result<bool> {
     let alloc: Global = rt.alloc();
     let board = FileBoard::new(alloc, rt.clone()?);
     let mut rig: Box<dyn Rig> = Box::new(alloc, BoardRig::new(alloc, board))?;
-    answer(rt, &mut rig, words)
+    let mut store = FileStore::new(alloc, rt.clone()?);
+    let mut sink = StdSink::new(rt.clone()?);
+    let status = teramac(alloc, words, &mut store, &mut rig, &mut sink);
+    println!(rt; "status {status}")?;
+    Ok(true)
 }
 
 // Tries a case; false where it says none.
