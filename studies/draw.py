@@ -136,8 +136,8 @@ def draw_node(picture, node, x, y):
         picture.rect(left + width + 3, first + 1, 5, 7 * CELL - 2, colour, f"><title>{machine.table_names[table]}</title></rect>")
 
 
-def svg_text(picture, level):
-    """The picture of the nodes of a level, or of all, below what the colours say."""
+def svg_text(picture, level, used):
+    """The picture of the nodes of a level, or of all, or of those that the image uses, below what the colours say."""
     x, nets = MARGIN, len(set(picture.net_of.values()))
     for colour, words in MARKS.items():
         if picture.compared or colour == FOUND:
@@ -146,7 +146,10 @@ def svg_text(picture, level):
             x += 150
     if nets:
         picture.text(x, MARGIN, f"{nets} nets in their colours; dots are closed crosspoints, blue bars switched-on tables")
-    nodes = [node for node in picture.machine.nodes if level in (None, texts.LEVELS[node.level])]
+    busy = {picture.machine.node_of_cross(cross).name for cross in picture.closed}
+    nodes = [node for node in picture.machine.nodes if level in (None, texts.LEVELS[node.level]) and (node.name in busy or not used)]
+    if not nodes:
+        sys.exit("--used: there is no image here, or it uses no node of this level")
     places = layout(nodes, MARGIN + 14)
     for node in nodes:
         draw_node(picture, node, *places[node.name])
@@ -181,6 +184,7 @@ def main():
     parser.add_argument("--image", help="an image")
     parser.add_argument("--design", help="the BLIF file of the image's design, for the names of nets")
     parser.add_argument("--level", choices=texts.LEVELS, help="only the crossbars of one level")
+    parser.add_argument("--used", action="store_true", help="only the crossbars that the image uses")
     parser.add_argument("--text", metavar="NODE", help="one node in letters, as r or m0.c0.h1")
     parser.add_argument("-o", "--output", default="-", help="a new file (default: standard output)")
     add_program(parser)
@@ -195,7 +199,7 @@ def main():
         if (len(design.inputs), len(design.outputs)) != (len(image.inputs), len(image.outputs)):
             sys.exit(f"{args.image}: its inputs and outputs aren't as many as the design's")
         picture.names = net_names(machine, image, design)
-    texts.write_new(args.output, node_text(picture, args.text) if args.text else svg_text(picture, args.level))
+    texts.write_new(args.output, node_text(picture, args.text) if args.text else svg_text(picture, args.level, args.used))
 
 
 if __name__ == "__main__":

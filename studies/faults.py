@@ -11,12 +11,22 @@ import teramac_texts as texts
 KINDS = {
     "open": ("cross", "crosspoints that never conduct"),
     "closed": ("cross", "crosspoints that always conduct"),
+    "broken": ("cross", "wires that break, by their length (in crosspoints): those of the shorter piece never conduct"),
     "wires": ("wire", "stuck wires, half of them at 0 and half at 1"),
     "stuck0": ("wire", "wires stuck at 0"),
     "stuck1": ("wire", "wires stuck at 1"),
     "cells": ("table", "wrong cells of tables"),
     "registers": ("table", "stuck registers of tables"),
     "bridges": ("wire", "pairs of wires joined for good, by the wires of the machine"),
+    "neighbours": ("wire", "likewise, of neighbours: two lines, or two taps, side by side in a crossbar"),
+}
+# How many places of each part a fault of a kind may have.
+PLACES = {"cells": 64, "broken": 2}
+SHAPES = {
+    "spots": "near a place",
+    "rows": "crosspoints of one tap, else spots",
+    "columns": "crosspoints of one line, else spots",
+    "hextants": "anywhere in one hextant",
 }
 TRIES = 12_800
 
@@ -47,65 +57,126 @@ def count_of(wanted, parts, chance):
         found += 1
 
 
-class Places:
-    """Chooses what is faulty: each part alike, or near the middle of one of some clusters."""
+def largest_rate(room, parts):
+    """The rate at which of so many parts nearly never (once in 30,000 draws) more than `room` are faulty."""
+    return min(1.0, (math.sqrt(room + 4) - 2) ** 2 / parts)
 
-    def __init__(self, machine, chance, clustered):
-        self.machine, self.chance, self.clustered, self.middles = machine, chance, clustered, {}
+
+class Places:
+    """Chooses what is faulty: each part alike, or in one of some clusters of a shape."""
+
+    def __init__(self, machine, chance, clustered, shape):
+        self.machine, self.chance, self.clustered, self.shape, self.middles = machine, chance, clustered, shape, {}
+        self.hextants = [node for node in machine.nodes if node.level == 3]
 
     def near(self, parts, at, spread):
-        return min(max(round(self.chance.gauss(at, spread)), 0), parts - 1)
+        """A place near another; one beyond the edge is drawn anew."""
+        while True:
+            found = round(self.chance.gauss(at, spread))
+            if 0 <= found < parts:
+                return found
+
+    def middle(self, group):
+        """What a new cluster lies around: a part, or a hextant."""
+        return self.chance.choice(self.hextants) if self.shape == "hextants" else self.chance.randrange(self.machine.sizes[group])
 
     def part(self, group, count):
-        """A wire, crosspoint or table, of so many; a cluster of crosspoints is a spot of a crossbar."""
-        parts = self.machine.sizes[group]
+        """A wire, crosspoint or table, of so many faults."""
         if not self.clustered:
-            return self.chance.randrange(parts)
-        clusters = max(1, round(count / self.clustered))
-        middle = self.chance.choice(self.middles.setdefault(group, [self.chance.randrange(parts) for _ in range(clusters)]))
-        if group != "cross":
-            return self.near(parts, middle, self.clustered)
+            return self.chance.randrange(self.machine.sizes[group])
+        if group not in self.middles:
+            self.middles[group] = [self.middle(group) for _ in range(max(1, round(count / self.clustered)))]
+        middle = self.chance.choice(self.middles[group])
+        if self.shape == "hextants":
+            return self.inside(middle, group)
+        return self.crosspoint(middle) if group == "cross" else self.near(self.machine.sizes[group], middle, self.clustered)
+
+    def inside(self, node, group):
+        """A part of a hextant."""
+        if group == "table":
+            return self.chance.choice(node.tables)
+        if group == "wire":
+            return self.chance.randrange(node.ports.start, node.lines.stop + 7 * len(node.tables))
+        return node.first + self.chance.randrange(len(node.taps) * len(node.lines))
+
+    def crosspoint(self, middle):
+        """A crosspoint of a cluster's crossbar: near its middle, or in its row or column."""
         node, spread = self.machine.node_of_cross(middle), math.sqrt(self.clustered)
         tap, line = divmod(middle - node.first, len(node.lines))
+        if self.shape == "rows":
+            return node.first + tap * len(node.lines) + self.chance.randrange(len(node.lines))
+        if self.shape == "columns":
+            return node.first + self.chance.randrange(len(node.taps)) * len(node.lines) + line
         tap = self.near(len(node.taps), tap, spread)
         return node.first + tap * len(node.lines) + self.near(len(node.lines), line, spread)
 
-    def fault(self, kind, count):
-        """A fault of a kind as `Faults.add` takes it; none for a wire drawn twice."""
+    def neighbour(self, wire):
+        """The next wire of a crossbar of this one, or None at its end."""
+        node = self.machine.lines[wire][0] if wire in self.machine.lines else self.chance.choice(self.machine.taps[wire])
+        wires = list(node.lines if wire in self.machine.lines else node.taps)
+        at = wires.index(wire) + 1
+        return wires[at] if at < len(wires) else None
+
+    def broken(self, cross):
+        """The crosspoints of the shorter piece of a wire that breaks at one of them."""
+        wire = self.chance.choice(self.machine.ends(cross))
+        along = list(self.machine.along(wire))
+        at = along.index(cross)
+        return along[: at + 1] if 2 * at < len(along) else along[at:]
+
+    def faults(self, kind, count):
+        """A fault of a kind as `Faults.add` takes it, or of a broken wire several; none for a pair that isn't one."""
         at = self.part(KINDS[kind][0], count)
         if kind in ("open", "closed"):
-            return kind, at, 1
+            return [(kind, at, 1)]
+        if kind == "broken":
+            return [("open", cross, 1) for cross in self.broken(at)]
         if kind in ("cells", "registers"):
             value = self.chance.randrange(2)
-            return ("cell", (at, self.chance.randrange(64)), value) if kind == "cells" else ("register", at, value)
-        if kind == "bridges":
-            ends = sorted((at, self.part("wire", count)))
-            return ("bridge", tuple(ends), 1) if ends[0] != ends[1] else None
-        return {"wires": self.chance.choice(("stuck0", "stuck1"))}.get(kind, kind), at, 1
+            return [("cell", (at, self.chance.randrange(64)), value) if kind == "cells" else ("register", at, value)]
+        if kind in ("bridges", "neighbours"):
+            other = self.part("wire", count) if kind == "bridges" else self.neighbour(at)
+            return [("bridge", tuple(sorted((at, other))), 1)] if other not in (None, at) else []
+        return [({"wires": self.chance.choice(("stuck0", "stuck1"))}.get(kind, kind), at, 1)]
 
 
-def make_faults(machine, amounts, seed, clustered=0):
+def make_faults(machine, amounts, seed, clustered=0, shape="spots"):
     """Faults of the kinds that `amounts` names; the same seed gives the same faults."""
     chance, faults = random.Random(seed), texts.Faults()
-    places = Places(machine, chance, clustered)
+    places = Places(machine, chance, clustered, shape)
     for kind, wanted in amounts.items():
-        count = count_of(wanted, machine.sizes[KINDS[kind][0]] * (64 if kind == "cells" else 1), chance)
-        if faults.count + count > texts.FAULT_LIMIT:
-            raise ValueError(f"{kind}: {count} faults, and a fault file holds at most {texts.FAULT_LIMIT} in all")
+        parts, room = machine.sizes[KINDS[kind][0]] * PLACES.get(kind, 1), texts.FAULT_LIMIT - faults.count
+        count = count_of(wanted, parts, chance)
+        if count > room:
+            rate = f"; of {kind} {largest_rate(room, parts):.4f} is the largest rate that fits" if isinstance(wanted, float) else ""
+            raise ValueError(f"{kind}: {count} faults, and a fault file holds at most {texts.FAULT_LIMIT:,} in all{rate}")
         for _ in range(count):
-            # What stands there already or against another is drawn anew.
-            drawn = (places.fault(kind, count) for _ in range(TRIES))
-            if not any(fault and faults.add(*fault) is None for fault in drawn):
-                raise ValueError(f"{kind}: {count} are too many for this machine" + (" in clusters so dense" if clustered else ""))
+            # What stands there already or against another is drawn anew; where clusters seem to be full, one more is begun.
+            for tried in range(TRIES):
+                if [faults.add(*fault) is None for fault in places.faults(kind, count)].count(True):
+                    break
+                if clustered and tried % 100 == 99:
+                    places.middles[KINDS[kind][0]].append(places.middle(KINDS[kind][0]))
+            else:
+                raise ValueError(f"{kind}: {count} are too many for this machine")
+            if faults.count > texts.FAULT_LIMIT:
+                raise ValueError(f"{kind}: so many wires open more crosspoints than the {texts.FAULT_LIMIT:,} faults of a file")
     return faults
 
 
+def add_clusters(parser):
+    """The words that say how faults lie."""
+    parser.add_argument("--clustered", metavar="SIZE", type=float, default=0, help="in clusters of about SIZE faults (default: uniform)")
+    shapes = "; ".join(f"{shape}: {words}" for shape, words in SHAPES.items())
+    parser.add_argument("--shape", choices=list(SHAPES), default="spots", help=f"of the clusters. {shapes} (default: spots)")
+
+
 def main():
-    parser = argparse.ArgumentParser(description=__doc__, epilog="AMOUNT is a rate (0.01 or 1%%: each part by itself) or a count (12).")
+    parser = argparse.ArgumentParser(description=__doc__, epilog="AMOUNT is a rate (0.01 or 1%: each part by itself) or a count (12).")
     parser.add_argument("machine", help="the machine's file")
     for kind, (_, help_text) in KINDS.items():
         parser.add_argument(f"--{kind}", metavar="AMOUNT", type=amount, help=help_text)
-    parser.add_argument("--clustered", metavar="SIZE", type=float, default=0, help="in clusters of about SIZE faults (default: uniform)")
+    add_clusters(parser)
     parser.add_argument("--seed", type=int, default=1, help="the same seed gives the same file (default: 1)")
     parser.add_argument("-o", "--output", default="-", help="a new file (default: standard output)")
     args = parser.parse_args()
@@ -114,7 +185,7 @@ def main():
     if args.clustered < 0:
         sys.exit("--clustered: a size isn't negative")
     try:
-        faults = make_faults(machine, amounts, args.seed, args.clustered)
+        faults = make_faults(machine, amounts, args.seed, args.clustered, args.shape)
     except ValueError as error:
         sys.exit(str(error))
     texts.write_new(args.output, texts.faults_text(machine, faults))

@@ -1,96 +1,339 @@
 #!/usr/bin/env python3
-"""Figures of a study's rows: what fits, what the diagnosis throws away, how long it takes, and its loads."""
+"""Figures of a study's rows, and beside each the table that it shows, as CSV."""
 
 import argparse
+import csv
+import math
 import os
 import sys
+import textwrap
+from collections import Counter
+from itertools import cycle
 
 import matplotlib.pyplot as plt
-import pandas
 
 from program import wilson
 
 plt.switch_backend("svg")
-plt.rcParams["svg.hashsalt"] = "teramac"
+plt.rcParams.update({"svg.hashsalt": "teramac", "legend.fontsize": 8, "legend.handlelength": 3.6, "axes.grid": True, "grid.alpha": 0.3})
 
-
-def fits(rows, axes):
-    """Share of the runs with status 0 against the rate, exact lists solid, diagnosed ones dashed, with Wilson's intervals."""
-    colours = {design: f"C{k}" for k, design in enumerate(sorted(rows["design"].unique()))}
-    shift = (rows["rate"].max() or 1) / 250
-    for k, ((design, kind), part) in enumerate(sorted(rows.groupby(["design", "list"]))):
-        counts = part.groupby("rate")["fit"].agg(["sum", "count"])
-        shares = counts["sum"] / counts["count"]
-        off = [abs(shares - bounds) for bounds in zip(*map(wilson, counts["sum"], counts["count"]))]
-        named, line, marker = ("exact list", "-", "o") if kind == "exact" else ("own diagnosis", "--", "s")
-        style = {"color": colours[design], "linestyle": line, "marker": marker, "label": f"{design}, {named}"}
-        axes.errorbar(counts.index + shift * (k - 2), shares, off, capsize=2, markersize=4, **style)
-    axes.set_ylim(-0.03, 1.03)
-
-
-def once(rows, told):
-    """One row for each diagnosis of which something is told."""
-    return rows[(rows["list"] == "diagnosed") & told].drop_duplicates(["machine", "kind", "rate", "seed"])
-
-
-def thrown(rows, axes):
-    """Sound parts on the diagnosed lists against the rate: the mean, and the least and most of the runs."""
-    for kind in ("wires", "crosses", "tables"):
-        by_rate = once(rows, rows["listed_wires"].notna()).groupby("rate")[f"thrown_{kind}"].agg(["mean", "min", "max"])
-        axes.plot(by_rate.index, by_rate["mean"], marker="o", markersize=4, label={"crosses": "crosspoints"}.get(kind, kind))
-        axes.fill_between(by_rate.index, by_rate["min"], by_rate["max"], alpha=0.2)
-    axes.set_yscale("symlog", linthresh=1)
-
-
-def by_size(part, axes, column, **named):
-    """A point for each run against the size of its machine; without runs there is nothing that has a logarithm."""
-    axes.scatter(part["crosspoints"], part[column], s=9, alpha=0.5, **named)
-    if len(part):
-        axes.set(xscale="log", yscale="log")
-
-
-def seconds(rows, axes):
-    """Seconds of a run, a colour for each list."""
-    for kind, named in (("exact", "compile and run on the exact list"), ("diagnosed", "diagnosis, compile and run")):
-        by_size(rows[(rows["list"] == kind) & (rows["seconds"] > 0)], axes, "seconds", label=named)
-
-
-def loads(rows, axes):
-    """Loads of the diagnoses, where they were told."""
-    by_size(once(rows, rows["loads"] > 0), axes, "loads")
-
-
-FIGURES = {
-    fits: ("Runs that fit", "rate of faults", "share of runs (bars: 95 %, Wilson)"),
-    thrown: ("Sound parts that the diagnosis throws away", "rate of faults", "parts (mean; least to most)"),
-    seconds: ("Time of a run", "crosspoints of the machine", "seconds"),
-    loads: ("Loads of a diagnosis", "crosspoints of the machine", "loads"),
+NUMBERS = "crosspoints rate seed faults thrown_wires thrown_crosses thrown_tables tables closed seconds loads spare".split()
+# A run that was cut off or found no memory says nothing of room; it is counted apart.
+UNDECIDED = ("cut off", "6")
+DECIDED = ("0", "3", "wrong")
+LEVELS = ("root", "module", "chip", "hextant")
+# How each list is drawn, named, and modelled.
+STYLES = {
+    "exact": ("-", "o", "exact list", "every fault and nothing else is listed; compile, run"),
+    "diagnosed": ((0, (5, 2)), "s", "own diagnosis", "the list of diagnose; compile, run"),
+    "wires": ((0, (1, 1.5)), "^", "spare rows and columns", "of a faulty crosspoint its tap or line is given up, of a table its output"),
+    "hextants": ("-.", "D", "whole hextants dropped", "a hextant with a fault is given up, above the exact list"),
+    "none": ((0, (8, 2, 1, 2)), "x", "no list", "the design as it is, undiagnosed; right where its rows are"),
+    "triplicated": ((0, (3, 1, 1, 1)), "v", "three copies with voters", "voters at latches and outputs, undiagnosed"),
 }
+
+
+def read_rows(path):
+    """The rows of a study, with numbers as numbers; ends where a run was none."""
+    try:
+        with open(path, encoding="utf-8", newline="") as file:
+            rows = list(csv.DictReader(file))
+        for row in rows:
+            row |= {name: float(row[name]) if row.get(name) else None for name in NUMBERS}
+    except (OSError, ValueError, TypeError) as error:
+        sys.exit(f"{path}: no rows of a study ({error})")
+    if not rows or not {"machine", "kind", "rate", "design", "list", "status"} <= rows[0].keys():
+        sys.exit(f"{path}: no rows of a study")
+    for number, row in enumerate(rows, 2):
+        if row["status"] not in DECIDED + UNDECIDED:
+            sys.exit(f"{path}: line {number}: a run that ended with status {row['status']} is no run; mend what it was given")
+    return rows
+
+
+def split(rows, *columns):
+    """The rows by their values in some columns, in order."""
+    found = {}
+    for row in rows:
+        found.setdefault(tuple(row[column] for column in columns), []).append(row)
+    return dict(sorted(found.items(), key=lambda item: [value or 0 for value in item[0]]))
+
+
+def share(rows, holds=lambda row: row["status"] == "0"):
+    """Of the decided runs the share for which something holds, with Wilson's interval; then how many were decided, and how many not."""
+    decided = [row for row in rows if row["status"] not in UNDECIDED]
+    hits = sum(map(holds, decided))
+    return [hits / len(decided) if decided else math.nan, *wilson(hits, len(decided)), len(decided), len(rows) - len(decided)]
+
+
+SHARE = ["share", "low", "high", "runs", "undecided"]
+
+
+# Student's quantiles for 1 to 8 degrees of freedom.
+STUDENT = (12.71, 4.303, 3.182, 2.776, 2.571, 2.447, 2.365, 2.306)
+
+
+def mean(values):
+    """The mean with its interval of 95 % by Student's law, and how many there are."""
+    middle, free = sum(values) / len(values), max(1, len(values) - 1)
+    quantile = STUDENT[free - 1] if free <= len(STUDENT) else 1.96 + 2.6 / free
+    half = quantile * math.sqrt(sum((value - middle) ** 2 for value in values) / free / len(values))
+    return [middle, max(0.0, middle - half), middle + half, len(values)]
+
+
+def facets(rows, columns=("machine", "kind")):
+    """A picture with one pair of axes for each machine and kind; gives it, and for each the axes and the rows."""
+    parts = split(rows, *columns)
+    across = min(3, len(parts))
+    down = -(-len(parts) // across)
+    picture, axes = plt.subplots(down, across, figsize=(1.6 + 5.6 * across, 4.2 * down), squeeze=False, layout="constrained")
+    for spare in axes.flat[len(parts) :]:
+        spare.remove()
+    for here, names in zip(axes.flat, parts):
+        named = {"kind": lambda name: f"{name} faults", "list": lambda name: STYLES[name][2]}
+        here.set_title(", ".join(named.get(column, str)(name) for column, name in zip(columns, names)), fontsize=10)
+    return picture, list(zip(axes.flat, parts, parts.values()))
+
+
+def curve(axes, across, points, off, style, **more):
+    """A curve of shares or means with the bars of their intervals, a little to the side of others."""
+    values, low, high = zip(*(point[:3] for point in points))
+    bars = [[abs(value - bound) for value, bound in zip(values, bounds)] for bounds in (low, high)]
+    line, marker = style[:2]
+    axes.errorbar([x + off for x in across], values, bars, linestyle=line, marker=marker, markersize=4, capsize=2, linewidth=1.4, **more)
+
+
+def undecided_marks(axes, rows, places, column="rate"):
+    """Runs that were cut off or found no memory, as a curve of their own."""
+    parts = split(rows, column)
+    if any(row["status"] in UNDECIDED for row in rows):
+        marks = [sum(row["status"] in UNDECIDED for row in part) / len(part) for part in parts.values()]
+        places = places or [key[0] for key in parts]
+        axes.plot(places, marks, color="grey", marker="P", linestyle=":", label="undecided (cut off, no memory), left out")
+
+
+def of_shares(axes, rows, across, places=None, column="rate"):
+    """What all axes of shares have."""
+    undecided_marks(axes, rows, places, column)
+    axes.set(ylim=(-0.04, 1.04), xlabel=across, ylabel="share of runs (bars: 95 %, Wilson)")
+    axes.legend(loc="best")
+
+
+def fits(rows, _):
+    """What share of the runs fits and runs right, against the rate of faults"""
+    picture, parts = facets(rows)
+    table = []
+    for axes, names, part in parts:
+        colours = dict(zip(sorted({row["design"] for row in part}), cycle(f"C{k}" for k in range(10))))
+        shift = max(row["rate"] for row in part) / 250
+        for k, ((design, kind), runs) in enumerate(split(part, "design", "list").items()):
+            points = {rate: share(of) for (rate,), of in split(runs, "rate").items()}
+            table += [[*names, design, kind, rate, *point] for rate, point in points.items()]
+            curve(axes, points, points.values(), shift * (k - 2), STYLES[kind], color=colours[design], label=f"{design}, {STYLES[kind][2]}")
+        of_shares(axes, part, "rate of faults")
+    return picture, ["machine", "kind", "design", "list", "rate", *SHARE], table
+
+
+def cause(row):
+    """What was short in a run that didn't fit: the resource, and the level of its node; None where it fits."""
+    _, resource, node = (row["refusal"].split() + ["", "", ""])[:3]
+    if row["status"] != "3" or resource in ("tables", "pins"):
+        return resource or None
+    return f"{resource} of the root" if node == "r" else f"{resource} of {LEVELS[node.count('.') + 1]}s"
+
+
+def why(rows, _):
+    """What was short where a run didn't fit: the first resource that refuses, by level"""
+    kinds = {row["list"] for row in rows}
+    shown = "diagnosed" if "diagnosed" in kinds else min(kinds)
+    rows = [row for row in rows if row["list"] == shown]
+    picture, parts = facets(rows, ("machine", "design", "kind"))
+    causes = [found for found, _ in Counter(map(cause, rows)).most_common() if found]
+    table = []
+    for axes, names, part in parts:
+        by_rate, below = split(part, "rate"), Counter()
+        for found, colour in zip(causes, cycle(plt.get_cmap("tab10").colors)):
+            for place, ((rate,), runs) in enumerate(by_rate.items()):
+                point = share(runs, lambda row, found=found: cause(row) == found)
+                table.append([*names, shown, rate, found, *point])
+                axes.bar(place, point[0], 0.8, bottom=below[rate], color=colour, label="" if place else found)
+                below[rate] += 0 if math.isnan(point[0]) else point[0]
+        undecided_marks(axes, part, range(len(by_rate)))
+        axes.set_xticks(range(len(by_rate)), [f"{rate:g}" for (rate,) in by_rate])
+        axes.set(ylim=(0, 1.02), xlabel="rate of faults", ylabel=f"share of runs ({STYLES[shown][2]})")
+    if causes:
+        parts[min(2, len(parts) - 1)][0].legend(loc="upper left", bbox_to_anchor=(1, 1))
+    return picture, ["machine", "design", "kind", "list", "rate", "short", *SHARE], table
+
+
+def diagnoses(rows, column):
+    """One row for each diagnosis of which something is told."""
+    told = [row for row in rows if row["list"] == "diagnosed" and row[column] is not None]
+    return [part[0] for part in split(told, "machine", "kind", "rate", "seed").values()]
+
+
+def nothing(title):
+    """A picture that says why it shows nothing."""
+    picture, axes = plt.subplots(figsize=(7.2, 4.4))
+    axes.axis("off")
+    axes.text(0.5, 0.5, textwrap.fill(title, 50), ha="center", va="center", fontsize=12)
+    return picture
+
+
+def thrown(rows, _):
+    """Sound parts that the diagnosis throws away: the mean, and the least and most of the runs"""
+    rows, columns = diagnoses(rows, "thrown_wires"), ["machine", "kind", "rate", "part", "mean", "least", "most", "diagnoses"]
+    if not rows:
+        return nothing("no row of these is of a diagnosis"), columns, []
+    picture, parts = facets(rows)
+    table = []
+    for axes, names, part in parts:
+        most = 1
+        for kind, marker in (("wires", "o"), ("crosses", "s"), ("tables", "^")):
+            named, by_rate = {"crosses": "crosspoints"}.get(kind, kind), split(part, "rate")
+            found = [(rate, [row[f"thrown_{kind}"] for row in runs]) for (rate,), runs in by_rate.items()]
+            points = [[rate, sum(values) / len(values), min(values), max(values), len(values)] for rate, values in found]
+            table += [[*names, rate, named, *point] for rate, *point in points]
+            rates, means, low, high, _ = zip(*points)
+            axes.plot(rates, means, marker=marker, markersize=4, label=named)
+            axes.fill_between(rates, low, high, alpha=0.2)
+            most = max(most, *high)
+        axes.set_yscale("symlog", linthresh=1)
+        ticks = [0, *(10**k for k in range(math.ceil(math.log10(most)) + 1))]
+        axes.set_yticks(ticks, [f"{tick:,}" for tick in ticks])
+        axes.set(ylim=(-0.1, 1.3 * max(1, most)), xlabel="rate of faults", ylabel="sound parts on the list")
+        axes.legend(loc="upper left")
+    return picture, columns, table
+
+
+def against(rows, series, column):
+    """For each series a curve of means with intervals: against the rate where one machine is drawn, else against the crosspoints."""
+    sizes = {row["crosspoints"] for row in rows}
+    along, label = ("crosspoints", "crosspoints of the machine") if len(sizes) > 1 else ("rate", "rate of faults")
+    picture, axes = plt.subplots(figsize=(7.2, 4.4), layout="constrained")
+    table, marks = [], cycle("os^Dv")
+    for names, part in split(rows, *series).items():
+        points = {x: mean([row[column] for row in runs]) for (x,), runs in split(part, along).items()}
+        table += [[*names, x, *point] for x, point in points.items()]
+        words = [f"rate {name:g}" if isinstance(name, float) else STYLES[name][2] if name in STYLES else name for name in names]
+        curve(axes, points, points.values(), 0, ("-", next(marks)), label=", ".join(words))
+    axes.set(xlabel=label, yscale="log", **({"xscale": "log"} if len(sizes) > 1 else {}))
+    return picture, axes, [*series, along, "mean", "low", "high", "count"], table
+
+
+def seconds(rows, _):
+    """Time of a run on this computer: laying and running, and by the own diagnosis that too"""
+    rows = [row for row in rows if row["seconds"] and row["status"] not in UNDECIDED]
+    if not rows:
+        return nothing("no row of these tells a time"), ["list"], []
+    picture, axes, columns, table = against(rows, ("kind", "list"), "seconds")
+    axes.set_ylabel("seconds (mean, bars: 95 %)")
+    axes.legend()
+    return picture, columns, table
+
+
+def loads(rows, per_second):
+    """Loads of a diagnosis, and what they take on a machine of so many loads a second"""
+    rows = diagnoses(rows, "loads")
+    if not rows:
+        return nothing("no loads were told: build crates/teramac_report (rt run there) or name it by TERAMAC_REPORT"), ["rate"], []
+    sizes = sorted({row["crosspoints"] for row in rows})
+    picture, axes, columns, table = against(rows, ("kind", "rate") if len(sizes) > 1 else ("machine", "kind"), "loads")
+    if len(sizes) > 1:
+        axes.plot(sizes, [16 * size for size in sizes], color="grey", linestyle=":", label="16 a crosspoint, of what is promised at most")
+    axes.set_ylabel("loads (mean, bars: 95 %)")
+    if per_second:
+        right = axes.secondary_yaxis("right", functions=(lambda count: count / per_second, lambda time: time * per_second))
+        right.set_ylabel(f"seconds at {per_second:g} loads a second")
+        columns, table = [*columns, "seconds"], [[*line, line[-4] / per_second] for line in table]
+    axes.legend(fontsize=7)
+    return picture, columns, table
+
+
+def redundancy(rows, _):
+    """What share of the machines has room, against what is to spare; grey: the crosspoints paid, of those of the least machine"""
+    picture, parts = facets(rows, ("design", "list", "kind"))
+    table = []
+    for axes, names, part in parts:
+        sizes = {spare: runs[0]["crosspoints"] for (spare,), runs in split(part, "spare").items()}
+        least, right = min(sizes.values()), axes.twinx()
+        right.fill_between([100 * spare for spare in sizes], [size / least for size in sizes.values()], color="grey", alpha=0.15)
+        right.set(ylim=(0, 1.15 * max(sizes.values()) / least), ylabel=f"crosspoints, in times {least:,.0f}")
+        right.grid(False)
+        axes.set_zorder(right.get_zorder() + 1)
+        axes.patch.set_visible(False)
+        for k, ((rate,), runs) in enumerate(split(part, "rate").items()):
+            points = {spare: share(of) for (spare,), of in split(runs, "spare").items()}
+            table += [[*names, rate, spare, sizes[spare], *point] for spare, point in points.items()]
+            places = [100 * spare for spare in points]
+            curve(axes, places, points.values(), max(places) * (k - 1) / 250, ("-", "os^Dv"[k % 5]), color=f"C{k}", label=f"rate {rate:g}")
+        of_shares(axes, part, "spare parts of each kind, of 100 that the plan wants", places, "spare")
+    return picture, ["design", "list", "kind", "rate", "spare", "crosspoints", *SHARE], table
+
+
+def compare(rows, _):
+    """Schemes on machines of one size: the share of runs that are right, by the rate of faults"""
+    largest = max(row["spare"] for row in rows)
+    picture, parts = facets(rows, ("design", "kind"))
+    table = []
+    for axes, names, part in parts:
+        for at, kind in enumerate(kind for kind in STYLES if any(row["list"] == kind for row in part)):
+            by_rate = split([row for row in part if row["list"] == kind], "rate")
+            for (rate,), runs in by_rate.items():
+                by_size = {size: share(of) for (size,), of in split(runs, "crosspoints").items()}
+                enough = next((size for size, point in by_size.items() if point[0] >= 0.95), "")
+                laid = [row for row in runs if row["closed"] and row["spare"] == largest]
+                used = [sum(row[name] for row in laid) / len(laid) if laid else "" for name in ("tables", "closed")]
+                table.append([*names, kind, rate, max(by_size), *by_size[max(by_size)], enough, *used, STYLES[kind][3]])
+            shares = [line[5:8] for line in table[-len(by_rate) :]]
+            curve(axes, range(len(shares)), shares, 0.04 * (at - 2), STYLES[kind], label=STYLES[kind][2])
+        axes.set_xticks(range(len(by_rate)), [f"{rate:g}" for (rate,) in by_rate])
+        of_shares(axes, part, f"rate of faults; machines of {max(by_size):,.0f} crosspoints", range(len(by_rate)))
+    return picture, ["design", "kind", "list", "rate", "crosspoints", *SHARE, "enough", "tables", "closed", "model"], table
+
+
+def compare_text(columns, table):
+    """The table of schemes for reading, as Markdown."""
+    rows = [dict(zip(columns, line)) for line in table]
+    rates = sorted({row["rate"] for row in rows})
+    heads = [f"Yield at {rate:g}" for rate in rates] + [f"Crosspoints for 95 % at {rate:g}" for rate in rates]
+    lines = ["| Design, scheme | " + " | ".join(heads) + " | Tables, closed crosspoints | Modelled as |", "|---" * (len(heads) + 3) + "|"]
+    for (design, kind), part in sorted(split(rows, "design", "list").items(), key=lambda item: (item[0][0], [*STYLES].index(item[0][1]))):
+        cells = ["{share:.2f} ({low:.2f}-{high:.2f})".format(**row) for row in part]
+        cells += [f"{row['enough']:,.0f}" if row["enough"] else "none tried" for row in part]
+        cells.append(next((f"{row['tables']:.0f}, {row['closed']:.0f}" for row in part if row["tables"]), "-"))
+        lines.append(f"| {design}, {STYLES[kind][2]} | " + " | ".join([*cells, STYLES[kind][3]]) + " |")
+    return "\n".join([*lines, ""])
+
+
+FIGURES = {draw.__name__: draw for draw in (fits, why, thrown, seconds, loads, redundancy, compare)}
 
 
 def main():
     parser = argparse.ArgumentParser(description=__doc__)
     parser.add_argument("rows", help="the CSV of a study")
-    parser.add_argument("--folder", default=".", help="where fits.svg and the others are written (default: here)")
+    parser.add_argument("--figures", default="fits,thrown,seconds,loads", help=f"of {','.join(FIGURES)} (default: %(default)s)")
+    parser.add_argument("--folder", default=".", help="where fits.svg, fits.csv and the others are written (default: here)")
+    parser.add_argument("--loads-per-second", type=float, default=0, help="of a machine, for the time of a diagnosis")
     parser.add_argument("--force", action="store_true", help="write over figures that stand there")
     args = parser.parse_args()
-    try:
-        rows = pandas.read_csv(args.rows, dtype={"status": str})
-        rows["fit"] = rows["status"] == "0"
-        where = f"{', '.join(sorted(rows['machine'].unique()))}, {', '.join(sorted(rows['kind'].unique()))} faults"
-    except (OSError, ValueError, KeyError) as error:
-        sys.exit(f"{args.rows}: no rows of a study ({error})")
-    paths = [os.path.join(args.folder, f"{draw.__name__}.svg") for draw in FIGURES]
-    if not args.force and any(map(os.path.exists, paths)):
+    rows, names = read_rows(args.rows), args.figures.split(",")
+    if not set(names) <= FIGURES.keys():
+        sys.exit(f"--figures: some of {', '.join(FIGURES)}")
+    if {"redundancy", "compare"} & set(names) and any(row["spare"] is None for row in rows):
+        sys.exit(f"{args.rows}: no rows of a study with spares, which redundancy and compare show")
+    paths = {name: os.path.join(args.folder, name) for name in names}
+    if not args.force and any(os.path.exists(path + end) for path in paths.values() for end in (".svg", ".csv")):
         sys.exit(f"{args.folder}: figures stand there already; nothing was written (--force writes over them)")
-    for path, (draw, (title, across, up)) in zip(paths, FIGURES.items()):
-        shown, axes = plt.subplots(figsize=(7.2, 4.4))
-        axes.set(title=f"{title}, {where}", xlabel=across, ylabel=up)
-        axes.grid(alpha=0.3)
-        draw(rows, axes)
-        if axes.get_legend_handles_labels()[0]:
-            axes.legend(fontsize=8)
-        shown.savefig(path, metadata={"Date": None})
+    for name, path in paths.items():
+        picture, columns, table = FIGURES[name](rows, args.loads_per_second)
+        picture.suptitle(textwrap.fill(FIGURES[name].__doc__, round(13 * picture.get_figwidth())), fontsize=10)
+        picture.savefig(path + ".svg", metadata={"Date": None})
+        plt.close(picture)
+        with open(path + ".csv", "w", encoding="utf-8", newline="") as file:
+            csv.writer(file, lineterminator="\n").writerows([columns, *table])
+        if name == "compare":
+            with open(path + ".md", "w", encoding="utf-8") as file:
+                file.write(compare_text(columns, table))
 
 
 if __name__ == "__main__":

@@ -2,7 +2,7 @@
 """The least machine on which a design fits: its tables, ports, lines and pins by the plan in order, checked by one compile.
 
 The counts of the tree (--modules, --chips, --hextants) are chosen for the fewest crosspoints where they aren't given.
-With --rate it is tried how much must be spare so that the design fits with probability 0.95.
+How much must be spare at which rate of faults is the study `redundancy`.
 """
 
 import argparse
@@ -11,11 +11,10 @@ import sys
 
 import designs
 import teramac_texts as texts
-from faults import KINDS, amount, make_faults
-from program import add_program, call, checked_design, wilson
+from faults import amount
+from program import add_program, call, checked_design
 
 TREES = [(m, c, h) for m in (1, 2, 4) for c in (1, 2, 4) for h in (1, 2, 4, 8)]
-STEP, MOST_SPARE = 0.05, 3.0
 
 
 def spared(count, spare):
@@ -43,35 +42,12 @@ def compiles(program, machine, defects, design):
     return call(program, "compile", machine.text.encode(), texts.defects_text(machine, defects).encode(), design)
 
 
-def with_faults(args, network, trees):
-    """The first machine, with more and more to spare, on which by the exact lists 95 of 100 fault sets leave room."""
-    spare, amounts = args.spare, {kind: args.rate for kind in args.kinds.split(",")}
-    while spare <= MOST_SPARE:
-        machine, fits = best_machine(network, trees, spare), 0
-        for tried in range(args.trials):
-            defects = texts.exact_list(machine, make_faults(machine, amounts, args.seed + tried))
-            fits += compiles(args.program, machine, defects, args.design).status == 0
-            if tried + 1 - fits > args.trials * 0.05:
-                break
-        if fits >= args.trials * 0.95:
-            low, high = wilson(fits, args.trials)
-            print(f"spare {spare:.0%}: {fits} of {args.trials} fit (95 % interval {low:.2f} to {high:.2f})", file=sys.stderr)
-            return machine
-        print(f"spare {spare:.0%}: too few fit", file=sys.stderr)
-        spare += STEP
-    sys.exit(f"with {MOST_SPARE:.0%} to spare too few fault sets leave room at this rate")
-
-
 def main():
     parser = argparse.ArgumentParser(description=__doc__, formatter_class=argparse.RawDescriptionHelpFormatter)
     parser.add_argument("design", help="the design's BLIF file")
     for name in ("modules", "chips", "hextants"):
         parser.add_argument(f"--{name}", type=int, metavar="N", help=f"how many {name} in each node above (default: chosen)")
     parser.add_argument("--spare", type=amount, default=0.0, metavar="SHARE", help="so much more, as 10%% or 0.1 (default: 0)")
-    parser.add_argument("--rate", type=amount, metavar="RATE", help="faults at this rate, tried from --spare on in steps of 5 %%")
-    parser.add_argument("--kinds", default="open", help=f"kinds of faults at that rate, with commas: {', '.join(KINDS)} (default: open)")
-    parser.add_argument("--trials", type=int, default=40, help="fault sets for each try (default: 40)")
-    parser.add_argument("--seed", type=int, default=1, help="the first fault set's seed (default: 1)")
     parser.add_argument("-o", "--output", default="-", help="the machine's new file (default: standard output)")
     add_program(parser)
     args = parser.parse_args()
@@ -79,10 +55,8 @@ def main():
     trees = [tree for tree in TREES if all(want in (None, have) for want, have in zip(given, tree))] or [given]
     if min(count for count in given + (1,) if count is not None) < 1 or None in trees[0]:
         sys.exit("--modules, --chips, --hextants: give all three, each at least 1, beyond 4, 4 and 8")
-    if not set(args.kinds.split(",")) <= set(KINDS) or args.trials < 1:
-        sys.exit(f"--kinds: some of {', '.join(KINDS)}; --trials: at least 1")
     network = designs.plain_network(checked_design(args.program, args.design))
-    machine = with_faults(args, network, trees) if args.rate else best_machine(network, trees, args.spare)
+    machine = best_machine(network, trees, args.spare)
     answer = compiles(args.program, machine, texts.Defects(), args.design)
     if answer.status:
         sys.exit(f"compile of the design on this machine: {' '.join(answer.refusal)}")

@@ -12,10 +12,8 @@ from collections import namedtuple
 from dataclasses import dataclass
 from itertools import islice
 
-import networkx
-
 FILE_LIMIT = 16_777_216
-WIRE_LIMIT, CROSS_LIMIT, TABLE_LIMIT = 16_384, 4_194_304, 4_096
+LIMITS = 4_096, 16_384, 4_194_304  # tables, wires, crosspoints
 FAULT_LIMIT, CLOSED_LIMIT = 65_536, 1_048_576
 PARTS = ("wire", "cross", "table")
 LEVELS = ("root", "module", "chip", "hextant")
@@ -82,6 +80,11 @@ class Machine:
         self.table_numbers = {name: number for number, name in enumerate(self.table_names)}
         self.lines = {wire: (node, k) for node in self.nodes for k, wire in enumerate(node.lines)}
         self._taps = {(node.name, wire): k for node in self.nodes for k, wire in enumerate(node.taps)}
+        # Of each tap the nodes, from the root down, in whose crossbars it is one: of a port two.
+        self.taps = {}
+        for node in self.nodes:
+            for wire in node.taps:
+                self.taps.setdefault(wire, []).append(node)
 
     def _add(self, level, name):
         """Adds a node and all below it in the order of their numbers."""
@@ -112,6 +115,14 @@ class Machine:
         a = self._taps.get((node.name, tap)) if node else None
         return None if a is None else node.first + a * len(node.lines) + b
 
+    def along(self, wire):
+        """The crosspoints of a wire in the order in which it passes them."""
+        if wire in self.lines:
+            node, k = self.lines[wire]
+            return range(node.first + k, node.first + len(node.taps) * len(node.lines), len(node.lines))
+        rows = [node.first + len(node.lines) * self._taps[node.name, wire] for node in self.taps[wire]]
+        return [cross for node, row in zip(self.taps[wire], rows) for cross in range(row, row + len(node.lines))]
+
     def node_of_cross(self, cross):
         return self.nodes[bisect(self.nodes, cross, key=lambda node: node.first) - 1]
 
@@ -136,12 +147,17 @@ class Machine:
         return None if None in wires else self.cross(*wires) if kind == "cross" else wires[0]
 
 
-def are_within_limits(counts):
-    """Whether a machine may have these counts."""
+def sizes_of(counts):
+    """How many tables, wires and crosspoints these counts give."""
     m, c, h, t, p1, p2, p3, l0, l1, l2, l3, n = counts
     wires = n + l0 + m * (p1 + l1 + c * (p2 + l2 + h * (p3 + l3 + 7 * t)))
     crosses = (n + m * p1) * l0 + m * ((p1 + c * p2) * l1 + c * ((p2 + h * p3) * l2 + h * (p3 + 7 * t) * l3))
-    return m * c * h * t <= TABLE_LIMIT and wires <= WIRE_LIMIT and crosses <= CROSS_LIMIT
+    return m * c * h * t, wires, crosses
+
+
+def are_within_limits(counts):
+    """Whether a machine may have these counts."""
+    return all(count <= most for count, most in zip(sizes_of(counts), LIMITS))
 
 
 MACHINE_WORDS = {"teramac": 2, "modules": 2, "chips": 2, "hextants": 2, "tables": 2, "ports": 4, "lines": 5, "pins": 2, "end": 1}
@@ -253,7 +269,13 @@ def short_groups(machine, faults):
 
 def groups(pairs):
     """The sets that pairs hold together, ascending by their least member."""
-    return sorted(map(sorted, networkx.connected_components(networkx.from_edgelist(pairs))))
+    of = {}
+    for one, other in pairs:
+        small, large = sorted((of.setdefault(one, [one]), of.setdefault(other, [other])), key=len)
+        if small is not large:
+            large += small
+            of.update(dict.fromkeys(small, large))
+    return sorted(map(sorted, {id(group): group for group in of.values()}.values()))
 
 
 class Defects(dict):

@@ -1,25 +1,82 @@
 #!/usr/bin/env python3
-"""One machine with one set of faults: the exact list and the diagnosed one, and on each list every design. Writes rows of CSV.
+"""One machine with one set of faults; on each of some lists every design. Writes rows of CSV (README.md says what of each list).
 
-By the exact list a design is compiled and run. By the tool's own diagnosis it goes through the command go or, with --steps,
-through diagnose (once for all designs), compile and run, which is what go does. Every run's rows are compared with eval's;
-rows that differ end the script with status 1, and a study with it.
+By the tool's own diagnosis a design goes through the command go or, with --steps, through diagnose (once for all designs), compile
+and run, which is what go does; by other lists through compile and run. Every run's rows are compared with eval's. An answer of
+status 1, 2, 4 or 5 was never a run, and ends the script with status 1, as do rows that differ where a list was made.
 """
 
 import argparse
 import csv
 import io
-import os
 import sys
+from pathlib import Path
 
+import made
 import teramac_texts as texts
-from faults import KINDS, amount, make_faults
+from faults import KINDS, SHAPES, add_clusters, amount, make_faults
 from program import REPORT, add_program, call
 
 COLUMNS = (
     "machine crosspoints kind rate seed faults design list status refusal listed_wires listed_crosses listed_tables "
-    "thrown_wires thrown_crosses thrown_tables tables nets crossings closed seconds diagnose_seconds loads"
+    "thrown_wires thrown_crosses thrown_tables tables nets crossings closed seconds diagnose_seconds loads spare"
 ).split()
+LISTS = ("exact", "diagnosed", "wires", "hextants", "none", "triplicated")
+UNDIAGNOSED = ("none", "triplicated")
+# Answers that say nothing of room: wrong texts or words, a rig, a store or an output that failed.
+NO_RUN = (1, 2, 4, 5)
+
+
+def mix(word):
+    """Name, weights of kinds, and clusters or none, of a mix: `open`, `mixed:open+wires*0.1`, `rows:open in rows of 24`."""
+    name, colon, parts = word.rpartition(":")
+    parts, lie, shape = parts.partition(" in ")
+    shape, _, size = shape.partition(" of ")
+    weights = {}
+    try:
+        for kind, star, weight in (part.strip().partition("*") for part in parts.split("+")):
+            weights[kind] = float(weight) if star else 1.0
+        clusters = (float(size), shape) if lie else None
+    except ValueError as error:
+        raise argparse.ArgumentTypeError(f"{word}: {error}") from error
+    if not weights.keys() <= KINDS.keys() or min(weights.values()) <= 0 or (lie and shape not in SHAPES):
+        raise argparse.ArgumentTypeError(f"{word}: kinds are {', '.join(KINDS)}, shapes {', '.join(SHAPES)}, a weight is above 0")
+    return name if colon else word, weights, clusters
+
+
+def wires_list(machine, faults):
+    """Wires alone: of each faulty crosspoint its tap or line, the one with the most of them first, and of each faulty table its output."""
+    exact, listed, of = texts.exact_list(machine, faults), texts.Defects(), {}
+    listed["wire"] = exact["wire"] | {machine.table_pins[table][6] for table in exact["table"]}
+    for cross in exact["cross"]:
+        if listed.is_free(machine, "cross", cross):
+            for wire in machine.ends(cross):
+                of.setdefault(wire, set()).add(cross)
+    while any(of.values()):
+        worst = max(of, key=lambda wire: (len(of[wire]), -wire))
+        listed["wire"].add(worst)
+        for cross in of.pop(worst):
+            of[sum(machine.ends(cross)) - worst].discard(cross)
+    return listed
+
+
+def hextants_list(machine, faults):
+    """The exact list, and of each hextant with a part on it all wires."""
+    found = texts.exact_list(machine, faults)
+    wires = set(found["wire"])
+    for node in machine.nodes:
+        if node.level == 3:
+            inside = range(node.ports.start, node.lines.stop + 7 * len(node.tables))
+            crosses = range(node.first, node.first + len(node.taps) * len(node.lines))
+            if not (found["wire"].isdisjoint(inside) and found["cross"].isdisjoint(crosses) and found["table"].isdisjoint(node.tables)):
+                wires.update(inside)
+    found["wire"] = wires
+    for kind in ("cross", "table"):
+        found[kind] = {at for at in found[kind] if wires.isdisjoint(machine.wires_of(kind, at))}
+    return found
+
+
+BY_FAULTS = {"exact": texts.exact_list, "wires": wires_list, "hextants": hextants_list}
 
 
 class Trial:
@@ -28,26 +85,27 @@ class Trial:
     def __init__(self, args):
         self.args = args
         self.machine = texts.read_text(texts.read_machine, args.machine)
-        self.faults = make_faults(self.machine, {args.kind: args.rate}, args.seed, args.clustered)
+        name, weights, clusters = args.kind
+        amounts = {kind: args.rate * weight for kind, weight in weights.items()}
+        if isinstance(args.rate, int):
+            amounts = {kind: round(count) for kind, count in amounts.items()}
+        self.faults = make_faults(self.machine, amounts, args.seed, *(clusters or (args.clustered, args.shape)))
         self.fault_text = texts.faults_text(self.machine, self.faults).encode()
-        name = os.path.splitext(os.path.basename(args.machine))[0]
-        given = (name, self.machine.sizes["cross"], args.kind, args.rate, args.seed, self.faults.count)
-        self.head = dict(zip(COLUMNS, given))
+        given = (args.name or Path(args.machine).stem, self.machine.sizes["cross"], name, args.rate, args.seed, self.faults.count)
+        self.head = dict(zip(COLUMNS, given)) | {"spare": args.spare}
 
     def call(self, *words):
-        return call(self.args.program, *words, seconds=self.args.seconds)
+        answer = call(self.args.program, *words, seconds=self.args.seconds)
+        if answer.status in NO_RUN:
+            said = " ".join(answer.refusal) or f"status {answer.status}"
+            sys.exit(f"{words[0]} on {self.head['machine']}, {self.head['kind']} {self.args.rate}, seed {self.args.seed}: {said}; no run")
+        return answer
 
     def row(self, design, kind, listed, answer, **more):
         """A row of the table about one design on one list."""
-        row = {
-            **self.head,
-            "design": os.path.splitext(os.path.basename(design))[0],
-            "list": kind,
-            "status": "cut off" if answer.status < 0 else answer.status,
-            "refusal": " ".join(answer.refusal[1:3]),
-            "seconds": round(answer.seconds, 3),
-            **more,
-        }
+        status = {-1: "cut off", -2: "wrong"}.get(answer.status, answer.status)
+        row = {**self.head, "design": design, "list": kind, "status": status, "seconds": round(answer.seconds, 3), **more}
+        row["refusal"] = " ".join(answer.refusal[1:4])
         if listed:
             defects = texts.read_defects(self.machine, listed)
             thrown = texts.sound_listed(self.machine, self.faults, defects)
@@ -61,24 +119,27 @@ class Trial:
         sizes = len(found.tables), len(set(nets.values())), len(ports & nets.keys()), len(found.crosses)
         return dict(zip(("tables", "nets", "crossings", "closed"), sizes))
 
-    def compared(self, answer, design, vectors):
+    def compared(self, answer, design, vectors, promised=True):
         """The answer, after its rows were compared with those of eval."""
         if answer.status == 0:
             want = self.call("eval", design, vectors)
             if want.status == 0 and want.rows != answer.rows:
-                kept = f"wrong-{os.path.basename(design)}-{self.args.kind}-{self.args.rate}-{self.args.seed}.faults"
+                if not promised:
+                    answer.status = -2
+                    return answer
+                kept = f"wrong-{Path(design).name}-{self.head['kind']}-{self.args.rate}-{self.args.seed}.faults"
                 texts.write_new(kept, self.fault_text)
                 sys.exit(f"{design}: the rows are not those of eval; the faults are in {kept}")
         return answer
 
-    def laid(self, listed, design, vectors):
+    def laid(self, listed, design, vectors, promised=True, given=None):
         """compile and run on a list; the answer with the seconds of both, and the image's sizes where there is one."""
-        image = self.call("compile", self.args.machine, listed, design)
+        image = self.call("compile", self.args.machine, listed, given or design)
         if image.status:
             return image, {}
         ran = self.call("run", self.args.machine, self.fault_text, image.written, vectors)
         ran.seconds += image.seconds
-        return self.compared(ran, design, vectors), self.shape_of(image.written)
+        return self.compared(ran, design, vectors, promised), self.shape_of(image.written)
 
     def loads(self):
         """The loads of a diagnosis, by the program of reports; none without it."""
@@ -89,20 +150,30 @@ class Trial:
         return {"loads": int(line[0])} if answer.status == 0 and line else {}
 
     def rows(self):
-        listed = texts.defects_text(self.machine, texts.exact_list(self.machine, self.faults)).encode()
-        for design, vectors in self.args.designs:
-            answer, sizes = self.laid(listed, design, vectors)
-            yield self.row(design, "exact", listed, answer, **sizes)
+        for kind in self.args.lists:
+            if kind == "diagnosed":
+                yield from self.diagnosed_rows()
+                continue
+            listed = texts.defects_text(self.machine, BY_FAULTS.get(kind, lambda *_: texts.Defects())(self.machine, self.faults)).encode()
+            for name, design, vectors in self.args.designs:
+                given = made.blif_text(made.triplicated(texts.read_text(texts.read_design, design))) if kind == "triplicated" else None
+                answer, sizes = self.laid(listed, design, vectors, kind not in UNDIAGNOSED, given and given.encode())
+                yield self.row(name, kind, None if kind in UNDIAGNOSED else listed, answer, **sizes)
+
+    def diagnosed_rows(self):
         diagnosed = self.call("diagnose", self.args.machine, self.fault_text) if self.args.steps else None
         loads = self.loads()
-        for design, vectors in self.args.designs:
-            yield {**self.by_diagnosis(diagnosed, design, vectors), **loads}
+        if diagnosed and not self.args.designs:
+            listed = diagnosed.defects if diagnosed.status == 0 else None
+            yield {**self.row("", "diagnosed", listed, diagnosed), **loads}
+        for name, design, vectors in self.args.designs:
+            yield {**self.by_diagnosis(diagnosed, name, design, vectors), **loads}
 
-    def by_diagnosis(self, diagnosed, design, vectors):
+    def by_diagnosis(self, diagnosed, name, design, vectors):
         """One row by the tool's own list."""
         answer = diagnosed or self.compared(self.call("go", self.args.machine, self.fault_text, design, vectors), design, vectors)
         if answer.status not in (0, 3):
-            return self.row(design, "diagnosed", None, answer)
+            return self.row(name, "diagnosed", None, answer)
         listed, more = answer.defects, {}
         if diagnosed:
             answer, more = self.laid(listed, design, vectors)
@@ -110,31 +181,39 @@ class Trial:
             more["diagnose_seconds"] = round(diagnosed.seconds, 3)
         elif answer.status == 0:
             more = self.shape_of(self.call("compile", self.args.machine, listed, design).written)
-        return self.row(design, "diagnosed", listed, answer, **more)
+        return self.row(name, "diagnosed", listed, answer, **more)
 
 
-def pair(word):
-    """A design and its vectors, as DESIGN:VECTORS."""
-    design, colon, vectors = word.partition(":")
+def named_pair(word):
+    """A design and its vectors with a name, as [NAME=]DESIGN:VECTORS."""
+    name, _, rest = word.rpartition("=")
+    design, colon, vectors = rest.partition(":")
     if not colon:
         raise argparse.ArgumentTypeError(f"{word}: not of the form DESIGN:VECTORS")
-    return design, vectors
+    return name or Path(design).stem, design, vectors
 
 
 def main():
     parser = argparse.ArgumentParser(description=__doc__, formatter_class=argparse.RawDescriptionHelpFormatter)
     parser.add_argument("machine", help="the machine's file")
-    parser.add_argument("designs", nargs="+", type=pair, metavar="DESIGN:VECTORS", help="a BLIF file and its vectors")
-    parser.add_argument("--kind", choices=list(KINDS), default="open", help="the kind of faults (default: open)")
+    parser.add_argument("designs", nargs="*", type=named_pair, metavar="[NAME=]DESIGN:VECTORS", help="a BLIF file and its vectors")
+    kinds = "a kind of faults, or NAME:KIND*WEIGHT+.. of several, each at so many times the rate, or '.. in rows of 24' (default: open)"
+    parser.add_argument("--kind", type=mix, default=mix("open"), help=kinds)
     parser.add_argument("--rate", type=amount, required=True, help="their rate, as 0.01 or 1%%, or their number")
-    parser.add_argument("--clustered", type=float, default=0, help="in clusters of about so many (default: uniform)")
+    add_clusters(parser)
     parser.add_argument("--seed", type=int, default=1, help="the fault set's seed (default: 1)")
+    parser.add_argument("--lists", default="exact,diagnosed", help=f"of {','.join(LISTS)} (default: %(default)s)")
     parser.add_argument("--seconds", type=float, default=600, help="no call takes longer; it is cut off (default: 600)")
     parser.add_argument("--steps", action="store_true", help="one diagnose for all designs in place of one go for each")
     parser.add_argument("--report", default=REPORT, help="the built teramac_report, which tells loads; '' for none (default: %(default)s)")
+    parser.add_argument("--name", help="the machine's name in the table (default: its file's)")
+    parser.add_argument("--spare", type=float, help="what the machine has to spare, for the table")
     parser.add_argument("-o", "--output", default="-", help="a new file (default: standard output)")
     add_program(parser)
     args = parser.parse_args()
+    args.lists = args.lists.split(",")
+    if not set(args.lists) <= set(LISTS):
+        sys.exit(f"--lists: some of {', '.join(LISTS)}")
     try:
         rows = list(Trial(args).rows())
     except ValueError as error:

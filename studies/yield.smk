@@ -1,46 +1,34 @@
-"""Yield studies: snakemake -s yield.smk --configfile small.yaml --cores all (see README.md)."""
+"""A study by Snakemake, as on a cluster: snakemake -s yield.smk --config settings=small --cores all (see README.md).
+
+What is to be run, and all files that a trial reads, is said by study.py; a change of any makes the trial anew.
+"""
 
 import os
+import shlex
 import sys
 
-HERE = os.path.dirname(os.path.abspath(workflow.snakefile))
-OUT = config["folder"]
-TRIAL = OUT + "/trials/{machine}-{kind}-{rate}-{seed}.csv"
-sys.path.insert(0, HERE)
-from program import DEFAULT
+sys.path.insert(0, os.path.dirname(os.path.abspath(workflow.snakefile)))
+from study import HERE, SCRIPTS, Study
 
-PROGRAM = os.path.abspath(config.get("program", DEFAULT))
-MACHINES = {os.path.splitext(os.path.basename(path))[0]: os.path.join(HERE, path) for path in config["machines"]}
-DESIGNS = [f"{os.path.join(HERE, design)}:{os.path.join(HERE, vectors)}" for design, vectors in config["designs"].items()]
-SEEDS = range(config.get("first_seed", 1), config.get("first_seed", 1) + config["seeds"])
-
-for path in [PROGRAM, *MACHINES.values(), *[name for pair in DESIGNS for name in pair.split(":")]]:
-    if not os.path.exists(path):
-        sys.exit(f"{path}: isn't there")
+STUDY = Study(config["settings"], config.get("program"), config.get("folder"))
+OUT = STUDY.folder
 
 
 rule figures:
-    input: f"{OUT}/rows.csv"
-    output: [f"{OUT}/{name}.svg" for name in ("fits", "thrown", "seconds", "loads")]
-    shell: "{sys.executable} {HERE}/figures.py {input} --folder {OUT} --force"
+    input: f"{OUT}/rows.csv", f"{HERE}/figures.py"
+    output: [f"{OUT}/{name}.svg" for name in STUDY.figures]
+    params: shlex.join(STUDY.figure_words())
+    shell: "{sys.executable} {HERE}/figures.py {input[0]} {params}"
 
 
 rule table:
-    input: expand(TRIAL, machine=MACHINES, kind=config["kinds"], rate=config["rates"], seed=SEEDS)
+    input: [STUDY.path(name) for name in STUDY.trials]
     output: f"{OUT}/rows.csv"
-    run:
-        with open(output[0], "w", encoding="utf-8") as table:
-            for k, name in enumerate(input):
-                with open(name, encoding="utf-8") as rows:
-                    table.writelines(rows.readlines()[min(k, 1) :])
+    run: STUDY.table()
 
 
 rule trial:
-    input: program=PROGRAM, machine=lambda found: MACHINES[found.machine]
-    output: TRIAL
-    params:
-        designs=DESIGNS,
-        more=f"--clustered {config.get('clustered', 0)} --seconds {config.get('seconds', 600)}" + " --steps" * bool(config.get("steps")),
-    shell:
-        "{sys.executable} {HERE}/trial.py {input.machine} {params.designs} --kind {wildcards.kind} --rate {wildcards.rate} "
-        "--seed {wildcards.seed} {params.more} --program {input.program} -o {output}"
+    input: lambda found: [*STUDY.trials[found.name].inputs, *SCRIPTS]
+    output: OUT + "/trials/{name}.csv"
+    params: lambda found: shlex.join(STUDY.trials[found.name].words)
+    shell: "{sys.executable} {HERE}/trial.py {params} -o {output:q}"

@@ -1,0 +1,5 @@
+mod Copying
+mod Keeping
+mod Pairing
+mod Repeating
+mod Sameness

@@ -1,0 +1,11 @@
+use Rattle.std.proofs.Common.{◌≡◌, List, ◌++◌, take}
+use Rattle.hierarchy.specs.Circuit.{Pins}
+use Rattle.doubled_rig.specs.Repeats.{IsRoomy, IsKept}
+use Rattle.doubled_rig.proofs.kept.Kept.add_all.Given as goal
+
+abbrev pub invariant-cycles : goal.invariant-cycles
+invariant-cycles l = record {
+  config : l.self.config ≡ l.fn.self.config;
+  roomy : IsRoomy l.self;
+  kept : (before after : List Pins) → IsKept l.fn.self before after → IsKept l.self (before ++ take l.k l.drives) (after ++ take l.k l.readings);
+}

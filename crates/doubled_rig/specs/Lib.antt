@@ -1,0 +1,3 @@
+-- Rigs that compare readings.
+pub mod Repeats
+pub mod Twins

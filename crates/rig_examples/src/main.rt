@@ -1,0 +1,125 @@
+//! Commands over rigs that compare readings, and over a machine behind files.
+//!
+//! The text that the command line names has a case in each line; its head says how they are written. Each is printed, with
+//! what the command wrote and its status.
+#![tactic(auto)]
+
+use board_rig::BoardRig;
+use cycle_sim::SimRig;
+use doubled_rig::{RepeatRig, TwinRig};
+use port_board::{FilePort, PortBoard};
+use rig::Rig;
+use std::alloc::Global;
+use std::process::ExitCode;
+use std::rt::Env;
+use std::{env, fs, io};
+use tera_top::teramac;
+use tm_outside::{File, FileStore, MemoryStore, StdSink};
+use turn_rig::TurnRig;
+
+/// The fault texts that simulated rigs find, by name.
+const FAULTS: [(&str, &str); 5] = [
+    ("none", ""),
+    ("2xnone", ""),
+    ("3xnone", ""),
+    ("stuck", "stuck0 r.l0\n"),
+    ("wrong", "stuck2 r.l0\n"),
+];
+
+// A simulated rig.
+fn sim_of(alloc: Global) -> io::Result<SimRig<MemoryStore>> {
+    let mut files = Vec::new(alloc);
+    for (name, text) in FAULTS {
+        files.push(File {
+            name: String::from_str(alloc, name)?,
+            bytes: Vec::from_slice(alloc, text.as_bytes())?,
+        })?;
+    }
+    Ok(SimRig::new(alloc, MemoryStore::new(alloc, files, Vec::new(alloc))))
+}
+
+// A rig that asks again, over one that turns the reading of a number.
+fn repeat_of(alloc: Global, turned: u64) -> io::Result<Box<dyn Rig>> {
+    let inner = TurnRig::new(sim_of(alloc)?, turned);
+    let rig: Box<dyn Rig> = Box::new(alloc, RepeatRig::new(alloc, inner))?;
+    Ok(rig)
+}
+
+// Two rigs side by side, the second under this name.
+fn twin_of(alloc: Global, name: &str) -> io::Result<Box<dyn Rig>> {
+    let name = String::from_str(alloc, name)?;
+    let twin = TwinRig::new(alloc, sim_of(alloc)?, sim_of(alloc)?, name);
+    let rig: Box<dyn Rig> = Box::new(alloc, twin)?;
+    Ok(rig)
+}
+
+// A machine behind files.
+fn port_of(rt: &HostRuntime) -> io::Result<Box<dyn Rig>> {
+    let alloc: Global = rt.alloc();
+    let board = PortBoard::new(alloc, FilePort::new(alloc, rt.clone()?));
+    let rig: Box<dyn Rig> = Box::new(alloc, BoardRig::new(alloc, board))?;
+    Ok(rig)
+}
+
+// A number; 0 where the word is none.
+fn number_of(word: &str) -> u64 {
+    word.parse::<u64>().unwrap_or(0)
+}
+
+// The rig of a case, and how many words say it.
+fn rig_of(rt: &HostRuntime, words: &[String]) -> io::Result<Option<(Box<dyn Rig>, usize)>> {
+    let alloc: Global = rt.alloc();
+    match words {
+        [kind, turned, ..] if kind.as_str() == "repeat" => {
+            Ok(Some((repeat_of(alloc, number_of(turned.as_str()))?, 2)))
+        }
+        [kind, name, ..] if kind.as_str() == "twin" => Ok(Some((
+            twin_of(alloc, name.as_str())?,
+            2,
+        ))),
+        [kind, ..] if kind.as_str() == "port" => Ok(Some((port_of(rt)?, 1))),
+        _ => Ok(None),
+    }
+}
+
+// Tries a case; false where it says none.
+fn try_line(rt: &HostRuntime, line: &str) -> io::Result<bool> {
+    let alloc: Global = rt.alloc();
+    let mut words = Vec::new(alloc);
+    for word in line.split_whitespace() {
+        words.push(String::from_str(alloc, word)?)?;
+    }
+    println!(rt; "{line}")?;
+    let Some((mut rig, said)) = rig_of(rt, words.as_slice())? else {
+        return Ok(false);
+    };
+    let Some(words) = words.get(said..) else {
+        return Ok(false);
+    };
+    let mut store = FileStore::new(alloc, rt.clone()?);
+    let mut sink = StdSink::new(rt.clone()?);
+    let status = teramac(alloc, words, &mut store, &mut rig, &mut sink);
+    println!(rt; "status {status}")?;
+    Ok(true)
+}
+
+// Tries all cases of a text.
+fn run(rt: &HostRuntime) -> io::Result<bool> {
+    let mut right = true;
+    for name in env::args(rt)?.skip(1) {
+        let text = fs::read_to_string(rt, name.as_str())?;
+        for line in text.lines() {
+            if !line.is_empty() && !line.starts_with("#") && !try_line(rt, line)? {
+                right = false;
+            }
+        }
+    }
+    Ok(right)
+}
+
+fn main(rt: HostRuntime) -> ExitCode {
+    match run(&rt) {
+        Ok(true) => ExitCode::from(0),
+        _ => ExitCode::from(1),
+    }
+}

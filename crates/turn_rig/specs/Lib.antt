@@ -1,0 +1,2 @@
+-- What the rigs of the examples do.
+pub mod Turns

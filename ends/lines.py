@@ -1,0 +1,122 @@
+"""The lines between the tool and a machine: spelling, and a machine that answers them (docs/PORT.md has them by example)."""
+
+import re
+
+from model import Configuration, Session, Setting
+
+NUMBER = rb"(?:0|[1-9][0-9]*)"
+EDIT = rb"[coxk]" + NUMBER + rb"|t" + NUMBER + rb",[0-9a-f]{16},[0-3]"
+DRIVES = rb"d[0-9a-f]+(?: d[0-9a-f]+)*"
+REQUEST = re.compile(rb"a|(?:(?:z )?(?:(?:" + EDIT + rb") )*l )?" + DRIVES)
+SUM = re.compile(rb"[0-9a-f]{2}")
+MOST_TICKS = 4096
+REPLY_BYTES = 4096  # a reply has no more before its sum, but for a single reading that is wider
+
+
+def sum_text(body):
+    return b"%02x" % (sum(body) % 256)
+
+
+def with_sum(body):
+    return body + b"*" + sum_text(body) + b"\n"
+
+
+def pin_digits(pins):
+    """Two digits for each eight pins begun."""
+    return (pins + 7) // 8 * 2
+
+
+def pin_text(pins, number):
+    return b"%0*x" % (pin_digits(pins), number)
+
+
+def counts_body(machine):
+    """The reply to `a`: the version, and the twelve counts."""
+    return b"=1 " + machine.counts_text.encode()
+
+
+class Refusal(Exception):
+    """What is wrong with a request, for people."""
+
+
+class Device:
+    """A machine with its faults that answers requests. A refused request changes nothing but a session.
+
+    `begin` begins sessions. What comes with a load is made so many `times`, each time from a load of its own, and refused where
+    the readings differ: then the machine isn't one unchanging set of faults.
+    """
+
+    def __init__(self, machine, faults, on_load=lambda: None, begin=Session, times=1):
+        self._machine, self._faults, self._on_load, self._begin, self._times = machine, faults, on_load, begin, times
+        self._set, self._session = Configuration(), None
+
+    def answer(self, line):
+        """The reply to a line without its end; nothing to an empty one, which asks nothing."""
+        if not line:
+            return b""
+        try:
+            return with_sum(self._reply(self._body(line)))
+        except Refusal as reason:
+            return b"!%s\n" % str(reason).encode()
+
+    def _body(self, line):
+        """The words of a line. Typed by hand it may lack the sum."""
+        body, star, due = line.partition(b"*")
+        if star and due != sum_text(body):
+            raise Refusal("sum")
+        if not REQUEST.fullmatch(body):
+            raise Refusal("form")
+        return body
+
+    def _reply(self, body):
+        words = body.split()
+        drives = [self._drive(word[1:]) for word in words if word[:1] == b"d"]
+        if body == b"a":
+            self._set, self._session = Configuration(), None
+            return counts_body(self._machine)
+        if b"l" in words:
+            self._load(words[: words.index(b"l")])
+            self._on_load()
+        if not self._session:
+            raise Refusal("load")
+        readings = [self._session.cycle(drive) for drive in drives]
+        for _ in range(self._times - 1 if b"l" in words else 0):
+            self._compare(drives, readings)
+        return b"=" + b" ".join(pin_text(self._machine.counts[-1], reading) for reading in readings)
+
+    def _compare(self, drives, readings):
+        again = self._begin(self._machine, self._faults, self._set.copy())
+        if [again.cycle(drive) for drive in drives] != readings:
+            self._session = None
+            raise Refusal("twice")
+
+    def _drive(self, digits):
+        pins = self._machine.counts[-1]
+        if len(digits) != pin_digits(pins) or int(digits, 16) >> pins:
+            raise Refusal("pins")
+        return int(digits, 16)
+
+    def _load(self, edits):
+        edited = self._set.copy()
+        for word in edits:
+            edited = Configuration() if word == b"z" else self._edited(edited, word)
+        self._set = edited
+        self._session = self._begin(self._machine, self._faults, edited.copy())
+
+    def _edited(self, edited, word):
+        kind, (number, *rest) = word[:1], word[1:].split(b",")
+        number, crosses, tables = int(number), range(len(self._machine.crosses)), range(len(self._machine.tables))
+        if number not in {b"c": crosses, b"o": crosses, b"k": range(1, MOST_TICKS + 1)}.get(kind, tables):
+            raise Refusal("number")
+        if kind == b"c":
+            edited.closed.add(number)
+        elif kind == b"o":
+            edited.closed.discard(number)
+        elif kind == b"k":
+            edited.ticks = number
+        elif kind == b"x":
+            edited.tables.pop(number, None)
+        else:
+            flags = int(rest[1])
+            edited.tables[number] = Setting(int(rest[0], 16), bool(flags & 1), bool(flags & 2))
+        return edited

@@ -1,0 +1,277 @@
+"""Tests of the ends that want no Verilog tool: python3 -m unittest, in this folder or by discover -s ends."""
+
+import random
+import shutil
+import subprocess
+import sys
+import tempfile
+import unittest
+from pathlib import Path
+
+HERE = Path(__file__).resolve().parent
+sys.path.insert(0, str(HERE))
+
+import c_end
+import compare
+import overlay_end
+import switch_end
+from asker import Asker, DevicePort, WrongReply, edits
+from lines import Device, with_sum
+from machine import Faults, Refused, read_faults, read_machine
+from model import Configuration, Session, Setting
+
+EXAMPLES = HERE.parent / "examples"
+TINY = read_machine((EXAMPLES / "tiny.machine").read_text())
+SMALL = read_machine((EXAMPLES / "small.machine").read_text())
+ALL_FAULTS = """
+stuck0 r.l3
+stuck1 m0.o1
+open r.p0 r.l1
+closed m0.c0.o0 m0.l2
+bridge m0.c0.l2 m0.c0.h0.o3
+cell m0.c0.h0.t0 17 1
+register m0.c0.h0.t1 0
+"""
+
+# Requests and replies of a sound `tiny`, one after the other.
+TALK = [
+    ("a*61", "=1 1 1 1 2 4 4 4 4 4 4 4 4*53"),
+    ("c0 c5 l d0e*f0", "=0e*d2"),
+    ("o5 c10 t1,8888888888888888,0 l d0f*fb", "=0f*d3"),
+    ("d0f*fa", "=0f*d3"),
+]
+# Behind them, what each end has to refuse.
+WRONG = ["l d00*00", "c9", "q", "d1", "dag", "l d0g", "k0 l d0f", "k4097 l d0f", "c168 l d0f", "x2 l d0f", "t2,0000000000000000,0 l d0f"]
+# Lines that the end in Python refuses, though others may take them.
+STRICT = ["d0f ", "d0F", "d1f", " d0f", "c00 l d0f", "t1,0,0 l d0f", "c0 l", "a ", "d0f*fA", "l d0f l d0f", "z d0f"]
+
+
+class Texts(unittest.TestCase):
+    def test_numbers_of_tiny(self):
+        self.assertEqual(len(TINY.wires), 46)
+        self.assertEqual([node.first for node in TINY.nodes], [0, 32, 64, 96])
+        wires = [TINY.wires.index(name) for name in ("r.p1", "r.l1", "m0.c0.h0.t0.q", "m0.c0.h0.l2")]
+        self.assertEqual(TINY.crosses.index((wires[0], wires[1])), 5)
+        self.assertEqual(TINY.crosses.index((wires[2], wires[3])), 138)
+        self.assertEqual(list(TINY.tables[1]), list(range(39, 46)))
+
+    def test_most_loads(self):
+        self.assertEqual(TINY.most_loads, 2 * 168 + 3 * 46 + 130 * 2)
+        self.assertEqual(len(SMALL.crosses), 9792)
+
+    def test_wrong_machines(self):
+        text = (EXAMPLES / "tiny.machine").read_text()
+        changes = (("tables 2", "tables 0"), ("pins 4", "pins 4 4"), ("end", ""), ("teramac 1", "teramac 2"))
+        for wrong in ("", text + "end\n", *(text.replace(*change) for change in changes)):
+            with self.assertRaises(Refused):
+                read_machine(wrong)
+
+    def test_wrong_faults(self):
+        for wrong in ("stuck0 r.l9", "open r.l1 r.p0", "cell m0.c0.h0.t0 64 0", "bridge r.l0 r.l0", "stuck0", "loose r.l0"):
+            with self.assertRaises(Refused):
+                read_faults(TINY, wrong)
+        for first, second in (("stuck0 r.l0", "stuck1 r.l0"), ("bridge r.l0 r.l1", "bridge r.l1 r.l0")):
+            with self.assertRaises(Refused):
+                read_faults(TINY, f"{first}\n{second}\n")
+
+
+class Models(unittest.TestCase):
+    """What a machine reads, by hand."""
+
+    def read(self, faults, closed, drive, tables=None):
+        closed = {TINY.crosses.index(tuple(TINY.wires.index(name) for name in ends.split())) for ends in closed}
+        return Session(TINY, read_faults(TINY, faults), Configuration(closed, tables or {})).cycle(drive)
+
+    def test_joined_pins_read_one_value(self):
+        ways = ["r.p0 r.l0", "r.p1 r.l0"]
+        self.assertEqual(self.read("", ways, 0b1110), 0b1100)
+        self.assertEqual(self.read("", [], 0b1110), 0b1110)
+
+    def test_stuck_at_0_wins(self):
+        ways = ["r.p0 r.l0", "r.p1 r.l0"]
+        self.assertEqual(self.read("stuck1 r.p0", ways, 0b1100), 0b1111)
+        self.assertEqual(self.read("stuck1 r.p0\nstuck0 r.l0", ways, 0b1111), 0b1100)
+
+    def test_stuck_crosspoints_and_bridges(self):
+        self.assertEqual(self.read("open r.p0 r.l0", ["r.p0 r.l0", "r.p1 r.l0"], 0b1110), 0b1110)
+        self.assertEqual(self.read("closed r.p0 r.l0", ["r.p1 r.l0"], 0b1110), 0b1100)
+        self.assertEqual(self.read("bridge r.p2 r.p3", [], 0b0111), 0b0011)
+
+    def test_a_table_drives(self):
+        ways = ["m0.c0.h0.t0.q m0.c0.h0.l0", "m0.c0.h0.o0 m0.c0.h0.l0", "m0.c0.h0.o0 m0.c0.l0", "m0.c0.o0 m0.c0.l0"]
+        ways += ["m0.c0.o0 m0.l0", "m0.o0 m0.l0", "m0.o0 r.l0", "r.p0 r.l0"]
+        table = {0: Setting((1 << 64) - 1 - (1 << 63), False, True)}
+        self.assertEqual(self.read("", ways, 15, table), 14)
+        self.assertEqual(self.read("cell m0.c0.h0.t0 63 1", ways, 15, table), 15)
+        latched = {0: Setting(0, True, True)}
+        self.assertEqual(self.read("", ways, 15, latched), 15)
+        self.assertEqual(self.read("register m0.c0.h0.t0 0", ways, 15, latched), 14)
+
+
+class Lines(unittest.TestCase):
+    def setUp(self):
+        self.device = Device(TINY, Faults())
+
+    def test_talk(self):
+        for request, reply in TALK:
+            self.assertEqual(self.device.answer(request.encode()), reply.encode() + b"\n")
+
+    def test_several_drives(self):
+        self.device.answer(b"c0 c4 l d0f")
+        self.assertEqual(self.device.answer(b"d0e d0f"), with_sum(b"=0c 0f"))
+
+    def test_refused_lines_change_nothing(self):
+        for request, _ in TALK:
+            self.device.answer(request.encode())
+        for wrong in WRONG + STRICT:
+            self.assertEqual(self.device.answer(wrong.encode())[:1], b"!", wrong)
+        self.assertEqual(self.device.answer(b"d0f*fa"), b"=0f*d3\n")
+
+    def test_clearing_ends_the_session(self):
+        for request, _ in TALK[:2]:
+            self.device.answer(request.encode())
+        self.device.answer(b"a*61")
+        self.assertEqual(self.device.answer(b"d0f*fa"), b"!load\n")
+        self.assertEqual(self.device.answer(b"z c1 l d0f"), with_sum(b"=0f"))
+
+    def test_readings_that_differ_are_refused(self):
+        chance = random.Random(1)
+
+        def flicker(machine, faults, configuration):
+            return Session(machine, faults, Configuration() if chance.random() < 0.5 else configuration)
+
+        joined, apart, refused = with_sum(b"=0c"), with_sum(b"=0e"), b"!twice\n"
+        for times, answers in ((1, {joined, apart}), (2, {joined, apart, refused}), (20, {refused})):
+            device = Device(TINY, Faults(), begin=flicker, times=times)
+            self.assertEqual({device.answer(b"z c0 c4 l d0e") for _ in range(20)}, answers)
+
+    def test_edits_lead_from_one_to_the_other(self):
+        chance, before = random.Random(3), Configuration()
+        for _ in range(50):
+            after = compare.random_load(TINY, chance, before)
+            self.begun = []
+            device = Device(TINY, Faults(), begin=self.begin)
+            device.answer(b" ".join([*edits(Configuration(), before), b"l d0f"]))
+            device.answer(b" ".join([*edits(before, after), b"l d0f"]))
+            self.assertEqual(self.begun, [before, after])
+            before = after
+
+    def begin(self, _machine, _faults, configuration):
+        """Notes what is loaded, and stands for its session."""
+        self.begun.append(configuration)
+        return self
+
+    def cycle(self, _):
+        return 0
+
+
+class Askers(unittest.TestCase):
+    """The tool's end takes one spelling of each reply."""
+
+    def test_wrong_replies(self):
+        right = with_sum(b"=0f")
+        bodies = [with_sum(body) for body in (b"=1f", b"=0f 0f", b"=f", b"=0f ", b"0f")]
+        for wrong in (b"", b"!no\n", b"=0f*d4\n", b"=0F*b3\n", b"=0f*d3\r\n", right[:-1], *bodies):
+            port = DevicePort(Device(TINY, Faults()))
+            asker = Asker(port, TINY)
+            asker.load(Configuration())
+            port.ask = lambda _, wrong=wrong: wrong
+            with self.assertRaises(WrongReply, msg=wrong):
+                asker.cycles([15])
+
+    def test_another_machine(self):
+        with self.assertRaises(WrongReply):
+            Asker(DevicePort(Device(TINY, Faults())), SMALL)
+
+    def test_long_looks_are_cut(self):
+        asked = []
+        device = Device(TINY, Faults())
+        port = DevicePort(device)
+        asker = Asker(port, TINY)
+        asker.load(Configuration())
+        ask = port.ask
+        port.ask = lambda line: asked.append(ask(line)) or asked[-1]
+        self.assertEqual(asker.cycles([k % 16 for k in range(3000)]), [k % 16 for k in range(3000)])
+        self.assertEqual([len(reply) <= 4100 for reply in asked], [True] * 3)
+
+
+class Process:
+    """A port to a program that answers standard input on standard output."""
+
+    def __init__(self, *command):
+        self.process = subprocess.Popen(command, stdin=subprocess.PIPE, stdout=subprocess.PIPE, stderr=subprocess.DEVNULL)
+
+    def ask(self, line):
+        self.process.stdin.write(line)
+        self.process.stdin.flush()
+        return self.process.stdout.readline()
+
+    def close(self):
+        self.process.stdin.close()
+        status = self.process.wait()
+        self.process.stdout.close()
+        return status
+
+
+class Programs(unittest.TestCase):
+    """Ends as make.py makes them."""
+
+    def setUp(self):
+        self.folder = Path(self.enterContext(tempfile.TemporaryDirectory()))
+
+    def make(self, kind, machine, faults):
+        (self.folder / "machine").write_text(machine)
+        (self.folder / "faults").write_text(faults)
+        words = [kind, self.folder / "machine", self.folder / "faults", "-o", self.folder / kind]
+        subprocess.run([sys.executable, HERE / "make.py", *words], check=True, stdout=subprocess.DEVNULL)
+        return Process(self.folder / kind / "end")
+
+    def check(self, kind):
+        text = (EXAMPLES / "tiny.machine").read_text()
+        port = self.make(kind, text, "")
+        for request, reply in TALK:
+            self.assertEqual(port.ask(request.encode() + b"\n"), reply.encode() + b"\n")
+        for wrong in WRONG:
+            self.assertEqual(port.ask(wrong.encode() + b"\n")[:1], b"!", wrong)
+        self.assertEqual(port.ask(b"\nd0f*fa\n"), b"=0f*d3\n")
+        self.assertEqual(port.close(), 0)
+        port = self.make(kind, text, ALL_FAULTS)
+        self.assertEqual(compare.count_wrong(TINY, read_faults(TINY, ALL_FAULTS), port, 200, random.Random(5)), 0)
+        self.assertEqual(port.close(), 0)
+
+    def test_python(self):
+        self.check("python")
+
+    @unittest.skipUnless(shutil.which("cc"), "no compiler of C")
+    def test_c(self):
+        self.check("c")
+
+    def test_refused_texts(self):
+        words = [sys.executable, HERE / "make.py", "c", EXAMPLES / "tiny.faults", "-o", self.folder]
+        made = subprocess.run(words, check=False, capture_output=True)
+        self.assertEqual((made.returncode, made.stderr[:15]), (1, b"refused machine"))
+
+
+class Sources(unittest.TestCase):
+    """What is written in C and Verilog names each part of the machine and each fault."""
+
+    def test_a_switch_for_each_crosspoint(self):
+        text = switch_end.verilog(TINY, read_faults(TINY, ALL_FAULTS))
+        self.assertEqual(text.count("tranif1("), 168 - 2)
+        self.assertEqual(text.count("  tran("), 2)  # a stuck crosspoint and a bridge
+        self.assertEqual(text.count("assign (strong0, highz1)"), 1)
+        self.assertEqual(text.count("assign (highz0, pull1)"), 1)
+
+    def test_planes_of_an_overlay(self):
+        sound, faulty = (overlay_end.verilog(TINY, read_faults(TINY, faults)) for faults in ("", ALL_FAULTS))
+        self.assertEqual([text.count("_reached[0] =") for text in (sound, faulty)], [1, 3])
+        self.assertEqual([text.count("crossbar #(") for text in (sound, faulty)], [4, 4])
+
+    def test_arrays_of_c(self):
+        text = c_end.header(TINY, read_faults(TINY, ALL_FAULTS))
+        self.assertIn("static const signed char held[] = {-1, 0};", text)
+        self.assertIn("#define MOST_LOADS 734", text)
+
+
+if __name__ == "__main__":
+    unittest.main()

@@ -1,0 +1,169 @@
+#!/usr/bin/env python3
+"""Says of the last line of a command what it means in the files at hand: which word, how many columns, which limit.
+
+    explain.py 'refused vectors 1 width' go small.machine small.faults lfsr.blif lfsr.vec
+    explain.py 'refused vectors 1 width' lfsr.blif lfsr.vec
+
+After the line stand the words of the command, or files alone, which are then known by their endings.
+"""
+
+import argparse
+import os
+import re
+
+import teramac_texts as texts
+
+COMMANDS = {
+    "eval": "design vectors", "go": "machine rig design vectors", "diagnose": "machine rig", "compile": "machine defects design",
+    "run": "machine rig image vectors", "bench": "number", "check": "machine rig image", "repair": "machine defects image",
+    "pair": "machine rig first second vectors",
+}  # fmt: skip
+ENDINGS = {".machine": "machine", ".faults": "rig", ".defects": "defects", ".image": "image", ".blif": "design", ".vec": "vectors"}
+KINDS = {
+    "after": "something stands behind the end",
+    "byte": "a byte that may not stand in a text; of a file that was saved as UTF-16 every second one",
+    "doubled": "this stands there already: a second time, or a signal that two lines drive",
+    "against": "an earlier line says the other value of the same part",
+    "cyclic": "covers that read each other in a circle without a latch, from this line's cover on",
+    "undriven": "no .inputs, .names or .latch gives a value to the signal that is named",
+    "latchtype": "only latches of type re are known; let yosys run dfflegalize and dffunmap (docs/BLIF.md)",
+    "leftout": "a BLIF line that isn't read; let yosys map to .names and .latch (docs/BLIF.md)",
+    "nomodel": "the first line isn't .model: is this a BLIF file?",
+    "order": "a line, or an entry's number, before one that should stand before it",
+    "missing": "the file ends before the line `end`",
+    "char": "a character of this line is neither 0 nor 1",
+    "magic": "the file doesn't begin as an image: was the compile that wrote it refused? Its first line says so",
+    "short": "the file ends too early: was it cut off?",
+    "shape": "the image is of a machine of other counts",
+    "number": "a count is from 1 to 65,535, without leading zeros",
+}
+
+
+def roles_of(words):
+    """The file of each role: by the places of a command's words, or by endings."""
+    if words and words[0] in COMMANDS:
+        return dict(zip(COMMANDS[words[0]].split(), words[1:]))
+    return {ENDINGS.get(os.path.splitext(word)[1], "?"): word for word in words}
+
+
+def words_wrong(words):
+    """What is wrong with the words of a command."""
+    if not words or words[0] not in COMMANDS:
+        return f"`{words[0] if words else ''}` is no command; commands are {', '.join(COMMANDS)}"
+    wanted = COMMANDS[words[0]].split()
+    if len(words) - 1 != len(wanted):
+        return f"`{words[0]}` takes {len(wanted)} words ({' '.join(wanted).upper()}), and {len(words) - 1} were given"
+    for word in words:
+        if word.startswith("-"):
+            return f"`{word}` begins with -, and there are no options; of a file with this name write ./{word}"
+    return f"`{words[1]}` is no number from 0 to 4,294,967,295 without leading zeros" if words[0] == "bench" else "the words look right"
+
+
+def file_wrong(role, path):
+    """Why a file can't be read, or None."""
+    if not os.path.exists(path):
+        near = [name for name in os.listdir(os.path.dirname(path) or ".") if os.path.splitext(name)[1] == os.path.splitext(path)[1]]
+        return f"the {role} file {path} isn't there" + (f"; beside it stand {', '.join(sorted(near)[:5])}" if near else "")
+    if os.path.isdir(path):
+        return f"{path}, the {role} file, is a directory"
+    return None if os.access(path, os.R_OK) else f"{path}, the {role} file, may not be read"
+
+
+def rig_wrong(name):
+    if re.fullmatch("@0[0-9]+", name):
+        return f"{name} is a file's name, since a number has no leading zeros"
+    wrong = None if re.fullmatch("@[0-9]+|", name) else file_wrong("fault", name)
+    return wrong or "no fault file is missing here, so the rig itself failed"
+
+
+def machine_limit(data):
+    """Which limit the counts of a machine pass."""
+    counts = [int(word) for word in re.findall(r"\b[0-9]+\b", re.sub("#.*", "", data.decode()))[1:13]]
+    found = zip(("tables", "wires", "crosspoints"), texts.sizes_of(counts), texts.LIMITS)
+    return "its counts give " + "; ".join(f"{count:,} {name}, and at most {most:,} may be" for name, count, most in found if count > most)
+
+
+def vectors_width(line, roles, read):
+    """How many columns were wanted and found."""
+    found = len(re.sub(r"#.*|[ \t\r]", "", line))
+    names = [name for role in ("design", "first", "second") if role in roles for _, name in texts.read_design(read(role)).inputs]
+    return f"this line has {found} columns, and the design {len(names)} inputs: {' '.join(names)}"
+
+
+def name_wrong(machine, words):
+    """Which of some names is none of this machine."""
+    known = [*machine.numbers, *machine.table_numbers]
+    for word in words:
+        if word not in machine.numbers and word not in machine.table_numbers:
+            node, _, part = word.rpartition(".")
+            last = [name for name in known if name.rpartition(".")[0] == node and name.rpartition(".")[2][:1] == part[:1]]
+            return f"`{word}` is no part of this machine" + (f"; the last of its kind there is {last[-1]}" if last else f": no node {node}")
+    if len(words) == 2 and machine.number("cross", words[::-1]) is not None:
+        return f"the tap comes first and then the line: {words[1]} {words[0]}"
+    return f"`{' '.join(words)}`: these have no crosspoint; a line is crossed by the taps of its own node"
+
+
+def text_wrong(file, number, kind, roles):
+    """What is wrong with a line of a text."""
+    role = {"faults": "rig"}.get(file, file)
+    if role not in roles:
+        return f"give the {file} file after the line, to hear more of its line {number}"
+
+    def read(which):
+        with open(roles[which], "rb") as found:
+            return found.read()
+
+    line = dict(enumerate(read(role).decode("utf-8", "surrogateescape").split("\n"), 1)).get(number, "")
+    words = line.split("#")[0].split()
+    match file, kind:
+        case "machine", "limit" if number:
+            return machine_limit(read(role))
+        case _, "limit":
+            return f"more than {file} may hold (docs/FORMATS.md)"
+        case "vectors", "width":
+            return vectors_width(line, roles, read)
+        case "defects", "word" if "\r" in line:
+            return "the line ends with CR LF, as editors of Windows write it; a list of defects has LF alone: tr -d '\\r' < OLD > NEW"
+        case "defects", "word":
+            return f"`{line}` isn't spelled as in a list of defects: single blanks, no comments" + "; is this a fault file?" * (number == 1)
+        case "defects", "machine":
+            return f"the list is for {' '.join(words[1:])}, the machine {' '.join(map(str, texts.read_machine(read('machine')).counts))}"
+        case _, "wire" | "cross" | "name" if "machine" in roles:
+            return name_wrong(texts.read_machine(read("machine")), words[1:])
+    return KINDS.get(kind, "see docs/FORMATS.md for this kind") + (f". The line: {line.strip()}" if words and file != "image" else "")
+
+
+def explain(line, words):
+    """A sentence or two about a line of refusal."""
+    roles = roles_of(words)
+    match line.split():
+        case ["refused", "words"]:
+            return words_wrong(words)
+        case ["refused", "store"]:
+            found = filter(None, (file_wrong(role, path) for role, path in roles.items() if role not in ("rig", "number")))
+            return next(found, "every file can be read, so the output failed: is the disk full, or the pipe closed?")
+        case ["refused", "rig"]:
+            return rig_wrong(roles.get("rig", ""))
+        case ["refused", "noroom", resource, node, need, have, *_]:
+            where = "the machine" if node == "r" else f"node {node}"
+            return f"{where} has {have} {resource} that serve, the plan in order wants {need}; studies/size.py gives a machine with room"
+        case ["refused", "memory"]:
+            return "memory was wanting: close what else runs, or take a smaller machine"
+        case ["refused", file, number, kind, *_] if number.isdigit():
+            return text_wrong(file, int(number), kind, roles)
+    return "no line of a refusal; these begin with `refused`"
+
+
+def main():
+    parser = argparse.ArgumentParser(description=__doc__, formatter_class=argparse.RawDescriptionHelpFormatter)
+    parser.add_argument("line", help="the last line that the program wrote")
+    parser.add_argument("words", nargs=argparse.REMAINDER, help="the words of the command, or its files")
+    args = parser.parse_args()
+    try:
+        print(explain(args.line, args.words))
+    except (OSError, texts.Refused, ValueError) as error:
+        print(f"{args.line}: no more can be said, since a file that tells it can't be read ({error})")
+
+
+if __name__ == "__main__":
+    main()

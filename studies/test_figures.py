@@ -1,0 +1,279 @@
+"""Tests of studies and their figures: python3 -m unittest. Those of figures want matplotlib, some the built program."""
+
+import argparse
+import os
+import random
+import subprocess
+import sys
+import tempfile
+import unittest
+from collections import Counter
+from pathlib import Path
+
+import designs
+import made
+import teramac_texts as texts
+import trial
+from explain import explain
+from faults import Places, largest_rate, make_faults
+from program import DEFAULT, HERE, call
+from study import KNOWN, Study, names_of
+
+try:
+    import figures
+except ModuleNotFoundError:
+    figures = None
+
+EXAMPLES = os.path.normpath(os.path.join(HERE, "../examples"))
+BENCH = texts.Machine((2, 2, 4, 8, 24, 24, 24, 32, 32, 32, 32, 28))
+SMALL = texts.Machine((1, 2, 2, 4, 20, 20, 20, 24, 24, 24, 24, 16))
+
+
+def rows_of(**columns):
+    """Rows of a study: for each combination of the columns' lists one, other columns alike in all."""
+    alike = {"machine": "m", "kind": "open", "design": "d", "list": "exact", "status": "0", "refusal": ""}
+    rows = [alike | dict.fromkeys(figures.NUMBERS, 1.0)]
+    for column, values in columns.items():
+        rows = [{**row, column: value} for row in rows for value in values]
+    return rows
+
+
+def run(command, script, *words, **more):
+    """What a script of this folder wrote, and its status."""
+    return subprocess.run([command, os.path.join(HERE, script), *words], capture_output=True, text=True, check=False, **more)
+
+
+@unittest.skipIf(figures is None, "matplotlib isn't there")
+class Figures(unittest.TestCase):
+    def tearDown(self):
+        figures.plt.close("all")
+
+    def test_a_curve_for_each_machine_and_kind(self):
+        rows = rows_of(machine=["m", "n"], kind=["open", "wires"], rate=[0.1, 0.2], seed=[1, 2])
+        for row in rows:
+            row["status"] = "3" if row["machine"] == "n" else "0"
+        picture, columns, table = figures.fits(rows, 0)
+        shares = {(line[0], line[1], line[4]): line[columns.index("share")] for line in table}
+        self.assertEqual(len(picture.axes), 4)
+        self.assertEqual(set(shares.values()), {0.0, 1.0})
+        self.assertEqual(shares["n", "wires", 0.2], 0)
+
+    def test_undecided_runs_are_apart(self):
+        rows = rows_of(status=["0", "0", "3", "cut off", "6"])
+        self.assertEqual(figures.share(rows)[0], 2 / 3)
+        self.assertEqual(figures.share(rows)[3:], [3, 2])
+        picture, _, _ = figures.fits(rows, 0)
+        self.assertTrue(any("undecided" in label for label in picture.axes[0].get_legend_handles_labels()[1]))
+
+    def test_a_run_that_was_none_stops_the_figures(self):
+        with tempfile.TemporaryDirectory() as folder:
+            path = Path(folder, "rows.csv")
+            path.write_text("machine,kind,rate,design,list,status\nm,open,0,d,exact,0\nm,open,0,d,exact,5\n", encoding="utf-8")
+            with self.assertRaisesRegex(SystemExit, "line 3: a run that ended with status 5"):
+                figures.read_rows(path)
+
+    def test_axes_ticks_and_legends(self):
+        """What wasn't told is said; one machine is drawn against the rate; ticks are plain, and curves differ in the legend."""
+        picture, _, _ = figures.loads(rows_of(list=["diagnosed"], loads=[None]), 0)
+        self.assertIn("teramac_report", picture.axes[0].texts[0].get_text())
+        for machines, label in ((["1"], "rate of faults"), (["1", "2"], "crosspoints of the machine")):
+            rows = [{**row, "crosspoints": float(row["machine"])} for row in rows_of(list=["diagnosed"], machine=machines, rate=[0.1, 0.2])]
+            self.assertEqual(figures.loads(rows, 100)[0].axes[0].get_xlabel(), label)
+        picture, _, _ = figures.thrown(rows_of(list=["diagnosed"], rate=[0.1, 0.2], thrown_wires=[2000.0]), 0)
+        self.assertEqual([tick.get_text() for tick in picture.axes[0].get_yticklabels()], ["0", "1", "10", "100", "1,000", "10,000"])
+        self.assertGreater(figures.plt.rcParams["legend.handlelength"], 3)
+        self.assertEqual(len({style[1] for style in figures.STYLES.values()}), len(trial.LISTS))
+
+    def test_means(self):
+        self.assertEqual(figures.mean([5.0, 5.0, 5.0]), [5, 5, 5, 3])
+        self.assertAlmostEqual(figures.mean([1.0, 2.0, 3.0])[2], 2 + 4.303 / 3**0.5, 3)
+
+    def test_why(self):
+        rows = rows_of(status=["3"], refusal=["noroom lines m0.c1", "noroom lines m1.c0", "noroom tables r", "noroom ports m0"])
+        _, columns, table = figures.why(rows, 0)
+        at = columns.index("short")
+        self.assertEqual({line[at]: line[at + 1] for line in table}, {"lines of chips": 0.5, "tables": 0.25, "ports of modules": 0.25})
+
+    def test_redundancy_and_compare(self):
+        rows = rows_of(spare=[0.0, 1.0], rate=[0.1], seed=range(10), list=["exact", "none"])
+        for row in rows:
+            row["status"] = "3" if row["list"] == "none" and row["spare"] < 1 else "0"
+            row["crosspoints"] = 100 * (1 + row["spare"])
+        _, columns, table = figures.redundancy(rows, 0)
+        found = [dict(zip(columns, line)) for line in table]
+        self.assertEqual([row["share"] for row in found if row["list"] == "none"], [0, 1])
+        self.assertEqual({row["crosspoints"] for row in found}, {100, 200})
+        _, columns, table = figures.compare(rows, 0)
+        enough = {line[2]: line[columns.index("enough")] for line in table}
+        self.assertEqual(enough, {"exact": 100, "none": 200})
+        self.assertIn("| d, no list | 1.00 (0.72-1.00) | 200 |", figures.compare_text(columns, table))
+
+
+class Kinds(unittest.TestCase):
+    def test_clusters_are_not_heaped_at_edges(self):
+        """Line 31 next to line 30: with what falls beyond the edge put onto it, it had several times as many."""
+        chance = random.Random(1)
+        places, found = Places(BENCH, chance, 9, "spots"), Counter()
+        for _ in range(4000):
+            found[places.near(32, 30, 3)] += 1
+        self.assertLess(found[31], 1.25 * found[30])
+        self.assertLess(found[30], 1.4 * found[28])
+
+    def test_seeds_give_what_they_gave(self):
+        machine = texts.read_text(texts.read_machine, f"{EXAMPLES}/uart.machine")
+        amounts = {"open": 0.001, "closed": 1, "wires": 1, "cells": 1, "registers": 1, "bridges": 1}
+        found = texts.faults_text(machine, make_faults(machine, amounts, 3))
+        self.assertEqual(found, Path(EXAMPLES, "uart.faults").read_text(encoding="utf-8"))
+
+    def test_help_and_the_largest_rate(self):
+        self.assertNotIn("%%", run(sys.executable, "faults.py", "--help").stdout)
+        large = texts.Machine((2, 2, 4, 16, 32, 32, 32, 48, 48, 48, 48, 40))
+        with self.assertRaisesRegex(ValueError, "65,536 in all; of open 0.[0-9]+ is the largest rate that fits"):
+            make_faults(large, {"open": 0.9}, 1)
+        rate = largest_rate(texts.FAULT_LIMIT, large.sizes["cross"])
+        self.assertGreater(make_faults(large, {"open": rate}, 1).count, 0.95 * texts.FAULT_LIMIT)
+
+    def test_neighbours_and_broken_wires(self):
+        faults = make_faults(SMALL, {"neighbours": 40}, 1)
+        beside = [set(pair) for node in SMALL.nodes for wires in (node.lines, node.taps) for pair in zip(wires, wires[1:])]
+        self.assertTrue(all(set(pair) in beside for pair in faults["bridge"]))
+        for seed in range(20):
+            opened = set(make_faults(SMALL, {"broken": 1}, seed)["open"])
+            wires = [wire for wire in range(SMALL.sizes["wire"]) if opened <= set(SMALL.along(wire))]
+            along = [list(SMALL.along(wire)) for wire in wires]
+            self.assertTrue(any(opened in (set(path[: len(opened)]), set(path[-len(opened) :])) for path in along))
+
+    def test_shapes(self):
+        for shape in ("rows", "columns", "hextants"):
+            opened = make_faults(SMALL, {"open": 12}, 3, 12, shape)["open"]
+            nodes = {SMALL.node_of_cross(cross).name for cross in opened}
+            ends = [{SMALL.ends(cross)[k] for cross in opened} for k in range(2)]
+            self.assertEqual(len(nodes), 1)
+            self.assertEqual(1 in map(len, ends), shape != "hextants")
+            self.assertTrue(shape != "hextants" or ".h" in min(nodes))
+
+    def test_mixes(self):
+        self.assertEqual(trial.mix("open"), ("open", {"open": 1.0}, None))
+        self.assertEqual(trial.mix("x:open+wires*0.1 in rows of 24"), ("x", {"open": 1.0, "wires": 0.1}, (24.0, "rows")))
+        for word in ("opens", "open*0", "open in lines of 3"):
+            self.assertRaises(argparse.ArgumentTypeError, trial.mix, word)
+
+    def test_lists_of_other_schemes(self):
+        """They list all that the exact list does not leave free."""
+        for seed in range(10):
+            faults = make_faults(SMALL, {"open": 30, "wires": 2, "registers": 1, "closed": 1}, seed)
+            exact = texts.exact_list(SMALL, faults)
+            for make in (trial.wires_list, trial.hextants_list):
+                found = make(SMALL, faults)
+                self.assertEqual(texts.read_defects(SMALL, texts.defects_text(SMALL, found).encode()), found)
+                self.assertFalse(any(found.is_free(SMALL, kind, at) for kind in texts.PARTS for at in exact[kind]))
+            self.assertEqual([len(trial.wires_list(SMALL, faults)[kind]) for kind in ("cross", "table")], [0, 0])
+
+    def test_made_designs(self):
+        for tables in (38, 77, 115):
+            design = texts.read_design(made.blif_text(made.filling(tables)).encode())
+            self.assertEqual(len(designs.plain_network(design).tables), tables)
+        design = texts.read_text(texts.read_design, os.path.join(EXAMPLES, "lfsr.blif"))
+        copies = texts.read_design(made.blif_text(made.triplicated(design)).encode())
+        chance = random.Random(1)
+        vectors = [[chance.randrange(2) for _ in design.inputs] for _ in range(50)]
+        values = [designs.design_values(found, vectors) for found in (design, copies)]
+        self.assertEqual(*[[value[output] for output in found.outputs] for value, found in zip(values, (design, copies))])
+
+
+class Runs(unittest.TestCase):
+    def setUp(self):
+        folder = tempfile.TemporaryDirectory()
+        self.addCleanup(folder.cleanup)
+        self.folder = Path(folder.name)
+        for name in ("and.blif", "and.vec", "tiny.machine"):
+            (self.folder / name).write_bytes(Path(EXAMPLES, name).read_bytes())
+        self.settings = self.folder / "s.yaml"
+        self.write(rates='["0.0", "0.02"]')
+
+    def write(self, **more):
+        lines = {"folder": self.folder / "out", "machines": f"[{self.folder}/tiny.machine]", "kinds": "[open]", "seeds": "1"}
+        lines |= {"lists": "[exact]", "designs": f'{{"{self.folder}/and.blif": "{self.folder}/and.vec"}}', "figures": "[fits]", **more}
+        self.settings.write_text("".join(f"{key}: {value}\n" for key, value in lines.items()))
+
+    def study(self):
+        words = [sys.executable, "-m", os.path.basename(HERE), str(self.settings), "--jobs", "1", "--program", DEFAULT]
+        return subprocess.run(words, cwd=os.path.dirname(HERE), capture_output=True, text=True, check=False)
+
+    @unittest.skipIf(figures is None, "matplotlib isn't there")
+    def test_what_changed_is_run_anew(self):
+        for change, due in (("", 2), ("", 0), ("and.vec", 2), ("and.blif", 2), ("tiny.machine", 2), ("", 0)):
+            if change:
+                path = self.folder / change
+                path.write_text(path.read_text() + "# more\n")
+            ran = self.study()
+            self.assertIn(f"2 trials, {due} to run", ran.stderr)
+            self.assertEqual(ran.returncode, 0, ran.stderr)
+        self.assertEqual(len((self.folder / "out/rows.csv").read_text().splitlines()), 3)
+        self.assertIn("tiny,open,and,exact,0.0,1.0", (self.folder / "out/fits.csv").read_text())
+
+    def test_a_wrong_design_stops_the_study(self):
+        (self.folder / "and.blif").write_text(".model and\n.outputs y\n.end\n")
+        ran = self.study()
+        self.assertIn("refused design 2 undriven y; no run", ran.stderr)
+        self.assertNotEqual(ran.returncode, 0)
+
+    def test_machines_of_one_name(self):
+        self.assertEqual(set(names_of(["a/x.machine", "b/x.machine"])), {"a-x", "b-x"})
+        self.assertEqual(names_of(["a/x.machine", "b/y.machine"]), {"x": "a/x.machine", "y": "b/y.machine"})
+        other = self.folder / "b"
+        other.mkdir()
+        (other / "tiny.machine").write_bytes((self.folder / "tiny.machine").read_bytes())
+        self.write(machines=f"[{self.folder}/tiny.machine, {other}/tiny.machine]", rates='["0.0"]')
+        trials = Study(str(self.settings), DEFAULT).trials
+        self.assertEqual(len(trials), 2)
+        self.assertTrue(all(os.path.abspath(DEFAULT) in found.inputs for found in trials.values()))
+
+    def test_settings_are_documented(self):
+        text = Path(HERE, "README.md").read_text(encoding="utf-8")
+        self.assertEqual([word for word in sorted(KNOWN) if f"`{word}`" not in text], [])
+        self.write(rates="[0.1]", seed="7")
+        self.assertRaises(SystemExit, Study, str(self.settings), DEFAULT)
+
+    def test_setup(self):
+        """With and without root; apt-get, sudo and id are stand-ins here."""
+        for user, lean, said in (("0", ["--lean"], "apt-get install"), ("1000", [], "sudo apt-get install")):
+            for name, line in (("apt-get", 'echo "apt-get $*"'), ("sudo", 'echo "sudo $*"'), ("id", f"echo {user}")):
+                (self.folder / name).write_text(f"#!/bin/sh\n{line}\n")
+                (self.folder / name).chmod(0o755)
+            path = {**os.environ, "PATH": f"{self.folder}:{os.environ['PATH']}"}
+            ran = run("sh", "setup", *lean, env=path)
+            self.assertTrue(ran.stdout.splitlines()[1].startswith(said))
+            self.assertEqual("snakemake" in ran.stdout, not lean)
+
+    def test_used_nodes(self):
+        for image, status in (([], 1), (["--image", f"{EXAMPLES}/and.image"], 0)):
+            ran = run(sys.executable, "draw.py", f"{EXAMPLES}/tiny.machine", "--level", "chip", "--used", *image)
+            self.assertEqual(ran.returncode, status)
+
+    def test_explained(self):
+        """Of lines that the program itself writes."""
+        machine, design, defects = [f"{EXAMPLES}/{name}" for name in ("tiny.machine", "and.blif", "tiny.defects")]
+        wide, exchanged, ended, large = [str(self.folder / name) for name in ("w.vec", "x.faults", "x.defects", "large.machine")]
+        Path(wide).write_text("101\n")
+        Path(exchanged).write_text("open r.l0 r.p0\n")
+        Path(ended).write_bytes(Path(defects).read_bytes().replace(b"\n", b"\r\n"))
+        Path(large).write_text(Path(machine).read_text().replace("tables 2", "tables 5000"))
+        for words, said in (
+            (["eval", design, wide], "3 columns, and the design 2 inputs: a b"),
+            (["go", "x", "y"], "takes 4 words (MACHINE RIG DESIGN VECTORS), and 2 were given"),
+            (["run", machine, "@1", "no.image", "no.vec"], "the image file no.image isn't there"),
+            (["diagnose", EXAMPLES, "@1"], "is a directory"),
+            (["diagnose", machine, "no.faults"], "the fault file no.faults isn't there"),
+            (["diagnose", large, "@1"], "5,000 tables, and at most 4,096"),
+            (["diagnose", machine, exchanged], "the tap comes first and then the line: r.p0 r.l0"),
+            (["diagnose", machine, f"{EXAMPLES}/small.faults"], "is no part of this machine"),
+            (["compile", machine, ended, design], "CR LF"),
+            (["run", machine, "@1", defects, wide], "doesn't begin as an image"),
+            (["compile", machine, defects, f"{EXAMPLES}/lfsr.blif"], "the plan in order wants 10"),
+        ):
+            self.assertIn(said, explain(" ".join(call(DEFAULT, *words).refusal), words))
+
+
+if __name__ == "__main__":
+    unittest.main()
