@@ -7,7 +7,7 @@ ghost use Rattle.config_set.specs.Configuration.{cleared};
 ghost use Rattle.tm_outside.specs.Counts.{Rose};
 ghost use Rattle.rig.specs.Flaky.{both_counts};
 ghost use Rattle.rig.specs.Rig.{KeepLengths};
-ghost use Rattle.board_rig.specs.Boards.{width_found, Finds, HasCycled, HasCycledAll, AreRowsOf, HasFailed};
+ghost use Rattle.board_rig.specs.Boards.{width_found, Finds, SetsUp, HasCycled, HasCycledAll, AreRowsOf, HasFailed};
 ghost use Rattle.board_rig.specs.Device.{Device, faults_told};
 ghost use Rattle.port_board.specs.Lines.{counts_line, AreCounts, turn_room};
 ghost use Rattle.port_board.specs.Requests.{attach_line};
@@ -213,7 +213,8 @@ impl<P: Port> Board for PortBoard<P> {
 
     /// Where a machine of this shape is told, it answers `Failed` only where the port failed.
     fn find(&mut self, shape: &Shape, name: &str) -> Result<(), RigFail>
-        ensures later { (⟦<PortBoard<P> as Board>⟧.board_state self.old).failures ≤ (⟦<PortBoard<P> as Board>⟧.board_state self.new).failures }
+        ensures later { (⟦<PortBoard<P> as Board>⟧.board_state self.old).failures
+            ≤ (⟦<PortBoard<P> as Board>⟧.board_state self.new).failures }
         ensures count { (⟦<PortBoard<P> as Board>⟧.board_state self.new).failures < 2 ^ 64 }
         ensures found { OnOk result (Finds shape.now (⟦<PortBoard<P> as Board>⟧.board_state self.new)) }
         ensures lost { OnErr result ((⟦<PortBoard<P> as Board>⟧.board_state self.new).found ≡ None) }
@@ -244,7 +245,23 @@ impl<P: Port> Board for PortBoard<P> {
         Ok(())
     }
 
-    fn set_up(&mut self, config: &Config) -> Result<(), RigFail> {
+    /// It sends nothing, and answers `Failed` only where the board isn't up.
+    fn set_up(&mut self, config: &Config) -> Result<(), RigFail>
+        requires { (⟦<PortBoard<P> as Board>⟧.board_state self.old).found ≡ Some config.now.config.shape }
+
+        ensures found { (⟦<PortBoard<P> as Board>⟧.board_state self.new).found
+            ≡ (⟦<PortBoard<P> as Board>⟧.board_state self.old).found }
+        ensures faults { faults_told (⟦<PortBoard<P> as Board>⟧.board_state self.new).device
+            ≡ faults_told (⟦<PortBoard<P> as Board>⟧.board_state self.old).device }
+        ensures later { (⟦<PortBoard<P> as Board>⟧.board_state self.old).failures
+            ≤ (⟦<PortBoard<P> as Board>⟧.board_state self.new).failures }
+        ensures count { (⟦<PortBoard<P> as Board>⟧.board_state self.new).failures < 2 ^ 64 }
+        ensures begins { OnOk result (SetsUp config.now.config (⟦<PortBoard<P> as Board>⟧.board_state self.new)) }
+        ensures refused { IsErrOf result RigFail.Failed → Rose (⟦<PortBoard<P> as Board>⟧.board_state self.old).failures
+            (⟦<PortBoard<P> as Board>⟧.board_state self.new).failures }
+        ensures up { IsErrOf result RigFail.Failed → self.old.is_up ≡ false }
+        ensures unsent { self.new.port_failures ≡ self.old.port_failures }
+    {
         let Some(mut link) = self.link.take() else {
             self.failures = self.failures.saturating_add(1);
             return Err(RigFail::Failed);
@@ -263,15 +280,18 @@ impl<P: Port> Board for PortBoard<P> {
         requires drive_pins { width_found (⟦<PortBoard<P> as Board>⟧.board_state self.old) ≡ Some (length drive.now) }
         requires read_pins { width_found (⟦<PortBoard<P> as Board>⟧.board_state self.old) ≡ Some (length read.old) }
 
-        ensures found { (⟦<PortBoard<P> as Board>⟧.board_state self.new).found ≡ (⟦<PortBoard<P> as Board>⟧.board_state self.old).found }
+        ensures found { (⟦<PortBoard<P> as Board>⟧.board_state self.new).found
+            ≡ (⟦<PortBoard<P> as Board>⟧.board_state self.old).found }
         ensures faults { faults_told (⟦<PortBoard<P> as Board>⟧.board_state self.new).device
             ≡ faults_told (⟦<PortBoard<P> as Board>⟧.board_state self.old).device }
-        ensures later { (⟦<PortBoard<P> as Board>⟧.board_state self.old).failures ≤ (⟦<PortBoard<P> as Board>⟧.board_state self.new).failures }
+        ensures later { (⟦<PortBoard<P> as Board>⟧.board_state self.old).failures
+            ≤ (⟦<PortBoard<P> as Board>⟧.board_state self.new).failures }
         ensures count { (⟦<PortBoard<P> as Board>⟧.board_state self.new).failures < 2 ^ 64 }
         ensures length { length read.new ≡ length read.old }
         ensures cycles { OnOk result (HasCycled (record { drive = drive.now; reading = read.new } ∷ [])
             (⟦<PortBoard<P> as Board>⟧.board_state self.old) (⟦<PortBoard<P> as Board>⟧.board_state self.new)) }
-        ensures refused { IfErr result (λ e. HasFailed e (⟦<PortBoard<P> as Board>⟧.board_state self.old) (⟦<PortBoard<P> as Board>⟧.board_state self.new)) }
+        ensures refused { IfErr result (λ e. HasFailed e (⟦<PortBoard<P> as Board>⟧.board_state self.old)
+            (⟦<PortBoard<P> as Board>⟧.board_state self.new)) }
         ensures alarm { OnErr result (IsSome self.old.device → Rose self.old.port_failures self.new.port_failures) }
     {
         let Some(mut link) = self.link.take() else {
@@ -297,15 +317,18 @@ impl<P: Port> Board for PortBoard<P> {
         requires read_pins { AreRowsOf (⟦<PortBoard<P> as Board>⟧.board_state self.old) reads.old }
         requires as_many { length drives.now ≡ length reads.old }
 
-        ensures found { (⟦<PortBoard<P> as Board>⟧.board_state self.new).found ≡ (⟦<PortBoard<P> as Board>⟧.board_state self.old).found }
+        ensures found { (⟦<PortBoard<P> as Board>⟧.board_state self.new).found
+            ≡ (⟦<PortBoard<P> as Board>⟧.board_state self.old).found }
         ensures faults { faults_told (⟦<PortBoard<P> as Board>⟧.board_state self.new).device
             ≡ faults_told (⟦<PortBoard<P> as Board>⟧.board_state self.old).device }
-        ensures later { (⟦<PortBoard<P> as Board>⟧.board_state self.old).failures ≤ (⟦<PortBoard<P> as Board>⟧.board_state self.new).failures }
+        ensures later { (⟦<PortBoard<P> as Board>⟧.board_state self.old).failures
+            ≤ (⟦<PortBoard<P> as Board>⟧.board_state self.new).failures }
         ensures count { (⟦<PortBoard<P> as Board>⟧.board_state self.new).failures < 2 ^ 64 }
         ensures lengths { KeepLengths reads.old reads.new }
         ensures cycles { OnOk result (HasCycledAll drives.now reads.new (⟦<PortBoard<P> as Board>⟧.board_state self.old)
             (⟦<PortBoard<P> as Board>⟧.board_state self.new)) }
-        ensures refused { IfErr result (λ e. HasFailed e (⟦<PortBoard<P> as Board>⟧.board_state self.old) (⟦<PortBoard<P> as Board>⟧.board_state self.new)) }
+        ensures refused { IfErr result (λ e. HasFailed e (⟦<PortBoard<P> as Board>⟧.board_state self.old)
+            (⟦<PortBoard<P> as Board>⟧.board_state self.new)) }
         ensures alarm { OnErr result (IsSome self.old.device → Rose self.old.port_failures self.new.port_failures) }
     {
         let Some(mut link) = self.link.take() else {

@@ -94,7 +94,8 @@ fn read_pins(reply: &[u8], at: usize, read: &mut PinBits)
     requires { at ≤ 2 ^ 63 }
 
     ensures length { length read.new ≡ length read.old }
-    ensures right { (pins : Pins) (rest : List ℕ) → length pins ≡ length read.old → drop at reply.now ≡ pin_text pins ++ rest → read.new ≡ pins }
+    ensures right { (pins : Pins) (rest : List ℕ) → length pins ≡ length read.old → drop at reply.now ≡ pin_text pins ++ rest →
+        read.new ≡ pins }
 {
     let count = read.len().div_ceil(8);
     'pins: for k in 0..read.len() {

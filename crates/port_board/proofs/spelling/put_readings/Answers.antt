@@ -1,4 +1,4 @@
-use Rattle.std.proofs.Common.{◌≡◌, ◌∙◌, ◌+◌, ◌<◌, ◌++◌, ◌∷◌, [], length, ap, arith}
+use Rattle.std.proofs.Common.{◌∙◌, ◌+◌, ◌++◌, ◌∷◌, [], length, ap, arith}
 use Rattle.port_board.specs.Lines.{pin_text}
 use Rattle.port_board.proofs.Room.{one_word, words_within}
 use Rattle.port_board.proofs.Spelled.{word_next}

@@ -1,4 +1,4 @@
-use Rattle.std.proofs.Common.{◌≡◌, ◌∙◌, ◌∷◌, [], ◌+◌, get_or, ap}
+use Rattle.std.proofs.Common.{◌∙◌, ◌∷◌, [], get_or, ap}
 use Rattle.port_board.proofs.Taken.{byte_of}
 use Rattle.port_board.proofs.turn.byte_at.Goals as goal
 

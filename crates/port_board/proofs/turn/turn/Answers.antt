@@ -1,4 +1,4 @@
-use Rattle.std.proofs.Common.{◌+◌, ◌≤◌, arith, ◌≡◌, ◌∙◌, true, false, refl, sym, ap, length, take, subst}
+use Rattle.std.proofs.Common.{arith, ◌≡◌, ◌∙◌, true, false, refl, sym, ap, length, take, subst}
 use Rattle.std.proofs.lemmas.List.{length-map}
 use Rattle.hierarchy.specs.Shape.{pins_of}
 use Rattle.board_rig.proofs.Driven.{kept_lengths}
