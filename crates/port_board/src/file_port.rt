@@ -37,7 +37,7 @@ impl Model for Rest {
 
 // Where requests go, and where replies come from, if that is another file.
 #[derive(Drop)]
-struct Ends<F: Read + Write + Drop> {
+struct Ends<F: Drop> {
     to: F,
     from: Option<F>,
     rest: Rest,

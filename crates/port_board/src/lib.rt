@@ -2,6 +2,7 @@
 #![tactic(auto)]
 
 mod edits;
+mod file_board;
 mod file_port;
 mod link;
 mod port;
@@ -9,6 +10,7 @@ mod port_board;
 mod spelling;
 mod turn;
 
+pub use file_board::FileBoard;
 pub use file_port::FilePort;
 pub use port::{Port, PortFail};
 pub use port_board::PortBoard;

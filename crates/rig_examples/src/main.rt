@@ -4,10 +4,12 @@
 //! what the command wrote and its status.
 #![tactic(auto)]
 
+ghost use Rattle.std.specs.Prelude.{◌≡◌, None, IfOk};
+
 use board_rig::BoardRig;
 use cycle_sim::SimRig;
 use doubled_rig::{RepeatRig, TwinRig};
-use port_board::{FilePort, PortBoard};
+use port_board::FileBoard;
 use rig::Rig;
 use std::alloc::Global;
 use std::process::ExitCode;
@@ -26,8 +28,10 @@ const FAULTS: [(&str, &str); 5] = [
     ("wrong", "stuck2 r.l0\n"),
 ];
 
-// A simulated rig.
-fn sim_of(alloc: Global) -> io::Result<SimRig<MemoryStore>> {
+// A simulated rig, in no session.
+fn sim_of(alloc: Global) -> io::Result<SimRig<MemoryStore>>
+    ensures { IfOk result (λ rig. (⟦<SimRig<MemoryStore> as Rig>⟧.rig_state rig).session ≡ None) }
+{
     let mut files = Vec::new(alloc);
     for (name, text) in FAULTS {
         files.push(File {
@@ -38,48 +42,46 @@ fn sim_of(alloc: Global) -> io::Result<SimRig<MemoryStore>> {
     Ok(SimRig::new(alloc, MemoryStore::new(alloc, files, Vec::new(alloc))))
 }
 
-// A rig that asks again, over one that turns the reading of a number.
-fn repeat_of(alloc: Global, turned: u64) -> io::Result<Box<dyn Rig>> {
-    let inner = TurnRig::new(sim_of(alloc)?, turned);
-    let rig: Box<dyn Rig> = Box::new(alloc, RepeatRig::new(alloc, inner))?;
-    Ok(rig)
-}
-
-// Two rigs side by side, the second under this name.
-fn twin_of(alloc: Global, name: &str) -> io::Result<Box<dyn Rig>> {
-    let name = String::from_str(alloc, name)?;
-    let twin = TwinRig::new(alloc, sim_of(alloc)?, sim_of(alloc)?, name);
-    let rig: Box<dyn Rig> = Box::new(alloc, twin)?;
-    Ok(rig)
-}
-
-// A machine behind files.
-fn port_of(rt: &HostRuntime) -> io::Result<Box<dyn Rig>> {
-    let alloc: Global = rt.alloc();
-    let board = PortBoard::new(alloc, FilePort::new(alloc, rt.clone()?));
-    let rig: Box<dyn Rig> = Box::new(alloc, BoardRig::new(alloc, board))?;
-    Ok(rig)
-}
-
 // A number; 0 where the word is none.
 fn number_of(word: &str) -> u64 {
     word.parse::<u64>().unwrap_or(0)
 }
 
-// The rig of a case, and how many words say it.
-fn rig_of(rt: &HostRuntime, words: &[String]) -> io::Result<Option<(Box<dyn Rig>, usize)>> {
+// Over a rig that asks again, over one that turns the reading of a number.
+fn try_repeat(rt: &HostRuntime, turned: &str, words: &[String]) -> io::Result<bool> {
     let alloc: Global = rt.alloc();
-    match words {
-        [kind, turned, ..] if kind.as_str() == "repeat" => {
-            Ok(Some((repeat_of(alloc, number_of(turned.as_str()))?, 2)))
-        }
-        [kind, name, ..] if kind.as_str() == "twin" => Ok(Some((
-            twin_of(alloc, name.as_str())?,
-            2,
-        ))),
-        [kind, ..] if kind.as_str() == "port" => Ok(Some((port_of(rt)?, 1))),
-        _ => Ok(None),
-    }
+    let inner = TurnRig::new(sim_of(alloc)?, number_of(turned));
+    let mut rig: Box<dyn Rig> = Box::new(alloc, RepeatRig::new(alloc, inner))?;
+    let mut store = FileStore::new(alloc, rt.clone()?);
+    let mut sink = StdSink::new(rt.clone()?);
+    let status = teramac(alloc, words, &mut store, &mut rig, &mut sink);
+    println!(rt; "status {status}")?;
+    Ok(true)
+}
+
+// Over two rigs side by side, the second under this name.
+fn try_twin(rt: &HostRuntime, name: &str, words: &[String]) -> io::Result<bool> {
+    let alloc: Global = rt.alloc();
+    let name = String::from_str(alloc, name)?;
+    let twin = TwinRig::new(alloc, sim_of(alloc)?, sim_of(alloc)?, name);
+    let mut rig: Box<dyn Rig> = Box::new(alloc, twin)?;
+    let mut store = FileStore::new(alloc, rt.clone()?);
+    let mut sink = StdSink::new(rt.clone()?);
+    let status = teramac(alloc, words, &mut store, &mut rig, &mut sink);
+    println!(rt; "status {status}")?;
+    Ok(true)
+}
+
+// Over a machine behind files.
+fn try_port(rt: &HostRuntime, words: &[String]) -> io::Result<bool> {
+    let alloc: Global = rt.alloc();
+    let board = FileBoard::new(alloc, rt.clone()?);
+    let mut rig: Box<dyn Rig> = Box::new(alloc, BoardRig::new(alloc, board))?;
+    let mut store = FileStore::new(alloc, rt.clone()?);
+    let mut sink = StdSink::new(rt.clone()?);
+    let status = teramac(alloc, words, &mut store, &mut rig, &mut sink);
+    println!(rt; "status {status}")?;
+    Ok(true)
 }
 
 // Tries a case; false where it says none.
@@ -90,17 +92,16 @@ fn try_line(rt: &HostRuntime, line: &str) -> io::Result<bool> {
         words.push(String::from_str(alloc, word)?)?;
     }
     println!(rt; "{line}")?;
-    let Some((mut rig, said)) = rig_of(rt, words.as_slice())? else {
-        return Ok(false);
-    };
-    let Some(words) = words.get(said..) else {
-        return Ok(false);
-    };
-    let mut store = FileStore::new(alloc, rt.clone()?);
-    let mut sink = StdSink::new(rt.clone()?);
-    let status = teramac(alloc, words, &mut store, &mut rig, &mut sink);
-    println!(rt; "status {status}")?;
-    Ok(true)
+    match words.as_slice() {
+        [kind, turned, words @ ..] if kind.as_str() == "repeat" => try_repeat(
+            rt,
+            turned.as_str(),
+            words,
+        ),
+        [kind, name, words @ ..] if kind.as_str() == "twin" => try_twin(rt, name.as_str(), words),
+        [kind, words @ ..] if kind.as_str() == "port" => try_port(rt, words),
+        _ => Ok(false),
+    }
 }
 
 // Tries all cases of a text.

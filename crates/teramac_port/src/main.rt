@@ -6,8 +6,8 @@
 
 use board_rig::BoardRig;
 use doubled_rig::RepeatRig;
-use port_board::{FilePort, Port, PortBoard};
-use rig::{LogRig, Rig};
+use port_board::FileBoard;
+use rig::Rig;
 use std::alloc::{AllocError, Global};
 use std::process::ExitCode;
 use std::rt::Env;
@@ -27,13 +27,6 @@ fn words(rt: &(impl Env + AllocGlobal)) -> io::Result<Vec<String>> {
     Ok(words)
 }
 
-// The machine behind a port. Loads are counted outermost: those that ask again aren't the tool's.
-fn machine<P: Port + 'static>(alloc: Global, port: P) -> Result<Box<dyn Rig>, AllocError> {
-    let board = BoardRig::new(alloc, PortBoard::new(alloc, port));
-    let rig: Box<dyn Rig> = Box::new(alloc, LogRig::new(RepeatRig::new(alloc, board)))?;
-    Ok(rig)
-}
-
 // Runs the program over real files, standard output and the machine behind the port, and answers its status.
 fn run(rt: &HostRuntime) -> Result<u8, AllocError> {
     let alloc: Global = rt.alloc();
@@ -45,7 +38,9 @@ fn run(rt: &HostRuntime) -> Result<u8, AllocError> {
     };
     let mut store = FileStore::new(alloc, rt.clone()?);
     let mut sink = StdSink::new(rt.clone()?);
-    let mut rig = machine(alloc, FilePort::new(alloc, rt.clone()?))?;
+    // Loads are those that the tool asks for: `RepeatRig` counts none that it makes to ask again.
+    let board = BoardRig::new(alloc, FileBoard::new(alloc, rt.clone()?));
+    let mut rig: Box<dyn Rig> = Box::new(alloc, RepeatRig::new(alloc, board))?;
     Ok(teramac(alloc, words.as_slice(), &mut store, &mut rig, &mut sink))
 }
 
