@@ -8,7 +8,9 @@ use Rattle.std.proofs.lemmas.List.Sums.{fold-append}
 use Rattle.std.proofs.lemmas.Grind.{flat_map-append}
 use Rattle.std.proofs.Math.Seq.{take-append_seam}
 use Rattle.std.specs.Prelude.{IfSome, Result, Ok, Err, OnOk}
+use Rattle.std.specs.Vec.{vec_capacity}
 use Rattle.hierarchy.specs.declared.Shape.{Shape}
+use Rattle.hierarchy.specs.Shape.{pins_of}
 use Rattle.hierarchy.specs.Circuit.{Pins}
 use Rattle.config_set.specs.Configuration.{Configuration, cleared}
 use Rattle.config_set.specs.Faulty.{circuit_of}
@@ -18,6 +20,7 @@ use borrow.Rule.Slice.PartMut.{mid_of, post_of, put_mid, put_same}
 use Rattle.board_rig.specs.Device.{Device, HasRunSession, GoesOnWith, WhereTold}
 use Rattle.board_rig.proofs.OneByOne.{told_more, drives_more, readings_more}
 use Rattle.port_board.specs.declared.link.Link.{Link}
+use Rattle.port_board.specs.Lines.{turn_room}
 use Rattle.port_board.specs.Requests.{edited, edited_by, edits_text, start_text, IsEditOf}
 use Rattle.port_board.specs.Answers.{start_of}
 use Rattle.port_board.specs.Ports.{PortState}
@@ -57,8 +60,8 @@ more_posted device g h line more anew same p a = record {
 
 -- a machine that was just found
 pub fresh_held : (port : PortState) (m : Shape) (l : Link) → port.is_open ≡ true → l.set.config ≡ cleared m → l.line.items ≡ [] → l.anew ≡ false → l.running ≡ false
-    → IfSome port.device (λ d. (d.shape ≡ m) × (d.set ≡ cleared m)) → IsHeld port (Some m) l
-fresh_held port m l opened set line anew running known = record {
+    → IfSome port.device (λ d. (d.shape ≡ m) × (d.set ≡ cleared m)) → turn_room (pins_of m) ≤ vec_capacity l.expected → IsHeld port (Some m) l
+fresh_held port m l opened set line anew running known room = record {
   is_open = opened;
   shape = ap (λ g. Some g.shape) (sym set);
   told = shapes port.device known;
@@ -72,6 +75,10 @@ fresh_held port m l opened set line anew running known = record {
     loaded = λ runs _. absurd (false≢true (sym running ∙ runs));
   };
   running = λ _. running;
+  room = record {
+    line = λ runs. absurd (false≢true (sym running ∙ runs));
+    expected = subst (λ g. turn_room (pins_of g.shape) ≤ vec_capacity l.expected) (sym set) room;
+  };
 } where
   shapes : (device : Option Device) → IfSome device (λ d. (d.shape ≡ m) × (d.set ≡ cleared m)) → IfSome device (λ d. d.shape ≡ l.set.config.shape)
   shapes None k = tt

@@ -1,8 +1,11 @@
+mod Alarm
 mod Closings
 mod Edited
 mod Held
 mod OneMachine
 mod Readings
+mod Room
 mod Settings
 mod Spelled
+mod Taken
 mod Turned

@@ -20,10 +20,10 @@ same_bit false false e = refl
 same_bit true false e = absurd (omega (arith, e))
 same_bit false true e = absurd (omega (arith, e))
 
-few : (pins : Pins) (k : ℕ) → bit_of pins k ≤ 1
+pub few : (pins : Pins) (k : ℕ) → bit_of pins k ≤ 1
 few pins k = small (get_or pins k false)
 
-octet_small : (pins : Pins) (k : ℕ) → octet_at pins k < 256
+pub octet_small : (pins : Pins) (k : ℕ) → octet_at pins k < 256
 octet_small pins k =
     let a = few pins k in let b = few pins (k + 1) in let c = few pins (k + 2) in let d = few pins (k + 3) in
     let e = few pins (k + 4) in let f = few pins (k + 5) in let g = few pins (k + 6) in let h = few pins (k + 7) in
@@ -104,7 +104,7 @@ are_bytes pins zero i = omega arith
 are_bytes pins (suc n) zero = octet_small pins (8 * n)
 are_bytes pins (suc n) (suc i) = are_bytes pins n i
 
-length_octets : (pins : Pins) (n : ℕ) → length (octets_below pins n) ≡ n
+pub length_octets : (pins : Pins) (n : ℕ) → length (octets_below pins n) ≡ n
 length_octets pins zero = refl
 length_octets pins (suc n) = ap suc (length_octets pins n)
 

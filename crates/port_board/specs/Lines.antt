@@ -33,6 +33,14 @@ octets_below pins (suc n) = octet_at pins (8 * n) ∷ octets_below pins n
 abbrev pub pin_text : Pins → List ℕ
 pin_text pins = encode_lower (octets_below pins (div_ceil (length pins) 8))
 
+-- how many bytes a cycle's word takes at most, with a letter in front and a space
+abbrev pub word_room : Pins → ℕ
+word_room pins = 2 * div_ceil (length pins) 8 + 2
+
+-- for how many bytes a line is to have room, behind the words of edits: a load's `l`, the drives of a request, and the sum; or a reply
+abbrev pub turn_room : ℕ → ℕ
+turn_room pins = 8208 + pins
+
 -- what stands between words: a space in front of all but the first
 abbrev pub gap : ℕ → List ℕ
 gap zero = []

@@ -16,6 +16,8 @@ pub record PortBoardState : Type 0 where
   pub is_up : Bool
   pub in_session : Bool
   pub device : Option Device
+  -- those of its port alone, and all
+  pub port_failures : ℕ
   pub failures : ℕ
 
 abbrev pub board_of : PortBoardState → BoardState

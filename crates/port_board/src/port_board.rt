@@ -1,9 +1,15 @@
 //! A board over a port.
-ghost use Rattle.std.specs.Prelude.{◌≡◌, ◌^◌, ◌<◌, ◌≤◌, [], true, false, Option, None, Some, IfSome, IfOk, OnOk, OnErr, IsTrue};
+ghost use Rattle.std.specs.Prelude.{◌≡◌, ◌+◌, ◌^◌, ◌<◌, ◌≤◌, [], ◌∷◌, true, false, length, vec_len, Option, None, Some};
+ghost use Rattle.std.specs.Prelude.{IfSome, IsSome, IfOk, IfErr, OnOk, OnErr, IsErrOf, IsTrue};
+ghost use Rattle.std.specs.Vec.{vec_capacity};
+ghost use Rattle.hierarchy.specs.Shape.{pins_of};
 ghost use Rattle.config_set.specs.Configuration.{cleared};
+ghost use Rattle.tm_outside.specs.Counts.{Rose};
 ghost use Rattle.rig.specs.Flaky.{both_counts};
-ghost use Rattle.board_rig.specs.Device.{Device};
-ghost use Rattle.port_board.specs.Lines.{counts_line, AreCounts};
+ghost use Rattle.rig.specs.Rig.{KeepLengths};
+ghost use Rattle.board_rig.specs.Boards.{width_found, Finds, SetsUp, HasCycled, HasCycledAll, AreRowsOf, HasFailed};
+ghost use Rattle.board_rig.specs.Device.{Device, faults_told};
+ghost use Rattle.port_board.specs.Lines.{counts_line, AreCounts, turn_room};
 ghost use Rattle.port_board.specs.Requests.{attach_line};
 ghost use Rattle.port_board.specs.Ports.{machine_told};
 ghost use Rattle.port_board.specs.Linked.{IsPosted, board_of};
@@ -15,7 +21,7 @@ use crate::spelling::{put_counts, put_sum};
 use crate::turn::{turn, turn_all};
 use board_rig::Board;
 use config_set::Config;
-use hierarchy::{Counts, Shape};
+use hierarchy::Shape;
 use rig::{PinBits, RigFail};
 use std::alloc::{AllocError, Global};
 use std::marker::Model;
@@ -24,8 +30,12 @@ use std::slice;
 /// A line longer than this is no right reply.
 const MOST_REPLY: usize = 4101;
 
-/// What a request may take behind the words of its edits: a load's `l`, the drives of the most cycles, and the sum.
-const MOST_DRIVES: usize = 8192;
+// For how many bytes a line is to have room behind the words of its edits: a load's `l`, the drives of a request, and the sum.
+fn room_for(pins: u32) -> usize
+    ensures { result ≡ turn_room pins }
+{
+    8208 + pins as usize
+}
 
 /// A machine behind a port, as a board: it speaks the lines of its protocol, and tells the machine that its port tells.
 ///
@@ -65,32 +75,37 @@ fn link_of(alloc: Global, shape: Shape) -> Result<Link, AllocError>
 {
     Ok(Link {
         set: Config::with_room(alloc, shape, 0)?,
-        line: Vec::with_capacity(alloc, MOST_DRIVES)?,
+        line: Vec::new(alloc),
         anew: false,
         running: false,
         due: false,
         lost: false,
         reply: vec![in alloc; 0u8; MOST_REPLY]?,
-        expected: Vec::with_capacity(alloc, MOST_REPLY)?,
+        expected: Vec::new(alloc),
     })
 }
 
-// Makes the line that asks what machine it is, and that of the right answer.
-fn put_attach(line: &mut Vec<u8>, expected: &mut Vec<u8>, counts: Counts) -> Result<(), AllocError>
+// Makes the line that asks what machine it is, and that of the right answer, with room for those of readings.
+fn put_attach(line: &mut Vec<u8>, expected: &mut Vec<u8>, shape: &Shape) -> Result<(), AllocError>
     requires line { line.old.items ≡ [] }
     requires expected { expected.old.items ≡ [] }
-    ensures right { OnOk result (AreCounts counts) }
+    ensures right { OnOk result (AreCounts shape.now.counts) }
     ensures line { OnOk result (line.new.items ≡ attach_line) }
-    ensures expected { OnOk result (expected.new.items ≡ counts_line counts) }
+    ensures expected { OnOk result (expected.new.items ≡ counts_line shape.now.counts) }
+    ensures room { OnOk result (turn_room (pins_of shape.now) ≤ vec_capacity expected.new) }
 {
-    put_counts(expected, counts)?;
-    line.push(b'a')?;
-    put_sum(line)
+    put_counts(expected, shape.counts())?;
+    expected.reserve(room_for(shape.pins()))?;
+    line.reserve(5)?;
+    line.push_reserved(b'a');
+    put_sum(line);
+    Ok(())
 }
 
 // Whether a line is another, byte by byte.
 fn is_line(reply: &[u8], expected: &[u8]) -> bool
-    ensures { IsTrue result → reply.now ≡ expected.now }
+    ensures right { IsTrue result → reply.now ≡ expected.now }
+    ensures wrong { result ≡ false → reply.now ≡ expected.now → ⊥ }
 {
     reply == expected
 }
@@ -108,10 +123,13 @@ fn attach<P: Port>(port: &mut P, link: &mut Link) -> bool
     ensures open { IsTrue result → (P.port_state port.new).is_open ≡ true }
     ensures line { link.new.line.items ≡ [] }
     ensures set { link.new.set ≡ link.old.set }
+    ensures expected { link.new.expected ≡ link.old.expected }
     ensures idle { (link.new.anew ≡ link.old.anew) × (link.new.running ≡ link.old.running) × (link.new.due ≡ link.old.due)
         × (link.new.lost ≡ link.old.lost) }
     ensures fresh { IsTrue result → IfSome (P.port_state port.new).device (λ d. (d.shape ≡ link.old.set.config.shape)
         × (d.set ≡ cleared link.old.set.config.shape)) }
+    ensures alarm { result ≡ false → IfSome (P.port_state port.new).device (λ d. d.shape ≡ link.old.set.config.shape →
+        Rose (P.port_state port.old).failures (P.port_state port.new).failures) }
 {
     let asked = port.ask(&link.line, &mut link.reply);
     link.line.clear();
@@ -124,6 +142,7 @@ fn attach<P: Port>(port: &mut P, link: &mut Link) -> bool
 // Begins a load. Where memory was wanting on the way to the one before, all is cleared, and the line begins with a `z`.
 fn begin(link: &mut Link) -> Result<(), AllocError>
     ensures shape { link.new.set.config.shape ≡ link.old.set.config.shape }
+    ensures expected { link.new.expected ≡ link.old.expected }
     ensures idle { (link.new.running ≡ false) × (link.new.due ≡ false) × (link.new.lost ≡ true) }
     ensures posted { OnOk result ((device : Option Device) → IfSome device (λ d. d.shape ≡ link.old.set.config.shape) →
         (link.old.lost ≡ false → IsPosted device link.old.set.config link.old.line.items link.old.anew) →
@@ -148,6 +167,8 @@ fn post(alloc: Global, link: &mut Link, config: &Config) -> Result<(), AllocErro
     requires { link.old.set.config.shape ≡ config.now.config.shape }
 
     ensures shape { link.new.set.config.shape ≡ link.old.set.config.shape }
+    ensures expected { link.new.expected ≡ link.old.expected }
+    ensures room { OnOk result (vec_len link.new.line + turn_room (pins_of link.new.set.config.shape) ≤ vec_capacity link.new.line) }
     ensures linked { OnOk result ((device : Option Device) → IfSome device (λ d. d.shape ≡ link.old.set.config.shape) →
         (link.old.lost ≡ false → IsPosted device link.old.set.config link.old.line.items link.old.anew) →
         IsPosted device link.new.set.config link.new.line.items link.new.anew) }
@@ -157,7 +178,8 @@ fn post(alloc: Global, link: &mut Link, config: &Config) -> Result<(), AllocErro
 {
     begin(link)?;
     put_edits(alloc, &mut link.line, &mut link.set, config)?;
-    link.line.reserve(MOST_DRIVES)?;
+    let pins = link.set.shape().pins();
+    link.line.reserve(room_for(pins))?;
     link.running = true;
     link.due = true;
     link.lost = false;
@@ -172,6 +194,7 @@ impl<P: Port> PortBoard<P> {
           is_up = false;
           in_session = false;
           device = (P.port_state port).device;
+          port_failures = (P.port_state port).failures;
           failures = both_counts 0 (P.port_state port).failures;
         } }
     {
@@ -188,13 +211,24 @@ impl<P: Port> PortBoard<P> {
 impl<P: Port> Board for PortBoard<P> {
     ghost board_state = { board_of };
 
-    fn find(&mut self, shape: &Shape, name: &str) -> Result<(), RigFail> {
+    /// Where a machine of this shape is told, it answers `Failed` only where the port failed.
+    fn find(&mut self, shape: &Shape, name: &str) -> Result<(), RigFail>
+        ensures later { (⟦<PortBoard<P> as Board>⟧.board_state self.old).failures
+            ≤ (⟦<PortBoard<P> as Board>⟧.board_state self.new).failures }
+        ensures count { (⟦<PortBoard<P> as Board>⟧.board_state self.new).failures < 2 ^ 64 }
+        ensures found { OnOk result (Finds shape.now (⟦<PortBoard<P> as Board>⟧.board_state self.new)) }
+        ensures lost { OnErr result ((⟦<PortBoard<P> as Board>⟧.board_state self.new).found ≡ None) }
+        ensures refused { IsErrOf result RigFail.Failed → Rose (⟦<PortBoard<P> as Board>⟧.board_state self.old).failures
+            (⟦<PortBoard<P> as Board>⟧.board_state self.new).failures }
+        ensures alarm { IsErrOf result RigFail.Failed → IfSome self.new.device (λ d. d.shape ≡ shape.now →
+            Rose self.old.port_failures self.new.port_failures) }
+    {
         self.found = None;
         self.link = None;
         let Ok(mut link) = link_of(self.alloc, *shape) else {
             return Err(RigFail::Memory);
         };
-        if put_attach(&mut link.line, &mut link.expected, shape.counts()).is_err() {
+        if put_attach(&mut link.line, &mut link.expected, shape).is_err() {
             return Err(RigFail::Memory);
         }
         match self.port.open(name) {
@@ -211,7 +245,23 @@ impl<P: Port> Board for PortBoard<P> {
         Ok(())
     }
 
-    fn set_up(&mut self, config: &Config) -> Result<(), RigFail> {
+    /// It sends nothing, and answers `Failed` only where the board isn't up.
+    fn set_up(&mut self, config: &Config) -> Result<(), RigFail>
+        requires { (⟦<PortBoard<P> as Board>⟧.board_state self.old).found ≡ Some config.now.config.shape }
+
+        ensures found { (⟦<PortBoard<P> as Board>⟧.board_state self.new).found
+            ≡ (⟦<PortBoard<P> as Board>⟧.board_state self.old).found }
+        ensures faults { faults_told (⟦<PortBoard<P> as Board>⟧.board_state self.new).device
+            ≡ faults_told (⟦<PortBoard<P> as Board>⟧.board_state self.old).device }
+        ensures later { (⟦<PortBoard<P> as Board>⟧.board_state self.old).failures
+            ≤ (⟦<PortBoard<P> as Board>⟧.board_state self.new).failures }
+        ensures count { (⟦<PortBoard<P> as Board>⟧.board_state self.new).failures < 2 ^ 64 }
+        ensures begins { OnOk result (SetsUp config.now.config (⟦<PortBoard<P> as Board>⟧.board_state self.new)) }
+        ensures refused { IsErrOf result RigFail.Failed → Rose (⟦<PortBoard<P> as Board>⟧.board_state self.old).failures
+            (⟦<PortBoard<P> as Board>⟧.board_state self.new).failures }
+        ensures up { IsErrOf result RigFail.Failed → self.old.is_up ≡ false }
+        ensures unsent { self.new.port_failures ≡ self.old.port_failures }
+    {
         let Some(mut link) = self.link.take() else {
             self.failures = self.failures.saturating_add(1);
             return Err(RigFail::Failed);
@@ -224,7 +274,26 @@ impl<P: Port> Board for PortBoard<P> {
         }
     }
 
-    fn cycle(&mut self, drive: &PinBits, read: &mut PinBits) -> Result<(), RigFail> {
+    /// Where a machine is told, it answers `Failed` only where the port failed.
+    fn cycle(&mut self, drive: &PinBits, read: &mut PinBits) -> Result<(), RigFail>
+        requires session { (⟦<PortBoard<P> as Board>⟧.board_state self.old).in_session ≡ true }
+        requires drive_pins { width_found (⟦<PortBoard<P> as Board>⟧.board_state self.old) ≡ Some (length drive.now) }
+        requires read_pins { width_found (⟦<PortBoard<P> as Board>⟧.board_state self.old) ≡ Some (length read.old) }
+
+        ensures found { (⟦<PortBoard<P> as Board>⟧.board_state self.new).found
+            ≡ (⟦<PortBoard<P> as Board>⟧.board_state self.old).found }
+        ensures faults { faults_told (⟦<PortBoard<P> as Board>⟧.board_state self.new).device
+            ≡ faults_told (⟦<PortBoard<P> as Board>⟧.board_state self.old).device }
+        ensures later { (⟦<PortBoard<P> as Board>⟧.board_state self.old).failures
+            ≤ (⟦<PortBoard<P> as Board>⟧.board_state self.new).failures }
+        ensures count { (⟦<PortBoard<P> as Board>⟧.board_state self.new).failures < 2 ^ 64 }
+        ensures length { length read.new ≡ length read.old }
+        ensures cycles { OnOk result (HasCycled (record { drive = drive.now; reading = read.new } ∷ [])
+            (⟦<PortBoard<P> as Board>⟧.board_state self.old) (⟦<PortBoard<P> as Board>⟧.board_state self.new)) }
+        ensures refused { IfErr result (λ e. HasFailed e (⟦<PortBoard<P> as Board>⟧.board_state self.old)
+            (⟦<PortBoard<P> as Board>⟧.board_state self.new)) }
+        ensures alarm { OnErr result (IsSome self.old.device → Rose self.old.port_failures self.new.port_failures) }
+    {
         let Some(mut link) = self.link.take() else {
             unreachable!()
         };
@@ -241,7 +310,27 @@ impl<P: Port> Board for PortBoard<P> {
         Ok(())
     }
 
-    fn cycles(&mut self, drives: &[PinBits], reads: &mut [PinBits]) -> Result<(), RigFail> {
+    /// Where a machine is told, it answers `Failed` only where the port failed.
+    fn cycles(&mut self, drives: &[PinBits], reads: &mut [PinBits]) -> Result<(), RigFail>
+        requires session { (⟦<PortBoard<P> as Board>⟧.board_state self.old).in_session ≡ true }
+        requires drive_pins { AreRowsOf (⟦<PortBoard<P> as Board>⟧.board_state self.old) drives.now }
+        requires read_pins { AreRowsOf (⟦<PortBoard<P> as Board>⟧.board_state self.old) reads.old }
+        requires as_many { length drives.now ≡ length reads.old }
+
+        ensures found { (⟦<PortBoard<P> as Board>⟧.board_state self.new).found
+            ≡ (⟦<PortBoard<P> as Board>⟧.board_state self.old).found }
+        ensures faults { faults_told (⟦<PortBoard<P> as Board>⟧.board_state self.new).device
+            ≡ faults_told (⟦<PortBoard<P> as Board>⟧.board_state self.old).device }
+        ensures later { (⟦<PortBoard<P> as Board>⟧.board_state self.old).failures
+            ≤ (⟦<PortBoard<P> as Board>⟧.board_state self.new).failures }
+        ensures count { (⟦<PortBoard<P> as Board>⟧.board_state self.new).failures < 2 ^ 64 }
+        ensures lengths { KeepLengths reads.old reads.new }
+        ensures cycles { OnOk result (HasCycledAll drives.now reads.new (⟦<PortBoard<P> as Board>⟧.board_state self.old)
+            (⟦<PortBoard<P> as Board>⟧.board_state self.new)) }
+        ensures refused { IfErr result (λ e. HasFailed e (⟦<PortBoard<P> as Board>⟧.board_state self.old)
+            (⟦<PortBoard<P> as Board>⟧.board_state self.new)) }
+        ensures alarm { OnErr result (IsSome self.old.device → Rose self.old.port_failures self.new.port_failures) }
+    {
         let Some(mut link) = self.link.take() else {
             unreachable!()
         };

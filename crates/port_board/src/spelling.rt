@@ -1,8 +1,10 @@
 //! How requests and replies are spelled.
-ghost use Rattle.std.specs.Prelude.{◌≡◌, ◌^◌, ◌<◌, ◌≤◌, ◌++◌, ◌∷◌, [], ◌%◌, All, decimal, sum, OnOk};
-ghost use Rattle.std.specs.List.{join_by};
+ghost use Rattle.std.specs.Prelude.{◌≡◌, ◌+◌, ◌*◌, ◌^◌, ◌<◌, ◌≤◌, ◌++◌, ◌∷◌, [], ◌%◌, All, length, vec_len, decimal, sum, OnOk};
+ghost use Rattle.std.specs.Int.{div_ceil};
+ghost use Rattle.std.specs.List.{join_by, sum_by};
+ghost use Rattle.std.specs.Vec.{vec_capacity};
 ghost use Rattle.hex.specs.Hex.{encode_lower};
-ghost use Rattle.port_board.specs.Lines.{line_of, bit_of, octet_at, pin_text, reading_line, counts_line, AreCounts, gap};
+ghost use Rattle.port_board.specs.Lines.{line_of, bit_of, octet_at, pin_text, reading_line, counts_line, AreCounts, gap, word_room};
 ghost use Rattle.port_board.specs.Requests.{On, edit_text, drives_text};
 
 use config_set::Setting;
@@ -11,13 +13,19 @@ use numerals::put_number;
 use rig::PinBits;
 use std::alloc::AllocError;
 
-/// Adds two hex digits.
-fn put_byte(line: &mut Vec<u8>, byte: u8) -> Result<(), AllocError>
-    ensures { OnOk result (line.new.items ≡ line.old.items ++ encode_lower (byte ∷ [])) }
+/// Adds two hex digits, for which there is room.
+fn put_byte(line: &mut Vec<u8>, byte: u8)
+    requires { vec_len line.old + 2 ≤ vec_capacity line.old }
+
+    ensures spelled { line.new.items ≡ line.old.items ++ encode_lower (byte ∷ []) }
+    ensures len { vec_len line.new ≡ vec_len line.old + 2 }
+    ensures room { vec_capacity line.old ≤ vec_capacity line.new }
 {
     let mut digits = [0u8; 2];
     let _ = hex::encode_to_slice([byte], &mut digits);
-    line.extend_from_slice(&digits)
+    if line.extend_from_slice(&digits).is_err() {
+        unreachable!()
+    }
 }
 
 // A pin as a number; beyond the pins it is 0.
@@ -47,25 +55,31 @@ fn octet(pins: &PinBits, k: u64) -> u8
         + 128 * bit_at(pins, k + 7)
 }
 
-/// Adds the pins, two hex digits for each eight begun.
-fn put_pins(line: &mut Vec<u8>, pins: &PinBits) -> Result<(), AllocError>
-    ensures { OnOk result (line.new.items ≡ line.old.items ++ pin_text pins.now) }
+/// Adds the pins, two hex digits for each eight begun. There is room for them.
+fn put_pins(line: &mut Vec<u8>, pins: &PinBits)
+    requires { vec_len line.old + 2 * div_ceil (length pins.now) 8 ≤ vec_capacity line.old }
+
+    ensures spelled { line.new.items ≡ line.old.items ++ pin_text pins.now }
+    ensures len { vec_len line.new ≡ vec_len line.old + 2 * div_ceil (length pins.now) 8 }
+    ensures room { vec_capacity line.old ≤ vec_capacity line.new }
 {
     let count = pins.len().div_ceil(8);
     'octets: for k in 0..count {
-        put_byte(line, octet(pins, u64::from(count - 1 - k) * 8))?;
+        put_byte(line, octet(pins, u64::from(count - 1 - k) * 8));
     }
-    Ok(())
 }
 
-/// Adds a space in front of all but the first.
-fn put_gap(line: &mut Vec<u8>, k: usize) -> Result<(), AllocError>
-    ensures { OnOk result (line.new.items ≡ line.old.items ++ gap k) }
+/// Adds a space in front of all but the first. There is room for it.
+fn put_gap(line: &mut Vec<u8>, k: usize)
+    requires { vec_len line.old < vec_capacity line.old }
+
+    ensures spelled { line.new.items ≡ line.old.items ++ gap k }
+    ensures len { vec_len line.new ≤ vec_len line.old + 1 }
+    ensures room { vec_capacity line.old ≤ vec_capacity line.new }
 {
     if k > 0 {
-        line.push(b' ')?;
+        line.push_reserved(b' ');
     }
-    Ok(())
 }
 
 /// Adds a word of a letter and a number.
@@ -96,16 +110,19 @@ pub fn put_setting(line: &mut Vec<u8>, t: u32, s: Setting) -> Result<(), AllocEr
     Ok(())
 }
 
-/// Adds a drive for each cycle.
-pub fn put_drives(line: &mut Vec<u8>, drives: &[PinBits]) -> Result<(), AllocError>
-    ensures { OnOk result (line.new.items ≡ line.old.items ++ drives_text drives.now) }
+/// Adds a drive for each cycle. There is room for them.
+pub fn put_drives(line: &mut Vec<u8>, drives: &[PinBits])
+    requires { vec_len line.old + sum_by word_room drives.now ≤ vec_capacity line.old }
+
+    ensures spelled { line.new.items ≡ line.old.items ++ drives_text drives.now }
+    ensures len { vec_len line.new ≤ vec_len line.old + sum_by word_room drives.now }
+    ensures room { vec_capacity line.old ≤ vec_capacity line.new }
 {
     'drives: for k in 0..drives.len() {
-        put_gap(line, k)?;
-        line.push(b'd')?;
-        put_pins(line, &drives[k])?;
+        put_gap(line, k);
+        line.push_reserved(b'd');
+        put_pins(line, &drives[k]);
     }
-    Ok(())
 }
 
 // The sum of bytes, modulo 256.
@@ -119,15 +136,17 @@ fn sum_of(bytes: &[u8]) -> u8
     total
 }
 
-/// Ends a line with its sum.
-pub fn put_sum(line: &mut Vec<u8>) -> Result<(), AllocError>
-    ensures { OnOk result (line.new.items ≡ line_of line.old.items) }
+/// Ends a line with its sum, for which there is room.
+pub fn put_sum(line: &mut Vec<u8>)
+    requires { vec_len line.old + 4 ≤ vec_capacity line.old }
+
+    ensures spelled { line.new.items ≡ line_of line.old.items }
+    ensures room { vec_capacity line.old ≤ vec_capacity line.new }
 {
     let total = sum_of(line);
-    line.push(b'*')?;
-    put_byte(line, total)?;
-    line.push(b'\n')?;
-    Ok(())
+    line.push_reserved(b'*');
+    put_byte(line, total);
+    line.push_reserved(b'\n');
 }
 
 // Adds numbers with spaces between them.
@@ -136,7 +155,8 @@ fn put_numbers(line: &mut Vec<u8>, numbers: &[u16]) -> Result<(), AllocError>
     ensures spelled { OnOk result (line.new.items ≡ line.old.items ++ join_by decimal (32 ∷ []) numbers.now) }
 {
     'numbers: for k in 0..numbers.len() {
-        put_gap(line, k)?;
+        line.reserve(1)?;
+        put_gap(line, k);
         put_number(line, u64::from(numbers[k]))?;
     }
     Ok(())
@@ -154,18 +174,23 @@ pub fn put_counts(line: &mut Vec<u8>, c: Counts) -> Result<(), AllocError>
         c.lines[1], c.lines[2], c.lines[3], c.pins,
     ];
     put_numbers(line, &numbers)?;
-    put_sum(line)
+    line.reserve(4)?;
+    put_sum(line);
+    Ok(())
 }
 
-/// Adds the line by which a machine says what its pins read.
-pub fn put_readings(line: &mut Vec<u8>, reads: &[PinBits]) -> Result<(), AllocError>
-    requires { line.old.items ≡ [] }
-    ensures { OnOk result (line.new.items ≡ reading_line reads.now) }
+/// Adds the line by which a machine says what its pins read. There is room for it.
+pub fn put_readings(line: &mut Vec<u8>, reads: &[PinBits])
+    requires empty { line.old.items ≡ [] }
+    requires room { sum_by word_room reads.now + 5 ≤ vec_capacity line.old }
+
+    ensures spelled { line.new.items ≡ reading_line reads.now }
+    ensures room { vec_capacity line.old ≤ vec_capacity line.new }
 {
-    line.push(b'=')?;
+    line.push_reserved(b'=');
     'reads: for k in 0..reads.len() {
-        put_gap(line, k)?;
-        put_pins(line, &reads[k])?;
+        put_gap(line, k);
+        put_pins(line, &reads[k]);
     }
-    put_sum(line)
+    put_sum(line);
 }

@@ -1,86 +1,147 @@
 //! A turn: a request goes out, and its reply is read.
-ghost use Rattle.std.specs.Prelude.{◌≡◌, ◌^◌, ◌<◌, ◌≤◌, ◌++◌, ◌∷◌, [], true, false, length, All, OnOk, IsTrue};
+ghost use Rattle.std.specs.Prelude.{◌≡◌, ℕ, ◌+◌, ◌*◌, ◌/◌, ◌%◌, ◌^◌, ◌<◌, ◌≤◌, ◌==◌, ◌++◌, ◌∷◌, [], List, true, false};
+ghost use Rattle.std.specs.Prelude.{length, vec_len, drop, get_or, All, IsTrue, IsSome};
+ghost use Rattle.std.specs.Int.{div_ceil};
+ghost use Rattle.std.specs.List.{sum_by};
+ghost use Rattle.std.specs.Vec.{vec_capacity};
+ghost use Rattle.hex.specs.Hex.{encode_lower};
 ghost use Rattle.hierarchy.specs.Shape.{pins_of};
+ghost use Rattle.hierarchy.specs.Circuit.{Pins};
+ghost use Rattle.tm_outside.specs.Counts.{Rose};
 ghost use Rattle.rig.specs.Rig.{KeepLengths};
-ghost use Rattle.port_board.specs.Lines.{line_of, reading_line};
+ghost use Rattle.port_board.specs.Lines.{line_of, pin_text, reading_line, word_room, turn_room};
 ghost use Rattle.port_board.specs.Requests.{AreDrivesOf, drives_line, drives_text};
 ghost use Rattle.port_board.specs.Ports.{machine_told};
 ghost use Rattle.port_board.specs.Linked.{IsLinked, HasTurned};
-ghost use Rattle.port_board.specs.Boards.{IsKeptUp};
+ghost use Rattle.port_board.specs.Boards.{IsKeptUp, HasRoom};
 
 use crate::link::Link;
 use crate::port::Port;
 use crate::spelling::{put_drives, put_readings, put_sum};
 use rig::PinBits;
-use std::alloc::AllocError;
 
 /// A right reply has at most this many bytes before its sum.
 const MOST_BODY: usize = 4096;
 
-// Ends the line that is due: behind the edits of a load its `l` and the drives, or the drives alone.
-fn put_request(line: &mut Vec<u8>, due: bool, drives: &[PinBits]) -> Result<(), AllocError>
-    ensures loads { due ≡ true → OnOk result (line.new.items ≡ line_of (line.old.items ++ 108 ∷ 32 ∷ [] ++ drives_text drives.now)) }
-    ensures drives { due ≡ false → line.old.items ≡ [] → OnOk result (line.new.items ≡ drives_line drives.now) }
+// Adds the word of a load where one is due. There is room for it.
+fn put_load(line: &mut Vec<u8>, due: bool)
+    requires { vec_len line.old + 2 ≤ vec_capacity line.old }
+
+    ensures loads { due ≡ true → line.new.items ≡ line.old.items ++ 108 ∷ 32 ∷ [] }
+    ensures idle { due ≡ false → line.new.items ≡ line.old.items }
+    ensures len { vec_len line.new ≤ vec_len line.old + 2 }
+    ensures room { vec_capacity line.old ≤ vec_capacity line.new }
 {
     if due {
-        line.extend_from_slice(b"l ")?;
-    }
-    put_drives(line, drives)?;
-    put_sum(line)
-}
-
-// The value of a hex digit.
-fn value_of(digit: u8) -> u8 {
-    if digit < b'a' {
-        digit.wrapping_sub(b'0')
-    } else {
-        digit.wrapping_sub(b'a' - 10)
+        line.push_reserved(b'l');
+        line.push_reserved(b' ');
     }
 }
 
-// Reads pins from their text, of which the last digit stands in front of `end`. What isn't such a text gives any bits.
-fn read_pins(reply: &[u8], end: usize, read: &mut PinBits)
-    ensures { length read.new ≡ length read.old }
+// Ends the line that is due: behind the edits of a load its `l` and the drives, or the drives alone. There is room for them.
+fn put_request(line: &mut Vec<u8>, due: bool, drives: &[PinBits])
+    requires { vec_len line.old + sum_by word_room drives.now + 6 ≤ vec_capacity line.old }
+
+    ensures loads { due ≡ true → line.new.items ≡ line_of (line.old.items ++ 108 ∷ 32 ∷ [] ++ drives_text drives.now) }
+    ensures drives { due ≡ false → line.old.items ≡ [] → line.new.items ≡ drives_line drives.now }
+    ensures room { vec_capacity line.old ≤ vec_capacity line.new }
 {
+    put_load(line, due);
+    put_drives(line, drives);
+    put_sum(line);
+}
+
+// A byte of a line; beyond its end it is a zero.
+fn digit_at(reply: &[u8], place: usize) -> u8
+    ensures { result ≡ get_or reply.now place 48 }
+{
+    if place < reply.len() {
+        return reply[place];
+    }
+    b'0'
+}
+
+// The byte of two digits. What isn't such a text gives any byte.
+fn byte_at(reply: &[u8], place: usize) -> u8
+    requires { place + 1 < 2 ^ 64 }
+    ensures { (v : ℕ) → v < 256 → get_or reply.now place 48 ∷ get_or reply.now (place + 1) 48 ∷ [] ≡ encode_lower (v ∷ []) → result ≡ v }
+{
+    let digits = [digit_at(reply, place), digit_at(reply, place + 1)];
+    let mut byte = [0u8; 1];
+    let _ = hex::decode_to_slice(digits, &mut byte);
+    byte[0]
+}
+
+// A bit of a byte, by its place from the lowest.
+fn bit_in(octet: u8, place: u32) -> bool
+    requires { place < 8 }
+    ensures { result ≡ (octet / 2 ^ place % 2 == 1) }
+{
+    match place {
+        0 => octet % 2 == 1,
+        1 => octet / 2 % 2 == 1,
+        2 => octet / 4 % 2 == 1,
+        3 => octet / 8 % 2 == 1,
+        4 => octet / 16 % 2 == 1,
+        5 => octet / 32 % 2 == 1,
+        6 => octet / 64 % 2 == 1,
+        _ => octet / 128 % 2 == 1,
+    }
+}
+
+// Reads pins from the text of them that begins at a place. What isn't such a text gives any bits.
+fn read_pins(reply: &[u8], at: usize, read: &mut PinBits)
+    requires { at ≤ 2 ^ 63 }
+
+    ensures length { length read.new ≡ length read.old }
+    ensures right { (pins : Pins) (rest : List ℕ) → length pins ≡ length read.old → drop at reply.now ≡ pin_text pins ++ rest →
+        read.new ≡ pins }
+{
+    let count = read.len().div_ceil(8);
     'pins: for k in 0..read.len() {
-        let digit = match end.checked_sub(1 + k as usize / 4) {
-            Some(place) => reply.get(place).copied().unwrap_or(b'0'),
-            None => b'0',
-        };
-        read.set(k, (value_of(digit) >> (k % 4)) & 1 == 1);
+        let octet = byte_at(reply, at + 2 * (count - 1 - k / 8) as usize);
+        read.set(k, bit_in(octet, k % 8));
     }
 }
 
 // How many digits the text of these pins has.
 fn digits_of(pins: &PinBits) -> usize
-    ensures { result < 2 ^ 32 }
+    ensures digits { result ≡ 2 * div_ceil (length pins.now) 8 }
+    ensures small { result < 2 ^ 32 }
 {
     pins.len().div_ceil(8) as usize * 2
 }
 
-// Reads the pins of each cycle.
+// Reads the pins of each cycle. What isn't a line of so many readings gives any bits.
 fn read_all(reply: &[u8], reads: &mut [PinBits])
-    ensures { KeepLengths reads.old reads.new }
+    ensures lengths { KeepLengths reads.old reads.new }
+    ensures right { (rows : List Pins) → KeepLengths reads.old rows → reply.now ≡ reading_line rows → reads.new ≡ rows }
 {
-    let mut end = 0usize;
+    let mut at = 0usize;
     'reads: for k in 0..reads.len() {
-        end = end.saturating_add(1 + digits_of(&reads[k]));
-        read_pins(reply, end, &mut reads[k]);
+        // A line of so many readings isn't at its end here.
+        let begin = at.min(reply.len()) + 1;
+        let digits = digits_of(&reads[k]);
+        read_pins(reply, begin, &mut reads[k]);
+        at = begin + digits;
     }
 }
 
-// Whether a line is, byte by byte, that of these readings.
+// Whether a line is, byte by byte, that of these readings. There is room for it.
 fn is_right(reply: &[u8], expected: &mut Vec<u8>, reads: &[PinBits]) -> bool
-    ensures { IsTrue result → reply.now ≡ reading_line reads.now }
+    requires { sum_by word_room reads.now + 5 ≤ vec_capacity expected.old }
+
+    ensures right { IsTrue result → reply.now ≡ reading_line reads.now }
+    ensures wrong { result ≡ false → reply.now ≡ reading_line reads.now → ⊥ }
+    ensures room { vec_capacity expected.old ≤ vec_capacity expected.new }
 {
     expected.clear();
-    if put_readings(expected, reads).is_err() {
-        return false;
-    }
+    put_readings(expected, reads);
     reply == expected.as_slice()
 }
 
-/// Sends what is due with these drives, and reads what comes. False where the port fails or the line isn't right.
+/// Sends what is due with these drives, and reads what comes. False where the port fails or the line isn't right, and of a machine
+/// that is told no line is wrong.
 pub fn turn<P: Port>(
     port: &mut P,
     link: &mut Link,
@@ -94,6 +155,8 @@ pub fn turn<P: Port>(
     requires drives { AreDrivesOf link.old.set.config.shape drives.now }
     requires reads { All (λ row. length row ≡ pins_of link.old.set.config.shape) reads.old }
     requires as_many { length drives.now ≡ length reads.old }
+    requires room { HasRoom (pins_of link.old.set.config.shape) link.old }
+    requires few { sum_by word_room drives.now + 6 ≤ turn_room (pins_of link.old.set.config.shape) }
 
     ensures machine { machine_told (P.port_state port.new) ≡ machine_told (P.port_state port.old) }
     ensures later { (P.port_state port.old).failures ≤ (P.port_state port.new).failures }
@@ -101,10 +164,10 @@ pub fn turn<P: Port>(
     ensures held { IsTrue result → IsKeptUp (P.port_state port.new) link.old link.new }
     ensures turned { IsTrue result → HasTurned drives.now reads.new link.old.due link.old.set.config (P.port_state port.old).device
         link.new.due (P.port_state port.new).device }
+    ensures alarm { result ≡ false → IsSome (P.port_state port.old).device →
+        Rose (P.port_state port.old).failures (P.port_state port.new).failures }
 {
-    if put_request(&mut link.line, link.due, drives).is_err() {
-        return false;
-    }
+    put_request(&mut link.line, link.due, drives);
     let Ok(count) = port.ask(&link.line, &mut link.reply) else {
         return false;
     };
@@ -120,7 +183,8 @@ pub fn turn<P: Port>(
 
 // For how many drives a request has room at most: as many as their reply has room for, and always one.
 fn most_drives(pins: u32) -> usize
-    ensures { 1 ≤ result }
+    ensures some { 1 ≤ result }
+    ensures few { result * (2 * div_ceil pins 8 + 2) + 6 ≤ turn_room pins }
 {
     let digits = pins.div_ceil(8) as usize * 2;
     (MOST_BODY / (digits + 1)).max(1)
@@ -140,6 +204,7 @@ pub fn turn_all<P: Port>(
     requires drives { All (λ row. length row ≡ pins_of link.old.set.config.shape) drives.now }
     requires reads { All (λ row. length row ≡ pins_of link.old.set.config.shape) reads.old }
     requires as_many { length drives.now ≡ length reads.old }
+    requires room { HasRoom (pins_of link.old.set.config.shape) link.old }
 
     ensures machine { machine_told (P.port_state port.new) ≡ machine_told (P.port_state port.old) }
     ensures later { (P.port_state port.old).failures ≤ (P.port_state port.new).failures }
@@ -147,6 +212,8 @@ pub fn turn_all<P: Port>(
     ensures held { IsTrue result → IsKeptUp (P.port_state port.new) link.old link.new }
     ensures turned { IsTrue result → HasTurned drives.now reads.new link.old.due link.old.set.config (P.port_state port.old).device
         link.new.due (P.port_state port.new).device }
+    ensures alarm { result ≡ false → IsSome (P.port_state port.old).device →
+        Rose (P.port_state port.old).failures (P.port_state port.new).failures }
 {
     let shape = link.set.shape();
     let most = most_drives(shape.pins());
