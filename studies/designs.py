@@ -1,7 +1,6 @@
-"""What a design takes: its plain network, the plan in order with its needs, and its values in each cycle."""
+"""What a design takes: its plain network, and the plan in order with its needs."""
 
 from collections import Counter, namedtuple
-from graphlib import TopologicalSorter
 
 
 # Tables with at most six sources each. A source is a number: inputs first, then tables; it is a net's number too.
@@ -50,47 +49,3 @@ def needs(network, modules, chips, hextants, tables):
             taps = list(strands)
         lines[0][0] += pins[net] + len(taps) >= 2
     return [max(level.values(), default=0) for level in ports[1:] + lines]
-
-
-def design_values(design, vectors):
-    """The value of each signal in each cycle, as words of a bit for each cycle, the first cycle highest."""
-    state = {output: initial for _, output, initial in design.latches}
-    of, history = {cover[1]: cover for cover in design.covers}, Counter()
-    order = list(TopologicalSorter({output: of.keys() & names for names, output, *_ in design.covers}).static_order())
-    for vector in vectors:
-        now = {**state, **dict(zip(design.inputs, vector))}
-        for names, output, rows, off in map(of.get, order):
-            values = [str(now[name]) for name in names]
-            matched = any(all(mark in ("-", value) for mark, value in zip(row, values)) for row in rows)
-            now[output] = int(matched != off)
-        for signal, value in now.items():
-            history[signal] = 2 * history[signal] + value
-        state = {output: now[source] for source, output, _ in design.latches}
-    return history
-
-
-def image_values(machine, image, vectors):
-    """The value of each net of an image in each cycle on a machine without faults, as `design_values` gives them."""
-    of = image.net_of(machine)
-    pins = {table: [of.get(wire) for wire in machine.table_pins[table]] for table, *_ in image.tables}
-    gives, history = {table: initial for table, _, initial, _ in image.tables}, [0] * len(set(of.values()))
-
-    def zeros(vector):
-        """The nets that a pin or a table drives to 0; every other one is released."""
-        low = [of.get(pin) for pin, value in zip(image.inputs, vector) if not value]
-        return {*low, *(pins[table][6] for table, value in gives.items() if not value)} - {None}
-
-    def tick(low, latched):
-        """The tables of one kind take their cells, all at once; a pin that is joined to nothing reads 1."""
-        for table, is_latched, _, cells in image.tables:
-            if is_latched == latched:
-                gives[table] = cells >> sum((net not in low) << k for k, net in enumerate(pins[table][:6])) & 1
-
-    for vector in vectors:
-        low = zeros(vector)
-        for _ in range(image.ticks):
-            tick(low, False)
-            low = zeros(vector)
-        history = [2 * before + (net not in low) for net, before in enumerate(history)]
-        tick(low, True)
-    return history

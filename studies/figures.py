@@ -17,7 +17,7 @@ from program import wilson
 plt.switch_backend("svg")
 plt.rcParams.update({"svg.hashsalt": "teramac", "legend.fontsize": 8, "legend.handlelength": 3.6, "axes.grid": True, "grid.alpha": 0.3})
 
-NUMBERS = "crosspoints rate seed faults thrown_wires thrown_crosses thrown_tables tables closed seconds loads spare".split()
+NUMBERS = "crosspoints rate seed faults thrown_wires thrown_crosses thrown_tables tables closed loads spare".split()
 # A run that was cut off or found no memory says nothing of room; it is counted apart.
 UNDECIDED = ("cut off", "6")
 DECIDED = ("0", "3", "wrong")
@@ -205,48 +205,32 @@ def thrown(rows, _):
     return picture, columns, table
 
 
-def against(rows, series, column):
-    """For each series a curve of means with intervals: against the rate where one machine is drawn, else against the crosspoints."""
-    sizes = {row["crosspoints"] for row in rows}
-    along, label = ("crosspoints", "crosspoints of the machine") if len(sizes) > 1 else ("rate", "rate of faults")
-    picture, axes = plt.subplots(figsize=(7.2, 4.4), layout="constrained")
-    table, marks = [], cycle("os^Dv")
-    for names, part in split(rows, *series).items():
-        points = {x: mean([row[column] for row in runs]) for (x,), runs in split(part, along).items()}
-        table += [[*names, x, *point] for x, point in points.items()]
-        words = [f"rate {name:g}" if isinstance(name, float) else STYLES[name][2] if name in STYLES else name for name in names]
-        curve(axes, points, points.values(), 0, ("-", next(marks)), label=", ".join(words))
-    axes.set(xlabel=label, yscale="log", **({"xscale": "log"} if len(sizes) > 1 else {}))
-    return picture, axes, [*series, along, "mean", "low", "high", "count"], table
-
-
-def seconds(rows, _):
-    """Time of a run on this computer: laying and running, and by the own diagnosis that too"""
-    rows = [row for row in rows if row["seconds"] and row["status"] not in UNDECIDED]
-    if not rows:
-        return nothing("no row of these tells a time"), ["list"], []
-    picture, axes, columns, table = against(rows, ("kind", "list"), "seconds")
-    axes.set_ylabel("seconds (mean, bars: 95 %)")
-    axes.legend()
-    return picture, columns, table
-
-
 def loads(rows, per_second):
     """Loads of a diagnosis, and what they take on a machine of so many loads a second"""
-    rows = diagnoses(rows, "loads")
+    rows, columns = diagnoses(rows, "loads"), ["mean", "low", "high", "count"]
     if not rows:
-        return nothing("no loads were told: build crates/teramac_report (rt run there) or name it by TERAMAC_REPORT"), ["rate"], []
+        return nothing("no loads were told: build crates/teramac_report (rt run there) or name it by TERAMAC_REPORT"), columns, []
     sizes = sorted({row["crosspoints"] for row in rows})
-    picture, axes, columns, table = against(rows, ("kind", "rate") if len(sizes) > 1 else ("machine", "kind"), "loads")
+    # Where one machine is drawn, against the rate.
+    series, along = (("kind", "rate"), "crosspoints") if len(sizes) > 1 else (("machine", "kind"), "rate")
+    picture, axes = plt.subplots(figsize=(7.2, 4.4), layout="constrained")
+    table = []
+    for (names, part), marker in zip(split(rows, *series).items(), cycle("os^Dv")):
+        points = {x: mean([row["loads"] for row in runs]) for (x,), runs in split(part, along).items()}
+        table += [[*names, x, *point] for x, point in points.items()]
+        words = [f"rate {name:g}" if isinstance(name, float) else name for name in names]
+        curve(axes, points, points.values(), 0, ("-", marker), label=", ".join(words))
     if len(sizes) > 1:
         axes.plot(sizes, [16 * size for size in sizes], color="grey", linestyle=":", label="16 a crosspoint, of what is promised at most")
-    axes.set_ylabel("loads (mean, bars: 95 %)")
+        axes.set_xscale("log")
+    across = {"crosspoints": "crosspoints of the machine", "rate": "rate of faults"}[along]
+    axes.set(xlabel=across, yscale="log", ylabel="loads (mean, bars: 95 %)")
     if per_second:
         right = axes.secondary_yaxis("right", functions=(lambda count: count / per_second, lambda time: time * per_second))
         right.set_ylabel(f"seconds at {per_second:g} loads a second")
         columns, table = [*columns, "seconds"], [[*line, line[-4] / per_second] for line in table]
     axes.legend(fontsize=7)
-    return picture, columns, table
+    return picture, [*series, along, *columns], table
 
 
 def redundancy(rows, _):
@@ -305,13 +289,13 @@ def compare_text(columns, table):
     return "\n".join([*lines, ""])
 
 
-FIGURES = {draw.__name__: draw for draw in (fits, why, thrown, seconds, loads, redundancy, compare)}
+FIGURES = {draw.__name__: draw for draw in (fits, why, thrown, loads, redundancy, compare)}
 
 
 def main():
     parser = argparse.ArgumentParser(description=__doc__)
     parser.add_argument("rows", help="the CSV of a study")
-    parser.add_argument("--figures", default="fits,thrown,seconds,loads", help=f"of {','.join(FIGURES)} (default: %(default)s)")
+    parser.add_argument("--figures", default="fits,thrown,loads", help=f"of {','.join(FIGURES)} (default: %(default)s)")
     parser.add_argument("--folder", default=".", help="where fits.svg, fits.csv and the others are written (default: here)")
     parser.add_argument("--loads-per-second", type=float, default=0, help="of a machine, for the time of a diagnosis")
     parser.add_argument("--force", action="store_true", help="write over figures that stand there")

@@ -25,7 +25,7 @@ from program import DEFAULT, HERE, REPORT, add_program, checked_design
 from size import TREES, best_machine, counts_for
 
 KNOWN = {
-    "folder", "machines", "designs", "fill", "spares", "kinds", "rates", "seeds", "first_seed", "lists", "steps", "clustered", "shape",
+    "folder", "machines", "designs", "fill", "spares", "kinds", "rates", "seeds", "first_seed", "lists", "clustered", "shape",
     "seconds", "program", "figures", "loads_per_second", "tree",
 }
 # What decides about the rows of a trial, beside its words and files.
@@ -70,7 +70,7 @@ class Study:
         get = self.settings.get
         self.folder = folder or self.settings["folder"]
         self.program = os.path.abspath(program or get("program", DEFAULT))
-        self.figures = get("figures", ["fits", "thrown", "seconds", "loads"])
+        self.figures = get("figures", ["fits", "thrown", "loads"])
         beside = {name: os.path.join(HERE, name) for name in [*get("machines", []), *(n for p in get("designs", {}).items() for n in p)]}
         for name in [self.program, *beside.values()]:
             if not os.path.isfile(name):
@@ -133,7 +133,6 @@ class Study:
         get, first = self.settings.get, self.settings.get("first_seed", 1)
         more = ["--lists", ",".join(get("lists", ["exact", "diagnosed"])), "--seconds", str(get("seconds", 600))]
         more += ["--clustered", str(get("clustered", 0)), "--shape", get("shape", "spots"), "--program", self.program, "--report", REPORT]
-        more += ["--steps"] * bool(get("steps", True))
         places = list(self.on_machines())
         # Seed by seed, so that one can see early how a study comes out.
         for seed in range(first, first + self.settings["seeds"]):

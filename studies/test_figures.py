@@ -18,13 +18,13 @@ from explain import explain
 from faults import Places, largest_rate, make_faults
 from program import DEFAULT, HERE, call
 from study import KNOWN, Study, names_of
+from test_studies import EXAMPLES, run
 
 try:
     import figures
 except ModuleNotFoundError:
     figures = None
 
-EXAMPLES = os.path.normpath(os.path.join(HERE, "../examples"))
 BENCH = texts.Machine((2, 2, 4, 8, 24, 24, 24, 32, 32, 32, 32, 28))
 SMALL = texts.Machine((1, 2, 2, 4, 20, 20, 20, 24, 24, 24, 24, 16))
 
@@ -36,11 +36,6 @@ def rows_of(**columns):
     for column, values in columns.items():
         rows = [{**row, column: value} for row in rows for value in values]
     return rows
-
-
-def run(command, script, *words, **more):
-    """What a script of this folder wrote, and its status."""
-    return subprocess.run([command, os.path.join(HERE, script), *words], capture_output=True, text=True, check=False, **more)
 
 
 @unittest.skipIf(figures is None, "matplotlib isn't there")
@@ -126,7 +121,7 @@ class Kinds(unittest.TestCase):
         self.assertEqual(found, Path(EXAMPLES, "uart.faults").read_text(encoding="utf-8"))
 
     def test_help_and_the_largest_rate(self):
-        self.assertNotIn("%%", run(sys.executable, "faults.py", "--help").stdout)
+        self.assertNotIn("%%", run("faults.py", "--help").stdout)
         large = texts.Machine((2, 2, 4, 16, 32, 32, 32, 48, 48, 48, 48, 40))
         with self.assertRaisesRegex(ValueError, "65,536 in all; of open 0.[0-9]+ is the largest rate that fits"):
             make_faults(large, {"open": 0.9}, 1)
@@ -158,27 +153,15 @@ class Kinds(unittest.TestCase):
         for word in ("opens", "open*0", "open in lines of 3"):
             self.assertRaises(argparse.ArgumentTypeError, trial.mix, word)
 
-    def test_lists_of_other_schemes(self):
-        """They list all that the exact list does not leave free."""
-        for seed in range(10):
-            faults = make_faults(SMALL, {"open": 30, "wires": 2, "registers": 1, "closed": 1}, seed)
-            exact = texts.exact_list(SMALL, faults)
-            for make in (trial.wires_list, trial.hextants_list):
-                found = make(SMALL, faults)
-                self.assertEqual(texts.read_defects(SMALL, texts.defects_text(SMALL, found).encode()), found)
-                self.assertFalse(any(found.is_free(SMALL, kind, at) for kind in texts.PARTS for at in exact[kind]))
-            self.assertEqual([len(trial.wires_list(SMALL, faults)[kind]) for kind in ("cross", "table")], [0, 0])
-
     def test_made_designs(self):
         for tables in (38, 77, 115):
             design = texts.read_design(made.blif_text(made.filling(tables)).encode())
             self.assertEqual(len(designs.plain_network(design).tables), tables)
-        design = texts.read_text(texts.read_design, os.path.join(EXAMPLES, "lfsr.blif"))
-        copies = texts.read_design(made.blif_text(made.triplicated(design)).encode())
-        chance = random.Random(1)
-        vectors = [[chance.randrange(2) for _ in design.inputs] for _ in range(50)]
-        values = [designs.design_values(found, vectors) for found in (design, copies)]
-        self.assertEqual(*[[value[output] for output in found.outputs] for value, found in zip(values, (design, copies))])
+        lfsr = f"{EXAMPLES}/lfsr.blif"
+        copies = made.blif_text(made.triplicated(texts.read_text(texts.read_design, lfsr))).encode()
+        rows = [call(DEFAULT, "eval", design, f"{EXAMPLES}/lfsr.vec").rows for design in (lfsr, copies)]
+        self.assertEqual(*rows)
+        self.assertTrue(rows[0])
 
 
 class Runs(unittest.TestCase):
@@ -242,14 +225,9 @@ class Runs(unittest.TestCase):
                 (self.folder / name).write_text(f"#!/bin/sh\n{line}\n")
                 (self.folder / name).chmod(0o755)
             path = {**os.environ, "PATH": f"{self.folder}:{os.environ['PATH']}"}
-            ran = run("sh", "setup", *lean, env=path)
+            ran = run("setup", *lean, command="sh", env=path)
             self.assertTrue(ran.stdout.splitlines()[1].startswith(said))
             self.assertEqual("snakemake" in ran.stdout, not lean)
-
-    def test_used_nodes(self):
-        for image, status in (([], 1), (["--image", f"{EXAMPLES}/and.image"], 0)):
-            ran = run(sys.executable, "draw.py", f"{EXAMPLES}/tiny.machine", "--level", "chip", "--used", *image)
-            self.assertEqual(ran.returncode, status)
 
     def test_explained(self):
         """Of lines that the program itself writes."""

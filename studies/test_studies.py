@@ -13,16 +13,25 @@ import tempfile
 import unittest
 
 import designs
+import made
 import teramac_texts as texts
+from draw import FOUND, MARKS
 from faults import KINDS, make_faults
 from program import DEFAULT, HERE, call, wilson
 from size import compiles, counts_for
+from trial import hextants_list, wires_list
 
 sys.path.append(os.path.join(HERE, "../bench"))
 from images import image_bytes  # noqa: E402
 
 EXAMPLES = os.path.normpath(os.path.join(HERE, "../examples"))
 TURNS = int(os.environ.get("TURNS", "60"))
+
+
+def run(script, *words, command=sys.executable, **more):
+    """Calls a script of this folder; names of examples stand for their files."""
+    words = [os.path.join(EXAMPLES, word) if os.path.exists(os.path.join(EXAMPLES, word)) else word for word in words]
+    return subprocess.run([command, os.path.join(HERE, script), *words], capture_output=True, text=True, check=False, **more)
 
 
 def random_machine(chance, most=3):
@@ -61,11 +70,6 @@ def mutated(chance, data):
         words[k : k + 1] = chance.choice([[], other, other, more + words[k : k + 1], words[k : k + 1] + more])
         lines[at] = " ".join(words)
     return "\n".join(lines)
-
-
-def rows_of(words):
-    """Rows of bits from words of twenty bits, whose highest is of the first row."""
-    return ["".join(row).encode() for row in zip(*(f"{word:020b}" for word in words))]
 
 
 class Studies(unittest.TestCase):
@@ -111,25 +115,16 @@ class Studies(unittest.TestCase):
         machine, seen = texts.Machine((1, 2, 2, 5, 24, 24, 24, 30, 30, 30, 30, 12)), 0
         for _ in range(TURNS // 3):
             data = random_blif(self.chance).encode()
-            vectors = [[self.chance.randrange(2) for _ in range(3)] for _ in range(20)]
-            rows = "".join(f"{a}{b}{c}\n" for a, b, c in vectors).encode()
-            design, want = texts.read_design(data), call(DEFAULT, "eval", data, rows)
-            self.assertEqual(want.status, 0, data)
-            values = designs.design_values(design, vectors)
-            self.assertEqual(rows_of([values[signal] for signal in design.outputs]), want.rows)
+            rows = made.random_vectors(texts.read_design(data)).encode()
             image = compiles(DEFAULT, machine, texts.Defects(), data)
             if image.status == 0:
                 seen += 1
-                self.image(machine, image.written, vectors, rows, want.rows)
+                self.image(machine, image.written, rows)
         self.assertGreater(seen, TURNS // 6)
 
-    def image(self, machine, data, vectors, rows, want):
-        """The bytes are read and written the same; the values of the nets are the rows; changed bytes are refused alike."""
-        image = texts.read_image(machine, data)
-        self.assertEqual(image_bytes(machine, image), data)
-        values, net_of = designs.image_values(machine, image, vectors), image.net_of(machine)
-        # A pin that is joined to nothing reads 1.
-        self.assertEqual(rows_of([values[net_of[pin]] if pin in net_of else 2**20 - 1 for pin in image.outputs]), want)
+    def image(self, machine, data, rows):
+        """The bytes are read and written the same; changed bytes are refused alike."""
+        self.assertEqual(image_bytes(machine, texts.read_image(machine, data)), data)
         for _ in range(4):
             changed, at = bytearray(data), self.chance.randrange(len(data))
             changed[at] = self.chance.choice([0, 1, changed[at] ^ 1, 255])
@@ -149,14 +144,10 @@ class Studies(unittest.TestCase):
             self.assertEqual(refusal[:3], ["refused", "noroom", "ports" if at < 7 else "lines"])
             self.assertIn(refusal[4:6], [[str(need), str(need - 1)]])
 
-    def script(self, name, *words):
-        words = [os.path.join(EXAMPLES, word) if os.path.exists(os.path.join(EXAMPLES, word)) else word for word in words]
-        return subprocess.run([sys.executable, os.path.join(HERE, name), *words], capture_output=True, text=True, check=False)
-
     def test_writes_over_nothing(self):
         for words in (("faults.py", "tiny.machine"), ("size.py", "and.blif"), ("draw.py", "tiny.machine")):
-            self.assertEqual(self.script(*words, "-o", self.out).returncode, 0)
-            again = self.script(*words, "-o", self.out)
+            self.assertEqual(run(*words, "-o", self.out).returncode, 0)
+            again = run(*words, "-o", self.out)
             self.assertIn("stands there already", again.stderr)
             self.assertNotEqual(again.returncode, 0)
             os.remove(self.out)
@@ -170,49 +161,40 @@ class Studies(unittest.TestCase):
             (("draw.py", "none.machine"), "No such file"),
             (("trial.py", "tiny.machine", "and.blif:and.vec", "--rate", "2.0"), "a rate is from 0 to 1"),
         ):
-            ran = self.script(*words)
+            ran = run(*words)
             self.assertIn(said, ran.stderr)
             self.assertNotIn("Traceback", ran.stderr)
             self.assertNotEqual(ran.returncode, 0)
 
     def test_trial(self):
-        for more in ((), ("--steps",)):
-            designs_ = [f"{EXAMPLES}/{name}.blif:{EXAMPLES}/{name}.vec" for name in ("and", "counter")]
-            ran = self.script("trial.py", "tiny.machine", *designs_, "--rate", "0.0", *more)
-            rows = [line.split(",") for line in ran.stdout.splitlines()]
-            found = [row[6:9] for row in rows[1:]]
-            self.assertEqual(sorted(found), [[d, k, s] for d, s in (("and", "0"), ("counter", "3")) for k in ("diagnosed", "exact")])
+        pairs = [f"{EXAMPLES}/{name}.blif:{EXAMPLES}/{name}.vec" for name in ("and", "counter")]
+        ran = run("trial.py", "tiny.machine", *pairs, "--rate", "0.0")
+        found = [line.split(",")[6:9] for line in ran.stdout.splitlines()[1:]]
+        self.assertEqual(sorted(found), [[d, k, s] for d, s in (("and", "0"), ("counter", "3")) for k in ("diagnosed", "exact")])
 
     def test_picture(self):
-        shown = self.script("draw.py", "tiny.machine", "--faults", "tiny.faults", "--defects", "tiny.defects", "--text", "r").stdout
-        self.assertEqual([line.split()[:2] for line in shown.splitlines()[1:4]], [["p0", "##.."], ["p1", "#..."], ["p2", "#..."]])
-        drawn = self.script("draw.py", "tiny.machine", "--defects", "tiny.defects", "--image", "and.image", "--design", "and.blif").stdout
+        given = ["--faults", "tiny.faults", "--defects", "tiny.defects", "--image", "and.image", "--design", "and.blif"]
+        drawn = run("draw.py", "tiny.machine", *given).stdout
+        self.assertEqual({colour for colour in MARKS if drawn.count(colour) > 1}, {FOUND})
         self.assertIn("</svg>", drawn)
+        for image, status in (([], 1), (["--image", "and.image"], 0)):
+            self.assertEqual(run("draw.py", "tiny.machine", "--level", "chip", "--used", *image).returncode, status)
 
-    def test_sizes(self):
-        """The least counts of the counter, reckoned by hand: four tables in one hextant, the input and two latches go up."""
-        ran = self.script("size.py", "counter.blif", "--modules", "1", "--chips", "1", "--hextants", "1")
-        self.assertEqual(ran.stdout.split()[8:], "tables 4 ports 3 3 3 lines 3 3 3 5 pins 3 end".split())
-
-    def test_exact_list(self):
-        """It covers the faults: nothing faulty is free, and no free wire is shorted to a stuck or another free one."""
+    def test_lists(self):
+        """Nothing faulty is free, no free wire is shorted to a stuck or another free one; other schemes list all that the exact list has."""
         machine = texts.Machine((1, 1, 2, 3, 6, 6, 6, 6, 6, 6, 6, 6))
         for seed in range(40):
             faults = make_faults(machine, {"open": 4, "closed": 5, "wires": 3, "cells": 2, "registers": 1, "bridges": 3}, seed)
-            listed = texts.exact_list(machine, faults)
-            bad = faults.parts
-            self.assertFalse(any(listed.is_free(machine, kind, at) for kind in texts.PARTS for at in bad[kind]))
+            exact, bad = texts.exact_list(machine, faults), faults.parts
+            self.assertFalse(any(exact.is_free(machine, kind, at) for kind in texts.PARTS for at in bad[kind]))
             for group in texts.short_groups(machine, faults):
-                self.assertLessEqual(len(set(group) - listed["wire"]), int(bad["wire"].isdisjoint(group)))
+                self.assertLessEqual(len(set(group) - exact["wire"]), int(bad["wire"].isdisjoint(group)))
+            for listed in (wires_list(machine, faults), hextants_list(machine, faults)):
+                self.assertEqual(texts.read_defects(machine, texts.defects_text(machine, listed).encode()), listed)
+                self.assertFalse(any(listed.is_free(machine, kind, at) for kind in texts.PARTS for at in exact[kind]))
 
     def test_interval(self):
         low, high = wilson(8, 10)
         self.assertAlmostEqual(low, 0.4902, 3)
         self.assertAlmostEqual(high, 0.9433, 3)
         self.assertEqual(wilson(0, 0), (0.0, 1.0))
-
-    def test_plain_network(self):
-        """A cover of eight inputs with two rows: two trees of AND of two tables and one, and one table of OR."""
-        design = texts.read_design(b".model m\n.inputs a b c d e f g h\n.outputs y\n.names a b c d e f g h y\n1111111- 1\n-----111 1\n")
-        network = designs.plain_network(design)
-        self.assertEqual([len(sources) for sources in network.tables], [6, 1, 2, 3, 2])

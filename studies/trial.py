@@ -1,9 +1,9 @@
 #!/usr/bin/env python3
 """One machine with one set of faults; on each of some lists every design. Writes rows of CSV (README.md says what of each list).
 
-By the tool's own diagnosis a design goes through the command go or, with --steps, through diagnose (once for all designs), compile
-and run, which is what go does; by other lists through compile and run. Every run's rows are compared with eval's. An answer of
-status 1, 2, 4 or 5 was never a run, and ends the script with status 1, as do rows that differ where a list was made.
+By the tool's own diagnosis a design goes through diagnose (once for all designs), compile and run, which is what go does; by other
+lists through compile and run. Every run's rows are compared with eval's. An answer of status 1, 2, 4 or 5 was never a run, and ends
+the script with status 1, as do rows that differ where a list was made.
 """
 
 import argparse
@@ -161,27 +161,14 @@ class Trial:
                 yield self.row(name, kind, None if kind in UNDIAGNOSED else listed, answer, **sizes)
 
     def diagnosed_rows(self):
-        diagnosed = self.call("diagnose", self.args.machine, self.fault_text) if self.args.steps else None
-        loads = self.loads()
-        if diagnosed and not self.args.designs:
-            listed = diagnosed.defects if diagnosed.status == 0 else None
-            yield {**self.row("", "diagnosed", listed, diagnosed), **loads}
-        for name, design, vectors in self.args.designs:
-            yield {**self.by_diagnosis(diagnosed, name, design, vectors), **loads}
-
-    def by_diagnosis(self, diagnosed, name, design, vectors):
-        """One row by the tool's own list."""
-        answer = diagnosed or self.compared(self.call("go", self.args.machine, self.fault_text, design, vectors), design, vectors)
-        if answer.status not in (0, 3):
-            return self.row(name, "diagnosed", None, answer)
-        listed, more = answer.defects, {}
-        if diagnosed:
-            answer, more = self.laid(listed, design, vectors)
-            answer.seconds += diagnosed.seconds
-            more["diagnose_seconds"] = round(diagnosed.seconds, 3)
-        elif answer.status == 0:
-            more = self.shape_of(self.call("compile", self.args.machine, listed, design).written)
-        return self.row(name, "diagnosed", listed, answer, **more)
+        """By the tool's own list; one row without a design where none is given."""
+        diagnosed, loads = self.call("diagnose", self.args.machine, self.fault_text), self.loads()
+        listed = diagnosed.defects if diagnosed.status == 0 else None
+        for name, design, vectors in self.args.designs or [("", None, None)]:
+            answer, more = (diagnosed, {}) if design is None or not listed else self.laid(listed, design, vectors)
+            if answer is not diagnosed:
+                answer.seconds += diagnosed.seconds
+            yield self.row(name, "diagnosed", listed, answer, diagnose_seconds=round(diagnosed.seconds, 3), **more, **loads)
 
 
 def named_pair(word):
@@ -204,7 +191,6 @@ def main():
     parser.add_argument("--seed", type=int, default=1, help="the fault set's seed (default: 1)")
     parser.add_argument("--lists", default="exact,diagnosed", help=f"of {','.join(LISTS)} (default: %(default)s)")
     parser.add_argument("--seconds", type=float, default=600, help="no call takes longer; it is cut off (default: 600)")
-    parser.add_argument("--steps", action="store_true", help="one diagnose for all designs in place of one go for each")
     parser.add_argument("--report", default=REPORT, help="the built teramac_report, which tells loads; '' for none (default: %(default)s)")
     parser.add_argument("--name", help="the machine's name in the table (default: its file's)")
     parser.add_argument("--spare", type=float, help="what the machine has to spare, for the table")
