@@ -180,27 +180,23 @@ def nothing(title):
 
 
 def thrown(rows, _):
-    """Sound parts that the diagnosis throws away: the mean, and the least and most of the runs"""
-    rows, columns = diagnoses(rows, "thrown_wires"), ["machine", "kind", "rate", "part", "mean", "least", "most", "diagnoses"]
+    """Sound parts that the diagnosis throws away (mean, bars: 95 %)"""
+    rows, columns = diagnoses(rows, "thrown_wires"), ["machine", "kind", "rate", "part", "mean", "low", "high", "diagnoses"]
     if not rows:
         return nothing("no row of these is of a diagnosis"), columns, []
     picture, parts = facets(rows)
     table = []
     for axes, names, part in parts:
-        most = 1
         for kind, marker in (("wires", "o"), ("crosses", "s"), ("tables", "^")):
             named, by_rate = {"crosses": "crosspoints"}.get(kind, kind), split(part, "rate")
-            found = [(rate, [row[f"thrown_{kind}"] for row in runs]) for (rate,), runs in by_rate.items()]
-            points = [[rate, sum(values) / len(values), min(values), max(values), len(values)] for rate, values in found]
-            table += [[*names, rate, named, *point] for rate, *point in points]
-            rates, means, low, high, _ = zip(*points)
-            axes.plot(rates, means, marker=marker, markersize=4, label=named)
-            axes.fill_between(rates, low, high, alpha=0.2)
-            most = max(most, *high)
-        axes.set_yscale("symlog", linthresh=1)
+            points = {rate: mean([row[f"thrown_{kind}"] for row in runs]) for (rate,), runs in by_rate.items()}
+            table += [[*names, rate, named, *point] for rate, point in points.items()]
+            curve(axes, points, points.values(), 0, ("-", marker), label=named)
+        most = max([1, *(line[-2] for line in table if line[:2] == [*names])])
         ticks = [0, *(10**k for k in range(math.ceil(math.log10(most)) + 1))]
+        axes.set_yscale("symlog", linthresh=1)
         axes.set_yticks(ticks, [f"{tick:,}" for tick in ticks])
-        axes.set(ylim=(-0.1, 1.3 * max(1, most)), xlabel="rate of faults", ylabel="sound parts on the list")
+        axes.set(ylim=(-0.1, 1.3 * most), xlabel="rate of faults", ylabel="sound parts on the list")
         axes.legend(loc="upper left")
     return picture, columns, table
 

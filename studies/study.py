@@ -24,10 +24,8 @@ import teramac_texts as texts
 from program import DEFAULT, HERE, REPORT, add_program, checked_design
 from size import TREES, best_machine, counts_for
 
-KNOWN = {
-    "folder", "machines", "designs", "fill", "spares", "kinds", "rates", "seeds", "first_seed", "lists", "clustered", "shape",
-    "seconds", "program", "figures", "loads_per_second", "tree",
-}
+KNOWN = set("folder machines designs fill spares tree kinds rates seeds first_seed lists clustered shape seconds".split())
+KNOWN |= {"program", "figures", "loads_per_second"}
 # What decides about the rows of a trial, beside its words and files.
 SCRIPTS = [os.path.join(HERE, name + ".py") for name in ("trial", "faults", "teramac_texts", "program", "made")]
 

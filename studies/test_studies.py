@@ -7,6 +7,7 @@ and that they write over nothing.
 import contextlib
 import os
 import random
+import re
 import subprocess
 import sys
 import tempfile
@@ -57,19 +58,12 @@ def random_blif(chance, inputs=3, covers=5, latches=2):
 
 
 def mutated(chance, data):
-    """The text with a line or a word of it gone, doubled, or another."""
-    lines = data.split("\n")
-    at = chance.randrange(len(lines))
-    if chance.randrange(3) == 0:
-        lines[at : at + 1] = chance.choice([[], [chance.choice(lines), lines[at]]])
-    else:
-        words = lines[at].split(" ")
-        k = chance.randrange(len(words))
-        other = [chance.choice(chance.choice(lines).split(" ") + ["0", "01", "64", "65536", "m0.o0", "\x0b", "wire"])]
-        more = [chance.choice(["1", "r.l0", "#", "end", "", "\t"])]
-        words[k : k + 1] = chance.choice([[], other, other, more + words[k : k + 1], words[k : k + 1] + more])
-        lines[at] = " ".join(words)
-    return "\n".join(lines)
+    """The text with a word, a blank or the end of a line gone, doubled, or another."""
+    parts = re.split("([ \n])", data)
+    at = chance.randrange(len(parts))
+    others = ["", " ", "\n", "\t", "#", "\x0b", "0", "1", "01", "64", "65536", "m0.o0", "r.l0", "wire", "end"]
+    parts[at] = chance.choice(["", 2 * parts[at], chance.choice(parts), chance.choice(others), f"{parts[at]} {chance.choice(others)}"])
+    return "".join(parts)
 
 
 class Studies(unittest.TestCase):
@@ -145,12 +139,11 @@ class Studies(unittest.TestCase):
             self.assertIn(refusal[4:6], [[str(need), str(need - 1)]])
 
     def test_writes_over_nothing(self):
-        for words in (("faults.py", "tiny.machine"), ("size.py", "and.blif"), ("draw.py", "tiny.machine")):
-            self.assertEqual(run(*words, "-o", self.out).returncode, 0)
-            again = run(*words, "-o", self.out)
-            self.assertIn("stands there already", again.stderr)
-            self.assertNotEqual(again.returncode, 0)
-            os.remove(self.out)
+        for k, words in enumerate((("faults.py", "tiny.machine"), ("size.py", "and.blif"), ("draw.py", "tiny.machine"))):
+            for status, said in ((0, ""), (1, "stands there already")):
+                ran = run(*words, "-o", f"{self.out}{k}")
+                self.assertEqual(ran.returncode, status)
+                self.assertIn(said, ran.stderr)
 
     def test_refuses_in_one_line(self):
         for words, said in (
@@ -181,7 +174,7 @@ class Studies(unittest.TestCase):
             self.assertEqual(run("draw.py", "tiny.machine", "--level", "chip", "--used", *image).returncode, status)
 
     def test_lists(self):
-        """Nothing faulty is free, no free wire is shorted to a stuck or another free one; other schemes list all that the exact list has."""
+        """Nothing faulty is free, nor is a wire that is shorted to a stuck or another free one; other schemes list all of it."""
         machine = texts.Machine((1, 1, 2, 3, 6, 6, 6, 6, 6, 6, 6, 6))
         for seed in range(40):
             faults = make_faults(machine, {"open": 4, "closed": 5, "wires": 3, "cells": 2, "registers": 1, "bridges": 3}, seed)
@@ -194,7 +187,5 @@ class Studies(unittest.TestCase):
                 self.assertFalse(any(listed.is_free(machine, kind, at) for kind in texts.PARTS for at in exact[kind]))
 
     def test_interval(self):
-        low, high = wilson(8, 10)
-        self.assertAlmostEqual(low, 0.4902, 3)
-        self.assertAlmostEqual(high, 0.9433, 3)
-        self.assertEqual(wilson(0, 0), (0.0, 1.0))
+        for hits, tries, want in ((8, 10, (0.4902, 0.9433)), (0, 0, (0, 1))):
+            self.assertEqual(tuple(round(bound, 4) for bound in wilson(hits, tries)), want)
