@@ -1,10 +1,16 @@
-"""What a design takes: its plain network, and the plan in order with its needs."""
+"""What a design takes: its plain network, and the plan in order with its needs. And designs that studies make."""
 
+import random
 from collections import Counter, namedtuple
+
+from teramac_texts import Design
 
 
 # Tables with at most six sources each. A source is a number: inputs first, then tables; it is a net's number too.
 Network = namedtuple("Network", "inputs tables outputs")
+# A table of a filling design reads so many of the tables just before it, so that few nets leave a hextant.
+REACH, INPUTS, OUTPUTS, LATCHES = 5, 4, 4, 2
+MAJORITY = ["11-", "1-1", "-11"]
 
 
 def plain_network(design):
@@ -49,3 +55,63 @@ def needs(network, modules, chips, hextants, tables):
             taps = list(strands)
         lines[0][0] += pins[net] + len(taps) >= 2
     return [max(level.values(), default=0) for level in ports[1:] + lines]
+
+
+def blif_text(design):
+    """The text of a design; its signals get numbers for names, since two models may use one name."""
+    names = {}
+
+    def name(signal):
+        return names.setdefault(signal, f"n{len(names)}")
+
+    lines = [".model made", " ".join([".inputs", *map(name, design.inputs)]), " ".join([".outputs", *map(name, design.outputs)])]
+    for sources, output, rows, off in design.covers:
+        lines.append(" ".join([".names", *map(name, sources), name(output)]))
+        lines += [f"{row} {int(not off)}".strip() for row in rows]
+    lines += [f".latch {name(source)} {name(output)} {initial}" for source, output, initial in design.latches]
+    return "\n".join([*lines, ".end", ""])
+
+
+def filling(tables, seed=1):
+    """A random design of so many tables, each of which feeds the next: covers of tables just before and some inputs, then two latches."""
+    chance, inputs = random.Random(f"{tables} {seed}"), [f"x{k}" for k in range(INPUTS)]
+    states = [f"s{k}" for k in range(LATCHES)]
+    known, covers = [*inputs, *states], []
+    for k in range(tables - LATCHES):
+        sources = [known[-1], *chance.sample(known[-REACH:-1], chance.randint(1, REACH - 1))]
+        if chance.random() < 0.25:
+            sources = list(dict.fromkeys([*sources, chance.choice(inputs + states)]))
+        rows = ["".join(chance.choice("01") for _ in sources) for _ in range(2 ** (len(sources) - 1))]
+        covers.append((sources, f"c{k}", sorted(set(rows)), False))
+        known.append(f"c{k}")
+    return Design(inputs, known[-OUTPUTS:], covers, [(known[-k - 1], state, 0) for k, state in enumerate(states)])
+
+
+def random_vectors(design, cycles=32, seed=1):
+    """A text of random vectors for a design."""
+    chance = random.Random(seed)
+    rows = ["".join(chance.choice("01") for _ in design.inputs) or "." for _ in range(cycles)]
+    return "\n".join([*rows, ""])
+
+
+def triplicated(design):
+    """Three copies of a design, with a voter behind each latch of each copy and before each output."""
+
+    def copy(signal, k):
+        return signal if signal in design.inputs else (k, signal)
+
+    covers, latches = [], []
+    for k in range(3):
+        for sources, output, rows, off in design.covers:
+            covers.append(([copy(source, k) for source in sources], copy(output, k), rows, off))
+        for source, output, initial in design.latches:
+            latches.append((copy(source, k), ("raw", k, output), initial))
+            covers.append(([("raw", other, output) for other in range(3)], copy(output, k), MAJORITY, False))
+    outputs = []
+    for at, output in enumerate(design.outputs):
+        if output in design.inputs:
+            outputs.append(output)
+            continue
+        outputs.append(("voted", at))
+        covers.append(([copy(output, k) for k in range(3)], ("voted", at), MAJORITY, False))
+    return Design(design.inputs, outputs, covers, latches)

@@ -79,8 +79,7 @@ def node_size(node):
 def layout(nodes, top):
     """A place for each crossbar, in rows from the root down; a level that doesn't fit into the rest of a row begins a new one."""
     places, x, y, height, level = {}, MARGIN, top, 0, 0
-    area = sum((width + GAP) * (height + GAP) for width, height in map(node_size, nodes))
-    limit = max(1080, node_size(nodes[0])[0] + GAP, 1.3 * math.sqrt(area))
+    limit = max(1080, 1.3 * math.sqrt(sum((width + GAP) * (height + GAP) for width, height in map(node_size, nodes))))
     for node in sorted(nodes, key=lambda node: node.level):
         width = node_size(node)[0] + GAP
         rest = width * (sum(other.level == node.level for other in nodes) if node.level != level else 1)

@@ -1,10 +1,8 @@
 #!/usr/bin/env python3
 """Says of the last line of a command what it means in the files at hand: which word, how many columns, which limit.
 
-    explain.py 'refused vectors 1 width' go small.machine small.faults lfsr.blif lfsr.vec
-    explain.py 'refused vectors 1 width' lfsr.blif lfsr.vec
-
-After the line stand the words of the command, or files alone, which are then known by their endings.
+After the line stand the words of the command, as in: explain.py 'refused vectors 1 width' eval lfsr.blif lfsr.vec
+or files alone, which are then known by their endings.
 """
 
 import argparse

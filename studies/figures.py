@@ -104,18 +104,16 @@ def curve(axes, across, points, off, style, **more):
 
 def undecided_marks(axes, rows, places, column="rate"):
     """Runs that were cut off or found no memory, as a curve of their own."""
-    parts = split(rows, column)
-    if any(row["status"] in UNDECIDED for row in rows):
-        marks = [sum(row["status"] in UNDECIDED for row in part) / len(part) for part in parts.values()]
-        places = places or [key[0] for key in parts]
+    marks = [sum(row["status"] in UNDECIDED for row in part) / len(part) for part in split(rows, column).values()]
+    if any(marks):
         axes.plot(places, marks, color="grey", marker="P", linestyle=":", label="undecided (cut off, no memory), left out")
 
 
-def of_shares(axes, rows, across, places=None, column="rate"):
+def of_shares(axes, rows, across, places, column="rate"):
     """What all axes of shares have."""
     undecided_marks(axes, rows, places, column)
     axes.set(ylim=(-0.04, 1.04), xlabel=across, ylabel="share of runs (bars: 95 %, Wilson)")
-    axes.legend(loc="best")
+    axes.legend(loc="upper center", bbox_to_anchor=(0.5, -0.13), ncol=3)
 
 
 def fits(rows, _):
@@ -129,7 +127,7 @@ def fits(rows, _):
             points = {rate: share(of) for (rate,), of in split(runs, "rate").items()}
             table += [[*names, design, kind, rate, *point] for rate, point in points.items()]
             curve(axes, points, points.values(), shift * (k - 2), STYLES[kind], color=colours[design], label=f"{design}, {STYLES[kind][2]}")
-        of_shares(axes, part, "rate of faults")
+        of_shares(axes, part, "rate of faults", sorted({row["rate"] for row in part}))
     return picture, ["machine", "kind", "design", "list", "rate", *SHARE], table
 
 

@@ -3,15 +3,12 @@
 import argparse
 import os
 import random
-import subprocess
-import sys
 import tempfile
 import unittest
 from collections import Counter
 from pathlib import Path
 
 import designs
-import made
 import teramac_texts as texts
 import trial
 from explain import explain
@@ -134,8 +131,7 @@ class Kinds(unittest.TestCase):
         self.assertTrue(all(set(pair) in beside for pair in faults["bridge"]))
         for seed in range(20):
             opened = set(make_faults(SMALL, {"broken": 1}, seed)["open"])
-            wires = [wire for wire in range(SMALL.sizes["wire"]) if opened <= set(SMALL.along(wire))]
-            along = [list(SMALL.along(wire)) for wire in wires]
+            along = [list(SMALL.along(wire)) for wire in range(SMALL.sizes["wire"])]
             self.assertTrue(any(opened in (set(path[: len(opened)]), set(path[-len(opened) :])) for path in along))
 
     def test_shapes(self):
@@ -155,10 +151,10 @@ class Kinds(unittest.TestCase):
 
     def test_made_designs(self):
         for tables in (38, 77, 115):
-            design = texts.read_design(made.blif_text(made.filling(tables)).encode())
+            design = texts.read_design(designs.blif_text(designs.filling(tables)).encode())
             self.assertEqual(len(designs.plain_network(design).tables), tables)
         lfsr = f"{EXAMPLES}/lfsr.blif"
-        copies = made.blif_text(made.triplicated(texts.read_text(texts.read_design, lfsr))).encode()
+        copies = designs.blif_text(designs.triplicated(texts.read_text(texts.read_design, lfsr))).encode()
         rows = [call(DEFAULT, "eval", design, f"{EXAMPLES}/lfsr.vec").rows for design in (lfsr, copies)]
         self.assertEqual(*rows)
         self.assertTrue(rows[0])
@@ -180,8 +176,7 @@ class Runs(unittest.TestCase):
         self.settings.write_text("".join(f"{key}: {value}\n" for key, value in lines.items()))
 
     def study(self):
-        words = [sys.executable, "-m", os.path.basename(HERE), str(self.settings), "--jobs", "1", "--program", DEFAULT]
-        return subprocess.run(words, cwd=os.path.dirname(HERE), capture_output=True, text=True, check=False)
+        return run("__main__.py", str(self.settings), "--jobs", "1", "--program", DEFAULT)
 
     @unittest.skipIf(figures is None, "matplotlib isn't there")
     def test_what_changed_is_run_anew(self):

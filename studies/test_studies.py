@@ -1,8 +1,4 @@
-"""Tests with the built program ($TERAMAC or the default): python3 -m unittest.
-
-The readers and writers on random files, and the scripts by their command lines: what they write, what they refuse,
-and that they write over nothing.
-"""
+"""Tests of readers, writers and scripts with the built program ($TERAMAC or the default): python3 -m unittest."""
 
 import contextlib
 import os
@@ -14,7 +10,6 @@ import tempfile
 import unittest
 
 import designs
-import made
 import teramac_texts as texts
 from draw import FOUND, MARKS
 from faults import KINDS, make_faults
@@ -105,25 +100,23 @@ class Studies(unittest.TestCase):
             self.alike("faults", data[1], ("diagnose", given[0], data[1]), machine)
             self.alike("defects", data[2], ("compile", given[0], data[2], design), machine)
 
-    def test_designs_and_images(self):
+    def test_images(self):
+        """Images are read and written the same; changed bytes are refused alike."""
         machine, seen = texts.Machine((1, 2, 2, 5, 24, 24, 24, 30, 30, 30, 30, 12)), 0
         for _ in range(TURNS // 3):
             data = random_blif(self.chance).encode()
-            rows = made.random_vectors(texts.read_design(data)).encode()
+            rows = designs.random_vectors(texts.read_design(data)).encode()
             image = compiles(DEFAULT, machine, texts.Defects(), data)
-            if image.status == 0:
-                seen += 1
-                self.image(machine, image.written, rows)
+            if image.status:
+                continue
+            seen += 1
+            self.assertEqual(image_bytes(machine, texts.read_image(machine, image.written)), image.written)
+            for _ in range(4):
+                changed, at = bytearray(image.written), self.chance.randrange(len(image.written))
+                changed[at] = self.chance.choice([0, 1, changed[at] ^ 1, 255])
+                changed = bytes(changed[: self.chance.choice([len(changed), at])]) + self.chance.choice([b"", b"", b"x"])
+                self.alike("image", changed, ("run", machine.text.encode(), b"", changed, rows), machine)
         self.assertGreater(seen, TURNS // 6)
-
-    def image(self, machine, data, rows):
-        """The bytes are read and written the same; changed bytes are refused alike."""
-        self.assertEqual(image_bytes(machine, texts.read_image(machine, data)), data)
-        for _ in range(4):
-            changed, at = bytearray(data), self.chance.randrange(len(data))
-            changed[at] = self.chance.choice([0, 1, changed[at] ^ 1, 255])
-            changed = bytes(changed[: self.chance.choice([len(data), at])]) + self.chance.choice([b"", b"", b"x"])
-            self.alike("image", changed, ("run", machine.text.encode(), b"", changed, rows), machine)
 
     def test_needs(self):
         """A machine of just what the plan wants has room; with one line or port less the program says these very numbers."""

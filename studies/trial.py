@@ -9,10 +9,11 @@ the script with status 1, as do rows that differ where a list was made.
 import argparse
 import csv
 import io
+import re
 import sys
 from pathlib import Path
 
-import made
+import designs
 import teramac_texts as texts
 from faults import KINDS, SHAPES, add_clusters, amount, make_faults
 from program import REPORT, add_program, call
@@ -29,19 +30,12 @@ NO_RUN = (1, 2, 4, 5)
 
 def mix(word):
     """Name, weights of kinds, and clusters or none, of a mix: `open`, `mixed:open+wires*0.1`, `rows:open in rows of 24`."""
-    name, colon, parts = word.rpartition(":")
-    parts, lie, shape = parts.partition(" in ")
-    shape, _, size = shape.partition(" of ")
-    weights = {}
-    try:
-        for kind, star, weight in (part.strip().partition("*") for part in parts.split("+")):
-            weights[kind] = float(weight) if star else 1.0
-        clusters = (float(size), shape) if lie else None
-    except ValueError as error:
-        raise argparse.ArgumentTypeError(f"{word}: {error}") from error
-    if not weights.keys() <= KINDS.keys() or min(weights.values()) <= 0 or (lie and shape not in SHAPES):
+    number = r"([0-9]+(?:\.[0-9]+)?)"
+    whole = re.fullmatch(rf"(?:(.+):)?([^: ]+)(?: in ({'|'.join(SHAPES)}) of {number})?", word)
+    parts = [re.fullmatch(rf"({'|'.join(KINDS)})(?:\*{number})?", part) for part in whole[2].split("+")] if whole else [None]
+    if None in parts or 0 in (weights := {part[1]: float(part[2] or 1) for part in parts}).values():
         raise argparse.ArgumentTypeError(f"{word}: kinds are {', '.join(KINDS)}, shapes {', '.join(SHAPES)}, a weight is above 0")
-    return name if colon else word, weights, clusters
+    return whole[1] or word, weights, (float(whole[4]), whole[3]) if whole[3] else None
 
 
 def wires_list(machine, faults):
@@ -116,20 +110,18 @@ class Trial:
         """Tables, nets, crossings and closed crosspoints of an image."""
         found = texts.read_image(self.machine, image)
         nets, ports = found.net_of(self.machine), {wire for node in self.machine.nodes for wire in node.ports}
-        sizes = len(found.tables), len(set(nets.values())), len(ports & nets.keys()), len(found.crosses)
-        return dict(zip(("tables", "nets", "crossings", "closed"), sizes))
+        sizes = {"tables": len(found.tables), "nets": len(set(nets.values())), "crossings": len(ports & nets.keys())}
+        return sizes | {"closed": len(found.crosses)}
 
     def compared(self, answer, design, vectors, promised=True):
         """The answer, after its rows were compared with those of eval."""
-        if answer.status == 0:
-            want = self.call("eval", design, vectors)
-            if want.status == 0 and want.rows != answer.rows:
-                if not promised:
-                    answer.status = -2
-                    return answer
+        want = answer if answer.status else self.call("eval", design, vectors)
+        if want.status == 0 and want.rows != answer.rows:
+            if promised:
                 kept = f"wrong-{Path(design).name}-{self.head['kind']}-{self.args.rate}-{self.args.seed}.faults"
                 texts.write_new(kept, self.fault_text)
                 sys.exit(f"{design}: the rows are not those of eval; the faults are in {kept}")
+            answer.status = -2
         return answer
 
     def laid(self, listed, design, vectors, promised=True, given=None):
@@ -156,7 +148,7 @@ class Trial:
                 continue
             listed = texts.defects_text(self.machine, BY_FAULTS.get(kind, lambda *_: texts.Defects())(self.machine, self.faults)).encode()
             for name, design, vectors in self.args.designs:
-                given = made.blif_text(made.triplicated(texts.read_text(texts.read_design, design))) if kind == "triplicated" else None
+                given = designs.blif_text(designs.triplicated(texts.read_text(texts.read_design, design))) if kind == "triplicated" else None
                 answer, sizes = self.laid(listed, design, vectors, kind not in UNDIAGNOSED, given and given.encode())
                 yield self.row(name, kind, None if kind in UNDIAGNOSED else listed, answer, **sizes)
 
