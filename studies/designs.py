@@ -5,7 +5,6 @@ from collections import Counter, namedtuple
 
 from teramac_texts import Design
 
-
 # Tables with at most six sources each. A source is a number: inputs first, then tables; it is a net's number too.
 Network = namedtuple("Network", "inputs tables outputs")
 # A table of a filling design reads so many of the tables just before it, so that few nets leave a hextant.

@@ -1,8 +1,7 @@
 #!/usr/bin/env python3
 """A picture of a machine: its tree of crossbars, each a grid of taps (down) by lines (across), as SVG.
 
-Faults, a list of defects and an image are drawn in where they are given. With faults and a list,
-red is a fault that the list has, black one that it misses, and yellow a sound part that it throws away.
+Of faults and a list of defects red is a fault that the list has, black one that it misses, and yellow a sound part that it throws away.
 The nets of an image have colours of their own, and with --design names: of a pin, or of the table that drives them.
 """
 

@@ -88,9 +88,8 @@ def name_wrong(machine, words):
         if word not in known:
             alike = [name for name in known if re.match(re.escape(word.rstrip("0123456789")) + "[0-9]+$", name)]
             return f"`{word}` is no part of this machine" + (f"; the last of its kind there is {alike[-1]}" if alike else "")
-    if len(words) == 2 and machine.number("cross", words[::-1]) is not None:
-        return f"the tap comes first and then the line: {words[1]} {words[0]}"
-    return f"`{' '.join(words)}`: these have no crosspoint; a line is crossed by the taps of its own node"
+    exchanged = len(words) == 2 and machine.number("cross", words[::-1]) is not None
+    return f"the tap comes first and then the line: {' '.join(words[::-1])}" if exchanged else "only taps of its own node cross a line"
 
 
 def text_wrong(file, number, kind, roles):

@@ -113,7 +113,7 @@ def of_shares(axes, rows, across, places, column="rate"):
     """What all axes of shares have."""
     undecided_marks(axes, rows, places, column)
     axes.set(ylim=(-0.04, 1.04), xlabel=across, ylabel="share of runs (bars: 95 %, Wilson)")
-    axes.legend(loc="upper center", bbox_to_anchor=(0.5, -0.13), ncol=3)
+    axes.legend(loc="upper center", bbox_to_anchor=(0.5, -0.15), ncol=2)
 
 
 def fits(rows, _):

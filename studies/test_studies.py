@@ -21,7 +21,7 @@ sys.path.append(os.path.join(HERE, "../bench"))
 from images import image_bytes  # noqa: E402
 
 EXAMPLES = os.path.normpath(os.path.join(HERE, "../examples"))
-TURNS = int(os.environ.get("TURNS", "60"))
+TURNS, DESIGN = int(os.environ.get("TURNS", "60")), b".model m\n.outputs f\n.names f\n1\n"
 
 
 def run(script, *words, command=sys.executable, **more):
@@ -80,7 +80,6 @@ class Studies(unittest.TestCase):
 
     def test_texts(self):
         """What is written is read the same, and taken; with a change both sides refuse it alike, or neither does."""
-        design = b".model m\n.outputs f\n.names f\n1\n"
         for _ in range(TURNS):
             machine = random_machine(self.chance)
             amounts = {kind: self.chance.randrange(min(3, machine.sizes["table"] + 1)) for kind in KINDS}
@@ -94,11 +93,11 @@ class Studies(unittest.TestCase):
             self.assertEqual(texts.defects_text(machine, texts.read_defects(machine, found)).encode(), found)
             for list_ in (texts.read_defects(machine, found), texts.exact_list(machine, faults)):
                 text = texts.defects_text(machine, list_).encode()
-                self.assertEqual(self.alike("defects", text, ("compile", given[0], text, design), machine), list_)
+                self.assertEqual(self.alike("defects", text, ("compile", given[0], text, DESIGN), machine), list_)
             data = [mutated(self.chance, text.decode()).encode() for text in (*given, found)]
             self.alike("machine", data[0], ("diagnose", data[0], "no-such-file"))
             self.alike("faults", data[1], ("diagnose", given[0], data[1]), machine)
-            self.alike("defects", data[2], ("compile", given[0], data[2], design), machine)
+            self.alike("defects", data[2], ("compile", given[0], data[2], DESIGN), machine)
 
     def test_images(self):
         """Images are read and written the same; changed bytes are refused alike."""
@@ -149,8 +148,7 @@ class Studies(unittest.TestCase):
         ):
             ran = run(*words)
             self.assertIn(said, ran.stderr)
-            self.assertNotIn("Traceback", ran.stderr)
-            self.assertNotEqual(ran.returncode, 0)
+            self.assertEqual(("Traceback" in ran.stderr, ran.returncode > 0), (False, True))
 
     def test_trial(self):
         pairs = [f"{EXAMPLES}/{name}.blif:{EXAMPLES}/{name}.vec" for name in ("and", "counter")]

@@ -148,8 +148,10 @@ class Trial:
                 continue
             listed = texts.defects_text(self.machine, BY_FAULTS.get(kind, lambda *_: texts.Defects())(self.machine, self.faults)).encode()
             for name, design, vectors in self.args.designs:
-                given = designs.blif_text(designs.triplicated(texts.read_text(texts.read_design, design))) if kind == "triplicated" else None
-                answer, sizes = self.laid(listed, design, vectors, kind not in UNDIAGNOSED, given and given.encode())
+                given = design
+                if kind == "triplicated":
+                    given = designs.blif_text(designs.triplicated(texts.read_text(texts.read_design, design))).encode()
+                answer, sizes = self.laid(listed, design, vectors, kind not in UNDIAGNOSED, given)
                 yield self.row(name, kind, None if kind in UNDIAGNOSED else listed, answer, **sizes)
 
     def diagnosed_rows(self):
