@@ -1,11 +1,15 @@
-"""What a design takes: its plain network, the plan in order with its needs, and its values in each cycle."""
+"""What a design takes: its plain network, and the plan in order with its needs. And designs that studies make."""
 
+import random
 from collections import Counter, namedtuple
-from graphlib import TopologicalSorter
 
+from teramac_texts import Design
 
 # Tables with at most six sources each. A source is a number: inputs first, then tables; it is a net's number too.
 Network = namedtuple("Network", "inputs tables outputs")
+# A table of a filling design reads so many of the tables just before it, so that few nets leave a hextant.
+REACH, INPUTS, OUTPUTS, LATCHES = 5, 4, 4, 2
+MAJORITY = ["11-", "1-1", "-11"]
 
 
 def plain_network(design):
@@ -52,45 +56,61 @@ def needs(network, modules, chips, hextants, tables):
     return [max(level.values(), default=0) for level in ports[1:] + lines]
 
 
-def design_values(design, vectors):
-    """The value of each signal in each cycle, as words of a bit for each cycle, the first cycle highest."""
-    state = {output: initial for _, output, initial in design.latches}
-    of, history = {cover[1]: cover for cover in design.covers}, Counter()
-    order = list(TopologicalSorter({output: of.keys() & names for names, output, *_ in design.covers}).static_order())
-    for vector in vectors:
-        now = {**state, **dict(zip(design.inputs, vector))}
-        for names, output, rows, off in map(of.get, order):
-            values = [str(now[name]) for name in names]
-            matched = any(all(mark in ("-", value) for mark, value in zip(row, values)) for row in rows)
-            now[output] = int(matched != off)
-        for signal, value in now.items():
-            history[signal] = 2 * history[signal] + value
-        state = {output: now[source] for source, output, _ in design.latches}
-    return history
+def blif_text(design):
+    """The text of a design; its signals get numbers for names, since two models may use one name."""
+    names = {}
+
+    def name(signal):
+        return names.setdefault(signal, f"n{len(names)}")
+
+    lines = [".model made", " ".join([".inputs", *map(name, design.inputs)]), " ".join([".outputs", *map(name, design.outputs)])]
+    for sources, output, rows, off in design.covers:
+        lines.append(" ".join([".names", *map(name, sources), name(output)]))
+        lines += [f"{row} {int(not off)}".strip() for row in rows]
+    lines += [f".latch {name(source)} {name(output)} {initial}" for source, output, initial in design.latches]
+    return "\n".join([*lines, ".end", ""])
 
 
-def image_values(machine, image, vectors):
-    """The value of each net of an image in each cycle on a machine without faults, as `design_values` gives them."""
-    of = image.net_of(machine)
-    pins = {table: [of.get(wire) for wire in machine.table_pins[table]] for table, *_ in image.tables}
-    gives, history = {table: initial for table, _, initial, _ in image.tables}, [0] * len(set(of.values()))
+def filling(tables, seed=1):
+    """A random design of so many tables, each of which feeds the next: covers of tables just before and some inputs, then two latches."""
+    chance, inputs = random.Random(f"{tables} {seed}"), [f"x{k}" for k in range(INPUTS)]
+    states = [f"s{k}" for k in range(LATCHES)]
+    known, covers = [*inputs, *states], []
+    for k in range(tables - LATCHES):
+        sources = [known[-1], *chance.sample(known[-REACH:-1], chance.randint(1, REACH - 1))]
+        if chance.random() < 0.25:
+            sources = list(dict.fromkeys([*sources, chance.choice(inputs + states)]))
+        rows = ["".join(chance.choice("01") for _ in sources) for _ in range(2 ** (len(sources) - 1))]
+        covers.append((sources, f"c{k}", sorted(set(rows)), False))
+        known.append(f"c{k}")
+    return Design(inputs, known[-OUTPUTS:], covers, [(known[-k - 1], state, 0) for k, state in enumerate(states)])
 
-    def zeros(vector):
-        """The nets that a pin or a table drives to 0; every other one is released."""
-        low = [of.get(pin) for pin, value in zip(image.inputs, vector) if not value]
-        return {*low, *(pins[table][6] for table, value in gives.items() if not value)} - {None}
 
-    def tick(low, latched):
-        """The tables of one kind take their cells, all at once; a pin that is joined to nothing reads 1."""
-        for table, is_latched, _, cells in image.tables:
-            if is_latched == latched:
-                gives[table] = cells >> sum((net not in low) << k for k, net in enumerate(pins[table][:6])) & 1
+def random_vectors(design, cycles=32, seed=1):
+    """A text of random vectors for a design."""
+    chance = random.Random(seed)
+    rows = ["".join(chance.choice("01") for _ in design.inputs) or "." for _ in range(cycles)]
+    return "\n".join([*rows, ""])
 
-    for vector in vectors:
-        low = zeros(vector)
-        for _ in range(image.ticks):
-            tick(low, False)
-            low = zeros(vector)
-        history = [2 * before + (net not in low) for net, before in enumerate(history)]
-        tick(low, True)
-    return history
+
+def triplicated(design):
+    """Three copies of a design, with a voter behind each latch of each copy and before each output."""
+
+    def copy(signal, k):
+        return signal if signal in design.inputs else (k, signal)
+
+    covers, latches = [], []
+    for k in range(3):
+        for sources, output, rows, off in design.covers:
+            covers.append(([copy(source, k) for source in sources], copy(output, k), rows, off))
+        for source, output, initial in design.latches:
+            latches.append((copy(source, k), ("raw", k, output), initial))
+            covers.append(([("raw", other, output) for other in range(3)], copy(output, k), MAJORITY, False))
+    outputs = []
+    for at, output in enumerate(design.outputs):
+        if output in design.inputs:
+            outputs.append(output)
+            continue
+        outputs.append(("voted", at))
+        covers.append(([copy(output, k) for k in range(3)], ("voted", at), MAJORITY, False))
+    return Design(design.inputs, outputs, covers, latches)

@@ -1,27 +1,22 @@
 #!/usr/bin/env python3
 """A picture of a machine: its tree of crossbars, each a grid of taps (down) by lines (across), as SVG.
 
-Faults, a list of defects and an image are drawn in where they are given. With faults and a list,
-red is a fault that the list has, black one that it misses, and yellow a sound part that it throws away.
-The nets of an image have colours of their own, and with --design names: an inner net that of the first
-signal with the same values in 256 cycles of random inputs. --text prints one node for a terminal.
+Of faults and a list of defects red is a fault that the list has, black one that it misses, and yellow a sound part that it throws away.
+The nets of an image have colours of their own, and with --design names: of a pin, or of the table that drives them.
 """
 
 import argparse
 import colorsys
 import math
-import random
 import sys
 from xml.sax.saxutils import escape
 
-import designs
 import teramac_texts as texts
 from program import add_program, checked_design
 
 CELL, GAP, LABEL, MARGIN = 7, 26, 62, 16
 FOUND, MISSED, THROWN = "#d62728", "#000000", "#f2c80f"
 MARKS = {FOUND: "faulty and on the list", MISSED: "faulty, not on the list", THROWN: "sound, and on the list"}
-CYCLES = 256
 
 
 class Picture:
@@ -69,14 +64,9 @@ def marks(machine, faults, defects, compared):
 
 
 def net_names(machine, image, design):
-    """A name for each net: of its input or output pin, or of the signal that has its values."""
-    chance = random.Random(1)
-    vectors = [[chance.randrange(2) for _ in design.inputs] for _ in range(CYCLES)]
-    history, by_values = designs.design_values(design, vectors), {}
-    for signal in design.outputs + design.inputs + [latch[1] for latch in design.latches] + [cover[1] for cover in design.covers]:
-        by_values.setdefault(history[signal], "".join(signal))
-    values, net_of = designs.image_values(machine, image, vectors), image.net_of(machine)
-    names = {k: by_values[value] for k, value in enumerate(values) if value in by_values}
+    """A name for each net: of its pin of the design, or of the table that drives it."""
+    net_of = image.net_of(machine)
+    names = {net_of.get(machine.table_pins[table][6]): machine.table_names[table] for table, *_ in image.tables}
     pins = zip(image.outputs + image.inputs, design.outputs + design.inputs)
     return names | {net_of[pin]: "".join(signal) for pin, signal in pins if pin in net_of}
 
@@ -88,8 +78,7 @@ def node_size(node):
 def layout(nodes, top):
     """A place for each crossbar, in rows from the root down; a level that doesn't fit into the rest of a row begins a new one."""
     places, x, y, height, level = {}, MARGIN, top, 0, 0
-    area = sum((width + GAP) * (height + GAP) for width, height in map(node_size, nodes))
-    limit = max(1080, node_size(nodes[0])[0] + GAP, 1.3 * math.sqrt(area))
+    limit = max(1080, 1.3 * math.sqrt(sum((width + GAP) * (height + GAP) for width, height in map(node_size, nodes))))
     for node in sorted(nodes, key=lambda node: node.level):
         width = node_size(node)[0] + GAP
         rest = width * (sum(other.level == node.level for other in nodes) if node.level != level else 1)
@@ -158,24 +147,6 @@ def svg_text(picture, level, used):
     return "\n".join([head, '<rect width="100%" height="100%" fill="white"/><g fill="#222222">', *picture.shapes, "</g></svg>", ""])
 
 
-def node_text(picture, name):
-    """One crossbar in letters: # found, ! missed, ~ thrown away, o closed, . nothing."""
-    machine = picture.machine
-    node = next((node for node in machine.nodes if node.name == name), None)
-    if node is None:
-        sys.exit(f"--text {name}: no node of this machine; a node is r, m0, m0.c0 or m0.c0.h0")
-    letters, rows = {FOUND: "#", MISSED: "!", THROWN: "~"}, []
-    for a, tap in enumerate(node.taps):
-        row = ""
-        for cross, line in enumerate(node.lines, node.first + a * len(node.lines)):
-            colour = picture.crosses.get(cross) or picture.wires.get(tap) or picture.wires.get(line)
-            row += "o" if cross in picture.closed else letters.get(colour, ".")
-        net = picture.net_of.get(tap)
-        rows.append(f"{short_name(machine, tap):>8} {row} {'' if net is None else picture.names.get(net, f'net {net}')}".rstrip())
-    head = f"{node.name}: {len(node.taps)} taps down, {len(node.lines)} lines across; # found ! missed ~ thrown away o closed"
-    return "\n".join([head, *rows, ""])
-
-
 def main():
     parser = argparse.ArgumentParser(description=__doc__, formatter_class=argparse.RawDescriptionHelpFormatter)
     parser.add_argument("machine", help="the machine's file")
@@ -185,7 +156,6 @@ def main():
     parser.add_argument("--design", help="the BLIF file of the image's design, for the names of nets")
     parser.add_argument("--level", choices=texts.LEVELS, help="only the crossbars of one level")
     parser.add_argument("--used", action="store_true", help="only the crossbars that the image uses")
-    parser.add_argument("--text", metavar="NODE", help="one node in letters, as r or m0.c0.h1")
     parser.add_argument("-o", "--output", default="-", help="a new file (default: standard output)")
     add_program(parser)
     args = parser.parse_args()
@@ -199,7 +169,7 @@ def main():
         if (len(design.inputs), len(design.outputs)) != (len(image.inputs), len(image.outputs)):
             sys.exit(f"{args.image}: its inputs and outputs aren't as many as the design's")
         picture.names = net_names(machine, image, design)
-    texts.write_new(args.output, node_text(picture, args.text) if args.text else svg_text(picture, args.level, args.used))
+    texts.write_new(args.output, svg_text(picture, args.level, args.used))
 
 
 if __name__ == "__main__":

@@ -1,10 +1,8 @@
 #!/usr/bin/env python3
 """Says of the last line of a command what it means in the files at hand: which word, how many columns, which limit.
 
-    explain.py 'refused vectors 1 width' go small.machine small.faults lfsr.blif lfsr.vec
-    explain.py 'refused vectors 1 width' lfsr.blif lfsr.vec
-
-After the line stand the words of the command, or files alone, which are then known by their endings.
+After the line stand the words of the command, as in: explain.py 'refused vectors 1 width' eval lfsr.blif lfsr.vec
+or files alone, which are then known by their endings.
 """
 
 import argparse
@@ -14,13 +12,13 @@ import re
 import teramac_texts as texts
 
 COMMANDS = {
-    "eval": "design vectors", "go": "machine rig design vectors", "diagnose": "machine rig", "compile": "machine defects design",
-    "run": "machine rig image vectors", "bench": "number", "check": "machine rig image", "repair": "machine defects image",
+    "eval": "design vectors", "compile": "machine defects design", "diagnose": "machine rig", "run": "machine rig image vectors",
+    "go": "machine rig design vectors", "bench": "number", "check": "machine rig image", "repair": "machine defects image",
     "pair": "machine rig first second vectors",
 }  # fmt: skip
 ENDINGS = {".machine": "machine", ".faults": "rig", ".defects": "defects", ".image": "image", ".blif": "design", ".vec": "vectors"}
+# What isn't said by the kind's own word, or by a look into the files.
 KINDS = {
-    "after": "something stands behind the end",
     "byte": "a byte that may not stand in a text; of a file that was saved as UTF-16 every second one",
     "doubled": "this stands there already: a second time, or a signal that two lines drive",
     "against": "an earlier line says the other value of the same part",
@@ -29,13 +27,7 @@ KINDS = {
     "latchtype": "only latches of type re are known; let yosys run dfflegalize and dffunmap (docs/BLIF.md)",
     "leftout": "a BLIF line that isn't read; let yosys map to .names and .latch (docs/BLIF.md)",
     "nomodel": "the first line isn't .model: is this a BLIF file?",
-    "order": "a line, or an entry's number, before one that should stand before it",
-    "missing": "the file ends before the line `end`",
-    "char": "a character of this line is neither 0 nor 1",
     "magic": "the file doesn't begin as an image: was the compile that wrote it refused? Its first line says so",
-    "short": "the file ends too early: was it cut off?",
-    "shape": "the image is of a machine of other counts",
-    "number": "a count is from 1 to 65,535, without leading zeros",
 }
 
 
@@ -62,8 +54,7 @@ def words_wrong(words):
 def file_wrong(role, path):
     """Why a file can't be read, or None."""
     if not os.path.exists(path):
-        near = [name for name in os.listdir(os.path.dirname(path) or ".") if os.path.splitext(name)[1] == os.path.splitext(path)[1]]
-        return f"the {role} file {path} isn't there" + (f"; beside it stand {', '.join(sorted(near)[:5])}" if near else "")
+        return f"the {role} file {path} isn't there"
     if os.path.isdir(path):
         return f"{path}, the {role} file, is a directory"
     return None if os.access(path, os.R_OK) else f"{path}, the {role} file, may not be read"
@@ -92,15 +83,13 @@ def vectors_width(line, roles, read):
 
 def name_wrong(machine, words):
     """Which of some names is none of this machine."""
-    known = [*machine.numbers, *machine.table_numbers]
+    known = machine.numbers | machine.table_numbers
     for word in words:
-        if word not in machine.numbers and word not in machine.table_numbers:
-            node, _, part = word.rpartition(".")
-            last = [name for name in known if name.rpartition(".")[0] == node and name.rpartition(".")[2][:1] == part[:1]]
-            return f"`{word}` is no part of this machine" + (f"; the last of its kind there is {last[-1]}" if last else f": no node {node}")
-    if len(words) == 2 and machine.number("cross", words[::-1]) is not None:
-        return f"the tap comes first and then the line: {words[1]} {words[0]}"
-    return f"`{' '.join(words)}`: these have no crosspoint; a line is crossed by the taps of its own node"
+        if word not in known:
+            alike = [name for name in known if re.match(re.escape(word.rstrip("0123456789")) + "[0-9]+$", name)]
+            return f"`{word}` is no part of this machine" + (f"; the last of its kind there is {alike[-1]}" if alike else "")
+    exchanged = len(words) == 2 and machine.number("cross", words[::-1]) is not None
+    return f"the tap comes first and then the line: {' '.join(words[::-1])}" if exchanged else "only taps of its own node cross a line"
 
 
 def text_wrong(file, number, kind, roles):

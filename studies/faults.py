@@ -166,7 +166,7 @@ def make_faults(machine, amounts, seed, clustered=0, shape="spots"):
 
 def add_clusters(parser):
     """The words that say how faults lie."""
-    parser.add_argument("--clustered", metavar="SIZE", type=float, default=0, help="in clusters of about SIZE faults (default: uniform)")
+    parser.add_argument("--clustered", metavar="SIZE", type=amount, default=0, help="in clusters of about SIZE faults (default: uniform)")
     shapes = "; ".join(f"{shape}: {words}" for shape, words in SHAPES.items())
     parser.add_argument("--shape", choices=list(SHAPES), default="spots", help=f"of the clusters. {shapes} (default: spots)")
 
@@ -182,8 +182,6 @@ def main():
     args = parser.parse_args()
     machine = texts.read_text(texts.read_machine, args.machine)
     amounts = {kind: getattr(args, kind) for kind in KINDS if getattr(args, kind)}
-    if args.clustered < 0:
-        sys.exit("--clustered: a size isn't negative")
     try:
         faults = make_faults(machine, amounts, args.seed, args.clustered, args.shape)
     except ValueError as error:

@@ -17,7 +17,7 @@ from program import wilson
 plt.switch_backend("svg")
 plt.rcParams.update({"svg.hashsalt": "teramac", "legend.fontsize": 8, "legend.handlelength": 3.6, "axes.grid": True, "grid.alpha": 0.3})
 
-NUMBERS = "crosspoints rate seed faults thrown_wires thrown_crosses thrown_tables tables closed seconds loads spare".split()
+NUMBERS = "crosspoints rate seed faults thrown_wires thrown_crosses thrown_tables tables closed loads spare".split()
 # A run that was cut off or found no memory says nothing of room; it is counted apart.
 UNDECIDED = ("cut off", "6")
 DECIDED = ("0", "3", "wrong")
@@ -104,18 +104,16 @@ def curve(axes, across, points, off, style, **more):
 
 def undecided_marks(axes, rows, places, column="rate"):
     """Runs that were cut off or found no memory, as a curve of their own."""
-    parts = split(rows, column)
-    if any(row["status"] in UNDECIDED for row in rows):
-        marks = [sum(row["status"] in UNDECIDED for row in part) / len(part) for part in parts.values()]
-        places = places or [key[0] for key in parts]
+    marks = [sum(row["status"] in UNDECIDED for row in part) / len(part) for part in split(rows, column).values()]
+    if any(marks):
         axes.plot(places, marks, color="grey", marker="P", linestyle=":", label="undecided (cut off, no memory), left out")
 
 
-def of_shares(axes, rows, across, places=None, column="rate"):
+def of_shares(axes, rows, across, places, column="rate"):
     """What all axes of shares have."""
     undecided_marks(axes, rows, places, column)
     axes.set(ylim=(-0.04, 1.04), xlabel=across, ylabel="share of runs (bars: 95 %, Wilson)")
-    axes.legend(loc="best")
+    axes.legend(loc="upper center", bbox_to_anchor=(0.5, -0.15), ncol=2)
 
 
 def fits(rows, _):
@@ -129,7 +127,7 @@ def fits(rows, _):
             points = {rate: share(of) for (rate,), of in split(runs, "rate").items()}
             table += [[*names, design, kind, rate, *point] for rate, point in points.items()]
             curve(axes, points, points.values(), shift * (k - 2), STYLES[kind], color=colours[design], label=f"{design}, {STYLES[kind][2]}")
-        of_shares(axes, part, "rate of faults")
+        of_shares(axes, part, "rate of faults", sorted({row["rate"] for row in part}))
     return picture, ["machine", "kind", "design", "list", "rate", *SHARE], table
 
 
@@ -180,73 +178,53 @@ def nothing(title):
 
 
 def thrown(rows, _):
-    """Sound parts that the diagnosis throws away: the mean, and the least and most of the runs"""
-    rows, columns = diagnoses(rows, "thrown_wires"), ["machine", "kind", "rate", "part", "mean", "least", "most", "diagnoses"]
+    """Sound parts that the diagnosis throws away (mean, bars: 95 %)"""
+    rows, columns = diagnoses(rows, "thrown_wires"), ["machine", "kind", "rate", "part", "mean", "low", "high", "diagnoses"]
     if not rows:
         return nothing("no row of these is of a diagnosis"), columns, []
     picture, parts = facets(rows)
     table = []
     for axes, names, part in parts:
-        most = 1
         for kind, marker in (("wires", "o"), ("crosses", "s"), ("tables", "^")):
             named, by_rate = {"crosses": "crosspoints"}.get(kind, kind), split(part, "rate")
-            found = [(rate, [row[f"thrown_{kind}"] for row in runs]) for (rate,), runs in by_rate.items()]
-            points = [[rate, sum(values) / len(values), min(values), max(values), len(values)] for rate, values in found]
-            table += [[*names, rate, named, *point] for rate, *point in points]
-            rates, means, low, high, _ = zip(*points)
-            axes.plot(rates, means, marker=marker, markersize=4, label=named)
-            axes.fill_between(rates, low, high, alpha=0.2)
-            most = max(most, *high)
-        axes.set_yscale("symlog", linthresh=1)
+            points = {rate: mean([row[f"thrown_{kind}"] for row in runs]) for (rate,), runs in by_rate.items()}
+            table += [[*names, rate, named, *point] for rate, point in points.items()]
+            curve(axes, points, points.values(), 0, ("-", marker), label=named)
+        most = max([1, *(line[-2] for line in table if line[:2] == [*names])])
         ticks = [0, *(10**k for k in range(math.ceil(math.log10(most)) + 1))]
+        axes.set_yscale("symlog", linthresh=1)
         axes.set_yticks(ticks, [f"{tick:,}" for tick in ticks])
-        axes.set(ylim=(-0.1, 1.3 * max(1, most)), xlabel="rate of faults", ylabel="sound parts on the list")
+        axes.set(ylim=(-0.1, 1.3 * most), xlabel="rate of faults", ylabel="sound parts on the list")
         axes.legend(loc="upper left")
-    return picture, columns, table
-
-
-def against(rows, series, column):
-    """For each series a curve of means with intervals: against the rate where one machine is drawn, else against the crosspoints."""
-    sizes = {row["crosspoints"] for row in rows}
-    along, label = ("crosspoints", "crosspoints of the machine") if len(sizes) > 1 else ("rate", "rate of faults")
-    picture, axes = plt.subplots(figsize=(7.2, 4.4), layout="constrained")
-    table, marks = [], cycle("os^Dv")
-    for names, part in split(rows, *series).items():
-        points = {x: mean([row[column] for row in runs]) for (x,), runs in split(part, along).items()}
-        table += [[*names, x, *point] for x, point in points.items()]
-        words = [f"rate {name:g}" if isinstance(name, float) else STYLES[name][2] if name in STYLES else name for name in names]
-        curve(axes, points, points.values(), 0, ("-", next(marks)), label=", ".join(words))
-    axes.set(xlabel=label, yscale="log", **({"xscale": "log"} if len(sizes) > 1 else {}))
-    return picture, axes, [*series, along, "mean", "low", "high", "count"], table
-
-
-def seconds(rows, _):
-    """Time of a run on this computer: laying and running, and by the own diagnosis that too"""
-    rows = [row for row in rows if row["seconds"] and row["status"] not in UNDECIDED]
-    if not rows:
-        return nothing("no row of these tells a time"), ["list"], []
-    picture, axes, columns, table = against(rows, ("kind", "list"), "seconds")
-    axes.set_ylabel("seconds (mean, bars: 95 %)")
-    axes.legend()
     return picture, columns, table
 
 
 def loads(rows, per_second):
     """Loads of a diagnosis, and what they take on a machine of so many loads a second"""
-    rows = diagnoses(rows, "loads")
+    rows, columns = diagnoses(rows, "loads"), ["mean", "low", "high", "count"]
     if not rows:
-        return nothing("no loads were told: build crates/teramac_report (rt run there) or name it by TERAMAC_REPORT"), ["rate"], []
+        return nothing("no loads were told: build crates/teramac_report (rt run there) or name it by TERAMAC_REPORT"), columns, []
     sizes = sorted({row["crosspoints"] for row in rows})
-    picture, axes, columns, table = against(rows, ("kind", "rate") if len(sizes) > 1 else ("machine", "kind"), "loads")
+    # Where one machine is drawn, against the rate.
+    series, along = (("kind", "rate"), "crosspoints") if len(sizes) > 1 else (("machine", "kind"), "rate")
+    picture, axes = plt.subplots(figsize=(7.2, 4.4), layout="constrained")
+    table = []
+    for (names, part), marker in zip(split(rows, *series).items(), cycle("os^Dv")):
+        points = {x: mean([row["loads"] for row in runs]) for (x,), runs in split(part, along).items()}
+        table += [[*names, x, *point] for x, point in points.items()]
+        words = [f"rate {name:g}" if isinstance(name, float) else name for name in names]
+        curve(axes, points, points.values(), 0, ("-", marker), label=", ".join(words))
     if len(sizes) > 1:
         axes.plot(sizes, [16 * size for size in sizes], color="grey", linestyle=":", label="16 a crosspoint, of what is promised at most")
-    axes.set_ylabel("loads (mean, bars: 95 %)")
+        axes.set_xscale("log")
+    across = {"crosspoints": "crosspoints of the machine", "rate": "rate of faults"}[along]
+    axes.set(xlabel=across, yscale="log", ylabel="loads (mean, bars: 95 %)")
     if per_second:
         right = axes.secondary_yaxis("right", functions=(lambda count: count / per_second, lambda time: time * per_second))
         right.set_ylabel(f"seconds at {per_second:g} loads a second")
         columns, table = [*columns, "seconds"], [[*line, line[-4] / per_second] for line in table]
     axes.legend(fontsize=7)
-    return picture, columns, table
+    return picture, [*series, along, *columns], table
 
 
 def redundancy(rows, _):
@@ -305,13 +283,13 @@ def compare_text(columns, table):
     return "\n".join([*lines, ""])
 
 
-FIGURES = {draw.__name__: draw for draw in (fits, why, thrown, seconds, loads, redundancy, compare)}
+FIGURES = {draw.__name__: draw for draw in (fits, why, thrown, loads, redundancy, compare)}
 
 
 def main():
     parser = argparse.ArgumentParser(description=__doc__)
     parser.add_argument("rows", help="the CSV of a study")
-    parser.add_argument("--figures", default="fits,thrown,seconds,loads", help=f"of {','.join(FIGURES)} (default: %(default)s)")
+    parser.add_argument("--figures", default="fits,thrown,loads", help=f"of {','.join(FIGURES)} (default: %(default)s)")
     parser.add_argument("--folder", default=".", help="where fits.svg, fits.csv and the others are written (default: here)")
     parser.add_argument("--loads-per-second", type=float, default=0, help="of a machine, for the time of a diagnosis")
     parser.add_argument("--force", action="store_true", help="write over figures that stand there")

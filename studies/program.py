@@ -12,9 +12,8 @@ import teramac_texts as texts
 
 HERE = os.path.dirname(os.path.abspath(__file__))
 DEFAULT = os.environ.get("TERAMAC", os.path.normpath(os.path.join(HERE, "../crates/teramac/out/teramac")))
-# The program of reports, where it is built.
-BUILT = os.environ.get("TERAMAC_REPORT", os.path.normpath(os.path.join(HERE, "../crates/teramac_report/out/teramac_report")))
-REPORT = BUILT if os.path.exists(BUILT) else ""
+REPORT = os.environ.get("TERAMAC_REPORT", os.path.normpath(os.path.join(HERE, "../crates/teramac_report/out/teramac_report")))
+REPORT = REPORT if os.path.exists(REPORT) else ""
 
 
 class Answer:

@@ -1,7 +1,6 @@
 #!/usr/bin/env python3
 """The least machine on which a design fits: its tables, ports, lines and pins by the plan in order, checked by one compile.
 
-The counts of the tree (--modules, --chips, --hextants) are chosen for the fewest crosspoints where they aren't given.
 How much must be spare at which rate of faults is the study `redundancy`.
 """
 
@@ -46,7 +45,7 @@ def main():
     parser = argparse.ArgumentParser(description=__doc__, formatter_class=argparse.RawDescriptionHelpFormatter)
     parser.add_argument("design", help="the design's BLIF file")
     for name in ("modules", "chips", "hextants"):
-        parser.add_argument(f"--{name}", type=int, metavar="N", help=f"how many {name} in each node above (default: chosen)")
+        parser.add_argument(f"--{name}", type=int, metavar="N", help=f"how many {name} in each node above (default: the cheapest)")
     parser.add_argument("--spare", type=amount, default=0.0, metavar="SHARE", help="so much more, as 10%% or 0.1 (default: 0)")
     parser.add_argument("-o", "--output", default="-", help="the machine's new file (default: standard output)")
     add_program(parser)

@@ -13,23 +13,20 @@ import sys
 from collections import namedtuple
 from concurrent.futures import ThreadPoolExecutor
 from functools import lru_cache
-from itertools import product
+from itertools import count, product
 from pathlib import Path
 
 import yaml
 
 import designs
-import made
 import teramac_texts as texts
 from program import DEFAULT, HERE, REPORT, add_program, checked_design
 from size import TREES, best_machine, counts_for
 
-KNOWN = {
-    "folder", "machines", "designs", "fill", "spares", "kinds", "rates", "seeds", "first_seed", "lists", "steps", "clustered", "shape",
-    "seconds", "program", "figures", "loads_per_second", "tree",
-}
+KNOWN = set("folder machines designs fill spares tree kinds rates seeds first_seed lists clustered shape seconds".split())
+KNOWN |= {"program", "figures", "loads_per_second"}
 # What decides about the rows of a trial, beside its words and files.
-SCRIPTS = [os.path.join(HERE, name + ".py") for name in ("trial", "faults", "teramac_texts", "program", "made")]
+SCRIPTS = [os.path.join(HERE, name + ".py") for name in ("trial", "faults", "teramac_texts", "program", "designs")]
 
 
 @lru_cache(None)
@@ -49,11 +46,8 @@ class Trial(namedtuple("Trial", "words inputs")):
 def names_of(paths):
     """A name for each path: that of its file, or with its folders as far as files of one name want it."""
     paths, parts = list(dict.fromkeys(paths)), {path: Path(path).absolute().with_suffix("").parts[::-1] for path in paths}
-    for depth in range(1, max(map(len, parts.values()), default=0) + 1):
-        found = {"-".join(parts[path][depth - 1 :: -1]).strip("/"): path for path in paths}
-        if len(found) == len(paths):
-            return found
-    return {f"{Path(path).stem}-{k}": path for k, path in enumerate(paths)}
+    depth = next(depth for depth in count(1) if len({parts[path][:depth] for path in paths}) == len(paths))
+    return {"-".join(parts[path][depth - 1 :: -1]).strip("/"): path for path in paths}
 
 
 class Study:
@@ -70,15 +64,14 @@ class Study:
         get = self.settings.get
         self.folder = folder or self.settings["folder"]
         self.program = os.path.abspath(program or get("program", DEFAULT))
-        self.figures = get("figures", ["fits", "thrown", "seconds", "loads"])
+        self.figures = get("figures", ["fits", "thrown", "loads"])
         beside = {name: os.path.join(HERE, name) for name in [*get("machines", []), *(n for p in get("designs", {}).items() for n in p)]}
         for name in [self.program, *beside.values()]:
             if not os.path.isfile(name):
                 sys.exit(f"{name}: isn't there, or is no file")
         self.machines = names_of([beside[name] for name in get("machines", [])])
-        named = names_of([beside[name] for name in get("designs", {})])
         vectors = {beside[name]: beside[file] for name, file in get("designs", {}).items()}
-        self.designs = {name: (blif, vectors[blif]) for name, blif in named.items()}
+        self.designs = {name: (blif, vectors[blif]) for name, blif in names_of(vectors).items()}
         self.trials = dict(self.made_trials())
 
     def complain(self, path):
@@ -103,7 +96,7 @@ class Study:
         `three` is what three copies with voters want, and a quarter more.
         """
         design = checked_design(self.program, blif)
-        network, three = map(designs.plain_network, (design, made.triplicated(design)))
+        network, three = map(designs.plain_network, (design, designs.triplicated(design)))
         tree = self.settings.get("tree") or best_machine(network, TREES, 0.0).counts[:3]
         for spare in self.settings["spares"]:
             counts = counts_for(three, tree, 0.25) if spare == "three" else counts_for(network, tree, spare)
@@ -116,8 +109,8 @@ class Study:
         """The designs that fill shares of a machine's tables."""
         tables = texts.read_text(texts.read_machine, machine).sizes["table"]
         for share in self.settings.get("fill", []):
-            design, file = made.filling(round(share * tables)), f"{name}-fill{round(100 * share)}"
-            texts_ = made.blif_text(design), made.random_vectors(design)
+            design, file = designs.filling(round(share * tables)), f"{name}-fill{round(100 * share)}"
+            texts_ = designs.blif_text(design), designs.random_vectors(design)
             yield f"fill{round(100 * share)}", tuple(self.made_file(file + end, text) for end, text in zip((".blif", ".vec"), texts_))
 
     def on_machines(self):
@@ -133,7 +126,6 @@ class Study:
         get, first = self.settings.get, self.settings.get("first_seed", 1)
         more = ["--lists", ",".join(get("lists", ["exact", "diagnosed"])), "--seconds", str(get("seconds", 600))]
         more += ["--clustered", str(get("clustered", 0)), "--shape", get("shape", "spots"), "--program", self.program, "--report", REPORT]
-        more += ["--steps"] * bool(get("steps", True))
         places = list(self.on_machines())
         # Seed by seed, so that one can see early how a study comes out.
         for seed in range(first, first + self.settings["seeds"]):

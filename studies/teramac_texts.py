@@ -1,8 +1,7 @@
 """The texts of teramac: machines, faults, lists of defects and images, and what they say of each other.
 
-Every reader takes bytes and raises `Refused` with the file, the line and the kind that the program
-gives; that of designs takes what the program has taken. Every writer gives the one spelling that the
-program writes. What designs say is in `designs.py`.
+Every reader takes bytes and raises `Refused` with the file, the line and the kind that the program gives; that of designs takes what
+the program has taken. Every writer gives the one spelling that the program writes. What designs say is in `designs.py`.
 """
 
 import re
@@ -169,12 +168,8 @@ def read_machine(data):
 
     def take(words):
         """Takes the line as the next one that is due, or says what is wrong with it."""
-        if not due:
-            return "after"
-        if words[0] not in MACHINE_WORDS:
-            return "word"
-        if words[0] != due[0]:
-            return "order"
+        if not due or words[0] != due[0]:
+            return "after" if not due else "order" if words[0] in MACHINE_WORDS else "word"
         if len(words) != MACHINE_WORDS[words[0]] or (words[0] == "teramac" and words[1] != "1"):
             return "word"
         found = [numeral(word, 65_535) for word in words[1:]]

@@ -3,28 +3,25 @@
 import argparse
 import os
 import random
-import subprocess
-import sys
 import tempfile
 import unittest
 from collections import Counter
 from pathlib import Path
 
 import designs
-import made
 import teramac_texts as texts
 import trial
 from explain import explain
 from faults import Places, largest_rate, make_faults
 from program import DEFAULT, HERE, call
 from study import KNOWN, Study, names_of
+from test_studies import EXAMPLES, run
 
 try:
     import figures
 except ModuleNotFoundError:
     figures = None
 
-EXAMPLES = os.path.normpath(os.path.join(HERE, "../examples"))
 BENCH = texts.Machine((2, 2, 4, 8, 24, 24, 24, 32, 32, 32, 32, 28))
 SMALL = texts.Machine((1, 2, 2, 4, 20, 20, 20, 24, 24, 24, 24, 16))
 
@@ -36,11 +33,6 @@ def rows_of(**columns):
     for column, values in columns.items():
         rows = [{**row, column: value} for row in rows for value in values]
     return rows
-
-
-def run(command, script, *words, **more):
-    """What a script of this folder wrote, and its status."""
-    return subprocess.run([command, os.path.join(HERE, script), *words], capture_output=True, text=True, check=False, **more)
 
 
 @unittest.skipIf(figures is None, "matplotlib isn't there")
@@ -55,13 +47,11 @@ class Figures(unittest.TestCase):
         picture, columns, table = figures.fits(rows, 0)
         shares = {(line[0], line[1], line[4]): line[columns.index("share")] for line in table}
         self.assertEqual(len(picture.axes), 4)
-        self.assertEqual(set(shares.values()), {0.0, 1.0})
-        self.assertEqual(shares["n", "wires", 0.2], 0)
+        self.assertEqual({(machine, share) for (machine, *_), share in shares.items()}, {("m", 1), ("n", 0)})
 
     def test_undecided_runs_are_apart(self):
         rows = rows_of(status=["0", "0", "3", "cut off", "6"])
-        self.assertEqual(figures.share(rows)[0], 2 / 3)
-        self.assertEqual(figures.share(rows)[3:], [3, 2])
+        self.assertEqual([figures.share(rows)[k] for k in (0, 3, 4)], [2 / 3, 3, 2])
         picture, _, _ = figures.fits(rows, 0)
         self.assertTrue(any("undecided" in label for label in picture.axes[0].get_legend_handles_labels()[1]))
 
@@ -101,8 +91,7 @@ class Figures(unittest.TestCase):
             row["crosspoints"] = 100 * (1 + row["spare"])
         _, columns, table = figures.redundancy(rows, 0)
         found = [dict(zip(columns, line)) for line in table]
-        self.assertEqual([row["share"] for row in found if row["list"] == "none"], [0, 1])
-        self.assertEqual({row["crosspoints"] for row in found}, {100, 200})
+        self.assertEqual([(row["crosspoints"], row["share"]) for row in found if row["list"] == "none"], [(100, 0), (200, 1)])
         _, columns, table = figures.compare(rows, 0)
         enough = {line[2]: line[columns.index("enough")] for line in table}
         self.assertEqual(enough, {"exact": 100, "none": 200})
@@ -126,7 +115,7 @@ class Kinds(unittest.TestCase):
         self.assertEqual(found, Path(EXAMPLES, "uart.faults").read_text(encoding="utf-8"))
 
     def test_help_and_the_largest_rate(self):
-        self.assertNotIn("%%", run(sys.executable, "faults.py", "--help").stdout)
+        self.assertNotIn("%%", run("faults.py", "--help").stdout)
         large = texts.Machine((2, 2, 4, 16, 32, 32, 32, 48, 48, 48, 48, 40))
         with self.assertRaisesRegex(ValueError, "65,536 in all; of open 0.[0-9]+ is the largest rate that fits"):
             make_faults(large, {"open": 0.9}, 1)
@@ -139,8 +128,7 @@ class Kinds(unittest.TestCase):
         self.assertTrue(all(set(pair) in beside for pair in faults["bridge"]))
         for seed in range(20):
             opened = set(make_faults(SMALL, {"broken": 1}, seed)["open"])
-            wires = [wire for wire in range(SMALL.sizes["wire"]) if opened <= set(SMALL.along(wire))]
-            along = [list(SMALL.along(wire)) for wire in wires]
+            along = [list(SMALL.along(wire)) for wire in range(SMALL.sizes["wire"])]
             self.assertTrue(any(opened in (set(path[: len(opened)]), set(path[-len(opened) :])) for path in along))
 
     def test_shapes(self):
@@ -148,9 +136,7 @@ class Kinds(unittest.TestCase):
             opened = make_faults(SMALL, {"open": 12}, 3, 12, shape)["open"]
             nodes = {SMALL.node_of_cross(cross).name for cross in opened}
             ends = [{SMALL.ends(cross)[k] for cross in opened} for k in range(2)]
-            self.assertEqual(len(nodes), 1)
-            self.assertEqual(1 in map(len, ends), shape != "hextants")
-            self.assertTrue(shape != "hextants" or ".h" in min(nodes))
+            self.assertEqual((len(nodes), 1 in map(len, ends)), (1, shape != "hextants"))
 
     def test_mixes(self):
         self.assertEqual(trial.mix("open"), ("open", {"open": 1.0}, None))
@@ -158,27 +144,15 @@ class Kinds(unittest.TestCase):
         for word in ("opens", "open*0", "open in lines of 3"):
             self.assertRaises(argparse.ArgumentTypeError, trial.mix, word)
 
-    def test_lists_of_other_schemes(self):
-        """They list all that the exact list does not leave free."""
-        for seed in range(10):
-            faults = make_faults(SMALL, {"open": 30, "wires": 2, "registers": 1, "closed": 1}, seed)
-            exact = texts.exact_list(SMALL, faults)
-            for make in (trial.wires_list, trial.hextants_list):
-                found = make(SMALL, faults)
-                self.assertEqual(texts.read_defects(SMALL, texts.defects_text(SMALL, found).encode()), found)
-                self.assertFalse(any(found.is_free(SMALL, kind, at) for kind in texts.PARTS for at in exact[kind]))
-            self.assertEqual([len(trial.wires_list(SMALL, faults)[kind]) for kind in ("cross", "table")], [0, 0])
-
     def test_made_designs(self):
         for tables in (38, 77, 115):
-            design = texts.read_design(made.blif_text(made.filling(tables)).encode())
+            design = texts.read_design(designs.blif_text(designs.filling(tables)).encode())
             self.assertEqual(len(designs.plain_network(design).tables), tables)
-        design = texts.read_text(texts.read_design, os.path.join(EXAMPLES, "lfsr.blif"))
-        copies = texts.read_design(made.blif_text(made.triplicated(design)).encode())
-        chance = random.Random(1)
-        vectors = [[chance.randrange(2) for _ in design.inputs] for _ in range(50)]
-        values = [designs.design_values(found, vectors) for found in (design, copies)]
-        self.assertEqual(*[[value[output] for output in found.outputs] for value, found in zip(values, (design, copies))])
+        lfsr = f"{EXAMPLES}/lfsr.blif"
+        copies = designs.blif_text(designs.triplicated(texts.read_text(texts.read_design, lfsr))).encode()
+        rows = [call(DEFAULT, "eval", design, f"{EXAMPLES}/lfsr.vec").rows for design in (lfsr, copies)]
+        self.assertEqual(*rows)
+        self.assertTrue(rows[0])
 
 
 class Runs(unittest.TestCase):
@@ -197,8 +171,7 @@ class Runs(unittest.TestCase):
         self.settings.write_text("".join(f"{key}: {value}\n" for key, value in lines.items()))
 
     def study(self):
-        words = [sys.executable, "-m", os.path.basename(HERE), str(self.settings), "--jobs", "1", "--program", DEFAULT]
-        return subprocess.run(words, cwd=os.path.dirname(HERE), capture_output=True, text=True, check=False)
+        return run("__main__.py", str(self.settings), "--jobs", "1", "--program", DEFAULT)
 
     @unittest.skipIf(figures is None, "matplotlib isn't there")
     def test_what_changed_is_run_anew(self):
@@ -207,8 +180,7 @@ class Runs(unittest.TestCase):
                 path = self.folder / change
                 path.write_text(path.read_text() + "# more\n")
             ran = self.study()
-            self.assertIn(f"2 trials, {due} to run", ran.stderr)
-            self.assertEqual(ran.returncode, 0, ran.stderr)
+            self.assertEqual((f"2 trials, {due} to run" in ran.stderr, ran.returncode), (True, 0), ran.stderr)
         self.assertEqual(len((self.folder / "out/rows.csv").read_text().splitlines()), 3)
         self.assertIn("tiny,open,and,exact,0.0,1.0", (self.folder / "out/fits.csv").read_text())
 
@@ -219,8 +191,7 @@ class Runs(unittest.TestCase):
         self.assertNotEqual(ran.returncode, 0)
 
     def test_machines_of_one_name(self):
-        self.assertEqual(set(names_of(["a/x.machine", "b/x.machine"])), {"a-x", "b-x"})
-        self.assertEqual(names_of(["a/x.machine", "b/y.machine"]), {"x": "a/x.machine", "y": "b/y.machine"})
+        self.assertEqual([*names_of(["a/x.machine", "b/x.machine"]), *names_of(["a/x.machine", "b/y.machine"])], ["a-x", "b-x", "x", "y"])
         other = self.folder / "b"
         other.mkdir()
         (other / "tiny.machine").write_bytes((self.folder / "tiny.machine").read_bytes())
@@ -242,14 +213,9 @@ class Runs(unittest.TestCase):
                 (self.folder / name).write_text(f"#!/bin/sh\n{line}\n")
                 (self.folder / name).chmod(0o755)
             path = {**os.environ, "PATH": f"{self.folder}:{os.environ['PATH']}"}
-            ran = run("sh", "setup", *lean, env=path)
+            ran = run("setup", *lean, command="sh", env=path)
             self.assertTrue(ran.stdout.splitlines()[1].startswith(said))
             self.assertEqual("snakemake" in ran.stdout, not lean)
-
-    def test_used_nodes(self):
-        for image, status in (([], 1), (["--image", f"{EXAMPLES}/and.image"], 0)):
-            ran = run(sys.executable, "draw.py", f"{EXAMPLES}/tiny.machine", "--level", "chip", "--used", *image)
-            self.assertEqual(ran.returncode, status)
 
     def test_explained(self):
         """Of lines that the program itself writes."""

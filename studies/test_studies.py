@@ -1,12 +1,9 @@
-"""Tests with the built program ($TERAMAC or the default): python3 -m unittest.
-
-The readers and writers on random files, and the scripts by their command lines: what they write, what they refuse,
-and that they write over nothing.
-"""
+"""Tests of readers, writers and scripts with the built program ($TERAMAC or the default): python3 -m unittest."""
 
 import contextlib
 import os
 import random
+import re
 import subprocess
 import sys
 import tempfile
@@ -14,15 +11,23 @@ import unittest
 
 import designs
 import teramac_texts as texts
+from draw import FOUND, MARKS
 from faults import KINDS, make_faults
 from program import DEFAULT, HERE, call, wilson
 from size import compiles, counts_for
+from trial import hextants_list, wires_list
 
 sys.path.append(os.path.join(HERE, "../bench"))
 from images import image_bytes  # noqa: E402
 
 EXAMPLES = os.path.normpath(os.path.join(HERE, "../examples"))
-TURNS = int(os.environ.get("TURNS", "60"))
+TURNS, DESIGN = int(os.environ.get("TURNS", "60")), b".model m\n.outputs f\n.names f\n1\n"
+
+
+def run(script, *words, command=sys.executable, **more):
+    """Calls a script of this folder; names of examples stand for their files."""
+    words = [os.path.join(EXAMPLES, word) if os.path.exists(os.path.join(EXAMPLES, word)) else word for word in words]
+    return subprocess.run([command, os.path.join(HERE, script), *words], capture_output=True, text=True, check=False, **more)
 
 
 def random_machine(chance, most=3):
@@ -48,24 +53,12 @@ def random_blif(chance, inputs=3, covers=5, latches=2):
 
 
 def mutated(chance, data):
-    """The text with a line or a word of it gone, doubled, or another."""
-    lines = data.split("\n")
-    at = chance.randrange(len(lines))
-    if chance.randrange(3) == 0:
-        lines[at : at + 1] = chance.choice([[], [chance.choice(lines), lines[at]]])
-    else:
-        words = lines[at].split(" ")
-        k = chance.randrange(len(words))
-        other = [chance.choice(chance.choice(lines).split(" ") + ["0", "01", "64", "65536", "m0.o0", "\x0b", "wire"])]
-        more = [chance.choice(["1", "r.l0", "#", "end", "", "\t"])]
-        words[k : k + 1] = chance.choice([[], other, other, more + words[k : k + 1], words[k : k + 1] + more])
-        lines[at] = " ".join(words)
-    return "\n".join(lines)
-
-
-def rows_of(words):
-    """Rows of bits from words of twenty bits, whose highest is of the first row."""
-    return ["".join(row).encode() for row in zip(*(f"{word:020b}" for word in words))]
+    """The text with a word, a blank or the end of a line gone, doubled, or another."""
+    parts = re.split("([ \n])", data)
+    at = chance.randrange(len(parts))
+    others = ["", " ", "\n", "\t", "#", "\x0b", "0", "1", "01", "64", "65536", "m0.o0", "r.l0", "wire", "end"]
+    parts[at] = chance.choice(["", 2 * parts[at], chance.choice(parts), chance.choice(others), f"{parts[at]} {chance.choice(others)}"])
+    return "".join(parts)
 
 
 class Studies(unittest.TestCase):
@@ -87,7 +80,6 @@ class Studies(unittest.TestCase):
 
     def test_texts(self):
         """What is written is read the same, and taken; with a change both sides refuse it alike, or neither does."""
-        design = b".model m\n.outputs f\n.names f\n1\n"
         for _ in range(TURNS):
             machine = random_machine(self.chance)
             amounts = {kind: self.chance.randrange(min(3, machine.sizes["table"] + 1)) for kind in KINDS}
@@ -101,40 +93,29 @@ class Studies(unittest.TestCase):
             self.assertEqual(texts.defects_text(machine, texts.read_defects(machine, found)).encode(), found)
             for list_ in (texts.read_defects(machine, found), texts.exact_list(machine, faults)):
                 text = texts.defects_text(machine, list_).encode()
-                self.assertEqual(self.alike("defects", text, ("compile", given[0], text, design), machine), list_)
+                self.assertEqual(self.alike("defects", text, ("compile", given[0], text, DESIGN), machine), list_)
             data = [mutated(self.chance, text.decode()).encode() for text in (*given, found)]
             self.alike("machine", data[0], ("diagnose", data[0], "no-such-file"))
             self.alike("faults", data[1], ("diagnose", given[0], data[1]), machine)
-            self.alike("defects", data[2], ("compile", given[0], data[2], design), machine)
+            self.alike("defects", data[2], ("compile", given[0], data[2], DESIGN), machine)
 
-    def test_designs_and_images(self):
+    def test_images(self):
+        """Images are read and written the same; changed bytes are refused alike."""
         machine, seen = texts.Machine((1, 2, 2, 5, 24, 24, 24, 30, 30, 30, 30, 12)), 0
         for _ in range(TURNS // 3):
             data = random_blif(self.chance).encode()
-            vectors = [[self.chance.randrange(2) for _ in range(3)] for _ in range(20)]
-            rows = "".join(f"{a}{b}{c}\n" for a, b, c in vectors).encode()
-            design, want = texts.read_design(data), call(DEFAULT, "eval", data, rows)
-            self.assertEqual(want.status, 0, data)
-            values = designs.design_values(design, vectors)
-            self.assertEqual(rows_of([values[signal] for signal in design.outputs]), want.rows)
+            rows = designs.random_vectors(texts.read_design(data)).encode()
             image = compiles(DEFAULT, machine, texts.Defects(), data)
-            if image.status == 0:
-                seen += 1
-                self.image(machine, image.written, vectors, rows, want.rows)
+            if image.status:
+                continue
+            seen += 1
+            self.assertEqual(image_bytes(machine, texts.read_image(machine, image.written)), image.written)
+            for _ in range(4):
+                changed, at = bytearray(image.written), self.chance.randrange(len(image.written))
+                changed[at] = self.chance.choice([0, 1, changed[at] ^ 1, 255])
+                changed = bytes(changed[: self.chance.choice([len(changed), at])]) + self.chance.choice([b"", b"", b"x"])
+                self.alike("image", changed, ("run", machine.text.encode(), b"", changed, rows), machine)
         self.assertGreater(seen, TURNS // 6)
-
-    def image(self, machine, data, vectors, rows, want):
-        """The bytes are read and written the same; the values of the nets are the rows; changed bytes are refused alike."""
-        image = texts.read_image(machine, data)
-        self.assertEqual(image_bytes(machine, image), data)
-        values, net_of = designs.image_values(machine, image, vectors), image.net_of(machine)
-        # A pin that is joined to nothing reads 1.
-        self.assertEqual(rows_of([values[net_of[pin]] if pin in net_of else 2**20 - 1 for pin in image.outputs]), want)
-        for _ in range(4):
-            changed, at = bytearray(data), self.chance.randrange(len(data))
-            changed[at] = self.chance.choice([0, 1, changed[at] ^ 1, 255])
-            changed = bytes(changed[: self.chance.choice([len(data), at])]) + self.chance.choice([b"", b"", b"x"])
-            self.alike("image", changed, ("run", machine.text.encode(), b"", changed, rows), machine)
 
     def test_needs(self):
         """A machine of just what the plan wants has room; with one line or port less the program says these very numbers."""
@@ -149,17 +130,12 @@ class Studies(unittest.TestCase):
             self.assertEqual(refusal[:3], ["refused", "noroom", "ports" if at < 7 else "lines"])
             self.assertIn(refusal[4:6], [[str(need), str(need - 1)]])
 
-    def script(self, name, *words):
-        words = [os.path.join(EXAMPLES, word) if os.path.exists(os.path.join(EXAMPLES, word)) else word for word in words]
-        return subprocess.run([sys.executable, os.path.join(HERE, name), *words], capture_output=True, text=True, check=False)
-
     def test_writes_over_nothing(self):
-        for words in (("faults.py", "tiny.machine"), ("size.py", "and.blif"), ("draw.py", "tiny.machine")):
-            self.assertEqual(self.script(*words, "-o", self.out).returncode, 0)
-            again = self.script(*words, "-o", self.out)
-            self.assertIn("stands there already", again.stderr)
-            self.assertNotEqual(again.returncode, 0)
-            os.remove(self.out)
+        for k, words in enumerate((("faults.py", "tiny.machine"), ("size.py", "and.blif"), ("draw.py", "tiny.machine"))):
+            for status, said in ((0, ""), (1, "stands there already")):
+                ran = run(*words, "-o", f"{self.out}{k}")
+                self.assertEqual(ran.returncode, status)
+                self.assertIn(said, ran.stderr)
 
     def test_refuses_in_one_line(self):
         for words, said in (
@@ -170,49 +146,37 @@ class Studies(unittest.TestCase):
             (("draw.py", "none.machine"), "No such file"),
             (("trial.py", "tiny.machine", "and.blif:and.vec", "--rate", "2.0"), "a rate is from 0 to 1"),
         ):
-            ran = self.script(*words)
+            ran = run(*words)
             self.assertIn(said, ran.stderr)
-            self.assertNotIn("Traceback", ran.stderr)
-            self.assertNotEqual(ran.returncode, 0)
+            self.assertEqual(("Traceback" in ran.stderr, ran.returncode > 0), (False, True))
 
     def test_trial(self):
-        for more in ((), ("--steps",)):
-            designs_ = [f"{EXAMPLES}/{name}.blif:{EXAMPLES}/{name}.vec" for name in ("and", "counter")]
-            ran = self.script("trial.py", "tiny.machine", *designs_, "--rate", "0.0", *more)
-            rows = [line.split(",") for line in ran.stdout.splitlines()]
-            found = [row[6:9] for row in rows[1:]]
-            self.assertEqual(sorted(found), [[d, k, s] for d, s in (("and", "0"), ("counter", "3")) for k in ("diagnosed", "exact")])
+        pairs = [f"{EXAMPLES}/{name}.blif:{EXAMPLES}/{name}.vec" for name in ("and", "counter")]
+        ran = run("trial.py", "tiny.machine", *pairs, "--rate", "0.0")
+        found = [line.split(",")[6:9] for line in ran.stdout.splitlines()[1:]]
+        self.assertEqual(sorted(found), [[d, k, s] for d, s in (("and", "0"), ("counter", "3")) for k in ("diagnosed", "exact")])
 
     def test_picture(self):
-        shown = self.script("draw.py", "tiny.machine", "--faults", "tiny.faults", "--defects", "tiny.defects", "--text", "r").stdout
-        self.assertEqual([line.split()[:2] for line in shown.splitlines()[1:4]], [["p0", "##.."], ["p1", "#..."], ["p2", "#..."]])
-        drawn = self.script("draw.py", "tiny.machine", "--defects", "tiny.defects", "--image", "and.image", "--design", "and.blif").stdout
+        given = ["--faults", "tiny.faults", "--defects", "tiny.defects", "--image", "and.image", "--design", "and.blif"]
+        drawn = run("draw.py", "tiny.machine", *given).stdout
+        self.assertEqual({colour for colour in MARKS if drawn.count(colour) > 1}, {FOUND})
         self.assertIn("</svg>", drawn)
+        for image, status in (([], 1), (["--image", "and.image"], 0)):
+            self.assertEqual(run("draw.py", "tiny.machine", "--level", "chip", "--used", *image).returncode, status)
 
-    def test_sizes(self):
-        """The least counts of the counter, reckoned by hand: four tables in one hextant, the input and two latches go up."""
-        ran = self.script("size.py", "counter.blif", "--modules", "1", "--chips", "1", "--hextants", "1")
-        self.assertEqual(ran.stdout.split()[8:], "tables 4 ports 3 3 3 lines 3 3 3 5 pins 3 end".split())
-
-    def test_exact_list(self):
-        """It covers the faults: nothing faulty is free, and no free wire is shorted to a stuck or another free one."""
+    def test_lists(self):
+        """Nothing faulty is free, nor is a wire that is shorted to a stuck or another free one; other schemes list all of it."""
         machine = texts.Machine((1, 1, 2, 3, 6, 6, 6, 6, 6, 6, 6, 6))
         for seed in range(40):
             faults = make_faults(machine, {"open": 4, "closed": 5, "wires": 3, "cells": 2, "registers": 1, "bridges": 3}, seed)
-            listed = texts.exact_list(machine, faults)
-            bad = faults.parts
-            self.assertFalse(any(listed.is_free(machine, kind, at) for kind in texts.PARTS for at in bad[kind]))
+            exact, bad = texts.exact_list(machine, faults), faults.parts
+            self.assertFalse(any(exact.is_free(machine, kind, at) for kind in texts.PARTS for at in bad[kind]))
             for group in texts.short_groups(machine, faults):
-                self.assertLessEqual(len(set(group) - listed["wire"]), int(bad["wire"].isdisjoint(group)))
+                self.assertLessEqual(len(set(group) - exact["wire"]), int(bad["wire"].isdisjoint(group)))
+            for listed in (wires_list(machine, faults), hextants_list(machine, faults)):
+                self.assertEqual(texts.read_defects(machine, texts.defects_text(machine, listed).encode()), listed)
+                self.assertFalse(any(listed.is_free(machine, kind, at) for kind in texts.PARTS for at in exact[kind]))
 
     def test_interval(self):
-        low, high = wilson(8, 10)
-        self.assertAlmostEqual(low, 0.4902, 3)
-        self.assertAlmostEqual(high, 0.9433, 3)
-        self.assertEqual(wilson(0, 0), (0.0, 1.0))
-
-    def test_plain_network(self):
-        """A cover of eight inputs with two rows: two trees of AND of two tables and one, and one table of OR."""
-        design = texts.read_design(b".model m\n.inputs a b c d e f g h\n.outputs y\n.names a b c d e f g h y\n1111111- 1\n-----111 1\n")
-        network = designs.plain_network(design)
-        self.assertEqual([len(sources) for sources in network.tables], [6, 1, 2, 3, 2])
+        for hits, tries, want in ((8, 10, (0.4902, 0.9433)), (0, 0, (0, 1))):
+            self.assertEqual(tuple(round(bound, 4) for bound in wilson(hits, tries)), want)

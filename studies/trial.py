@@ -1,18 +1,19 @@
 #!/usr/bin/env python3
 """One machine with one set of faults; on each of some lists every design. Writes rows of CSV (README.md says what of each list).
 
-By the tool's own diagnosis a design goes through the command go or, with --steps, through diagnose (once for all designs), compile
-and run, which is what go does; by other lists through compile and run. Every run's rows are compared with eval's. An answer of
-status 1, 2, 4 or 5 was never a run, and ends the script with status 1, as do rows that differ where a list was made.
+By the tool's own diagnosis a design goes through diagnose (once for all designs), compile and run, which is what go does; by other
+lists through compile and run. Every run's rows are compared with eval's. An answer of status 1, 2, 4 or 5 was never a run, and ends
+the script with status 1, as do rows that differ where a list was made.
 """
 
 import argparse
 import csv
 import io
+import re
 import sys
 from pathlib import Path
 
-import made
+import designs
 import teramac_texts as texts
 from faults import KINDS, SHAPES, add_clusters, amount, make_faults
 from program import REPORT, add_program, call
@@ -29,19 +30,12 @@ NO_RUN = (1, 2, 4, 5)
 
 def mix(word):
     """Name, weights of kinds, and clusters or none, of a mix: `open`, `mixed:open+wires*0.1`, `rows:open in rows of 24`."""
-    name, colon, parts = word.rpartition(":")
-    parts, lie, shape = parts.partition(" in ")
-    shape, _, size = shape.partition(" of ")
-    weights = {}
-    try:
-        for kind, star, weight in (part.strip().partition("*") for part in parts.split("+")):
-            weights[kind] = float(weight) if star else 1.0
-        clusters = (float(size), shape) if lie else None
-    except ValueError as error:
-        raise argparse.ArgumentTypeError(f"{word}: {error}") from error
-    if not weights.keys() <= KINDS.keys() or min(weights.values()) <= 0 or (lie and shape not in SHAPES):
+    number = r"([0-9]+(?:\.[0-9]+)?)"
+    whole = re.fullmatch(rf"(?:(.+):)?([^: ]+)(?: in ({'|'.join(SHAPES)}) of {number})?", word)
+    parts = [re.fullmatch(rf"({'|'.join(KINDS)})(?:\*{number})?", part) for part in whole[2].split("+")] if whole else [None]
+    if None in parts or 0 in (weights := {part[1]: float(part[2] or 1) for part in parts}).values():
         raise argparse.ArgumentTypeError(f"{word}: kinds are {', '.join(KINDS)}, shapes {', '.join(SHAPES)}, a weight is above 0")
-    return name if colon else word, weights, clusters
+    return whole[1] or word, weights, (float(whole[4]), whole[3]) if whole[3] else None
 
 
 def wires_list(machine, faults):
@@ -116,20 +110,18 @@ class Trial:
         """Tables, nets, crossings and closed crosspoints of an image."""
         found = texts.read_image(self.machine, image)
         nets, ports = found.net_of(self.machine), {wire for node in self.machine.nodes for wire in node.ports}
-        sizes = len(found.tables), len(set(nets.values())), len(ports & nets.keys()), len(found.crosses)
-        return dict(zip(("tables", "nets", "crossings", "closed"), sizes))
+        sizes = {"tables": len(found.tables), "nets": len(set(nets.values())), "crossings": len(ports & nets.keys())}
+        return sizes | {"closed": len(found.crosses)}
 
     def compared(self, answer, design, vectors, promised=True):
         """The answer, after its rows were compared with those of eval."""
-        if answer.status == 0:
-            want = self.call("eval", design, vectors)
-            if want.status == 0 and want.rows != answer.rows:
-                if not promised:
-                    answer.status = -2
-                    return answer
+        want = answer if answer.status else self.call("eval", design, vectors)
+        if want.status == 0 and want.rows != answer.rows:
+            if promised:
                 kept = f"wrong-{Path(design).name}-{self.head['kind']}-{self.args.rate}-{self.args.seed}.faults"
                 texts.write_new(kept, self.fault_text)
                 sys.exit(f"{design}: the rows are not those of eval; the faults are in {kept}")
+            answer.status = -2
         return answer
 
     def laid(self, listed, design, vectors, promised=True, given=None):
@@ -156,32 +148,21 @@ class Trial:
                 continue
             listed = texts.defects_text(self.machine, BY_FAULTS.get(kind, lambda *_: texts.Defects())(self.machine, self.faults)).encode()
             for name, design, vectors in self.args.designs:
-                given = made.blif_text(made.triplicated(texts.read_text(texts.read_design, design))) if kind == "triplicated" else None
-                answer, sizes = self.laid(listed, design, vectors, kind not in UNDIAGNOSED, given and given.encode())
+                given = design
+                if kind == "triplicated":
+                    given = designs.blif_text(designs.triplicated(texts.read_text(texts.read_design, design))).encode()
+                answer, sizes = self.laid(listed, design, vectors, kind not in UNDIAGNOSED, given)
                 yield self.row(name, kind, None if kind in UNDIAGNOSED else listed, answer, **sizes)
 
     def diagnosed_rows(self):
-        diagnosed = self.call("diagnose", self.args.machine, self.fault_text) if self.args.steps else None
-        loads = self.loads()
-        if diagnosed and not self.args.designs:
-            listed = diagnosed.defects if diagnosed.status == 0 else None
-            yield {**self.row("", "diagnosed", listed, diagnosed), **loads}
-        for name, design, vectors in self.args.designs:
-            yield {**self.by_diagnosis(diagnosed, name, design, vectors), **loads}
-
-    def by_diagnosis(self, diagnosed, name, design, vectors):
-        """One row by the tool's own list."""
-        answer = diagnosed or self.compared(self.call("go", self.args.machine, self.fault_text, design, vectors), design, vectors)
-        if answer.status not in (0, 3):
-            return self.row(name, "diagnosed", None, answer)
-        listed, more = answer.defects, {}
-        if diagnosed:
-            answer, more = self.laid(listed, design, vectors)
-            answer.seconds += diagnosed.seconds
-            more["diagnose_seconds"] = round(diagnosed.seconds, 3)
-        elif answer.status == 0:
-            more = self.shape_of(self.call("compile", self.args.machine, listed, design).written)
-        return self.row(name, "diagnosed", listed, answer, **more)
+        """By the tool's own list; one row without a design where none is given."""
+        diagnosed, loads = self.call("diagnose", self.args.machine, self.fault_text), self.loads()
+        listed = diagnosed.defects if diagnosed.status == 0 else None
+        for name, design, vectors in self.args.designs or [("", None, None)]:
+            answer, more = (diagnosed, {}) if design is None or not listed else self.laid(listed, design, vectors)
+            if answer is not diagnosed:
+                answer.seconds += diagnosed.seconds
+            yield self.row(name, "diagnosed", listed, answer, diagnose_seconds=round(diagnosed.seconds, 3), **more, **loads)
 
 
 def named_pair(word):
@@ -204,7 +185,6 @@ def main():
     parser.add_argument("--seed", type=int, default=1, help="the fault set's seed (default: 1)")
     parser.add_argument("--lists", default="exact,diagnosed", help=f"of {','.join(LISTS)} (default: %(default)s)")
     parser.add_argument("--seconds", type=float, default=600, help="no call takes longer; it is cut off (default: 600)")
-    parser.add_argument("--steps", action="store_true", help="one diagnose for all designs in place of one go for each")
     parser.add_argument("--report", default=REPORT, help="the built teramac_report, which tells loads; '' for none (default: %(default)s)")
     parser.add_argument("--name", help="the machine's name in the table (default: its file's)")
     parser.add_argument("--spare", type=float, help="what the machine has to spare, for the table")
