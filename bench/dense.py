@@ -5,7 +5,7 @@ open: so many of 100 crosspoints are stuck open. mix: besides, a tenth as many a
 stuck, as many bridges join a wire and one of the next four, and one of 100 tables has a wrong cell. A row is about some machines,
 with faults made from the seeds 1, 2 and so on: shares are of all of them, other figures means. A wire is sound that is neither
 stuck nor shorted; a crosspoint or table that has no fault and sound wires alone; listed is what the list doesn't leave free. Loads
-are those that the program's rig has counted when it is dropped, read by gdb; none are told without gdb or the names in the program.
+are those that `teramac_report` tells, if it is named.
 """
 
 import argparse
@@ -13,7 +13,6 @@ import os
 import random
 import re
 import shlex
-import shutil
 import sys
 import tempfile
 
@@ -57,30 +56,23 @@ def sound_and_listed(machine, faults, defects):
     return *map(len, sound.values()), *(sum(not defects.is_free(machine, kind, at) for at in sound[kind]) for kind in texts.PARTS)
 
 
-def rig_names(program):
-    """The names of what drops the program's rig and of what tells its loads; none where the program or gdb is without."""
-    listed = call("nm", program).written.decode() if shutil.which("nm") and shutil.which("gdb") else ""
-    found = [re.search(rf" t (\S*LogRig\S*{end}::<\S*)$", listed, re.MULTILINE) for end in ("Destruct::drop", "::loads")]
-    return [name[1] for name in found] if all(found) else None
+def diagnosed(program, *files):
+    """Writes a list into the last of the files; gives the seconds that this took of the processor."""
+    before = os.times()
+    status = call("sh", "-c", "{} diagnose {} {} > {}".format(*map(shlex.quote, (program, *files)))).status
+    after = os.times()
+    if status:
+        sys.exit(f"{program}: not there, or its diagnose ended with status {status}")
+    return sum(after[k] - before[k] for k in (2, 3))
 
 
-def diagnosed(program, names, *files):
-    """Writes a list into the last of the files; gives the seconds that this took of the processor, and the loads or 0."""
-    run = "diagnose {} {} > {}".format(*map(shlex.quote, files))
-    if not names:
-        before, status, after = os.times(), call("sh", "-c", f"{shlex.quote(program)} {run}").status, os.times()
-        found = [0, *(round(100 * (after[k] - before[k])) for k in (2, 3)), status]
-    else:
-        loads = f"print ((unsigned long (*)(void *)) '{names[1]}')($rdi)"
-        steps = [f"break *'{names[0]}'", f"run {run}", loads, "info proc stat", "continue", "print $_exitcode"]
-        told = call("gdb", "-nx", "-batch", *(word for step in steps for word in ("-ex", step)), program).written.decode()
-        found = [int(number) for number in re.findall(r"^(?:\$\d =|[us]time:) (\d+)$", told, re.MULTILINE)]
-    if len(found) != 4 or found[3]:
-        sys.exit(f"{program}: not there, or its diagnose ended with another status than 0, or gdb couldn't look at it")
-    return (found[1] + found[2]) / 100, found[0]
+def loads_of(report, machine, faults):
+    """The loads of a diagnosis; 0 where no report is named."""
+    told = re.search(rb"^diagnosis loads (\d+)$", call(report, machine, faults).written, re.MULTILINE) if report else None
+    return int(told[1]) if told else 0
 
 
-def row(program, names, machine, kind, rate, seeds):
+def row(programs, machine, kind, rate, seeds):
     """A line of the table."""
     columns = []
     for seed in seeds:
@@ -89,14 +81,14 @@ def row(program, names, machine, kind, rate, seeds):
             files = [f"{folder}/{name}" for name in ("machine", "faults", "defects")]
             for path, text in zip(files, (machine.text, texts.faults_text(machine, faults))):
                 texts.write_new(path, text)
-            taken = diagnosed(program, names, *files)
+            taken = diagnosed(programs[0], *files), loads_of(programs[1], *files[:2])
             defects = texts.read_text(texts.read_defects, files[2], machine)
         entries = sum(map(len, defects.values()))
         columns.append((*sound_and_listed(machine, faults, defects), faults.count, *taken, entries, covers(machine, faults, defects)))
     sums = [sum(column) for column in zip(*columns)]
     shares = ", ".join(f"{100 * listed / sound:.4g}" if sound else "-" for sound, listed in zip(sums[:3], sums[3:6]))
     count, seconds, loads, entries = (total / len(seeds) for total in sums[6:10])
-    loads = f"{loads:,.0f}" if names else ""
+    loads = f"{loads:,.0f}" if programs[1] else ""
     return f"| {kind} {rate:g} % | {count:,.0f} | {shares} | {loads} | {seconds:.1f} | {entries:,.0f} | {sums[10]} of {len(seeds)} |"
 
 
@@ -108,13 +100,14 @@ def main():
     parser.add_argument("--rates", nargs="+", type=lambda word: 100 * amount(word + "%"), default=rates, help="of 100: %(default)s")
     parser.add_argument("--machines", type=int, default=3, choices=range(1, 21), metavar="COUNT", help="for each row (default: 3)")
     add_program(parser)
+    parser.add_argument("--report", help="the built teramac_report, for the loads")
     args = parser.parse_args()
     machine = texts.read_text(texts.read_machine, args.machine) if args.machine else texts.Machine(BENCH)
-    names, seeds = rig_names(args.program), range(1, args.machines + 1)
+    seeds = range(1, args.machines + 1)
     print(f"| {HEAD} |\n|{'---|' * (HEAD.count('|') + 1)}")
     for kind, rate in [(kind, rate) for kind in args.kinds for rate in args.rates]:
         try:
-            print(row(args.program, names, machine, kind, rate, seeds), flush=True)
+            print(row((args.program, args.report), machine, kind, rate, seeds), flush=True)
         except ValueError as error:
             sys.exit(f"{kind} {rate:g} %: {error}")
 
