@@ -4,6 +4,7 @@ mod Edited
 mod Held
 mod OneMachine
 mod Readings
+mod Requested
 mod Room
 mod Settings
 mod Spelled
