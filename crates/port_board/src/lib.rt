@@ -7,8 +7,10 @@ mod file_port;
 mod link;
 mod port;
 mod port_board;
+mod rig_port;
 mod spelling;
 mod turn;
+mod wanted;
 
 pub use file_board::FileBoard;
 pub use file_port::FilePort;

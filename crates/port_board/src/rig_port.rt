@@ -1,0 +1,307 @@
+//! A rig as the other end of a port.
+ghost use Rattle.std.specs.Prelude.{◌≡◌, ◌+◌, ◌^◌, ◌<◌, ◌≤◌, ◌++◌, ◌∷◌, [], true, false, length, take, None, Some, All};
+ghost use Rattle.std.specs.Prelude.{vec_len, IfOk, IfErr, IfSome, IsSome, IsTrue, OnOk, OnErr, IsErrOf};
+ghost use Rattle.std.specs.List.{sum_by};
+ghost use Rattle.hierarchy.specs.Shape.{pins_of, crosses_of, tables_of};
+ghost use Rattle.tm_outside.specs.Counts.{Rose};
+ghost use Rattle.rig.specs.Rig.{shape_of, width_of};
+ghost use Rattle.board_rig.specs.Device.{WhereTold};
+ghost use Rattle.port_board.specs.Lines.{line_of, word_room};
+ghost use Rattle.std.specs.Vec.{vec_capacity};
+ghost use Rattle.port_board.specs.Requests.{IsEditOf, edit_text, edits_text, drives_text, load_line, edited, edited_by};
+ghost use Rattle.port_board.specs.Answers.{Answers};
+ghost use Rattle.port_board.specs.Ports.{machine_told, Opens, AskFails};
+ghost use Rattle.port_board.specs.RigPorts.{edit_of, edits_of, wanted_line, IsWantedOf, rig_port_state, IsReady, rig_device, HasDriven};
+
+use crate::port::{Port, PortFail};
+use crate::spelling::{put_counts, put_drives, put_readings, put_setting, put_sum, put_word};
+use crate::turn::read_pins;
+use crate::wanted::{Change, Wanted};
+use config_set::{Config, Setting};
+use hierarchy::{Cross, Shape, Table};
+use numerals::read_number;
+use rig::{PinBits, Rig};
+use std::alloc::{AllocError, Global};
+use std::marker::Model;
+
+// The bytes from one place to another; none where these aren't places of it.
+fn part(bytes: &[u8], from: usize, to: usize) -> &[u8] {
+    if from <= to {
+        if to <= bytes.len() {
+            return &bytes[from..to];
+        }
+    }
+    &bytes[..0]
+}
+
+// The number below a limit that a word spells.
+fn number_of(word: &[u8], limit: u32) -> Option<u32>
+    ensures { IfSome result (λ n. n < limit) }
+{
+    let n = read_number(word, 4194304)?;
+    let n = n as u32;
+    if n < limit { Some(n) } else { None }
+}
+
+// Sixteen hex digits as the cells of a table.
+fn cells_of(word: &[u8]) -> Option<u64>
+    ensures { IfSome result (λ n. n < 2 ^ 64) }
+{
+    let mut bytes = [0u8; 8];
+    if hex::decode_to_slice(word, &mut bytes).is_err() {
+        return None;
+    }
+    Some(u64::from_be_bytes(bytes))
+}
+
+// What a table does, of the text behind its number: cells, a comma, and the digit of its flags.
+fn setting_of(word: &[u8]) -> Option<Setting>
+    ensures { IfSome result (λ s. s.cells < 2 ^ 64) }
+{
+    if word.len() != 18 {
+        return None;
+    }
+    let digit = word[17];
+    if digit < b'0' {
+        return None;
+    }
+    let cells = cells_of(&word[..16])?;
+    let flags = digit - b'0';
+    Some(Setting {
+        cells,
+        latched: flags % 2 == 1,
+        init: flags / 2 % 2 == 1,
+    })
+}
+
+// Where a byte stands first from a place on; where it doesn't, the end.
+fn place_of(bytes: &[u8], begin: usize, byte: u8) -> usize
+    ensures { result ≤ length bytes.now }
+{
+    'bytes: for k in begin..bytes.len() {
+        if bytes[k] == byte {
+            return k;
+        }
+    }
+    bytes.len()
+}
+
+// The table that is switched on, and what it does.
+fn on_of(word: &[u8], shape: &Shape) -> Option<Change>
+    ensures { IfSome result (λ c. IsEditOf shape.now (edit_of c)) }
+{
+    let comma = place_of(word, 0, b',');
+    let t = number_of(part(word, 0, comma), shape.tables())?;
+    let setting = setting_of(part(word, comma.saturating_add(1), word.len()))?;
+    Some(Change::On(Table(t), setting))
+}
+
+// The ticks of a cycle.
+fn ticks_of(word: &[u8], shape: &Shape) -> Option<Change>
+    ensures { IfSome result (λ c. IsEditOf shape.now (edit_of c)) }
+{
+    let n = number_of(word, 4097)?;
+    if n == 0 {
+        return None;
+    }
+    Some(Change::Ticks(n as u16))
+}
+
+// The change that a word makes, where it is one.
+fn change_of(word: &[u8], shape: &Shape) -> Option<Change>
+    ensures { IfSome result (λ c. IsEditOf shape.now (edit_of c)) }
+{
+    let letter = *word.first()?;
+    let rest = part(word, 1, word.len());
+    match letter {
+        b'c' => Some(Change::Close(Cross(number_of(rest, shape.crosses())?))),
+        b'o' => Some(Change::Open(Cross(number_of(rest, shape.crosses())?))),
+        b't' => on_of(rest, shape),
+        b'x' => Some(Change::Off(Table(number_of(rest, shape.tables())?))),
+        b'k' => ticks_of(rest, shape),
+        _ => None,
+    }
+}
+
+// Reads the words of changes from a place on, and answers where another word begins.
+fn read_changes(
+    body: &[u8],
+    begin: usize,
+    shape: &Shape,
+    changes: &mut Vec<Change>,
+) -> Result<usize, AllocError>
+    requires { All (λ c. IsEditOf shape.now (edit_of c)) changes.old.items }
+    ensures { All (λ c. IsEditOf shape.now (edit_of c)) changes.new.items }
+{
+    let mut at = begin;
+    'words: for _k in 0..body.len() {
+        let end = place_of(body, at, b' ');
+        let Some(change) = change_of(part(body, at, end), shape) else {
+            return Ok(at);
+        };
+        changes.push(change)?;
+        at = end.saturating_add(1);
+    }
+    Ok(at)
+}
+
+// Reads the drives from a place on, at least one. What isn't a text of drives gives any, which spell another line.
+fn read_drives(
+    alloc: Global,
+    body: &[u8],
+    begin: usize,
+    shape: &Shape,
+) -> Result<Vec<PinBits>, AllocError>
+    ensures some { IfOk result (λ drives. 0 < length drives.items) }
+    ensures wide { IfOk result (λ drives. All (λ row. length row ≡ pins_of shape.now) drives.items) }
+{
+    let pins = shape.pins();
+    let step = pins.div_ceil(8) as usize * 2 + 2;
+    let mut drives = Vec::new(alloc);
+    let mut drive = PinBits::new(alloc, pins)?;
+    read_pins(body, begin.min(body.len()) + 1, &mut drive);
+    drives.push(drive)?;
+    let mut at = begin.saturating_add(step);
+    'words: while at < body.len() {
+        let mut drive = PinBits::new(alloc, pins)?;
+        read_pins(body, at + 1, &mut drive);
+        drives.push(drive)?;
+        at = at.saturating_add(step);
+    }
+    Ok(drives)
+}
+
+// What a request asks, as far as its form goes: whether it is spelled so is seen by spelling it again.
+fn read_request(alloc: Global, request: &[u8], shape: &Shape) -> Result<Wanted, AllocError>
+    ensures { IfOk result (λ w. IsWantedOf shape.now w) }
+{
+    let body = part(request, 0, request.len().saturating_sub(4));
+    let mut changes = Vec::new(alloc);
+    let anew = body.starts_with(b"z ");
+    let begin = if anew { 2 } else { 0 };
+    let at = read_changes(body, begin, shape, &mut changes)?;
+    let loads = place_of(body, at, b'l') == at;
+    let from = if loads { at.saturating_add(2) } else { at };
+    let drives = read_drives(alloc, body, from, shape)?;
+    Ok(Wanted {
+        loads,
+        anew,
+        changes,
+        drives,
+    })
+}
+
+// Spells a change.
+fn put_change(line: &mut Vec<u8>, change: Change) -> Result<(), AllocError>
+    ensures { OnOk result (line.new.items ≡ line.old.items ++ (edit_text (edit_of change) ++ 32 ∷ [])) }
+{
+    match change {
+        Change::Close(c) => put_word(line, b'c', c.0),
+        Change::Open(c) => put_word(line, b'o', c.0),
+        Change::On(t, s) => put_setting(line, t.0, s),
+        Change::Off(t) => put_word(line, b'x', t.0),
+        Change::Ticks(n) => put_word(line, b'k', u32::from(n)),
+    }
+}
+
+// Makes a change.
+fn make(set: &mut Config, change: Change) -> Result<(), AllocError>
+    requires { IsEditOf set.old.config.shape (edit_of change) }
+
+    ensures shape { set.new.config.shape ≡ set.old.config.shape }
+    ensures made { OnOk result (set.new.config ≡ edited_by set.old.config (edit_of change)) }
+{
+    match change {
+        Change::Close(c) => set.close_cross(c)?,
+        Change::Open(c) => set.open_cross(c),
+        Change::On(t, s) => set.switch_on(t, s),
+        Change::Off(t) => set.switch_off(t),
+        Change::Ticks(n) => set.set_ticks(n),
+    }
+    Ok(())
+}
+
+// Makes changes in their order.
+fn make_all(set: &mut Config, changes: &[Change]) -> Result<(), AllocError>
+    requires { All (λ c. IsEditOf set.old.config.shape (edit_of c)) changes.now }
+
+    ensures shape { set.new.config.shape ≡ set.old.config.shape }
+    ensures made { OnOk result (set.new.config ≡ edited set.old.config (edits_of changes.now)) }
+{
+    'changes: for k in 0..changes.len() {
+        make(set, changes[k])?;
+    }
+    Ok(())
+}
+
+// How many bytes the words of these rows take at most.
+fn room_of(rows: &[PinBits]) -> Option<usize>
+    ensures { IfSome result (λ n. n ≡ sum_by word_room rows.now) }
+{
+    let mut total = 0usize;
+    'rows: for k in 0..rows.len() {
+        let word = rows[k].len().div_ceil(8) as usize * 2 + 2;
+        total = total.checked_add(word)?;
+    }
+    Some(total)
+}
+
+// Makes room behind a line for the words of these rows, and for what is in front of them and behind.
+fn make_room(line: &mut Vec<u8>, rows: &[PinBits]) -> Result<(), AllocError>
+    ensures same { line.new.items ≡ line.old.items }
+    ensures len { vec_len line.new ≡ vec_len line.old }
+    ensures room { OnOk result (vec_len line.new + sum_by word_room rows.now + 5 ≤ vec_capacity line.new) }
+{
+    let Some(room) = room_of(rows) else {
+        return Err(AllocError);
+    };
+    line.reserve(room.saturating_add(5))?;
+    Ok(())
+}
+
+// Adds the words of changes.
+fn put_changes(line: &mut Vec<u8>, changes: &[Change]) -> Result<(), AllocError>
+    ensures { OnOk result (line.new.items ≡ line.old.items ++ edits_text (edits_of changes.now)) }
+{
+    'changes: for k in 0..changes.len() {
+        put_change(line, changes[k])?;
+    }
+    Ok(())
+}
+
+// Ends a line with drives and the sum.
+fn put_end(line: &mut Vec<u8>, drives: &[PinBits]) -> Result<(), AllocError>
+    ensures { OnOk result (line.new.items ≡ line_of (line.old.items ++ drives_text drives.now)) }
+{
+    make_room(line, drives)?;
+    put_drives(line, drives);
+    put_sum(line);
+    Ok(())
+}
+
+// Spells a load and its first cycles.
+fn put_load_line(line: &mut Vec<u8>, wanted: &Wanted) -> Result<(), AllocError>
+    requires { line.old.items ≡ [] }
+    ensures { OnOk result (line.new.items ≡ load_line wanted.now.anew (edits_of wanted.now.changes.items) wanted.now.drives.items) }
+{
+    if wanted.anew {
+        line.extend_from_slice(b"z ")?;
+    }
+    put_changes(line, &wanted.changes)?;
+    line.extend_from_slice(b"l ")?;
+    put_end(line, &wanted.drives)?;
+    Ok(())
+}
+
+// Whether a request is, byte by byte, the line that asks this.
+fn is_spelled(alloc: Global, request: &[u8], wanted: &Wanted) -> Result<bool, AllocError>
+    ensures { IfOk result (λ is. is ≡ true → request.now ≡ wanted_line wanted.now) }
+{
+    let mut line = Vec::new(alloc);
+    if wanted.loads {
+        put_load_line(&mut line, wanted)?;
+    } else {
+        put_end(&mut line, &wanted.drives)?;
+    }
+    Ok(request == line.as_slice())
+}
