@@ -1,4 +1,5 @@
 mod Alarm
+mod Answered
 mod Closings
 mod Edited
 mod Held

@@ -5,8 +5,9 @@ use Rattle.hierarchy.specs.declared.Shape.{Shape}
 use Rattle.hierarchy.specs.Shape.{pins_of}
 use Rattle.hierarchy.specs.Circuit.{Pins}
 use Rattle.config_set.specs.Configuration.{Configuration, cleared}
-use Rattle.rig.specs.Rig.{RigState, shape_of, config_of, IsTold, GoesOnBy}
-use Rattle.board_rig.specs.Device.{Device}
+use Rattle.rig.specs.Rig.{RigState, Exchange, shape_of, config_of, cycles_of, drives_of, readings_of, IsTold}
+use Rattle.board_rig.specs.Device.{Device, WhereTold}
+use Rattle.port_board.specs.Answers.{Answers}
 use Rattle.port_board.specs.Lines.{reading_line}
 use Rattle.port_board.specs.Requests.{Edit, Close, Open, On, Off, Tick, IsEditOf, AreDrivesOf, load_line, drives_line}
 use Rattle.port_board.specs.Ports.{PortState}
@@ -62,9 +63,22 @@ pub record IsReady (m : Shape) (g : Configuration) (running : Bool) (rig : RigSt
   pub shape : g.shape ≡ m
   pub session : running ≡ true → (option_map (λ h. h.shape) (config_of rig) ≡ Some m) × IsTold rig
 
--- the rig was driven so, and this line says what was read
-pub record HasDriven (pins : ℕ) (drives : List Pins) (line : List ℕ) (old new : RigState) : Type 0 where
-  pub rows : List Pins
-  pub wide : All (λ row. length row ≡ pins) rows
-  pub line_is : line ≡ reading_line rows
-  pub went : GoesOnBy drives rows old new
+-- these drives went behind the cycles of a session of this configuration, and this line says what was read
+pub record IsDriven (pins : ℕ) (g : Configuration) (before : List Exchange) (drives : List Pins) (line : List ℕ) (rig : RigState) : Type 0 where
+  pub pairs : List Exchange
+  pub driven : drives_of pairs ≡ drives
+  pub wide : All (λ row. length row ≡ pins) (readings_of pairs)
+  pub line_is : line ≡ reading_line (readings_of pairs)
+  pub config : config_of rig ≡ Some g
+  pub cycles : cycles_of rig ≡ before ++ pairs
+  pub told : IsTold rig
+
+-- where a load's changes begin
+abbrev pub start_from : Bool → Configuration → Configuration
+start_from true g = cleared g.shape
+start_from false g = g
+
+-- what was asked is answered: by this line the machine that is told went from one state to another
+abbrev pub IsAnswered : Shape → List ℕ → List ℕ → Configuration → Bool → RigState → Configuration → Bool → RigState → Type 0
+IsAnswered m request line g running old h runs new =
+    WhereTold (λ d e. Answers d request line e) (rig_device m g running old) (rig_device m h runs new)

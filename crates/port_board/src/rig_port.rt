@@ -1,17 +1,19 @@
 //! A rig as the other end of a port.
 ghost use Rattle.std.specs.Prelude.{◌≡◌, ◌+◌, ◌^◌, ◌<◌, ◌≤◌, ◌++◌, ◌∷◌, [], true, false, length, take, None, Some, All};
-ghost use Rattle.std.specs.Prelude.{vec_len, IfOk, IfErr, IfSome, IsSome, IsTrue, OnOk, OnErr, IsErrOf};
+ghost use Rattle.std.specs.Prelude.{vec_len, option_map, IfOk, IfErr, IfSome, IsSome, IsTrue, OnOk, OnErr, IsErrOf};
 ghost use Rattle.std.specs.List.{sum_by};
 ghost use Rattle.hierarchy.specs.Shape.{pins_of, crosses_of, tables_of};
+ghost use Rattle.config_set.specs.Configuration.{Configuration, cleared};
 ghost use Rattle.tm_outside.specs.Counts.{Rose};
-ghost use Rattle.rig.specs.Rig.{shape_of, width_of};
+ghost use Rattle.rig.specs.Rig.{shape_of, config_of, cycles_of};
 ghost use Rattle.board_rig.specs.Device.{WhereTold};
-ghost use Rattle.port_board.specs.Lines.{line_of, word_room};
+ghost use Rattle.port_board.specs.Lines.{line_of, counts_line, word_room};
 ghost use Rattle.std.specs.Vec.{vec_capacity};
-ghost use Rattle.port_board.specs.Requests.{IsEditOf, edit_text, edits_text, drives_text, load_line, edited, edited_by};
+ghost use Rattle.port_board.specs.Requests.{IsEditOf, edit_text, edits_text, drives_text, load_line, AreDrivesOf, edited, edited_by};
 ghost use Rattle.port_board.specs.Answers.{Answers};
 ghost use Rattle.port_board.specs.Ports.{machine_told, Opens, AskFails};
-ghost use Rattle.port_board.specs.RigPorts.{edit_of, edits_of, wanted_line, IsWantedOf, rig_port_state, IsReady, rig_device, HasDriven};
+ghost use Rattle.port_board.specs.RigPorts.{edit_of, edits_of, wanted_line, IsWantedOf, rig_port_state, IsReady};
+ghost use Rattle.port_board.specs.RigPorts.{rig_device, IsDriven, IsAnswered, start_from};
 
 use crate::port::{Port, PortFail};
 use crate::spelling::{put_counts, put_drives, put_readings, put_setting, put_sum, put_word};
@@ -304,4 +306,117 @@ fn is_spelled(alloc: Global, request: &[u8], wanted: &Wanted) -> Result<bool, Al
         put_end(&mut line, &wanted.drives)?;
     }
     Ok(request == line.as_slice())
+}
+
+// So many rows with all pins released.
+fn blank_rows(alloc: Global, pins: u32, count: usize) -> Result<Vec<PinBits>, AllocError>
+    ensures many { IfOk result (λ rows. length rows.items ≡ count) }
+    ensures wide { IfOk result (λ rows. All (λ row. length row ≡ pins) rows.items) }
+{
+    let mut rows = Vec::new(alloc);
+    'rows: for _k in 0..count {
+        let row = PinBits::new(alloc, pins)?;
+        rows.push(row)?;
+    }
+    Ok(rows)
+}
+
+// Drives the rig, and spells what its pins read. False where that fails.
+fn drive<R: Rig>(
+    alloc: Global,
+    inner: &mut R,
+    shape: &Shape,
+    drives: &[PinBits],
+    line: &mut Vec<u8>,
+) -> bool
+    requires session { option_map (λ g. g.shape) (config_of (R.rig_state inner.old)) ≡ Some shape.now }
+    requires wide { All (λ row. length row ≡ pins_of shape.now) drives.now }
+    requires empty { line.old.items ≡ [] }
+
+    ensures machine { (R.rig_state inner.new).machine ≡ (R.rig_state inner.old).machine }
+    ensures driven { IsTrue result → (g : Configuration) → config_of (R.rig_state inner.old) ≡ Some g → IsDriven (pins_of shape.now) g
+        (cycles_of (R.rig_state inner.old)) drives.now line.new.items (R.rig_state inner.new) }
+{
+    let Ok(mut reads) = blank_rows(alloc, shape.pins(), drives.len()) else {
+        return false;
+    };
+    if inner.cycles(drives, &mut reads).is_err() {
+        return false;
+    }
+    if make_room(line, &reads).is_err() {
+        return false;
+    }
+    put_readings(line, &reads);
+    true
+}
+
+// Loads a configuration and drives the rig. False where that fails.
+fn load_and_drive<R: Rig>(
+    alloc: Global,
+    inner: &mut R,
+    set: &Config,
+    drives: &[PinBits],
+    line: &mut Vec<u8>,
+) -> bool
+    requires attached { shape_of (R.rig_state inner.old) ≡ Some set.now.config.shape }
+    requires wide { All (λ row. length row ≡ pins_of set.now.config.shape) drives.now }
+    requires empty { line.old.items ≡ [] }
+
+    ensures machine { (R.rig_state inner.new).machine ≡ (R.rig_state inner.old).machine }
+    ensures driven { IsTrue result → IsDriven (pins_of set.now.config.shape) set.now.config [] drives.now line.new.items
+        (R.rig_state inner.new) }
+{
+    let shape = set.shape();
+    let room = u32::try_from(drives.len()).unwrap_or(u32::MAX);
+    if inner.load(set, room).is_err() {
+        return false;
+    }
+    drive(alloc, inner, &shape, drives, line)
+}
+
+// Clears what is set where all is set anew.
+fn start(set: &mut Config, anew: bool)
+    ensures { set.new.config ≡ start_from anew set.old.config }
+{
+    if anew {
+        set.clear();
+    }
+}
+
+// Makes the changes of a load, loads and drives. False where that fails.
+fn answer_load<R: Rig>(
+    alloc: Global,
+    inner: &mut R,
+    set: &mut Config,
+    wanted: &Wanted,
+    line: &mut Vec<u8>,
+) -> bool
+    requires attached { shape_of (R.rig_state inner.old) ≡ Some set.old.config.shape }
+    requires wanted { IsWantedOf set.old.config.shape wanted.now }
+    requires empty { line.old.items ≡ [] }
+
+    ensures machine { (R.rig_state inner.new).machine ≡ (R.rig_state inner.old).machine }
+    ensures shape { set.new.config.shape ≡ set.old.config.shape }
+    ensures set { IsTrue result →
+        set.new.config ≡ edited (start_from wanted.now.anew set.old.config) (edits_of wanted.now.changes.items) }
+    ensures driven { IsTrue result → IsDriven (pins_of set.old.config.shape) set.new.config [] wanted.now.drives.items line.new.items
+        (R.rig_state inner.new) }
+{
+    start(set, wanted.anew);
+    if make_all(set, &wanted.changes).is_err() {
+        return false;
+    }
+    load_and_drive(alloc, inner, set, &wanted.drives, line)
+}
+
+// Clears what is set, and says what the machine is. False where memory is wanting.
+fn answer_attach(set: &mut Config, line: &mut Vec<u8>) -> bool
+    requires empty { line.old.items ≡ [] }
+
+    ensures cleared { set.new.config ≡ cleared set.old.config.shape }
+    ensures line { IsTrue result → line.new.items ≡ counts_line set.old.config.shape.counts }
+{
+    let shape = set.shape();
+    set.clear();
+    put_counts(line, shape.counts()).is_ok()
 }
