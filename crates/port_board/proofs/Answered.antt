@@ -9,12 +9,12 @@ use Rattle.hierarchy.specs.Circuit.{Pins}
 use Rattle.hierarchy.specs.Faults.{Faults}
 use Rattle.config_set.specs.Configuration.{Configuration, cleared}
 use Rattle.config_set.specs.Faulty.{IsRun}
-use Rattle.rig.specs.Rig.{RigState, Exchange, Session, config_of, cycles_of, drives_of, readings_of, IsTold}
+use Rattle.rig.specs.Rig.{RigState, Exchange, Session, Asked, GoesOnBy, shape_of, config_of, cycles_of, drives_of, readings_of, IsTold}
 use Rattle.board_rig.specs.Device.{Device, IsInSession, HasRunSession, WhereTold}
-use Rattle.port_board.specs.Lines.{counts_line}
+use Rattle.port_board.specs.Lines.{counts_line, reading_line}
 use Rattle.port_board.specs.Requests.{Edit, edited, IsEditOf, AreDrivesOf, attach_line, load_line, drives_line}
 use Rattle.port_board.specs.Answers.{Answers, Reads, IsFresh, Loads, Drives, start_of}
-use Rattle.port_board.specs.RigPorts.{rig_device, IsDriven, IsAnswered, start_from}
+use Rattle.port_board.specs.RigPorts.{rig_device, IsDriven, IsAnswered, IsReady, start_from}
 use Rattle.port_board.proofs.Requested.{AreEditsOf, IsSameLoad, attach_no_load, attach_no_drives, load_no_drives, one_load, one_drives_line}
 
 -- an answer to one form is an answer
@@ -141,3 +141,29 @@ width_is (Some g) m is = let same : g.shape ≡ m = let c : Some g.shape ≡ Som
 pub has_session : (s : Option Session) (m : Shape) → option_map (λ g. g.shape) (option_map (λ s. s.config) s) ≡ Some m → IsSome s
 has_session None m is = absurd (let bad : None ≡ Some m = is in cc)
 has_session (Some s) m is = refl
+
+-- a session went on by these drives
+pub went_on : (n : ℕ) (g : Configuration) (ds rows : List Pins) (line : List ℕ) (old new : RigState) → GoesOnBy ds rows old new → config_of old ≡ Some g
+    → All (λ row. length row ≡ n) rows → line ≡ reading_line rows → IsDriven n g (cycles_of old) ds line new
+went_on n g ds rows line old new went is wide spelled = record {
+  pairs = went.more;
+  driven = went.driven;
+  wide = subst (λ (l : List Pins). All (λ row. length row ≡ n) l) (sym went.read) wide;
+  line_is = spelled ∙ ap reading_line (sym went.read);
+  config = went.config ∙ is;
+  cycles = went.cycles;
+  told = went.told;
+}
+
+-- what was just loaded has these cycles alone
+pub first_driven : (n : ℕ) (g : Configuration) (cs : List Exchange) (ds : List Pins) (line : List ℕ) (new : RigState) → cs ≡ [] → IsDriven n g cs ds line new → IsDriven n g [] ds line new
+first_driven n g cs ds line new none r = subst (λ (l : List Exchange). IsDriven n g l ds line new) none r
+
+-- after it the port is ready
+pub ready_driven : (m : Shape) (g : Configuration) (cs : List Exchange) (ds : List Pins) (line : List ℕ) (old new : RigState) → shape_of old ≡ Some m → g.shape ≡ m
+    → new.machine ≡ old.machine → (k : Configuration) → k.shape ≡ m → IsDriven (pins_of m) k cs ds line new → IsReady m g true new
+ready_driven m g cs ds line old new attached shape machine k same r = record {
+  attached = ap (λ x. option_map (λ (a : Asked). a.shape) x.attached) machine ∙ attached;
+  shape = shape;
+  session = λ _. (ap (λ (o : Option Configuration). option_map (λ h. h.shape) o) r.config ∙ ap Some same, r.told);
+}

@@ -321,6 +321,34 @@ fn blank_rows(alloc: Global, pins: u32, count: usize) -> Result<Vec<PinBits>, Al
     Ok(rows)
 }
 
+// Drives the rig, reads into these rows, and spells what its pins read. False where that fails.
+fn drive_rows<R: Rig>(
+    inner: &mut R,
+    shape: &Shape,
+    drives: &[PinBits],
+    reads: &mut [PinBits],
+    line: &mut Vec<u8>,
+) -> bool
+    requires session { option_map (λ g. g.shape) (config_of (R.rig_state inner.old)) ≡ Some shape.now }
+    requires wide { All (λ row. length row ≡ pins_of shape.now) drives.now }
+    requires wide_too { All (λ row. length row ≡ pins_of shape.now) reads.old }
+    requires as_many { length drives.now ≡ length reads.old }
+    requires empty { line.old.items ≡ [] }
+
+    ensures machine { (R.rig_state inner.new).machine ≡ (R.rig_state inner.old).machine }
+    ensures driven { IsTrue result → (g : Configuration) → config_of (R.rig_state inner.old) ≡ Some g → IsDriven (pins_of shape.now) g
+        (cycles_of (R.rig_state inner.old)) drives.now line.new.items (R.rig_state inner.new) }
+{
+    let Ok(()) = inner.cycles(drives, reads) else {
+        return false;
+    };
+    let Ok(()) = make_room(line, reads) else {
+        return false;
+    };
+    put_readings(line, reads);
+    true
+}
+
 // Drives the rig, and spells what its pins read. False where that fails.
 fn drive<R: Rig>(
     alloc: Global,
@@ -340,14 +368,7 @@ fn drive<R: Rig>(
     let Ok(mut reads) = blank_rows(alloc, shape.pins(), drives.len()) else {
         return false;
     };
-    if inner.cycles(drives, &mut reads).is_err() {
-        return false;
-    }
-    if make_room(line, &reads).is_err() {
-        return false;
-    }
-    put_readings(line, &reads);
-    true
+    drive_rows(inner, shape, drives, &mut reads, line)
 }
 
 // Loads a configuration and drives the rig. False where that fails.
@@ -368,9 +389,9 @@ fn load_and_drive<R: Rig>(
 {
     let shape = set.shape();
     let room = u32::try_from(drives.len()).unwrap_or(u32::MAX);
-    if inner.load(set, room).is_err() {
+    let Ok(()) = inner.load(set, room) else {
         return false;
-    }
+    };
     drive(alloc, inner, &shape, drives, line)
 }
 
@@ -419,4 +440,75 @@ fn answer_attach(set: &mut Config, line: &mut Vec<u8>) -> bool
     let shape = set.shape();
     set.clear();
     put_counts(line, shape.counts()).is_ok()
+}
+
+// Answers what a request asks, and says whether something runs then: it does. None where that fails.
+fn answer_wanted<R: Rig>(
+    alloc: Global,
+    inner: &mut R,
+    set: &mut Config,
+    running: bool,
+    wanted: &Wanted,
+    line: &mut Vec<u8>,
+) -> Option<bool>
+    requires ready { IsReady set.old.config.shape set.old.config running (R.rig_state inner.old) }
+    requires wanted { IsWantedOf set.old.config.shape wanted.now }
+    requires empty { line.old.items ≡ [] }
+
+    ensures machine { (R.rig_state inner.new).machine ≡ (R.rig_state inner.old).machine }
+    ensures ready { IfSome result (λ runs. IsReady set.old.config.shape set.new.config runs (R.rig_state inner.new)) }
+    ensures told { IfSome result (λ runs. IsAnswered set.old.config.shape (wanted_line wanted.now) line.new.items set.old.config running
+        (R.rig_state inner.old) set.new.config runs (R.rig_state inner.new)) }
+{
+    if wanted.loads {
+        if answer_load(alloc, inner, set, wanted, line) {
+            return Some(true);
+        }
+        return None;
+    }
+    if !running {
+        return None;
+    }
+    let shape = set.shape();
+    if drive(alloc, inner, &shape, &wanted.drives, line) {
+        return Some(true);
+    }
+    None
+}
+
+// Answers a request, byte by byte spelled as the four forms are, and says whether something runs then. None where it isn't so spelled,
+// or that fails; what isn't so spelled doesn't reach the rig.
+fn answer<R: Rig>(
+    alloc: Global,
+    inner: &mut R,
+    set: &mut Config,
+    running: bool,
+    request: &[u8],
+    line: &mut Vec<u8>,
+) -> Option<bool>
+    requires ready { IsReady set.old.config.shape set.old.config running (R.rig_state inner.old) }
+    requires empty { line.old.items ≡ [] }
+
+    ensures machine { (R.rig_state inner.new).machine ≡ (R.rig_state inner.old).machine }
+    ensures ready { IfSome result (λ runs. IsReady set.old.config.shape set.new.config runs (R.rig_state inner.new)) }
+    ensures told { IfSome result (λ runs. IsAnswered set.old.config.shape request.now line.new.items set.old.config running
+        (R.rig_state inner.old) set.new.config runs (R.rig_state inner.new)) }
+{
+    if request == b"a*61\n".as_slice() {
+        if answer_attach(set, line) {
+            return Some(false);
+        }
+        return None;
+    }
+    let shape = set.shape();
+    let Ok(wanted) = read_request(alloc, request, &shape) else {
+        return None;
+    };
+    let Ok(is) = is_spelled(alloc, request, &wanted) else {
+        return None;
+    };
+    if !is {
+        return None;
+    }
+    answer_wanted(alloc, inner, set, running, &wanted, line)
 }
