@@ -1,5 +1,5 @@
 -- What a rig answers as the other end of a port.
-use Rattle.std.proofs.Common.{◌≡◌, ℕ, Bool, true, false, List, [], ◌∷◌, ◌++◌, length, map, All, Option, None, Some, refl, sym, ap, ◌∙◌, arith, subst}
+use Rattle.std.proofs.Common.{◌≡◌, ℕ, suc, zero, Bool, true, false, List, [], ◌∷◌, ◌++◌, length, map, All, Option, None, Some, refl, sym, ap, ◌∙◌, arith, subst}
 use Rattle.std.proofs.lemmas.Bool.{false≢true}
 use Rattle.std.specs.Prelude.{IfSome, IsSome, option_map, if◌then◌else◌}
 use Rattle.std.specs.Option.{option_map_or}
@@ -14,7 +14,9 @@ use Rattle.board_rig.specs.Device.{Device, IsInSession, HasRunSession, WhereTold
 use Rattle.port_board.specs.Lines.{counts_line, reading_line}
 use Rattle.port_board.specs.Requests.{Edit, edited, IsEditOf, AreDrivesOf, attach_line, load_line, drives_line}
 use Rattle.port_board.specs.Answers.{Answers, Reads, IsFresh, Loads, Drives, start_of}
-use Rattle.port_board.specs.RigPorts.{rig_device, IsDriven, IsAnswered, IsReady, start_from}
+use Rattle.port_board.specs.declared.wanted.Change.{Change}
+use Rattle.port_board.specs.declared.wanted.Wanted.{Wanted}
+use Rattle.port_board.specs.RigPorts.{edit_of, edits_of, wanted_line, rig_device, IsDriven, IsAnswered, IsReady, start_from}
 use Rattle.port_board.proofs.Requested.{AreEditsOf, IsSameLoad, attach_no_load, attach_no_drives, load_no_drives, one_load, one_drives_line}
 
 -- an answer to one form is an answer
@@ -167,3 +169,24 @@ ready_driven m g cs ds line old new attached shape machine k same r = record {
   shape = shape;
   session = λ _. (ap (λ (o : Option Configuration). option_map (λ h. h.shape) o) r.config ∙ ap Some same, r.told);
 }
+
+pub edits_all : (m : Shape) (cs : List Change) → All (λ c. IsEditOf m (edit_of c)) cs → AreEditsOf m (edits_of cs)
+edits_all m [] a k d lt = absurd (omega (arith, lt))
+edits_all m (c ∷ cs) a zero d lt = a 0 c (omega arith)
+edits_all m (c ∷ cs) a (suc k) d lt = edits_all m cs (λ j e l. a (suc j) e (omega (arith, l))) k d (omega (arith, lt))
+
+pub line_loads : (w : Wanted) → w.loads ≡ true → wanted_line w ≡ load_line w.anew (edits_of w.changes.items) w.drives.items
+line_loads w is = ap (λ b. if b then load_line w.anew (edits_of w.changes.items) w.drives.items else drives_line w.drives.items) is
+
+pub line_drives : (w : Wanted) → w.loads ≡ false → wanted_line w ≡ drives_line w.drives.items
+line_drives w is = ap (λ b. if b then load_line w.anew (edits_of w.changes.items) w.drives.items else drives_line w.drives.items) is
+
+-- a port that was ready is ready after more cycles
+pub ready_on : (m : Shape) (g : Configuration) (old new : RigState) (cs : List Exchange) (ds : List Pins) (line : List ℕ) (running : Bool) → running ≡ true → IsReady m g running old
+    → new.machine ≡ old.machine → ((k : Configuration) → config_of old ≡ Some k → IsDriven (pins_of m) k cs ds line new) → IsReady m g true new
+ready_on m g old new cs ds line running runs ready machine driven = by_config (config_of old) refl (ready.session runs).0 where
+  by_config : (o : Option Configuration) → config_of old ≡ o → option_map (λ h. h.shape) o ≡ Some m → IsReady m g true new
+  by_config None at is = absurd (let bad : None ≡ Some m = is in cc)
+  by_config (Some k) at is =
+      let same : k.shape ≡ m = let c : Some k.shape ≡ Some m = is in cc in
+      ready_driven m g cs ds line old new ready.attached ready.shape machine k same (driven k at)

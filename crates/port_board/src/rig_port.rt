@@ -9,7 +9,7 @@ ghost use Rattle.rig.specs.Rig.{shape_of, config_of, cycles_of};
 ghost use Rattle.board_rig.specs.Device.{WhereTold};
 ghost use Rattle.port_board.specs.Lines.{line_of, counts_line, word_room};
 ghost use Rattle.std.specs.Vec.{vec_capacity};
-ghost use Rattle.port_board.specs.Requests.{IsEditOf, edit_text, edits_text, drives_text, load_line, AreDrivesOf, edited, edited_by};
+ghost use Rattle.port_board.specs.Requests.{IsEditOf, edit_text, edits_text, drives_text, attach_line, load_line, AreDrivesOf, edited, edited_by};
 ghost use Rattle.port_board.specs.Answers.{Answers};
 ghost use Rattle.port_board.specs.Ports.{machine_told, Opens, AskFails};
 ghost use Rattle.port_board.specs.RigPorts.{edit_of, edits_of, wanted_line, IsWantedOf, rig_port_state, IsReady};
@@ -430,6 +430,13 @@ fn answer_load<R: Rig>(
     load_and_drive(alloc, inner, set, &wanted.drives, line)
 }
 
+// Whether a request asks what machine it is.
+fn is_attach(request: &[u8]) -> bool
+    ensures { IsTrue result → request.now ≡ attach_line }
+{
+    request == b"a*61\n".as_slice()
+}
+
 // Clears what is set, and says what the machine is. False where memory is wanting.
 fn answer_attach(set: &mut Config, line: &mut Vec<u8>) -> bool
     requires empty { line.old.items ≡ [] }
@@ -494,7 +501,7 @@ fn answer<R: Rig>(
     ensures told { IfSome result (λ runs. IsAnswered set.old.config.shape request.now line.new.items set.old.config running
         (R.rig_state inner.old) set.new.config runs (R.rig_state inner.new)) }
 {
-    if request == b"a*61\n".as_slice() {
+    if is_attach(request) {
         if answer_attach(set, line) {
             return Some(false);
         }
@@ -511,4 +518,53 @@ fn answer<R: Rig>(
         return None;
     }
     answer_wanted(alloc, inner, set, running, &wanted, line)
+}
+
+// What came to the front of a reply, and whether something runs then.
+struct Replied {
+    count: usize,
+    runs: bool,
+}
+
+// Puts a line to the front of a reply, if there is room for it.
+fn put_reply(line: &[u8], reply: &mut [u8]) -> Option<usize>
+    ensures length { length reply.new ≡ length reply.old }
+    ensures within { IfSome result (λ n. n ≤ length reply.new) }
+    ensures line { IfSome result (λ n. take n reply.new ≡ line.now) }
+{
+    if line.len() > reply.len() {
+        return None;
+    }
+    'bytes: for k in 0..line.len() {
+        reply[k] = line[k];
+    }
+    Some(line.len())
+}
+
+// Answers a request to the front of a reply. None where it is none of the four, or that fails.
+fn reply_to<R: Rig>(
+    alloc: Global,
+    inner: &mut R,
+    set: &mut Config,
+    running: bool,
+    request: &[u8],
+    reply: &mut [u8],
+) -> Option<Replied>
+    requires ready { IsReady set.old.config.shape set.old.config running (R.rig_state inner.old) }
+
+    ensures machine { (R.rig_state inner.new).machine ≡ (R.rig_state inner.old).machine }
+    ensures length { length reply.new ≡ length reply.old }
+    ensures within { IfSome result (λ r. r.count ≤ length reply.new) }
+    ensures ready { IfSome result (λ r. IsReady set.old.config.shape set.new.config r.runs (R.rig_state inner.new)) }
+    ensures told { IfSome result (λ r. IsAnswered set.old.config.shape request.now (take r.count reply.new) set.old.config running
+        (R.rig_state inner.old) set.new.config r.runs (R.rig_state inner.new)) }
+{
+    let mut line = Vec::new(alloc);
+    let Some(runs) = answer(alloc, inner, set, running, request, &mut line) else {
+        return None;
+    };
+    let Some(count) = put_reply(&line, reply) else {
+        return None;
+    };
+    Some(Replied { count, runs })
 }
