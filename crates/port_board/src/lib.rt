@@ -16,3 +16,4 @@ pub use file_board::FileBoard;
 pub use file_port::FilePort;
 pub use port::{Port, PortFail};
 pub use port_board::PortBoard;
+pub use rig_port::RigPort;

@@ -7,7 +7,7 @@ ghost use Rattle.config_set.specs.Configuration.{Configuration, cleared};
 ghost use Rattle.tm_outside.specs.Counts.{Rose};
 ghost use Rattle.rig.specs.Rig.{shape_of, config_of, cycles_of};
 ghost use Rattle.board_rig.specs.Device.{WhereTold};
-ghost use Rattle.port_board.specs.Lines.{line_of, counts_line, word_room};
+ghost use Rattle.port_board.specs.Lines.{AreCounts, line_of, counts_line, word_room};
 ghost use Rattle.std.specs.Vec.{vec_capacity};
 ghost use Rattle.port_board.specs.Requests.{IsEditOf, edit_text, edits_text, drives_text, attach_line, load_line, AreDrivesOf, edited, edited_by};
 ghost use Rattle.port_board.specs.Answers.{Answers};
@@ -16,15 +16,48 @@ ghost use Rattle.port_board.specs.RigPorts.{edit_of, edits_of, wanted_line, IsWa
 ghost use Rattle.port_board.specs.RigPorts.{rig_device, IsDriven, IsAnswered, start_from};
 
 use crate::port::{Port, PortFail};
+use crate::port_board::is_line;
 use crate::spelling::{put_counts, put_drives, put_readings, put_setting, put_sum, put_word};
 use crate::turn::read_pins;
 use crate::wanted::{Change, Wanted};
 use config_set::{Config, Setting};
 use hierarchy::{Cross, Shape, Table};
 use numerals::read_number;
-use rig::{PinBits, Rig};
+use rig::{AttachFail, PinBits, Rig};
 use std::alloc::{AllocError, Global};
 use std::marker::Model;
+
+/// A rig of a shape as the other end of a port: it takes the four requests, and tells the machine that its rig tells.
+///
+/// What it answers comes from loads and cycles of its rig. A request that isn't spelled, byte by byte, as one of the four fails, and
+/// doesn't reach the rig.
+#[derive(Drop)]
+pub struct RigPort<R: Rig> {
+    alloc: Global,
+    inner: R,
+    shape: Shape,
+    // What is set, while the port is open, and whether it was loaded.
+    set: Option<Config>,
+    running: bool,
+    failures: u64,
+}
+
+impl<R: Rig> Model for RigPort<R> {
+    ghost use Rattle.std.specs.Prelude.{option_map, IfSome};
+    ghost use Rattle.port_board.specs.RigPorts.{RigEnd, IsReady};
+
+    ghost Value = { RigEnd R };
+
+    ghost view = { λ p. record {
+      inner = p.inner;
+      shape = p.shape;
+      set = option_map (λ g. g.config) p.set;
+      running = p.running;
+      failures = p.failures;
+    } };
+
+    ghost invariant = { λ p. IfSome p.set (λ g. IsReady p.shape g.config p.running (R.rig_state p.inner)) };
+}
 
 // The bytes from one place to another; none where these aren't places of it.
 fn part(bytes: &[u8], from: usize, to: usize) -> &[u8] {
@@ -434,7 +467,7 @@ fn answer_load<R: Rig>(
 fn is_attach(request: &[u8]) -> bool
     ensures { IsTrue result → request.now ≡ attach_line }
 {
-    request == b"a*61\n".as_slice()
+    is_line(request, b"a*61\n".as_slice())
 }
 
 // Clears what is set, and says what the machine is. False where memory is wanting.
@@ -521,6 +554,7 @@ fn answer<R: Rig>(
 }
 
 // What came to the front of a reply, and whether something runs then.
+#[derive(Clone, Copy)]
 struct Replied {
     count: usize,
     runs: bool,
@@ -567,4 +601,105 @@ fn reply_to<R: Rig>(
         return None;
     };
     Some(Replied { count, runs })
+}
+
+// A machine of this shape with nothing set.
+fn fresh_of(alloc: Global, shape: Shape) -> Result<Config, AllocError>
+    ensures right { OnOk result (AreCounts shape.counts) }
+    ensures cleared { IfOk result (λ g. g.config ≡ cleared shape) }
+{
+    // Its counts are what a machine may have.
+    let mut line = Vec::new(alloc);
+    put_counts(&mut line, shape.counts())?;
+    Config::with_room(alloc, shape, 0)
+}
+
+impl<R: Rig> RigPort<R> {
+    /// A port that isn't open, to this rig as a machine of this shape.
+    pub fn new(alloc: Global, inner: R, shape: Shape) -> Self
+        ensures { result ≡ record { inner = inner; shape = shape; set = None; running = false; failures = 0 } }
+    {
+        RigPort {
+            alloc,
+            inner,
+            shape,
+            set: None,
+            running: false,
+            failures: 0,
+        }
+    }
+}
+
+impl<R: Rig> Port for RigPort<R> {
+    ghost port_state = { λ p. rig_port_state (R.rig_state p.inner) p };
+
+    /// Attaches its shape under this name to the rig.
+    fn open(&mut self, name: &str) -> Result<(), PortFail>
+        ensures later { (⟦<RigPort<R> as Port>⟧.port_state self.old).failures ≤ (⟦<RigPort<R> as Port>⟧.port_state self.new).failures }
+        ensures count { (⟦<RigPort<R> as Port>⟧.port_state self.new).failures < 2 ^ 64 }
+        ensures opens { OnOk result (Opens (⟦<RigPort<R> as Port>⟧.port_state self.new)) }
+        ensures closed { OnErr result ((⟦<RigPort<R> as Port>⟧.port_state self.new).is_open ≡ false) }
+        ensures refused { IsErrOf result PortFail.Failed → Rose (⟦<RigPort<R> as Port>⟧.port_state self.old).failures
+            (⟦<RigPort<R> as Port>⟧.port_state self.new).failures }
+        ensures shape { self.new.shape ≡ self.old.shape }
+    {
+        self.set = None;
+        self.running = false;
+        let Ok(set) = fresh_of(self.alloc, self.shape) else {
+            return Err(PortFail::Memory);
+        };
+        match self.inner.attach(&self.shape, name) {
+            Ok(()) => {
+                self.set = Some(set);
+                Ok(())
+            }
+            Err(AttachFail::Memory) => Err(PortFail::Memory),
+            Err(_) => {
+                self.failures = self.failures.saturating_add(1);
+                Err(PortFail::Failed)
+            }
+        }
+    }
+
+    /// Answers from its rig. What its rig fails in, and want of memory, is `Failed`.
+    fn ask(&mut self, request: &[u8], reply: &mut [u8]) -> Result<usize, PortFail>
+        requires { (⟦<RigPort<R> as Port>⟧.port_state self.old).is_open ≡ true }
+
+        ensures machine { machine_told (⟦<RigPort<R> as Port>⟧.port_state self.new)
+            ≡ machine_told (⟦<RigPort<R> as Port>⟧.port_state self.old) }
+        ensures later { (⟦<RigPort<R> as Port>⟧.port_state self.old).failures ≤ (⟦<RigPort<R> as Port>⟧.port_state self.new).failures }
+        ensures count { (⟦<RigPort<R> as Port>⟧.port_state self.new).failures < 2 ^ 64 }
+        ensures length { length reply.new ≡ length reply.old }
+        ensures within { IfOk result (λ n. n ≤ length reply.new) }
+        ensures stays { OnOk result ((⟦<RigPort<R> as Port>⟧.port_state self.new).is_open ≡ true) }
+        ensures told { IfOk result (λ n. WhereTold (λ d e. Answers d request.now (take n reply.new) e)
+            (⟦<RigPort<R> as Port>⟧.port_state self.old).device (⟦<RigPort<R> as Port>⟧.port_state self.new).device) }
+        ensures closed { OnErr result ((⟦<RigPort<R> as Port>⟧.port_state self.new).is_open ≡ false) }
+        ensures refused { IfErr result (λ e. AskFails e (⟦<RigPort<R> as Port>⟧.port_state self.old)
+            (⟦<RigPort<R> as Port>⟧.port_state self.new)) }
+        ensures shape { self.new.shape ≡ self.old.shape }
+    {
+        let Some(mut set) = self.set.take() else {
+            unreachable!()
+        };
+        let running = self.running;
+        match reply_to(
+            self.alloc,
+            &mut self.inner,
+            &mut set,
+            running,
+            request,
+            reply,
+        ) {
+            Some(replied) => {
+                self.running = replied.runs;
+                self.set = Some(set);
+                Ok(replied.count)
+            }
+            None => {
+                self.failures = self.failures.saturating_add(1);
+                Err(PortFail::Failed)
+            }
+        }
+    }
 }

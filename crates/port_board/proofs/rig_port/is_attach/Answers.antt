@@ -8,4 +8,4 @@ unfolding encode_with
 spelled = refl
 
 pub returns : goal.returns
-returns c = ?
+returns c = λ same. c.is_line.ensures.right same ∙ c.as_slice.ensures ∙ spelled
