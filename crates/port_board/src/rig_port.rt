@@ -48,6 +48,11 @@ impl<R: Rig> Model for RigPort<R> {
 
     ghost Value = { RigEnd R };
 
+    ghost use Rattle.std.specs.Coded.{codes};
+    ghost use Rattle.config_set.specs.Configuration.{coded_configuration};
+
+    ghost coded = { Prim.hlevel (codes, coded_configuration) };
+
     ghost view = { λ p. record {
       inner = p.inner;
       shape = p.shape;
