@@ -5,7 +5,7 @@ ghost use Rattle.std.specs.List.{sum_by};
 ghost use Rattle.hierarchy.specs.Shape.{pins_of, crosses_of, tables_of};
 ghost use Rattle.config_set.specs.Configuration.{Configuration, cleared};
 ghost use Rattle.tm_outside.specs.Counts.{Rose};
-ghost use Rattle.rig.specs.Rig.{shape_of, config_of, cycles_of};
+ghost use Rattle.rig.specs.Rig.{Attaches, shape_of, config_of, cycles_of};
 ghost use Rattle.board_rig.specs.Device.{WhereTold};
 ghost use Rattle.port_board.specs.Lines.{AreCounts, line_of, counts_line, word_room};
 ghost use Rattle.std.specs.Vec.{vec_capacity};
@@ -521,22 +521,35 @@ fn answer_wanted<R: Rig>(
     None
 }
 
+// Whether something runs, and how many bytes a reply has room for.
+#[derive(Clone, Copy)]
+struct Standing {
+    running: bool,
+    room: usize,
+}
+
+// Whether there is room for a line of so many readings.
+fn has_room(room: usize, pins: u32, count: usize) -> bool {
+    let word = pins.div_ceil(8) as usize * 2 + 1;
+    count.saturating_mul(word).saturating_add(4) <= room
+}
+
 // Answers a request, byte by byte spelled as the four forms are, and says whether something runs then. None where it isn't so spelled,
 // or that fails; what isn't so spelled doesn't reach the rig.
 fn answer<R: Rig>(
     alloc: Global,
     inner: &mut R,
     set: &mut Config,
-    running: bool,
+    standing: Standing,
     request: &[u8],
     line: &mut Vec<u8>,
 ) -> Option<bool>
-    requires ready { IsReady set.old.config.shape set.old.config running (R.rig_state inner.old) }
+    requires ready { IsReady set.old.config.shape set.old.config standing.running (R.rig_state inner.old) }
     requires empty { line.old.items ≡ [] }
 
     ensures machine { (R.rig_state inner.new).machine ≡ (R.rig_state inner.old).machine }
     ensures ready { IfSome result (λ runs. IsReady set.old.config.shape set.new.config runs (R.rig_state inner.new)) }
-    ensures told { IfSome result (λ runs. IsAnswered set.old.config.shape request.now line.new.items set.old.config running
+    ensures told { IfSome result (λ runs. IsAnswered set.old.config.shape request.now line.new.items set.old.config standing.running
         (R.rig_state inner.old) set.new.config runs (R.rig_state inner.new)) }
 {
     if is_attach(request) {
@@ -555,7 +568,10 @@ fn answer<R: Rig>(
     if !is {
         return None;
     }
-    answer_wanted(alloc, inner, set, running, &wanted, line)
+    if !has_room(standing.room, shape.pins(), wanted.drives.len()) {
+        return None;
+    }
+    answer_wanted(alloc, inner, set, standing.running, &wanted, line)
 }
 
 // What came to the front of a reply, and whether something runs then.
@@ -599,7 +615,11 @@ fn reply_to<R: Rig>(
         (R.rig_state inner.old) set.new.config r.runs (R.rig_state inner.new)) }
 {
     let mut line = Vec::new(alloc);
-    let Some(runs) = answer(alloc, inner, set, running, request, &mut line) else {
+    let standing = Standing {
+        running,
+        room: reply.len(),
+    };
+    let Some(runs) = answer(alloc, inner, set, standing, request, &mut line) else {
         return None;
     };
     let Some(count) = put_reply(&line, reply) else {
@@ -638,7 +658,7 @@ impl<R: Rig> RigPort<R> {
 impl<R: Rig> Port for RigPort<R> {
     ghost port_state = { λ p. rig_port_state (R.rig_state p.inner) p };
 
-    /// Attaches its shape under this name to the rig.
+    /// Attaches its shape under this whole name to the rig.
     fn open(&mut self, name: &str) -> Result<(), PortFail>
         ensures later { (⟦<RigPort<R> as Port>⟧.port_state self.old).failures ≤ (⟦<RigPort<R> as Port>⟧.port_state self.new).failures }
         ensures count { (⟦<RigPort<R> as Port>⟧.port_state self.new).failures < 2 ^ 64 }
@@ -647,6 +667,8 @@ impl<R: Rig> Port for RigPort<R> {
         ensures refused { IsErrOf result PortFail.Failed → Rose (⟦<RigPort<R> as Port>⟧.port_state self.old).failures
             (⟦<RigPort<R> as Port>⟧.port_state self.new).failures }
         ensures shape { self.new.shape ≡ self.old.shape }
+        ensures attached { OnOk result (Attaches (record { shape = self.old.shape; name = name.now }) (R.rig_state self.old.inner)
+            (R.rig_state self.new.inner)) }
     {
         self.set = None;
         self.running = false;
