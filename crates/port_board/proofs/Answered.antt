@@ -16,7 +16,7 @@ use Rattle.port_board.specs.Requests.{Edit, edited, IsEditOf, AreDrivesOf, attac
 use Rattle.port_board.specs.Answers.{Answers, Reads, IsFresh, Loads, Drives, start_of}
 use Rattle.port_board.specs.declared.wanted.Change.{Change}
 use Rattle.port_board.specs.declared.wanted.Wanted.{Wanted}
-use Rattle.port_board.specs.RigPorts.{edit_of, edits_of, wanted_line, rig_device, IsDriven, IsAnswered, IsReady, start_from}
+use Rattle.port_board.specs.RigPorts.{IsNoRequest, IsWantedOf, edit_of, edits_of, wanted_line, rig_device, IsDriven, IsAnswered, IsReady, start_from}
 use Rattle.port_board.proofs.Requested.{AreEditsOf, IsSameLoad, attach_no_load, attach_no_drives, load_no_drives, one_load, one_drives_line}
 
 -- an answer to one form is an answer
@@ -190,3 +190,13 @@ ready_on m g old new cs ds line running runs ready machine driven = by_config (c
   by_config (Some k) at is =
       let same : k.shape ≡ m = let c : Some k.shape ≡ Some m = is in cc in
       ready_driven m g cs ds line old new ready.attached ready.shape machine k same (driven k at)
+
+-- what is asked is a request
+pub no_wanted : (m k : Shape) (w : Wanted) (request : List ℕ) → k ≡ m → IsWantedOf k w → request ≡ wanted_line w → IsNoRequest m request → ⊥
+no_wanted m k w request shape right is none = by_loads w.loads refl where
+  wanted : IsWantedOf m w
+  wanted = subst (λ s. IsWantedOf s w) shape right
+
+  by_loads : (b : Bool) → w.loads ≡ b → ⊥
+  by_loads true at = none.load w.anew (edits_of w.changes.items) w.drives.items (edits_all m w.changes.items wanted.edits) wanted.drives (is ∙ line_loads w at)
+  by_loads false at = none.drives w.drives.items wanted.drives (is ∙ line_drives w at)

@@ -9,7 +9,7 @@ use Rattle.rig.specs.Rig.{RigState, Exchange, shape_of, config_of, cycles_of, dr
 use Rattle.board_rig.specs.Device.{Device, WhereTold}
 use Rattle.port_board.specs.Answers.{Answers}
 use Rattle.port_board.specs.Lines.{reading_line}
-use Rattle.port_board.specs.Requests.{Edit, Close, Open, On, Off, Tick, IsEditOf, AreDrivesOf, load_line, drives_line}
+use Rattle.port_board.specs.Requests.{Edit, Close, Open, On, Off, Tick, IsEditOf, AreDrivesOf, attach_line, load_line, drives_line}
 use Rattle.port_board.specs.Ports.{PortState}
 use Rattle.port_board.specs.declared.wanted.Change.{Change}
 use Rattle.port_board.specs.declared.wanted.Change.TheVariants as change
@@ -82,3 +82,10 @@ start_from false g = g
 abbrev pub IsAnswered : Shape → List ℕ → List ℕ → Configuration → Bool → RigState → Configuration → Bool → RigState → Type 0
 IsAnswered m request line g running old h runs new =
     WhereTold (λ d e. Answers d request line e) (rig_device m g running old) (rig_device m h runs new)
+
+-- it is none of the four requests of a machine of this shape
+pub record IsNoRequest (m : Shape) (request : List ℕ) : Type 0 where
+  pub attach : request ≡ attach_line → ⊥
+  pub load : (anew : Bool) (edits : List Edit) (drives : List Pins) → All (IsEditOf m) edits → AreDrivesOf m drives →
+      request ≡ load_line anew edits drives → ⊥
+  pub drives : (drives : List Pins) → AreDrivesOf m drives → request ≡ drives_line drives → ⊥

@@ -13,7 +13,7 @@ ghost use Rattle.port_board.specs.Requests.{IsEditOf, edit_text, edits_text, dri
 ghost use Rattle.port_board.specs.Answers.{Answers};
 ghost use Rattle.port_board.specs.Ports.{machine_told, Opens, AskFails};
 ghost use Rattle.port_board.specs.RigPorts.{edit_of, edits_of, wanted_line, IsWantedOf, rig_port_state, IsReady};
-ghost use Rattle.port_board.specs.RigPorts.{rig_device, IsDriven, IsAnswered, start_from};
+ghost use Rattle.port_board.specs.RigPorts.{IsNoRequest, rig_device, IsDriven, IsAnswered, start_from};
 
 use crate::port::{Port, PortFail};
 use crate::port_board::is_line;
@@ -536,6 +536,7 @@ fn has_room(room: usize, pins: u32, count: usize) -> bool {
 
 // Answers a request, byte by byte spelled as the four forms are, and says whether something runs then. None where it isn't so spelled,
 // or that fails; what isn't so spelled doesn't reach the rig.
+#[tactic(auto, using(crate::proofs::Answered::no_wanted))]
 fn answer<R: Rig>(
     alloc: Global,
     inner: &mut R,
@@ -551,6 +552,8 @@ fn answer<R: Rig>(
     ensures ready { IfSome result (λ runs. IsReady set.old.config.shape set.new.config runs (R.rig_state inner.new)) }
     ensures told { IfSome result (λ runs. IsAnswered set.old.config.shape request.now line.new.items set.old.config standing.running
         (R.rig_state inner.old) set.new.config runs (R.rig_state inner.new)) }
+    ensures unreached { IsNoRequest set.old.config.shape request.now → R.rig_state inner.new ≡ R.rig_state inner.old }
+    ensures other { IfSome result (λ _. IsNoRequest set.old.config.shape request.now → ⊥) }
 {
     if is_attach(request) {
         if answer_attach(set, line) {
@@ -613,6 +616,8 @@ fn reply_to<R: Rig>(
     ensures ready { IfSome result (λ r. IsReady set.old.config.shape set.new.config r.runs (R.rig_state inner.new)) }
     ensures told { IfSome result (λ r. IsAnswered set.old.config.shape request.now (take r.count reply.new) set.old.config running
         (R.rig_state inner.old) set.new.config r.runs (R.rig_state inner.new)) }
+    ensures unreached { IsNoRequest set.old.config.shape request.now → R.rig_state inner.new ≡ R.rig_state inner.old }
+    ensures other { IfSome result (λ _. IsNoRequest set.old.config.shape request.now → ⊥) }
 {
     let mut line = Vec::new(alloc);
     let standing = Standing {
@@ -688,7 +693,8 @@ impl<R: Rig> Port for RigPort<R> {
         }
     }
 
-    /// Answers from its rig. What its rig fails in, and want of memory, is `Failed`.
+    /// Answers from its rig. What its rig fails in, and want of memory, is `Failed`. So is what is none of the four requests, or a
+    /// `reply` without room for the line; neither reaches its rig.
     fn ask(&mut self, request: &[u8], reply: &mut [u8]) -> Result<usize, PortFail>
         requires { (⟦<RigPort<R> as Port>⟧.port_state self.old).is_open ≡ true }
 
@@ -705,6 +711,8 @@ impl<R: Rig> Port for RigPort<R> {
         ensures refused { IfErr result (λ e. AskFails e (⟦<RigPort<R> as Port>⟧.port_state self.old)
             (⟦<RigPort<R> as Port>⟧.port_state self.new)) }
         ensures shape { self.new.shape ≡ self.old.shape }
+        ensures unreached { IsNoRequest self.old.shape request.now → R.rig_state self.new.inner ≡ R.rig_state self.old.inner }
+        ensures other { IfOk result (λ _. IsNoRequest self.old.shape request.now → ⊥) }
     {
         let Some(mut set) = self.set.take() else {
             unreachable!()

@@ -1,8 +1,7 @@
-use Rattle.std.proofs.Common.{◌∙◌, [], ap, sym}
+use Rattle.std.proofs.Common.{[], subst}
 use Rattle.hierarchy.specs.Shape.{pins_of}
 use Rattle.rig.specs.Rig.{cycles_of}
 use Rattle.port_board.specs.RigPorts.{IsDriven}
-use Rattle.std.proofs.Common.{subst}
 use Rattle.port_board.proofs.Answered.{first_driven}
 use Rattle.port_board.proofs.rig_port.load_and_drive.Goals as goal
 
