@@ -1,9 +1,11 @@
 mod Alarm
+mod Answered
 mod Closings
 mod Edited
 mod Held
 mod OneMachine
 mod Readings
+mod Requested
 mod Room
 mod Settings
 mod Spelled

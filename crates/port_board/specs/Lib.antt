@@ -7,3 +7,4 @@ pub mod Linked
 pub mod Lines
 pub mod Ports
 pub mod Requests
+pub mod RigPorts

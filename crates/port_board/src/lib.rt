@@ -7,10 +7,13 @@ mod file_port;
 mod link;
 mod port;
 mod port_board;
+mod rig_port;
 mod spelling;
 mod turn;
+mod wanted;
 
 pub use file_board::FileBoard;
 pub use file_port::FilePort;
 pub use port::{Port, PortFail};
 pub use port_board::PortBoard;
+pub use rig_port::RigPort;

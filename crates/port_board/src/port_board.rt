@@ -102,8 +102,8 @@ fn put_attach(line: &mut Vec<u8>, expected: &mut Vec<u8>, shape: &Shape) -> Resu
     Ok(())
 }
 
-// Whether a line is another, byte by byte.
-fn is_line(reply: &[u8], expected: &[u8]) -> bool
+/// Whether a line is another, byte by byte.
+pub fn is_line(reply: &[u8], expected: &[u8]) -> bool
     ensures right { IsTrue result → reply.now ≡ expected.now }
     ensures wrong { result ≡ false → reply.now ≡ expected.now → ⊥ }
 {

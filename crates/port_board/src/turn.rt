@@ -90,7 +90,7 @@ fn bit_in(octet: u8, place: u32) -> bool
 }
 
 // Reads pins from the text of them that begins at a place. What isn't such a text gives any bits.
-fn read_pins(reply: &[u8], at: usize, read: &mut PinBits)
+pub fn read_pins(reply: &[u8], at: usize, read: &mut PinBits)
     requires { at ≤ 2 ^ 63 }
 
     ensures length { length read.new ≡ length read.old }
