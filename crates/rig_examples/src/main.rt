@@ -9,7 +9,8 @@ ghost use Rattle.std.specs.Prelude.{◌≡◌, None, IfOk};
 use board_rig::BoardRig;
 use cycle_sim::SimRig;
 use doubled_rig::{RepeatRig, TwinRig};
-use port_board::FileBoard;
+use hierarchy::{Counts, Shape};
+use port_board::{FileBoard, PortBoard, RigPort};
 use rig::Rig;
 use std::alloc::Global;
 use std::process::ExitCode;
@@ -27,6 +28,17 @@ const FAULTS: [(&str, &str); 5] = [
     ("stuck", "stuck0 r.l0\n"),
     ("wrong", "stuck2 r.l0\n"),
 ];
+
+/// The counts of the machine `tiny`.
+const TINY: Counts = Counts {
+    modules: 1,
+    chips: 1,
+    hextants: 1,
+    tables: 2,
+    ports: [4, 4, 4],
+    lines: [4, 4, 4, 4],
+    pins: 4,
+};
 
 // A simulated rig, in no session.
 fn sim_of(alloc: Global) -> io::Result<SimRig<MemoryStore>>
@@ -84,6 +96,21 @@ fn try_port(rt: &HostRuntime, words: &[String]) -> io::Result<bool> {
     Ok(true)
 }
 
+// Over a simulated rig that answers requests: a machine of the counts of `tiny` behind a port.
+fn try_end(rt: &HostRuntime, words: &[String]) -> io::Result<bool> {
+    let alloc: Global = rt.alloc();
+    let Ok(shape) = Shape::new(TINY) else {
+        return Ok(false);
+    };
+    let board = PortBoard::new(alloc, RigPort::new(alloc, sim_of(alloc)?, shape));
+    let mut store = FileStore::new(alloc, rt.clone()?);
+    let mut sink = StdSink::new(rt.clone()?);
+    let mut rig: Box<dyn Rig> = Box::new(alloc, BoardRig::new(alloc, board))?;
+    let status = teramac(alloc, words, &mut store, &mut rig, &mut sink);
+    println!(rt; "status {status}")?;
+    Ok(true)
+}
+
 // Tries a case; false where it says none.
 fn try_line(rt: &HostRuntime, line: &str) -> io::Result<bool> {
     let alloc: Global = rt.alloc();
@@ -100,6 +127,7 @@ fn try_line(rt: &HostRuntime, line: &str) -> io::Result<bool> {
         ),
         [kind, name, words @ ..] if kind.as_str() == "twin" => try_twin(rt, name.as_str(), words),
         [kind, words @ ..] if kind.as_str() == "port" => try_port(rt, words),
+        [kind, words @ ..] if kind.as_str() == "end" => try_end(rt, words),
         _ => Ok(false),
     }
 }
