@@ -19,11 +19,12 @@ use Rattle.port_board.specs.Lines.{numbers_of, AreCounts, counts_line}
 use Rattle.port_board.proofs.Spelled.{led}
 use Rattle.port_board.proofs.Readings.{sealed, at_end}
 
-abbrev AreDigits : List ℕ → Type 0
+-- a numeral ends where what isn't a digit begins
+abbrev pub AreDigits : List ℕ → Type 0
 AreDigits [] = Unit {0}
 AreDigits (c ∷ cs) = (48 ≤ c) × AreDigits cs
 
-abbrev BeginsLow : List ℕ → Type 0
+abbrev pub BeginsLow : List ℕ → Type 0
 BeginsLow [] = ⊥
 BeginsLow (c ∷ cs) = c < 48
 
@@ -31,11 +32,11 @@ mapped : (ds : List ℕ) → AreDigits (map (λ d. 48 + d) ds)
 mapped [] = tt
 mapped (d ∷ ds) = (let h : 48 ≤ 48 + d = omega arith in h, mapped ds)
 
-digits : (n : ℕ) → n < 2 ^ 64 → AreDigits (decimal n)
+pub digits : (n : ℕ) → n < 2 ^ 64 → AreDigits (decimal n)
 digits zero h = subst AreDigits (sym (decimal_digit zero (omega arith))) (omega arith, tt)
 digits (suc n) h = subst AreDigits (sym (decimal-digits_of (suc n) (omega arith) h)) (mapped (digits_of 10 (suc n)))
 
-cut_low : (a b r q : List ℕ) → AreDigits a → AreDigits b → BeginsLow r → BeginsLow q → a ++ r ≡ b ++ q → (a ≡ b) × (r ≡ q)
+pub cut_low : (a b r q : List ℕ) → AreDigits a → AreDigits b → BeginsLow r → BeginsLow q → a ++ r ≡ b ++ q → (a ≡ b) × (r ≡ q)
 cut_low [] [] r q da db lr lq e = (refl, e)
 cut_low [] (y ∷ b) r q da db lr lq e = absurd (let low : BeginsLow (y ∷ b ++ q) = subst BeginsLow e lr in let high = db.0 in omega (arith, low, high))
 cut_low (x ∷ a) [] r q da db lr lq e = absurd (let low : BeginsLow (x ∷ a ++ r) = subst BeginsLow (sym e) lq in let high = da.0 in omega (arith, low, high))

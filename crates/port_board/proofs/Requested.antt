@@ -1,12 +1,11 @@
 -- A line of a request is that of one request.
 use Rattle.std.proofs.Common.{◌≡◌, ℕ, suc, zero, ◌+◌, ◌*◌, ◌%◌, ◌^◌, ◌<◌, ◌≤◌, Bool, true, false, List, [], ◌∷◌, ◌++◌, length, map, drop, get_or, All, refl, sym, ap, ◌∙◌, arith, subst}
 use Rattle.std.proofs.lemmas.List.{append_assoc}
-use Rattle.std.proofs.lemmas.Fmt.{decimal_injective, decimal_digit, decimal-digits_of}
+use Rattle.std.proofs.lemmas.Fmt.{decimal_injective}
 use Rattle.std.proofs.lemmas.Nat.{from_be_bytes-to_be_bytes_8}
 use Rattle.std.specs.Prelude.{flat_map, sum, decimal, Ok}
 use Rattle.std.specs.List.{join_by}
 use Rattle.std.specs.Int.{byte_at, bytes_high_first, to_be_bytes, from_be_bytes, w64, div_ceil}
-use Rattle.std.specs.Int.Digits.{digits_of}
 use Rattle.hex.specs.Hex.{encode_lower, decode_of, lower_digits, IsBytes}
 use Rattle.hex.proofs.HexLemmas.{decode_of-encode_lower, length-encode_with}
 use Rattle.hierarchy.specs.declared.Shape.{Shape}
@@ -17,34 +16,8 @@ use Rattle.port_board.specs.Lines.{line_of, pin_bit, pin_text}
 use Rattle.port_board.specs.Requests.{Edit, Close, Open, On, Off, Tick, IsEditOf, flag_digit, edit_text, edits_text, drives_text, AreDrivesOf, start_text, attach_line, load_line, drives_line}
 use Rattle.port_board.proofs.Spelled.{led}
 use Rattle.port_board.proofs.Settings.{same_setting}
+use Rattle.port_board.proofs.OneMachine.{BeginsLow, digits, cut_low}
 use Rattle.port_board.proofs.Readings.{sealed, at_end, one_text, length_text, AreOf}
-
--- a numeral ends where what isn't a digit begins
-abbrev AreDigits : List ℕ → Type 0
-AreDigits [] = Unit {0}
-AreDigits (c ∷ cs) = (48 ≤ c) × AreDigits cs
-
-abbrev BeginsLow : List ℕ → Type 0
-BeginsLow [] = ⊥
-BeginsLow (c ∷ cs) = c < 48
-
-mapped : (ds : List ℕ) → AreDigits (map (λ d. 48 + d) ds)
-mapped [] = tt
-mapped (d ∷ ds) = (let h : 48 ≤ 48 + d = omega arith in h, mapped ds)
-
-digits : (n : ℕ) → n < 2 ^ 64 → AreDigits (decimal n)
-digits zero h = subst AreDigits (sym (decimal_digit zero (omega arith))) (omega arith, tt)
-digits (suc n) h = subst AreDigits (sym (decimal-digits_of (suc n) (omega arith) h)) (mapped (digits_of 10 (suc n)))
-
-cut_low : (a b r q : List ℕ) → AreDigits a → AreDigits b → BeginsLow r → BeginsLow q → a ++ r ≡ b ++ q → (a ≡ b) × (r ≡ q)
-cut_low [] [] r q da db lr lq e = (refl, e)
-cut_low [] (y ∷ b) r q da db lr lq e = absurd (let low : BeginsLow (y ∷ b ++ q) = subst BeginsLow e lr in let high = db.0 in omega (arith, low, high))
-cut_low (x ∷ a) [] r q da db lr lq e = absurd (let low : BeginsLow (x ∷ a ++ r) = subst BeginsLow (sym e) lq in let high = da.0 in omega (arith, low, high))
-cut_low (x ∷ a) (y ∷ b) r q da db lr lq e =
-    let heads : x ≡ y = cc in
-    let tails : a ++ r ≡ b ++ q = cc in
-    let more = cut_low a b r q da.1 db.1 lr lq tails in
-    (ap (λ z. z ∷ a) heads ∙ ap (λ l. y ∷ l) more.0, more.1)
 
 -- one number stands before others
 numeral : (m n : ℕ) (r q : List ℕ) → m < 2 ^ 64 → n < 2 ^ 64 → BeginsLow r → BeginsLow q → decimal m ++ r ≡ decimal n ++ q → (m ≡ n) × (r ≡ q)
