@@ -9,7 +9,6 @@ pub mod Merging
 pub mod Joining
 pub mod Compacting
 pub mod Merges
--- Tables that are put into all their readers
 -- For the bodies of this crate
 pub mod Levels
 pub mod Cells
