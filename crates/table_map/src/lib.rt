@@ -34,6 +34,8 @@ mod want;
 mod work;
 
 pub use build::plain;
+pub use compact::renamed_table;
+pub use copying::copied_network;
 pub use longest::depth;
 pub use merge::{merged, merged_of};
 pub use network::{NetTable, Network};
