@@ -24,7 +24,7 @@ mod word_truth;
 
 pub use checks::check;
 pub use draft::{Cover, Cube, Draft, LatchDef, Lit, Name, PortDef};
-pub use drives::{first_doubled, first_words};
+pub use drives::{drives_of, first_doubled, first_words};
 pub use eval::truth_of;
 pub use fault::{DesignFault, DesignKind};
 pub use groups::groups_of;

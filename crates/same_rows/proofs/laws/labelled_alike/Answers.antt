@@ -1,0 +1,4 @@
+use Rattle.same_rows.proofs.laws.labelled_alike.Goals as goal
+
+pub returns : goal.returns
+returns = ?
