@@ -78,7 +78,11 @@ module _ (g : Graph) (state vector : List Bool) (sized : length state ≡ length
   }
 
   pub input_bit : (k : ℕ) → k < length vector → bit_of (node_bits g state vector) (1 + k) ≡ get_or vector k false
-  input_bit k lk = ands_keep g.ands (false ∷ (vector ++ state)) (1 + k) (omega (arith, length-append vector state)) ∙ get_or_append_left vector state false k lk
+  input_bit k lk =
+      let at : 1 + k ≡ suc k = omega arith in
+      ap (bit_of (node_bits g state vector)) at
+      ∙ ands_keep g.ands (false ∷ (vector ++ state)) (suc k) (omega (arith, length-append vector state))
+      ∙ get_or_append_left vector state false k lk
 
   pub latch_bit : (k : ℕ) → k < length state → bit_of (node_bits g state vector) (first_latch g + k) ≡ get_or state k false
   latch_bit k lk =
