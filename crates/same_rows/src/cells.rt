@@ -9,6 +9,9 @@ use std::alloc::{AllocError, Global};
 /// How many ANDs the walk to the output looks at.
 const WALK: u32 = 4_000;
 
+/// How far apart lanes are that differ in a pin alone.
+const FAR: [u32; 6] = [1, 2, 4, 8, 16, 32];
+
 /// The first input of the node.
 fn first_of(ins: &[u32], node: u32) -> Option<u32> {
     'ins: for k in 0..ins.len() {
@@ -39,8 +42,9 @@ fn turned(word: u64, pin: usize) -> u64 {
         return word;
     }
     let mask = lane_pin(pin);
-    let far = 1u32 << pin;
-    ((word & mask) >> far) | ((word & !mask) << far)
+    let down = word & mask;
+    let up = word & !mask;
+    down.checked_shr(FAR[pin]).unwrap_or(0) | up.checked_shl(FAR[pin]).unwrap_or(0)
 }
 
 /// The word by the inputs' own bits in place of those of their nodes.

@@ -64,7 +64,7 @@ fn is_met_by(
     ensures signals { length signals.new.items ≡ length signals.old.items }
     ensures met { IsTrue result → (g : Graph) (labels : List ℕ) → IsPlan g labels cover.now plan.now → IsMet g labels cover.now }
 {
-    let count = pass_count(plan.pins.len());
+    let count = pass_count(plan.pins.as_slice().len());
     'passes: for pass in 0..count {
         if !is_met_in(cover, plan, pass, words, signals) {
             return false;
