@@ -74,12 +74,16 @@ some_lane g pins bits valued =
     let low : ℕ → Bool = (λ p. bits (number_at pins p)) in
     let high : ℕ → Bool = (λ p. bits (number_at pins (p + 6))) in
     let lane : ℕ = spelled_by low 6 in
-    let pass : ℕ = spelled_by high (length pins - 6) in
-    (pass, spelled_fits (length pins - 6) high, lane, record {
-      valued = valued;
-      within = lane_below low;
-      spelled = λ pin lp. by pin lp low high lane pass (λ p l. spelled_bit 6 low p l) (λ p l. spelled_bit (length pins - 6) high p l) refl refl (cases_lt pin 6);
-    })
+    let pass : ℕ = spelled_by high (length pins - 6) in (
+      pass,
+      spelled_fits (length pins - 6) high,
+      lane,
+      record {
+        valued = valued;
+        within = lane_below low;
+        spelled = λ pin lp. by pin lp low high lane pass (λ p l. spelled_bit 6 low p l) (λ p l. spelled_bit (length pins - 6) high p l) refl refl (cases_lt pin 6);
+      },
+    )
   where
     by : (pin : ℕ) → pin < length pins → (low high : ℕ → Bool) (lane pass : ℕ)
         → ((p : ℕ) → p < 6 → is_bit lane p ≡ low p) → ((p : ℕ) → p < length pins - 6 → is_bit pass p ≡ high p)

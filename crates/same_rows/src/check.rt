@@ -66,7 +66,13 @@ fn is_labelled_by(
     if !have_zeros(alloc, draft, labels)? {
         return Ok(false);
     }
-    are_met(alloc, graph, labels, draft.covers.as_slice(), draft.names.len())
+    are_met(
+        alloc,
+        graph,
+        labels,
+        draft.covers.as_slice(),
+        draft.names.len(),
+    )
 }
 
 /// Whether the design is labelled by the graph, with the k-th label at signal k: true says that it is, and false nothing.

@@ -17,6 +17,7 @@ const MOST_LITERALS: u64 = 8_000_000;
 
 /// How many ANDs the walk to the output of a narrow cover looks at, and to that of a wide one.
 const NARROW_WALK: u32 = 4_000;
+
 const WIDE_WALK: u32 = 20_000;
 
 /// How many passes there are for so many pins.
@@ -45,19 +46,19 @@ fn is_met_in(
         → IsMetIn g plan.now.pins.items labels cover.now pass }
 {
     fill_words(plan.steps.as_slice(), pass, words);
-    put_inputs(cover.ins.as_slice(), plan.ins.as_slice(), words.as_slice(), signals);
+    put_inputs(
+        cover.ins.as_slice(),
+        plan.ins.as_slice(),
+        words.as_slice(),
+        signals,
+    );
     let due = cover_word(cover, signals.as_slice());
     let word = literal_word(words.as_slice(), plan.root);
     due == word
 }
 
 /// Whether it has so in all passes.
-fn is_met_by(
-    cover: &Cover,
-    plan: &Plan,
-    words: &mut Vec<u64>,
-    signals: &mut Vec<u64>,
-) -> bool
+fn is_met_by(cover: &Cover, plan: &Plan, words: &mut Vec<u64>, signals: &mut Vec<u64>) -> bool
     requires words { length words.old.items ≡ length plan.now.steps.items }
     requires made { IsCoverOver cover.now (length signals.old.items) }
     requires few { length plan.now.pins.items ≤ 14 }
@@ -86,7 +87,11 @@ fn labels_of(alloc: Global, signals: &[u32], labels: &[u32]) -> Result<Vec<u32>,
 fn is_within_work(cover: &Cover, pins: usize) -> bool {
     let rows = cover.rows.as_slice().len() as u64;
     let ins = cover.ins.as_slice().len() as u64;
-    let passes = if pins <= MOST_PINS { PASSES[pins] } else { u64::MAX };
+    let passes = if pins <= MOST_PINS {
+        PASSES[pins]
+    } else {
+        u64::MAX
+    };
     passes == 1 || rows.saturating_mul(ins).saturating_mul(passes) <= MOST_LITERALS
 }
 
@@ -114,7 +119,15 @@ pub fn is_met(
 {
     let ins = labels_of(alloc, cover.ins.as_slice(), labels)?;
     let root = label_at(labels, cover.out);
-    let Some(plan) = plan_of(alloc, graph, scratch, ins.as_slice(), root, limits_of(ins.len()))? else {
+    let Some(plan) = plan_of(
+        alloc,
+        graph,
+        scratch,
+        ins.as_slice(),
+        root,
+        limits_of(ins.len()),
+    )?
+    else {
         return Ok(false);
     };
     if !is_within_work(cover, plan.pins.len()) {

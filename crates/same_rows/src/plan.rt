@@ -225,7 +225,12 @@ fn put_inputs(
             return Ok(false);
         }
         plan.pins.push(root)?;
-        push_step(plan, scratch, root, Source::Pin(u32::try_from(pin).unwrap_or(0)))?;
+        push_step(
+            plan,
+            scratch,
+            root,
+            Source::Pin(u32::try_from(pin).unwrap_or(0)),
+        )?;
     }
     Ok(true)
 }

@@ -119,7 +119,11 @@ pub fn fill_words(steps: &[Step], pass: u64, words: &mut Vec<u64>)
 fn number_at(numbers: &[u32], place: usize) -> u32
     ensures { result ≡ number_at numbers.now place }
 {
-    if place < numbers.len() { numbers[place] } else { 0 }
+    if place < numbers.len() {
+        numbers[place]
+    } else {
+        0
+    }
 }
 
 /// Gives each signal that is read the word of its label, which is that of a step's literal. Takes no memory.
