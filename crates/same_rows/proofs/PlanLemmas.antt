@@ -1,7 +1,7 @@
 -- The words of steps, and the word of a cover.
-use Rattle.std.proofs.Common.{◌≡◌, ◌⊎◌, ℕ, suc, ◌+◌, ◌%◌, ◌<◌, ◌≤◌, ◌&&◌, ◌==◌, Bool, true, false, List, length, get_or, refl, sym, ap, subst, ◌∙◌, inl, inr, arith, get_or-set_same, get_or-set_other}
+use Rattle.std.proofs.Common.{◌≡◌, ◌⊎◌, ℕ, ◌+◌, ◌%◌, ◌<◌, ◌&&◌, ◌==◌, Bool, List, length, sym, ap, subst, ◌∙◌, inl, inr, arith, get_or-set_same, get_or-set_other}
 use Rattle.std.specs.Prelude.{not, if◌then◌else◌, slice_set}
-use Rattle.std.proofs.lemmas.Bool.{cases_lt, cases_eq}
+use Rattle.std.proofs.lemmas.Bool.{cases_eq}
 use Rattle.netlist.specs.declared.draft.Cover.{Cover}
 use Rattle.netlist.specs.Covers.{truth}
 use Rattle.netlist.specs.Lanes.{is_bit, lane_bits}
@@ -14,7 +14,7 @@ use Rattle.same_rows.specs.declared.plan.Source.TheVariants.{Gate}
 use Rattle.same_rows.specs.declared.plan.Step.{Step}
 use Rattle.same_rows.specs.Graphs.{and_at, literal_in, node_of}
 use Rattle.same_rows.specs.Labels.{label_at, signal_bits}
-use Rattle.same_rows.specs.Plans.{step_node, StandsFor, IsGate, IsFrom, AreAt, AreInputs, HaveInputs, HaveWords, IsMetIn, IsPlan}
+use Rattle.same_rows.specs.Plans.{step_node, StandsFor, IsFrom, AreAt, HaveInputs, HaveWords, IsMetIn, IsPlan}
 
 -- the bit of a step's literal
 abbrev pub local_bit : List ℕ → ℕ → ℕ → Bool
