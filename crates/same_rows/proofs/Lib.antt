@@ -4,3 +4,4 @@ mod RowLemmas
 -- Words of nodes.
 mod PinLemmas
 mod PlanLemmas
+mod ProductLemmas

@@ -1,3 +1,4 @@
 pub mod Graphs
 pub mod Labels
 pub mod Plans
+pub mod Products

@@ -9,12 +9,15 @@
 mod cells;
 mod check;
 mod cover;
+mod expand;
 mod graph;
 pub mod laws;
 mod nodes;
 mod plan;
 mod ports;
+mod products;
 mod steps;
+mod wide;
 mod words;
 
 pub use cells::cells_at;

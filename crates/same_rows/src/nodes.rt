@@ -1,9 +1,11 @@
 //! Whether lists are a graph.
 
 ghost use Rattle.std.specs.Prelude.{◌≡◌, ◌<◌, ◌≤◌, ◌+◌, ℕ, length, IsTrue};
+ghost use Rattle.std.specs.Option.{ForSome};
 ghost use Rattle.same_rows.specs.Graphs.{IsGraph, and_at, graph_latch_at, first_and, first_latch, node_count, node_of};
+ghost use Rattle.same_rows.specs.Products.{IsAndAt};
 
-use crate::graph::Graph;
+use crate::graph::{And, Graph};
 
 /// The node of the first latch.
 pub fn first_latch(graph: &Graph) -> usize
@@ -77,4 +79,21 @@ pub fn is_graph(graph: &Graph) -> bool
         return false;
     }
     are_ordered(graph)
+}
+
+/// The AND at a node.
+pub fn gate_at(graph: &Graph, node: u32) -> Option<And>
+    ensures { ForSome result (λ gate. (k : ℕ) × IsAndAt graph.now node gate k) }
+{
+    let first = first_and(graph);
+    let ands = graph.ands.as_slice();
+    let node = node as usize;
+    if node < first {
+        return None;
+    }
+    let k = node - first;
+    if k >= ands.len() {
+        return None;
+    }
+    Some(ands[k])
 }

@@ -3,8 +3,8 @@
 //! A node of an input that follows from lower ones of them, by a short walk, has the word that follows; each other one gets a pin
 //! of its own. Walks go down without recursion.
 
-use crate::graph::{And, Graph};
-use crate::nodes::first_and;
+use crate::graph::Graph;
+use crate::nodes::gate_at;
 use std::alloc::{AllocError, Global};
 
 /// How many ANDs a walk to a node of an input looks at.
@@ -70,7 +70,7 @@ impl Scratch {
     }
 
     /// Forgets all places.
-    fn begin(&mut self) {
+    pub fn begin(&mut self) {
         self.turn = self.turn.saturating_add(1);
     }
 
@@ -82,6 +82,11 @@ impl Scratch {
         None
     }
 
+    /// Whether a node has a place.
+    pub fn has(&self, node: u32) -> bool {
+        self.place_of(node).is_some()
+    }
+
     /// The literal of a step that stands for one of the graph.
     fn local_of(&self, literal: u32) -> Option<u32> {
         match self.place_of(literal / 2) {
@@ -90,7 +95,8 @@ impl Scratch {
         }
     }
 
-    fn put(&mut self, node: u32, place: usize) {
+    /// Gives a node a place.
+    pub fn put(&mut self, node: u32, place: usize) {
         let k = node as usize;
         if k < self.turns.len() && k < self.places.len() {
             self.places[k] = u32::try_from(place).unwrap_or(u32::MAX);
@@ -102,13 +108,6 @@ impl Scratch {
         self.waiting.push(node)?;
         Ok(())
     }
-}
-
-/// The AND at a node.
-fn gate_at(graph: &Graph, node: u32) -> Option<And> {
-    let k = (node as usize).checked_sub(first_and(graph))?;
-    let ands = graph.ands.as_slice();
-    if k < ands.len() { Some(ands[k]) } else { None }
 }
 
 /// Adds a step for the node.
