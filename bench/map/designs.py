@@ -12,7 +12,7 @@ def arithmetic():
         yield f"multiplier{n}", module("top", f"input [{n-1}:0] a, b, output [{2*n-1}:0] p", "assign p = a * b;")
     for n in (8, 16):
         yield f"divider{n}", module("top", f"input [{n-1}:0] a, b, output [{n-1}:0] q, r",
-            "assign q = b == 0 ? 0 : a / b; assign r = b == 0 ? a : a % b;")
+            f"wire [{n-1}:0] d = a / b; wire [{n-1}:0] m = a % b; assign q = d & {{{n}{{b != 0}}}}; assign r = b == 0 ? a : m;")
     for n in (16, 64):
         yield f"bits{n}", module("top", f"input [{n-1}:0] a, output reg [7:0] c",
             f"integer i; always @* begin c = 0; for (i = 0; i < {n}; i = i + 1) c = c + a[i]; end")

@@ -205,12 +205,7 @@ impl<'a> Growth<'a> {
 }
 
 /// Seats for covers from the first seat on, and for latches from a seat on.
-pub fn grown(
-    alloc: Global,
-    nets: &Nets,
-    tree: &Tree,
-    room: usize,
-) -> Result<Vec<u32>, AllocError> {
+pub fn grown(alloc: Global, nets: &Nets, tree: &Tree, room: usize) -> Result<Vec<u32>, AllocError> {
     let count = nets.of.len();
     let mut growth = Growth {
         nets,

@@ -26,7 +26,11 @@ pub struct Level {
 // What so many crossings of a node cost: half the square of those above the limit more.
 fn cost_of(crossings: f64, limit: f64) -> i64 {
     let above = crossings - limit;
-    let more = if above > 0.0 { 32.0 * above * above } else { 0.0 };
+    let more = if above > 0.0 {
+        32.0 * above * above
+    } else {
+        0.0
+    };
     saturating_f64_to_i64(64.0 * crossings + more)
 }
 
@@ -132,10 +136,18 @@ impl Level {
         let old = self.counts[place];
         if comes {
             self.counts[place] = old.saturating_add(1);
-            if old == 0 { self.come(net, node, pinned) } else { 0 }
+            if old == 0 {
+                self.come(net, node, pinned)
+            } else {
+                0
+            }
         } else {
             self.counts[place] = old.saturating_sub(1);
-            if old == 1 { self.go(net, node, pinned) } else { 0 }
+            if old == 1 {
+                self.go(net, node, pinned)
+            } else {
+                0
+            }
         }
     }
 }

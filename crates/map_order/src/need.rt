@@ -59,12 +59,7 @@ fn count_net(
 }
 
 /// What the plan needs in which tables have these seats.
-pub fn need_of(
-    alloc: Global,
-    nets: &Nets,
-    tree: &Tree,
-    seats: &[u32],
-) -> Result<Need, AllocError> {
+pub fn need_of(alloc: Global, nets: &Nets, tree: &Tree, seats: &[u32]) -> Result<Need, AllocError> {
     let mut counts = [
         counts_of(alloc, &tree.tiers[0])?,
         counts_of(alloc, &tree.tiers[1])?,
@@ -116,16 +111,30 @@ fn crossbars(nodes: usize, taps: usize, lines: usize) -> u64 {
 fn crosspoints(need: &Need, tree: &Tree, pins: usize) -> u64 {
     let [hextants, chips, modules] = &tree.tiers;
     let taps = [
-        hextants.span.saturating_mul(7).saturating_add(need.ports[0]),
-        chips.children.saturating_mul(need.ports[0]).saturating_add(need.ports[1]),
-        modules.children.saturating_mul(need.ports[1]).saturating_add(need.ports[2]),
-        modules.nodes.saturating_mul(need.ports[2]).saturating_add(pins),
+        hextants
+            .span
+            .saturating_mul(7)
+            .saturating_add(need.ports[0]),
+        chips
+            .children
+            .saturating_mul(need.ports[0])
+            .saturating_add(need.ports[1]),
+        modules
+            .children
+            .saturating_mul(need.ports[1])
+            .saturating_add(need.ports[2]),
+        modules
+            .nodes
+            .saturating_mul(need.ports[2])
+            .saturating_add(pins),
     ];
     let low = crossbars(hextants.nodes, taps[0], need.lines[0]);
     let middle = crossbars(chips.nodes, taps[1], need.lines[1]);
     let high = crossbars(modules.nodes, taps[2], need.lines[2]);
     let root = crossbars(1, taps[3], need.lines[3]);
-    low.saturating_add(middle).saturating_add(high).saturating_add(root)
+    low.saturating_add(middle)
+        .saturating_add(high)
+        .saturating_add(root)
 }
 
 /// How good a plan of these needs is.

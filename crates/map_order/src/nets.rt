@@ -39,7 +39,12 @@ fn no_nets(alloc: Global, count: usize) -> Result<Vec<Net>, AllocError> {
 }
 
 // Puts a table on a net, if it wasn't put there last.
-fn join(nets: &mut Vec<Net>, own: &mut Vec<u32>, signal: u32, table: u32) -> Result<bool, AllocError> {
+fn join(
+    nets: &mut Vec<Net>,
+    own: &mut Vec<u32>,
+    signal: u32,
+    table: u32,
+) -> Result<bool, AllocError> {
     let place = signal as usize;
     if place >= nets.len() || own.contains(&signal) {
         return Ok(false);

@@ -13,7 +13,9 @@ const TURNS: usize = 3;
 
 /// How many exchanges are tried in all, at most so many for each table in a search, and at least so many.
 const MOST_TRIES: usize = 4_000_000;
+
 const MOST_EFFORT: usize = 480;
+
 const LEAST_EFFORT: usize = 8;
 
 /// Seats of tables, and how many seats covers and empty covers have.
@@ -176,7 +178,9 @@ pub fn best_order(
     let latches = count.saturating_sub(nets.split);
     let rooms = rooms_of(alloc, nets, tree, most.saturating_sub(latches))?;
     let searches = rooms.len().saturating_mul(5).saturating_mul(count);
-    let effort = over(MOST_TRIES, searches).max(LEAST_EFFORT).min(MOST_EFFORT);
+    let effort = over(MOST_TRIES, searches)
+        .max(LEAST_EFFORT)
+        .min(MOST_EFFORT);
     'rooms: for room in &rooms {
         search_room(alloc, &mut best, nets, tree, *room, effort)?;
     }

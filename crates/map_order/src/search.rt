@@ -127,7 +127,11 @@ impl<'a> Trial<'a> {
         let low = hextants.change(net, place, pinned, comes);
         let middle = chips.change(net, place, pinned, comes);
         let high = modules.change(net, place, pinned, comes);
-        self.cost = self.cost.wrapping_add(low).wrapping_add(middle).wrapping_add(high);
+        self.cost = self
+            .cost
+            .wrapping_add(low)
+            .wrapping_add(middle)
+            .wrapping_add(high);
     }
 
     // Counts a table at its seat.
@@ -238,7 +242,9 @@ impl<'a> Trial<'a> {
         let target = first.saturating_add(luck.below(span));
         let seat = *self.seat_at.get(target)? as usize;
         let from = self.seat(table);
-        if !self.may_have(table, seat) || self.levels[0].node(self.place(from)) == self.levels[0].node(target) {
+        if !self.may_have(table, seat)
+            || self.levels[0].node(self.place(from)) == self.levels[0].node(target)
+        {
             return None;
         }
         let other = self.holder(seat);

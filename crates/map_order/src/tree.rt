@@ -1,11 +1,11 @@
 //! The tree of a machine, as orders see it.
 
+ghost use Rattle.std.specs.Prelude.{◌<◌};
+ghost use Rattle.hierarchy.specs.Shape.{nodes_of, tables_of};
+
 use defect_db::Defects;
 use hierarchy::{Node, Shape, Table};
 use std::alloc::{AllocError, Global};
-
-ghost use Rattle.std.specs.Prelude.{◌<◌};
-ghost use Rattle.hierarchy.specs.Shape.{nodes_of, tables_of};
 
 /// What the nodes of a level have: how many tables and children each, how many nodes, ports and lines, and how many ports and
 /// lines of each node are wanting.
@@ -66,7 +66,10 @@ fn wanting(defects: &Defects, table: u32, level: usize, ports: usize, lines: usi
     let node = node_above(&shape, Table(table), level);
     let free = defects.free_ports(node) as usize;
     let open = defects.open_lines(node) as usize;
-    (small(ports.saturating_sub(free)), small(lines.saturating_sub(open)))
+    (
+        small(ports.saturating_sub(free)),
+        small(lines.saturating_sub(open)),
+    )
 }
 
 /// A number that is known to be small, in 32 bits.

@@ -5,11 +5,12 @@ use crate::cuts::{Cut, NO_CUT};
 use crate::layout::{Layout, Table};
 use crate::numbers::node_of;
 use crate::reach::Nodes;
-use crate::words::{flipped, is_idle, pin, squeezed};
+use crate::words::{flipped, pin};
 use std::alloc::{AllocError, Global};
 
 /// How many steps are taken to see whether an input follows from others, and how many to find the cells.
 const FEW_STEPS: usize = 64;
+
 const MOST_STEPS: usize = 20_000;
 
 // The input of the lowest node that isn't below one, of those whose node has no word.
@@ -42,11 +43,7 @@ fn settle_input(
 }
 
 // The inputs that don't follow from lower ones, in the order of their nodes, each with the word of a pin.
-fn settle_inputs(
-    layout: &Layout,
-    cone: &mut Cone<'_>,
-    ins: &Cut,
-) -> Result<Cut, AllocError> {
+fn settle_inputs(layout: &Layout, cone: &mut Cone<'_>, ins: &Cut) -> Result<Cut, AllocError> {
     let mut found = NO_CUT;
     let mut floor = 0;
     'inputs: for _ in 0..6 {
@@ -75,40 +72,19 @@ fn turned(layout: &Layout, ins: &Cut, cells: u64) -> u64 {
     turned
 }
 
-// The table without inputs that it doesn't depend on.
-fn without_idle(table: Table) -> Table {
-    let mut ins = NO_CUT;
-    let mut cells = table.cells;
-    'inputs: for k in 0..table.ins.count {
-        if is_idle(cells, ins.count) {
-            cells = squeezed(cells, ins.count);
-        } else {
-            let _ = ins.add(table.ins.leaf(k));
-        }
-    }
-    Table {
-        out: table.out,
-        ins,
-        cells,
-    }
-}
-
 // A table with its cells.
-fn filled(
-    layout: &Layout,
-    cone: &mut Cone<'_>,
-    table: &Table,
-) -> Result<Table, AllocError> {
+fn filled(layout: &Layout, cone: &mut Cone<'_>, table: &Table) -> Result<Table, AllocError> {
     let root = layout.label(table.out);
     cone.begin();
     let ins = settle_inputs(layout, cone, &table.ins)?;
     let _ = cone.derive(root >> 1, 0, MOST_STEPS)?;
     let cells = turned(layout, &ins, cone.word(root));
     let out = table.out;
-    Ok(without_idle(Table { out, ins, cells }))
+    Ok(Table { out, ins, cells })
 }
 
-/// The tables of a layout with their cells, inputs left out that others make idle.
+/// The tables of a layout with their cells, without inputs that follow from others. Inputs on which cells don't depend stay: without
+/// them no way leads from the others to the table's node, by which tables are compared.
 pub fn fill_tables(
     alloc: Global,
     nodes: Nodes<'_>,

@@ -195,11 +195,7 @@ fn row_of(alloc: Global, product: Product, count: usize) -> Result<Cube, AllocEr
 }
 
 // Products of so many inputs as rows.
-fn rows_of(
-    alloc: Global,
-    products: &[Product],
-    count: usize,
-) -> Result<Items<Cube>, AllocError> {
+fn rows_of(alloc: Global, products: &[Product], count: usize) -> Result<Items<Cube>, AllocError> {
     let mut rows = Items::empty(alloc);
     'products: for product in products {
         rows.push(row_of(alloc, *product, count)?)?;
@@ -229,11 +225,7 @@ fn cover_of(alloc: Global, signals: &[u32], table: &Table) -> Result<Cover, Allo
 }
 
 // The tables as covers.
-fn covers_of(
-    alloc: Global,
-    signals: &[u32],
-    tables: &[Table],
-) -> Result<Items<Cover>, AllocError> {
+fn covers_of(alloc: Global, signals: &[u32], tables: &[Table]) -> Result<Items<Cover>, AllocError> {
     let mut covers = Items::empty(alloc);
     'tables: for table in tables {
         covers.push(cover_of(alloc, signals, table)?)?;

@@ -45,11 +45,7 @@ fn most_common(builder: &mut Builder, sum: &Sum) -> Result<Option<u32>, AllocErr
 }
 
 // The negated products.
-fn negated_products(
-    builder: &mut Builder,
-    sum: &Sum,
-    join: Join,
-) -> Result<Vec<u32>, AllocError> {
+fn negated_products(builder: &mut Builder, sum: &Sum, join: Join) -> Result<Vec<u32>, AllocError> {
     let mut negated = Vec::new(builder.alloc);
     'products: for k in 0..sum.len() {
         let literals = Vec::from_slice(builder.alloc, sum.product(k))?;
@@ -79,12 +75,7 @@ fn summed(builder: &mut Builder, terms: Vec<u32>, last: u32) -> Result<u32, Allo
 }
 
 // The same, with so many literals taken out of one another.
-fn factored_to(
-    builder: &mut Builder,
-    sum: Sum,
-    join: Join,
-    depth: u32,
-) -> Result<u32, AllocError> {
+fn factored_to(builder: &mut Builder, sum: Sum, join: Join, depth: u32) -> Result<u32, AllocError> {
     if depth == 0 {
         return plain(builder, &sum, join);
     }

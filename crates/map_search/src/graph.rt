@@ -206,9 +206,7 @@ pub fn graph_of(alloc: Global, netlist: &Netlist, way: Way) -> Result<Option<Mad
     let mut making = making_of(alloc, netlist, way, &stands)?;
     'turns: for _ in 0..MOST_TURNS {
         let mut others = own_copy(alloc, &stands)?;
-        if making.builder.is_full()
-            || !find_alike(alloc, latches, &making.labels, &mut others)?
-        {
+        if making.builder.is_full() || !find_alike(alloc, latches, &making.labels, &mut others)? {
             break;
         }
         stands = others;

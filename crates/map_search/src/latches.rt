@@ -55,8 +55,7 @@ pub fn find_alike(
     'latches: for (latch, stand) in latches.iter().zip(stands.iter_mut()) {
         if let Stand::Own = *stand {
             let found = stand_for(&mut seen, *latch, place, labels)?;
-            if let Stand::Own = found {
-            } else {
+            if let Stand::Own = found {} else {
                 more = true;
             }
             *stand = found;

@@ -10,6 +10,7 @@ use std::alloc::{AllocError, Global};
 
 /// How many passes go by flow, and how many in all.
 const FLOWS: usize = 3;
+
 const PASSES: usize = 6;
 
 /// From so many cuts on, those that hold another one aren't sought out.

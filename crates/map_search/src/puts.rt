@@ -115,7 +115,12 @@ impl Puts {
     }
 
     // The tables that read a table's wire, each once, if they are at most so many.
-    fn readers_of(&mut self, table: usize, wire: u32, most: usize) -> Result<Option<Vec<u32>>, AllocError> {
+    fn readers_of(
+        &mut self,
+        table: usize,
+        wire: u32,
+        most: usize,
+    ) -> Result<Option<Vec<u32>>, AllocError> {
         if table >= self.readers.len() {
             return Ok(None);
         }
@@ -200,7 +205,8 @@ impl Puts {
         self.waiting.clear();
         let count = self.tables.len();
         'tables: for k in 0..count {
-            self.waiting.push(small(count.saturating_sub(k).saturating_sub(1)))?;
+            self.waiting
+                .push(small(count.saturating_sub(k).saturating_sub(1)))?;
         }
         Ok(())
     }
@@ -238,4 +244,3 @@ pub fn put_tables(alloc: Global, layout: &mut Layout) -> Result<(), AllocError> 
     layout.tables = puts.kept()?;
     Ok(())
 }
-

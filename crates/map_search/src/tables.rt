@@ -92,7 +92,10 @@ fn add_latches(
             set(&mut assembly.wire_at, label as usize, out);
             let from = at(labels, latch.from as usize);
             let init = latch.init;
-            assembly.layout.registers.push(Register { from, out, init })?;
+            assembly
+                .layout
+                .registers
+                .push(Register { from, out, init })?;
         }
     }
     Ok(())
@@ -197,11 +200,7 @@ fn add_node(assembly: &mut Assembly, node: usize, cut: &Cut) -> Result<(), Alloc
 }
 
 // The tables of the nodes that were chosen.
-fn add_nodes(
-    assembly: &mut Assembly,
-    nodes: Nodes<'_>,
-    chosen: &Chosen,
-) -> Result<(), AllocError> {
+fn add_nodes(assembly: &mut Assembly, nodes: Nodes<'_>, chosen: &Chosen) -> Result<(), AllocError> {
     'nodes: for node in nodes.first..chosen.cuts.len() {
         if node < chosen.tables.len() && chosen.tables[node] {
             add_node(assembly, node, &chosen.cuts[node])?;
@@ -286,7 +285,13 @@ pub fn layout_of(
     let nodes = Nodes::of(graph);
     let mut assembly = assembly_of(alloc, draft.names.len(), nodes.count())?;
     add_inputs(&mut assembly, draft.inputs.as_slice(), labels)?;
-    add_latches(&mut assembly, draft.latches.as_slice(), graph, reach, labels)?;
+    add_latches(
+        &mut assembly,
+        draft.latches.as_slice(),
+        graph,
+        reach,
+        labels,
+    )?;
     add_outputs(&mut assembly, nodes, draft.outputs.as_slice(), labels)?;
     want_nexts(&mut assembly, nodes)?;
     add_nodes(&mut assembly, nodes, chosen)?;

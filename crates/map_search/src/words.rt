@@ -47,23 +47,6 @@ pub fn is_idle(cells: u64, k: usize) -> bool {
     where_zero(cells, k) == where_one(cells, k)
 }
 
-// An address in which a pin that is 0 is put between the others.
-fn spread(address: u32, k: usize) -> u32 {
-    let low = address & width(k).saturating_sub(1);
-    let high = address & !width(k).saturating_sub(1);
-    high.wrapping_shl(1) | low
-}
-
-/// The function without an idle pin; the pins above it move down.
-pub fn squeezed(cells: u64, k: usize) -> u64 {
-    let mut other = 0;
-    'addresses: for address in 0..64u32 {
-        let bit = cells.wrapping_shr(spread(address, k) & 63) & 1;
-        other |= bit.wrapping_shl(address);
-    }
-    other
-}
-
 /// The different inputs of a narrow cover, and its cells over them.
 #[derive(Drop)]
 pub struct Narrow {
