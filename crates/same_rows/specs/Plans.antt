@@ -41,7 +41,8 @@ abbrev pub AreSteps : Graph → List ℕ → List Step → Type 0
 AreSteps g pins steps = (i : ℕ) → i < length steps → IsFrom g pins steps i (step_at steps i).node (step_at steps i).from
 
 abbrev pub AreInputs : List Step → List ℕ → List ℕ → List ℕ → Type 0
-AreInputs steps places ins labels = (k : ℕ) → k < length ins → StandsFor steps (length steps) (number_at places k) (label_at labels (number_at ins k))
+AreInputs steps places ins labels = (k : ℕ) → k < length ins →
+    StandsFor steps (length steps) (number_at places k) (label_at labels (number_at ins k))
 
 pub record IsPlan (g : Graph) (labels : List ℕ) (c : Cover) (p : Plan) : Type 0 where
   pub few : length p.pins.items ≤ 14

@@ -1,5 +1,5 @@
 -- Products of literals, sums of them, and sums that are not yet multiplied out.
-use Rattle.std.specs.Prelude.{ℕ, ◌≡◌, ◌<◌, ◌+◌, ◌&&◌, ◌||◌, List, Option, None, Some, Bool, false, length}
+use Rattle.std.specs.Prelude.{ℕ, ◌≡◌, ◌<◌, ◌+◌, ◌&&◌, ◌||◌, List, Option, None, Some, Bool, false, length, not, if◌then◌else◌}
 use Rattle.std.specs.List.{list_all, list_any}
 use Rattle.same_rows.specs.declared.expand.Pending.{Pending}
 use Rattle.same_rows.specs.declared.expand.Work.{Work}
@@ -26,6 +26,11 @@ pending_holds bits p = holds bits p.done.items && holds bits p.todo.items
 -- what is multiplied out, and what waits for it
 abbrev pub work_holds : (ℕ → Bool) → Work → Bool
 work_holds bits w = some_holds bits w.sum.items || list_any (pending_holds bits) w.waiting.items
+
+-- the bit of an AND, or its opposite
+abbrev pub gate_in : (ℕ → Bool) → And → Bool → Bool
+gate_in bits gate negated =
+    if negated then not (literal_in bits gate.left && literal_in bits gate.right) else (literal_in bits gate.left && literal_in bits gate.right)
 
 -- the AND of a node
 pub record IsAndAt (g : Graph) (node : ℕ) (gate : And) (k : ℕ) : Type 0 where

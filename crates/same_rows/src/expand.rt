@@ -6,7 +6,7 @@
 ghost use Rattle.std.specs.Prelude.{◌≡◌, ◌&&◌, ◌||◌, ℕ, Bool, IfOk, IsTrue, OnOk, false, not, if◌then◌else◌};
 ghost use Rattle.std.specs.Option.{ForSome};
 ghost use Rattle.same_rows.specs.Graphs.{IsValued, literal_in};
-ghost use Rattle.same_rows.specs.Products.{holds, some_holds, work_holds};
+ghost use Rattle.same_rows.specs.Products.{gate_in, holds, some_holds, work_holds};
 
 use crate::graph::{And, Graph};
 use crate::nodes::gate_at;
@@ -30,7 +30,8 @@ pub struct Work {
 
 /// Lets a product wait.
 fn put_off(work: &mut Work, done: Vec<u32>, todo: Vec<u32>) -> Result<(), AllocError>
-    ensures { OnOk result ((bits : ℕ → Bool) → work_holds bits work.new ≡ (work_holds bits work.old || (holds bits done.items && holds bits todo.items))) }
+    ensures { OnOk result ((bits : ℕ → Bool) → work_holds bits work.new
+        ≡ (work_holds bits work.old || (holds bits done.items && holds bits todo.items))) }
 {
     work.waiting.push(Pending { done, todo })?;
     Ok(())
@@ -38,7 +39,8 @@ fn put_off(work: &mut Work, done: Vec<u32>, todo: Vec<u32>) -> Result<(), AllocE
 
 /// Adds a product that is done.
 fn finish(alloc: Global, work: &mut Work, done: Vec<u32>) -> Result<(), AllocError>
-    ensures { OnOk result ((bits : ℕ → Bool) → bits 0 ≡ false → work_holds bits work.new ≡ (work_holds bits work.old || holds bits done.items)) }
+    ensures { OnOk result ((bits : ℕ → Bool) → bits 0 ≡ false
+        → work_holds bits work.new ≡ (work_holds bits work.old || holds bits done.items)) }
 {
     let found = product_of(alloc, done)?;
     add_product(&mut work.sum, found)?;
@@ -89,7 +91,7 @@ fn open_gate(
 ) -> Result<(), AllocError>
     ensures { OnOk result ((bits : ℕ → Bool) → work_holds bits work.new ≡ (work_holds bits work.old
         || (holds bits pending.done.items && (holds bits pending.todo.items
-        && (if negated then not (literal_in bits gate.left && literal_in bits gate.right) else (literal_in bits gate.left && literal_in bits gate.right)))))) }
+        && gate_in bits gate negated)))) }
 {
     if negated {
         let left = flipped(gate.left);
@@ -111,7 +113,8 @@ fn open(
     pending: Pending,
     literal: u32,
 ) -> Result<bool, AllocError>
-    ensures { IfOk result (λ on. IsTrue on → (bits : ℕ → Bool) → IsValued graph.now bits → work_holds bits work.new ≡ (work_holds bits work.old
+    ensures { IfOk result (λ on. IsTrue on → (bits : ℕ → Bool) → IsValued graph.now bits
+        → work_holds bits work.new ≡ (work_holds bits work.old
         || (holds bits pending.done.items && (holds bits pending.todo.items && literal_in bits literal)))) }
 {
     if leaves.has(literal / 2) {
@@ -133,7 +136,8 @@ fn advance(
     leaves: &Scratch,
     work: &mut Work,
 ) -> Result<bool, AllocError>
-    ensures { IfOk result (λ on. IsTrue on → (bits : ℕ → Bool) → IsValued graph.now bits → work_holds bits work.new ≡ work_holds bits work.old) }
+    ensures { IfOk result (λ on. IsTrue on → (bits : ℕ → Bool) → IsValued graph.now bits
+        → work_holds bits work.new ≡ work_holds bits work.old) }
 {
     let Some(pending) = work.waiting.pop() else {
         return Ok(false);
@@ -161,7 +165,26 @@ fn first_work(alloc: Global, root: u32) -> Result<Work, AllocError>
     Ok(work)
 }
 
-/// The literal as a sum of products of labels of inputs, or None where that takes more than so many steps.
+/// How many literals the next step copies: all of a product that is to be two.
+fn copies(leaves: &Scratch, work: &Work) -> u64 {
+    let count = work.waiting.len();
+    if count == 0 {
+        return 0;
+    }
+    let pending = &work.waiting[count - 1];
+    let todo = pending.todo.len();
+    if todo == 0 {
+        return 0;
+    }
+    let literal = pending.todo[todo - 1];
+    if literal % 2 == 0 || leaves.has(literal / 2) {
+        return 0;
+    }
+    (pending.done.len() as u64).saturating_add(todo as u64)
+}
+
+/// The literal as a sum of products of labels of inputs, or None where that takes more than so many steps, or copies
+/// more than so many literals.
 pub fn expanded(
     alloc: Global,
     graph: &Graph,
@@ -169,12 +192,18 @@ pub fn expanded(
     root: u32,
     most: u64,
 ) -> Result<Option<Vec<Product>>, AllocError>
-    ensures { IfOk result (λ found. ForSome found (λ sum. (bits : ℕ → Bool) → IsValued graph.now bits → some_holds bits sum.items ≡ literal_in bits root)) }
+    ensures { IfOk result (λ found. ForSome found (λ sum. (bits : ℕ → Bool) → IsValued graph.now bits
+        → some_holds bits sum.items ≡ literal_in bits root)) }
 {
     let mut work = first_work(alloc, root)?;
+    let mut left = most;
     'steps: for _step in 0..most {
         if work.waiting.as_slice().is_empty() {
             return Ok(Some(work.sum));
+        }
+        left = left.saturating_sub(copies(leaves, &work));
+        if left == 0 {
+            return Ok(None);
         }
         if !advance(alloc, graph, leaves, &mut work)? {
             return Ok(None);

@@ -178,12 +178,18 @@ fn derive(
     Ok(false)
 }
 
+/// The nodes of the literals.
+fn all_nodes(alloc: Global, literals: &[u32]) -> Result<Vec<u32>, AllocError> {
+    let mut nodes = Vec::new(alloc);
+    'literals: for k in 0..literals.len() {
+        nodes.push(literals[k] / 2)?;
+    }
+    Ok(nodes)
+}
+
 /// The nodes of the literals, ascending, each once.
 fn nodes_of(alloc: Global, literals: &[u32]) -> Result<Vec<u32>, AllocError> {
-    let mut all = Vec::new(alloc);
-    'literals: for k in 0..literals.len() {
-        all.push(literals[k] / 2)?;
-    }
+    let mut all = all_nodes(alloc, literals)?;
     all.sort_unstable();
     let mut nodes = Vec::new(alloc);
     let mut last = None;

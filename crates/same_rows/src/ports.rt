@@ -147,7 +147,8 @@ pub fn have_same(
     second: &[PortDef],
     second_labels: &[u32],
 ) -> bool
-    ensures { IsTrue result → map (λ p. label_at first_labels.now p.signal) first.now ≡ map (λ p. label_at second_labels.now p.signal) second.now }
+    ensures { IsTrue result → map (λ p. label_at first_labels.now p.signal) first.now
+        ≡ map (λ p. label_at second_labels.now p.signal) second.now }
 {
     if first.len() != second.len() {
         return false;

@@ -1,6 +1,7 @@
 //! Products of literals and sums of them. A product is a list of literals, ascending, each node once.
 
-ghost use Rattle.std.specs.Prelude.{◌≡◌, ◌<◌, ◌&&◌, ◌||◌, ℕ, Bool, [], length, map, not, true, false, IfOk, IsTrue, OnOk, slice_index_or, if◌then◌else◌};
+ghost use Rattle.std.specs.Prelude.{◌≡◌, ◌<◌, ◌&&◌, ◌||◌, ℕ, Bool, [], length, map, not, true, false, slice_index_or};
+ghost use Rattle.std.specs.Prelude.{IfOk, IsTrue, OnOk, if◌then◌else◌};
 ghost use Rattle.std.specs.Option.{ForSome};
 ghost use Rattle.netlist.specs.Covers.{fits, matches, some_matches};
 ghost use Rattle.same_rows.specs.Graphs.{literal_in};
@@ -103,7 +104,8 @@ pub fn add_product(sum: &mut Vec<Product>, found: Option<Product>) -> Result<(),
 
 /// Adds the literal that a row wants of an input.
 fn add_wanted(list: &mut Vec<u32>, lit: Lit, label: u32) -> Result<(), AllocError>
-    ensures { OnOk result ((bits : ℕ → Bool) → holds bits list.new.items ≡ (holds bits list.old.items && fits lit (literal_in bits label))) }
+    ensures { OnOk result ((bits : ℕ → Bool) → holds bits list.new.items
+        ≡ (holds bits list.old.items && fits lit (literal_in bits label))) }
 {
     match lit {
         Lit::Any => {}
@@ -121,7 +123,8 @@ fn row_literals(
     labels: &[u32],
 ) -> Result<Vec<u32>, AllocError>
     requires { length row.now ≡ length ins.now }
-    ensures { IfOk result (λ list. (bits : ℕ → Bool) → holds bits list.items ≡ matches row.now (map (signal_bits bits labels.now) ins.now)) }
+    ensures { IfOk result (λ list. (bits : ℕ → Bool) → holds bits list.items
+        ≡ matches row.now (map (signal_bits bits labels.now) ins.now)) }
 {
     let mut list = Vec::new(alloc);
     'places: for k in 0..row.len() {

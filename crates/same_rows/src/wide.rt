@@ -18,18 +18,27 @@ const STEPS: u64 = 40;
 
 const FIRST_STEPS: u64 = 1_000;
 
+/// The last place of each product of a sum.
+fn last_places<'a>(
+    alloc: Global,
+    sum: &'a [Product],
+) -> Result<HashMap<&'a [u32], usize>, AllocError> {
+    let mut places = HashMap::new(alloc);
+    'products: for k in 0..sum.len() {
+        let _ = places.insert(sum[k].as_slice(), k)?;
+    }
+    Ok(places)
+}
+
 /// Where the products of a sum stand in another. Nothing is promised of it: `are_among` looks.
 fn places_in(
     alloc: Global,
     first: &[Product],
     second: &[Product],
 ) -> Result<Vec<usize>, AllocError> {
-    let mut known = HashMap::new(alloc);
-    'known: for k in 0..second.len() {
-        let _ = known.insert(second[k].as_slice(), k)?;
-    }
+    let known = last_places(alloc, second)?;
     let mut places = Vec::new(alloc);
-    'places: for k in 0..first.len() {
+    'products: for k in 0..first.len() {
         let place = known.get(first[k].as_slice()).copied();
         places.push(place.unwrap_or(usize::MAX))?;
     }
