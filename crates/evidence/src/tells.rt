@@ -9,6 +9,8 @@ ghost use Rattle.evidence.specs.Hangs.{AreFeet, AreAllOf, HasTold, UnfitIf, Uncl
 ghost use Rattle.evidence.specs.Looks.{HasLooked};
 ghost use Rattle.evidence.specs.Readings.{WantsBefore};
 
+use crate::feet::mark_unfit;
+use crate::looks::look_drives;
 use crate::{Forest, Looks, Proof};
 use hierarchy::{Cross, Wire};
 use rig::{Rig, RigFail};
@@ -55,6 +57,9 @@ impl Proof {
         ensures cause { IsErrOf result RigFail.Failed → Rose (rig_state rig.old).failures (rig_state rig.new).failures }
         ensures wanting { IsErrOf result RigFail.Memory → WantsBefore (rig_state rig.old) (rig_state rig.new) }
     {
-        Err(RigFail::Memory)
+        let drives = look_drives(self.alloc, self.shape.pins())?;
+        self.look(rig, forest, hangs, &drives, reads)?;
+        mark_unfit(forest, hangs, reads, unfit, unclear);
+        Ok(())
     }
 }
