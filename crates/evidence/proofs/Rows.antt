@@ -58,7 +58,7 @@ whole_again n new old same e =
 
 -- rows that are as many and as long as they were
 pub as_many : (old new : List Pins) → map length new ≡ map length old → length new ≡ length old
-as_many old new same = sym (length-map {f = length} {l = new}) ∙ ap length same ∙ length-map
+as_many old new same = sym (length-map new length) ∙ ap length same ∙ length-map old length
 
 pub as_wide : (n : ℕ) (old new : List Pins) → map length new ≡ map length old → All (λ row. length row ≡ n) old → All (λ row. length row ≡ n) new
 as_wide n old new same each k d below =
@@ -70,5 +70,5 @@ pub drives_count : (n : ℕ) → length (look_drives n) ≡ n + 1
 drives_count n = let e = length-map-range_with_len (one_driven n) 0 n in omega (arith, e)
 
 pub drives_wide : (n : ℕ) → All (λ row. length row ≡ n) (look_drives n)
-drives_wide n zero d below = length-replicate
-drives_wide n (suc k) d below = All-map (λ row. length row ≡ n) (one_driven n) (range_with_len 0 n) (λ i e lt. length-set (none_driven n) (get_or (range_with_len 0 n) i e) false ∙ length-replicate) k d (omega (arith, below))
+drives_wide n zero d below = length-replicate n true
+drives_wide n (suc k) d below = All-map (λ row. length row ≡ n) (one_driven n) (range_with_len 0 n) (λ i e lt. length-set (none_driven n) (get_or (range_with_len 0 n) i e) false ∙ length-replicate n true) k d (omega (arith, below))

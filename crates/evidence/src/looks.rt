@@ -94,6 +94,7 @@ impl Looks {
     pub fn new(alloc: Global, shape: &Shape) -> Result<Looks, AllocError>
         ensures { IfOk result (λ s. s.pins ≡ pins_of shape.now) }
     {
+        let _wires = shape.wires();
         let pins = shape.pins();
         Ok(Looks {
             pins,
