@@ -4,6 +4,7 @@ ghost use Rattle.std.specs.List.{list_any};
 ghost use Rattle.tm_bits.specs.Numbers.{has_number};
 ghost use Rattle.tm_bits.specs.Pairs.{has_pair};
 ghost use Rattle.hierarchy.specs.Shape.{pins_of, wires_of};
+ghost use Rattle.evidence.specs.Forests.{IsForest};
 ghost use Rattle.evidence.specs.Looks.{hangs_swinging, hangs_apart, hang_apart, parts, swings};
 ghost use Rattle.evidence.specs.Hangs.{IsFoot, pin_at, stands_apart, is_swinging_on, are_apart_on};
 
@@ -41,6 +42,7 @@ fn gather_apart(
     requires pin { pin < reads.now.pins }
     ensures apart { (w : ℕ) → has_number wires.new w ≡ hangs_apart forest.now reads.now.rows pin w }
     ensures parted { (t : ℕ) → t < reads.now.pins → has_number parted.new t ≡ parts reads.now.rows t pin }
+    ensures forest { IsForest forest.now }
     ensures len { length wires.new ≡ length wires.old }
     ensures len_too { length parted.new ≡ length parted.old }
 {
