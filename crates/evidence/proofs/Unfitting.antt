@@ -105,7 +105,7 @@ one_place num (x ∷ xs) once (suc i) (suc j) d hi hj e = ap suc (one_place num 
 
 -- the pin of a tree hangs
 pub root_hangs : (trees : Trees) (w q : ℕ) → IsForest trees → HangsOn trees w q → HangsOn trees (pin_wire trees.shape q) q
-root_hangs trees w q forest h = by l.leads l.laid
+root_hangs trees w q forest h = by refl h l.leads l.laid
   where
     l : IsLedOver trees w q
     l = forest.led w q h
@@ -114,15 +114,15 @@ root_hangs trees w q forest h = by l.leads l.laid
     near (in_order s t) P p r = subst P s p
     near (turned s t) P p r = subst P t r
 
-    by : {xs ws : List ℕ} → LeadsTo trees.shape (pin_wire trees.shape q) xs ws w → ((x : ℕ) → among xs x ≡ true → is_laid trees x ≡ true) → HangsOn trees (pin_wire trees.shape q) q
-    by ends laid = h
-    by (goes {x = x} {xs = xs} below at more) laid =
+    by : {a e : ℕ} {xs ws : List ℕ} → a ≡ pin_wire trees.shape q → HangsOn trees e q → LeadsTo trees.shape a xs ws e → ((x : ℕ) → among xs x ≡ true → is_laid trees x ≡ true) → HangsOn trees (pin_wire trees.shape q) q
+    by start own ends laid = subst (λ v. HangsOn trees v q) start own
+    by start own (goes {x = x} {xs = xs} below at more) laid =
         let o = forest.crosses x (laid x (or_left (x == x) (among xs x) (grind (arith, nat_tests)))) in
-        let start : HangsOn trees (pin_wire trees.shape q) o.pin = near at (λ v. HangsOn trees v o.pin) o.tap o.line in
-        subst (HangsOn trees (pin_wire trees.shape q)) (forest.pins q o.pin l.below start) start
+        let first : HangsOn trees (pin_wire trees.shape q) o.pin = subst (λ v. HangsOn trees v o.pin) start (near at (λ v. HangsOn trees v o.pin) o.tap o.line) in
+        subst (HangsOn trees (pin_wire trees.shape q)) (forest.pins q o.pin l.below first) first
 
 -- one of two ends is one of the two others
-end_is : {p : ℕ × ℕ} {a b w u : ℕ} → Ends p a b → Ends p w u → (u ≡ a) ⊎ (u ≡ b)
+pub end_is : {p : ℕ × ℕ} {a b w u : ℕ} → Ends p a b → Ends p w u → (u ≡ a) ⊎ (u ≡ b)
 end_is (in_order s t) (in_order v x) = inr (sym x ∙ t)
 end_is (in_order s t) (turned v x) = inl (sym v ∙ s)
 end_is (turned s t) (in_order v x) = inl (sym x ∙ t)
