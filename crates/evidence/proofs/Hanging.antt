@@ -6,7 +6,7 @@ use Rattle.std.proofs.lemmas.Bool.{false≢true, and_parts, or_cases, or_left, o
 use Rattle.std.proofs.lemmas.Bool.Decides.{nat_tests}
 use Rattle.std.proofs.lemmas.List.{get_or-map, length-map, map-append}
 use Rattle.std.proofs.lemmas.List.Folds.{list_any-append}
-use Rattle.std.proofs.lemmas.List.Elements.{All-map, All-filter}
+use Rattle.std.proofs.lemmas.List.Elements.{All-map, All-filter, All-append}
 use native.Mathlib.Decide.{ℕ_discrete}
 use Rattle.hierarchy.specs.declared.Shape.{Shape}
 use Rattle.hierarchy.specs.Shape.{Ends, ends_of, pin_wire, pins_of, crosses_of}
@@ -251,16 +251,16 @@ module _ {told : Option Faults} (k : Kept) (trees : Trees) (hs : List Hang) (row
     pub second_holds : GainHoldsFor k.shape (seen_on trees (shown trees hs rows no_over) no_other) f
     second_holds = subst (λ m. GainHoldsFor m (seen_on trees (shown trees hs rows no_over) no_other) f) keeps.shape
         (shown_holds trees hs rows no_over (closes trees (all_feet hs)) (closes trees (others hs)) look over_look
-            (λ y on. closes_all y ∙ bool_second (is_laid trees y) (among (feet_crosses (overs hs)) y) (among (feet_crosses (others hs)) y) on)
-            (λ y on off. bool_left (is_laid trees y) (among (feet_crosses (overs hs)) y) (among (feet_crosses (others hs)) y) (sym (closes_all y) ∙ on) off)
-            (shut (all_feet hs)) forest hung f is free no_other (closes trees (overs hs)) other_look (shut (overs hs)) (λ x on. or_right (is_laid trees x) (among (feet_crosses (overs hs)) x) on))
+        (λ y on. closes_all y ∙ bool_second (is_laid trees y) (among (feet_crosses (overs hs)) y) (among (feet_crosses (others hs)) y) on)
+        (λ y on off. bool_left (is_laid trees y) (among (feet_crosses (overs hs)) y) (among (feet_crosses (others hs)) y) (sym (closes_all y) ∙ on) off)
+        (shut (all_feet hs)) forest hung f is free no_other (closes trees (overs hs)) other_look (shut (overs hs)) (λ x on. or_right (is_laid trees x) (among (feet_crosses (overs hs)) x) on))
 
     pub first_holds : GainHoldsFor k.shape (seen_on trees (shown trees (map turned hs) rows no_other) no_over) f
     first_holds = subst (λ m. GainHoldsFor m (seen_on trees (shown trees (map turned hs) rows no_other) no_over) f) keeps.shape
         (shown_holds trees (map turned hs) rows no_other (closes trees (all_feet hs)) (closes trees (overs hs)) look other_look
-            (λ y on. closes_all y ∙ bool_first (is_laid trees y) (among (feet_crosses (overs hs)) y) (among (feet_crosses (others hs)) y) on)
-            (λ y on off. bool_right (is_laid trees y) (among (feet_crosses (overs hs)) y) (among (feet_crosses (others hs)) y) (sym (closes_all y) ∙ on) off)
-            (shut (all_feet hs)) forest (hung_turned hung) f is free no_over (closes trees (others hs)) over_look (shut (others hs)) (λ x on. or_right (is_laid trees x) (among (feet_crosses (others hs)) x) on))
+        (λ y on. closes_all y ∙ bool_first (is_laid trees y) (among (feet_crosses (overs hs)) y) (among (feet_crosses (others hs)) y) on)
+        (λ y on off. bool_right (is_laid trees y) (among (feet_crosses (overs hs)) y) (among (feet_crosses (others hs)) y) (sym (closes_all y) ∙ on) off)
+        (shut (all_feet hs)) forest (hung_turned hung) f is free no_over (closes trees (others hs)) over_look (shut (others hs)) (λ x on. or_right (is_laid trees x) (among (feet_crosses (others hs)) x) on))
 
   -- so what is kept is true
   pub hung_advances : {old new : RigState} {mid l : Kept} → old.machine.faults ≡ told → new.machine ≡ old.machine → old.failures ≤ new.failures → old.loads ≤ new.loads →
@@ -273,3 +273,13 @@ module _ {told : Option Faults} (k : Kept) (trees : Trees) (hs : List Hang) (row
     holds = λ f e holds. holds_by_gain _ mid l f two (holds_by_gain _ k mid f one holds (first_holds f (sym same ∙ e) holds))
         (subst (λ m. GainHoldsFor m (seen_on trees (shown trees hs rows no_over) no_other) f) (sym one.shape) (second_holds f (sym same ∙ e) holds));
   }
+
+-- crosspoints of feet are some of the machine
+pub feet_below : {trees : Trees} (feet : List Foot) → All (IsFoot trees) feet → All (λ foot. foot.1.0 < crosses_of trees.shape) feet
+feet_below feet all k d below = (all k d below).cross
+
+pub all_are_feet : {trees : Trees} (hs : List Hang) → All (λ h. IsFoot trees (over_of h)) hs → All (λ h. IsFoot trees (over_of (turned h))) hs → All (IsFoot trees) (all_feet hs)
+all_are_feet {trees} hs over other = All-append (IsFoot trees) (overs hs) (others hs) (overs_feet hs over) (overs_feet (map turned hs) (All-map (λ h. IsFoot trees (over_of h)) turned hs other))
+
+pub shown_feet : {trees : Trees} (hs : List Hang) (rows without : List Pins) → All (λ h. IsFoot trees (over_of h)) hs → All (IsFoot trees) (shown trees hs rows without)
+shown_feet {trees} hs rows without over = overs_feet (filter (is_shown trees hs rows without) hs) (All-filter (is_shown trees hs rows without) (λ h. IsFoot trees (over_of h)) hs over)

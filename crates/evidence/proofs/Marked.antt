@@ -62,8 +62,8 @@ module _ (told : Option Faults) (k : Kept) (trees : Trees) (feet : List Foot) (r
           let both = and_parts (others_part trees feet rows foot) (reads_oddly trees rows (pin_at trees foot)) h.1 in
           let same = same_number foot.0.0 w h.0 in
           not_odd trees feet rows forest each once look f e k knows holds s.place d s.below both.0
-              (subst (λ m. IsClear m f foot.0.0) here (subst (IsClear k.shape f) (sym same) clear))
-              (λ u hung. subst (λ m. ¬ Shorted m f foot.0.0 u) here (subst (λ v. ¬ Shorted k.shape f v u) (sym same) (alone u (all u hung)))) both.1
+          (subst (λ m. IsClear m f foot.0.0) here (subst (IsClear k.shape f) (sym same) clear))
+          (λ u hung. subst (λ m. ¬ Shorted m f foot.0.0 u) here (subst (λ v. ¬ Shorted k.shape f v u) (sym same) (alone u (all u hung)))) both.1
 
       by : (is_unfit_in trees feet rows w ≡ true) ⊎ (has_number was w ≡ true) → ⊥
       by (inl h) = of_foot (some_of _ feet h)

@@ -410,7 +410,7 @@ module _ {told : Option Faults} (trees : Trees) (feet : List Foot) (rows : List 
                 let itself : p.0 ≡ j = forest.pins j p.0 small p.1 in
                 let away : p.0 ≢ q = (λ e. let b : ⊥ = (let n = h.0 in grind (arith, nat_tests, n, e, itself)) in b) in
                 false≢true (sym (not_true (read_under rows j q) h.1.1)
-                    ∙ other_high left right groups own j (subst (λ n. j < pins_of n) to small) (subst (λ n. right (pin_wire n j) ≡ true) to (so_elsewhere trees q (pin_wire trees.shape j) p.0 p.1 away)))
+                ∙ other_high left right groups own j (subst (λ n. j < pins_of n) to small) (subst (λ n. right (pin_wire n j) ≡ true) to (so_elsewhere trees q (pin_wire trees.shape j) p.0 p.1 away)))
 
         by : (read_under rows q q ≡ true) ⊎ ((not (read_free rows q) || falls_with_others trees rows q) ≡ true) → ⊥
         by (inl h) = false≢true (sym (own_low left right groups own) ∙ h)

@@ -29,13 +29,7 @@ fn part_pins(parted: &mut BitSet, reads: &Looks, pin: u32)
 }
 
 // Puts the wires that hang on pins that part from one into a set, and no other. The set `parted` then has these pins.
-fn gather_apart(
-    wires: &mut BitSet,
-    parted: &mut BitSet,
-    forest: &Forest,
-    reads: &Looks,
-    pin: u32,
-)
+fn gather_apart(wires: &mut BitSet, parted: &mut BitSet, forest: &Forest, reads: &Looks, pin: u32)
     requires wires { length wires.old ≡ wires_of forest.now.shape }
     requires pins { length parted.old ≡ pins_of forest.now.shape }
     requires reads { reads.now.pins ≡ pins_of forest.now.shape }

@@ -128,13 +128,7 @@ fn some_answers(forest: &Forest, hangs: &[Hang], reads: &Looks) -> bool
 }
 
 // Whether from this q the p of each other hang parts.
-fn others_part_from(
-    forest: &Forest,
-    hangs: &[Hang],
-    reads: &Looks,
-    wire: Wire,
-    q: u32,
-) -> bool
+fn others_part_from(forest: &Forest, hangs: &[Hang], reads: &Looks, wire: Wire, q: u32) -> bool
     requires over { All (λ h. IsFoot forest.now (over_of h)) hangs.now }
     requires reads { reads.now.pins ≡ pins_of forest.now.shape }
     requires q { q < reads.now.pins }
@@ -153,13 +147,7 @@ fn others_part_from(
 }
 
 // Whether the first crosspoint of a hang is shown.
-fn is_shown(
-    forest: &Forest,
-    hangs: &[Hang],
-    reads: &Looks,
-    without: &Looks,
-    hang: Hang,
-) -> bool
+fn is_shown(forest: &Forest, hangs: &[Hang], reads: &Looks, without: &Looks, hang: Hang) -> bool
     requires over { All (λ h. IsFoot forest.now (over_of h)) hangs.now }
     requires foot { IsFoot forest.now (over_of hang) }
     requires other { IsFoot forest.now (over_of (turned hang)) }
@@ -231,8 +219,20 @@ impl Proof {
         if !some_answers(forest, hangs, &views.all) {
             return Ok(false);
         }
-        self.look(rig, forest, &plan.others, &plan.drives, &mut views.without_over)?;
-        self.look(rig, forest, &plan.overs, &plan.drives, &mut views.without_other)?;
+        self.look(
+            rig,
+            forest,
+            &plan.others,
+            &plan.drives,
+            &mut views.without_over,
+        )?;
+        self.look(
+            rig,
+            forest,
+            &plan.overs,
+            &plan.drives,
+            &mut views.without_other,
+        )?;
         Ok(true)
     }
 
@@ -260,7 +260,13 @@ impl Proof {
         ensures marks { length unfit.new ≡ length unfit.old }
         ensures marks_too { length unclear.new ≡ length unclear.old }
     {
-        let others = shown(self.alloc, forest, &plan.turned, &views.all, &views.without_other)?;
+        let others = shown(
+            self.alloc,
+            forest,
+            &plan.turned,
+            &views.all,
+            &views.without_other,
+        )?;
         let overs = shown(self.alloc, forest, hangs, &views.all, &views.without_over)?;
         mark_unfit(forest, &plan.others, &views.without_over, unfit, unclear);
         mark_unfit(forest, &plan.overs, &views.without_other, unfit, unclear);

@@ -17,7 +17,7 @@ pub pins-preserved-then-is_none : goal.pins-preserved-then-is_none
 pins-preserved-then-is_none c =
     let q = λ (k : ℕ). not (k == c.args.pin) && (is_hung c.args.forest.now (pin_wire c.args.forest.now.shape k) && not (read_under c.args.reads.now.rows k c.args.pin)) in
     let is : is_hung c.args.forest.now (pin_wire c.args.forest.now.shape c.pins.k) ≡ false =
-        ap (λ w. is_some (pin_of c.args.forest.now w)) (ap (λ m. pin_wire m c.pins.k) (sym c.shape-shape.ensures.shape) ∙ sym c.pin.ensures.wire) ∙ ap is_some (sym c.pin_of.ensures) ∙ c.is_none.ensures ∙ ap not c.if-is_none.true in
+    ap (λ w. is_some (pin_of c.args.forest.now w)) (ap (λ m. pin_wire m c.pins.k) (sym c.shape-shape.ensures.shape) ∙ sym c.pin.ensures.wire) ∙ ap is_some (sym c.pin_of.ensures) ∙ c.is_none.ensures ∙ ap not c.if-is_none.true in
     number_not_yet q c.pins.k c.pins.invariant (and_neither (not (c.pins.k == c.args.pin)) (is_hung c.args.forest.now (pin_wire c.args.forest.now.shape c.pins.k)) (not (read_under c.args.reads.now.rows c.pins.k c.args.pin)) is)
 
 pub returns-then-not-read_under : goal.returns-then-not-read_under
@@ -25,7 +25,7 @@ returns-then-not-read_under c =
     let q = λ (k : ℕ). not (k == c.args.pin) && (is_hung c.args.forest.now (pin_wire c.args.forest.now.shape k) && not (read_under c.args.reads.now.rows k c.args.pin)) in
     let other : not (c.pins.k == c.args.pin) ≡ true = (let n = c.if-k-pin.false in grind (arith, nat_tests, n)) in
     let hung : is_hung c.args.forest.now (pin_wire c.args.forest.now.shape c.pins.k) ≡ true =
-        ap (λ w. is_some (pin_of c.args.forest.now w)) (ap (λ m. pin_wire m c.pins.k) (sym c.shape-shape.ensures.shape) ∙ sym c.pin.ensures.wire) ∙ ap is_some (sym c.pin_of.ensures) ∙ c.is_none.ensures ∙ ap not c.if-is_none.false in
+    ap (λ w. is_some (pin_of c.args.forest.now w)) (ap (λ m. pin_wire m c.pins.k) (sym c.shape-shape.ensures.shape) ∙ sym c.pin.ensures.wire) ∙ ap is_some (sym c.pin_of.ensures) ∙ c.is_none.ensures ∙ ap not c.if-is_none.false in
     let falls : not (read_under c.args.reads.now.rows c.pins.k c.args.pin) ≡ true = ap not (sym c.read_under.ensures ∙ c.if-not-read_under.true) in
     let below = c.pins-test.true in let m = ap pins_of c.shape-shape.ensures.shape in let n = c.pins-k-end.ensures.pins in
     sym (number_shown q _ c.pins.k (omega (arith, below, m, n)) (and_all (not (c.pins.k == c.args.pin)) (is_hung c.args.forest.now (pin_wire c.args.forest.now.shape c.pins.k)) (not (read_under c.args.reads.now.rows c.pins.k c.args.pin)) other hung falls))

@@ -48,15 +48,15 @@ feet-preserved c =
     let foot : Foot = get_or c.args.feet.now c.feet.k (record { 0 = 0 }, record { 0 = 0 }) in
     let at : foot ≡ get_or c.args.feet.now c.feet.k foot = get_or_default c.args.feet.now c.feet.k _ _ c.feet-test.true in
     let unfit : shows_unfit trees c.args.feet.now rows foot ≡ true = all_three (others_part trees c.args.feet.now rows foot) (reads_oddly trees rows (pin_at trees foot)) (sym c.others_part.ensures ∙ c.if-not-others_part.false)
-        (ap (reads_oddly trees rows) (sym c.pin_at-pin.ensures.pin) ∙ sym c.reads_oddly.ensures ∙ c.if-not-reads_oddly.false) in
+    (ap (reads_oddly trees rows) (sym c.pin_at-pin.ensures.pin) ∙ sym c.reads_oddly.ensures ∙ c.if-not-reads_oddly.false) in
     let pin = sym c.pin_at-pin.ensures.pin in
     let alike : reads_alike rows (pin_at trees foot) ≡ beq c.read_under.result c.read_free.result =
-        ap (reads_alike rows) pin ∙ ap (λ t. not (differ t (read_free rows c.pin_at-pin.result))) (sym c.read_under.ensures) ∙ ap (λ t. not (differ c.read_under.result t)) (sym c.read_free.ensures) ∙ ap not (differ_by c.read_under.result c.read_free.result) ∙ not_not (beq c.read_under.result c.read_free.result) in
+    ap (reads_alike rows) pin ∙ ap (λ t. not (differ t (read_free rows c.pin_at-pin.result))) (sym c.read_under.ensures) ∙ ap (λ t. not (differ c.read_under.result t)) (sym c.read_free.ensures) ∙ ap not (differ_by c.read_under.result c.read_free.result) ∙ not_not (beq c.read_under.result c.read_free.result) in
     let wire = (c.requires.feet c.feet.k (record { 0 = 0 }, record { 0 = 0 }) c.feet-test.true).wire in
     let within : foot.0.0 < length c.feet.unfit = (let e = c.requires.unfit in let l = c.feet.invariant.len in omega (arith, wire, e, l)) in
     let within_too : foot.0.0 < length c.feet.unclear = (let e = c.requires.unclear in let l = c.feet.invariant.len_too in omega (arith, wire, e, l)) in
     let unfit_now = subst (λ s. (w : ℕ) → has_number s w ≡ (list_any (λ (f : Foot). (f.0.0 == w) && shows_unfit trees c.args.feet.now rows f) (take (c.feet.k + 1) c.args.feet.now) || has_number c.args.unfit.now w)) (sym c.insert.ensures)
-        (marked_on c.args.feet.now c.feet.k foot c.feet-test.true at (λ (f : Foot). f.0.0) (shows_unfit trees c.args.feet.now rows) c.feet.unfit (has_number c.args.unfit.now) c.feet.invariant.unfit unfit within) in
+    (marked_on c.args.feet.now c.feet.k foot c.feet-test.true at (λ (f : Foot). f.0.0) (shows_unfit trees c.args.feet.now rows) c.feet.unfit (has_number c.args.unfit.now) c.feet.invariant.unfit unfit within) in
     let len = ap length c.insert.ensures ∙ length-set c.feet.unfit foot.0.0 true ∙ c.feet.invariant.len in
     elim c.if-read_under-read_free.branch [
       | then-read_under-read_free w ↦ record {
