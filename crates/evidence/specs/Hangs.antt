@@ -1,5 +1,6 @@
 -- Wires that are hung on forests, to be tested.
-use Rattle.std.specs.Prelude.{◌≡◌, ◌≢◌, ℕ, ◌+◌, ◌<◌, ◌==◌, Bool, true, false, not, ◌&&◌, ◌||◌, Option, Some, None, List, [], ◌∷◌, ◌++◌, All, map, filter, unwrap_or}
+use Rattle.std.specs.Prelude.{◌≡◌, ℕ, ◌<◌, ◌==◌, Bool, true, false, not, ◌&&◌, ◌||◌, Option, Some, None, List, ◌++◌, All, map}
+use Rattle.std.specs.Prelude.{filter, unwrap_or}
 use Rattle.std.specs.List.{list_any, list_all, range_with_len, IsDistinct}
 use Rattle.hierarchy.specs.Circuit.{Pins}
 use Rattle.hierarchy.specs.Faults.{Faults}
@@ -86,7 +87,8 @@ others_part trees feet rows foot =
 -- a pin reads otherwise than 1 where another pin that hangs is driven
 abbrev pub falls_with_others : Trees → List Pins → ℕ → Bool
 falls_with_others trees rows pin = list_any
-    (λ k. not (k == pin) && (is_hung trees (pin_wire trees.shape k) && not (read_under rows k pin))) (range_with_len 0 (pins_of trees.shape))
+    (λ k. not (k == pin) && (is_hung trees (pin_wire trees.shape k) && not (read_under rows k pin)))
+    (range_with_len 0 (pins_of trees.shape))
 
 -- .. or otherwise than 0 where it is driven itself, or otherwise than 1 where nothing is
 abbrev pub reads_oddly : Trees → List Pins → ℕ → Bool
@@ -185,7 +187,8 @@ seen_on trees feet rows = record nothing {
 
 -- The second and third look: in one the second crosspoints alone are closed beside the forest, in the other the first ones. The feet
 -- over second crosspoints that are shown are seen in the former, the others in the latter.
-pub record HasHungOn (told : Option Faults) (trees : Trees) (hs : List Hang) (rows : List Pins) (old new : Kept) (was is were are : List Bool) : Type 0 where
+pub record HasHungOn (told : Option Faults) (trees : Trees) (hs : List Hang) (rows : List Pins) (old new : Kept)
+    (was is were are : List Bool) : Type 0 where
   pub without_over : List Pins
   pub over_look : IsLook told trees.shape (closes trees (others hs)) without_over
   pub without_other : List Pins
@@ -203,4 +206,5 @@ pub data HasTried (told : Option Faults) (trees : Trees) (hs : List Hang) (old n
   silent : (rows : List Pins) → IsLook told trees.shape (closes trees (all_feet hs)) rows →
       some_answers trees hs rows ≡ false → new ≡ old → is ≡ was → are ≡ were → HasTried told trees hs old new was is were are
   answered : (rows : List Pins) → IsLook told trees.shape (closes trees (all_feet hs)) rows →
-      some_answers trees hs rows ≡ true → HasHungOn told trees hs rows old new was is were are → HasTried told trees hs old new was is were are
+      some_answers trees hs rows ≡ true → HasHungOn told trees hs rows old new was is were are →
+      HasTried told trees hs old new was is were are

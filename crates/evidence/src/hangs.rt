@@ -1,5 +1,5 @@
 //! Wires that hang on two trees each over a crosspoint that isn't known, tested many at a time.
-ghost use Rattle.std.specs.Prelude.{◌≡◌, ◌≤◌, ◌<◌, ◌+◌, ◌++◌, ℕ, Bool, true, false, IsTrue, Some, All, map, length, IfOk, OnOk, OnErr, IsErrOf};
+ghost use Rattle.std.specs.Prelude.{◌≡◌, ◌≤◌, ◌<◌, ◌+◌, ◌++◌, ℕ, Bool, Some, All, map, length, IfOk, OnOk, OnErr, IsErrOf};
 ghost use Rattle.tm_outside.specs.Counts.{Rose};
 ghost use Rattle.hierarchy.specs.Shape.{wires_of, pins_of};
 ghost use Rattle.rig.specs.Rig.{shape_of};
@@ -253,7 +253,8 @@ impl Proof {
         requires views { AreViews (pins_of self.old.shape) views.now }
         requires unfit { length unfit.old ≡ wires_of self.old.shape }
         requires unclear { length unclear.old ≡ wires_of self.old.shape }
-        ensures learnt { OnOk result (HasLearnt forest.now hangs.now views.now self.old self.new unfit.old unfit.new unclear.old unclear.new) }
+        ensures learnt { OnOk result (HasLearnt forest.now hangs.now views.now self.old self.new
+            unfit.old unfit.new unclear.old unclear.new) }
         ensures refused { OnErr result (self.new ≡ self.old) }
         ensures unmarked { OnErr result (unfit.new ≡ unfit.old) }
         ensures unmarked_too { OnErr result (unclear.new ≡ unclear.old) }
@@ -302,7 +303,8 @@ impl Proof {
 
         ensures tried { OnOk result (HasTried (rig_state rig.old).machine.faults forest.now hangs.now self.old self.new
             unfit.old unfit.new unclear.old unclear.new) }
-        ensures unfit { (known : ℕ → Bool) → AreAllOf forest.now known → UnfitIf (rig_state rig.old).machine.faults self.old known unfit.old →
+        ensures unfit { (known : ℕ → Bool) → AreAllOf forest.now known →
+            UnfitIf (rig_state rig.old).machine.faults self.old known unfit.old →
             UnfitIf (rig_state rig.old).machine.faults self.new known unfit.new }
         ensures unclear { UnclearIf (rig_state rig.old).machine.faults self.old unclear.old →
             UnclearIf (rig_state rig.old).machine.faults self.new unclear.new }
