@@ -149,11 +149,12 @@ pin_q trees h = pin_at trees (over_of (turned h))
 abbrev pub some_answers : Trees → List Hang → List Pins → Bool
 some_answers trees hs rows = list_any (λ h. read_free rows (pin_q trees h) && not (read_under rows (pin_p trees h) (pin_q trees h))) hs
 
--- The first crosspoint of a hang is shown where q reads otherwise without the first ones, while p alone is driven, and where the p of
--- each other hang parts from this q.
+-- from this pin, of a hang of this wire, parts the p of each other hang
 abbrev pub others_part_from : Trees → List Hang → List Pins → ℕ → ℕ → Bool
 others_part_from trees hs rows w q = list_all (λ o. (o.wire.0 == w) || parts rows (pin_p trees o) q) hs
 
+-- The first crosspoint of a hang is shown where q reads otherwise without the first ones, while p alone is driven, and where the p of
+-- each other hang parts from this q.
 abbrev pub is_shown : Trees → List Hang → List Pins → List Pins → Hang → Bool
 is_shown trees hs rows without h =
     differ (read_under rows (pin_p trees h) (pin_q trees h)) (read_under without (pin_p trees h) (pin_q trees h))
