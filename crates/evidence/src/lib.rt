@@ -18,13 +18,16 @@
 #![tactic(auto)]
 
 mod again;
+mod forest;
 pub mod laws;
 mod leads;
 mod pins;
 mod proof;
 mod readings;
 mod routes;
+mod table_rows;
 mod toggles;
 
+pub use forest::Forest;
 pub use leads::Lead;
 pub use proof::Proof;
