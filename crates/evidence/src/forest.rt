@@ -1,7 +1,7 @@
 //! Wires that hang on pins of the machine.
 ghost use Rattle.std.specs.Prelude.{◌≡◌, ◌<◌, slice_index_or, None, length};
 ghost use Rattle.hierarchy.specs.Shape.{wires_of};
-ghost use Rattle.evidence.specs.Forests.{HangsOn};
+ghost use Rattle.evidence.specs.Forests.{IsForest, pin_of};
 
 use hierarchy::{Cross, Shape, Wire};
 use std::marker::Model;
@@ -23,13 +23,14 @@ impl Model for Forest {
 
     ghost view = { λ p. record { shape = p.shape; pins = p.pins.items; crosses = p.crosses.items } };
 
-    ghost invariant = { λ p. (length p.pins.items ≡ wires_of p.shape) × IsForest (record { shape = p.shape; pins = p.pins.items; crosses = p.crosses.items }) };
+    ghost invariant = { λ p. IsForest (record { shape = p.shape; pins = p.pins.items; crosses = p.crosses.items }) };
 }
 
 impl Forest {
     /// The shape of the machine.
     pub fn shape(&self) -> Shape
-        ensures { result ≡ self.now.shape }
+        ensures shape { result ≡ self.now.shape }
+        ensures forest { IsForest self.now }
     {
         self.shape
     }
@@ -37,7 +38,7 @@ impl Forest {
     /// The pin on which a wire hangs.
     pub fn pin_of(&self, w: Wire) -> Option<u32>
         requires { w.0 < wires_of self.now.shape }
-        ensures { result ≡ slice_index_or self.now.pins w.0 None }
+        ensures { result ≡ pin_of self.now w.0 }
     {
         self.pins[w.0 as usize]
     }
