@@ -20,7 +20,9 @@ use Rattle.config_set.specs.Faulty.{IsRun}
 use Rattle.config_set.specs.Run.{number_of}
 use Rattle.evidence.specs.Forests.{Trees, HangsOn, IsForest, KnowsForest, pin_of}
 use Rattle.evidence.specs.Kept.{Kept, Gains, HoldsFor}
-use Rattle.evidence.specs.TableRows.{AreTablesOn, AreAddressDrives, AreOpposite, IsInputPin, IsRightTable, IsTableConfig, IsTableLoad, WrongIf, is_one_of, is_right_before, is_right_in, output_pin, reads_at, right_parts, shown_in}
+use Rattle.evidence.specs.TableRows.{AreTablesOn, AreAddressDrives, AreOpposite, IsTableConfig, IsTableLoad, WrongIf, is_one_of, is_right_before, is_right_in, output_pin, right_parts}
+use Rattle.hierarchy.specs.Tight.{IsRightTable}
+use Rattle.evidence.specs.Looks.{read_at}
 use Rattle.evidence.proofs.Keeping.{holds_earlier}
 use Rattle.evidence.proofs.KeptLemmas.{GainHoldsFor, more_by_gain}
 use Rattle.evidence.proofs.Nets.{IsNet, AreHung, IsInputDrive, shown, shows, address_of}
@@ -103,7 +105,7 @@ module _ (f : Faults) (k : Kept) (trees : Trees) (ts : List Table) (forest : IsF
           (λ i. number_of (e 0 (omega arith) i ∷ e 1 (omega arith) i ∷ e 2 (omega arith) i ∷ e 3 (omega arith) i ∷ e 4 (omega arith) i ∷ e 5 (omega arith) i ∷ [])) ∙ address_is a h
 
       -- each table reads what its faults leave of its setting
-      reads_given : (t n : ℕ) → is_one_of ts t ≡ true → n < 65 → reads_at reads (output_pin trees t) n ≡ given_by f s t n
+      reads_given : (t n : ℕ) → is_one_of ts t ≡ true → n < 65 → read_at reads n (output_pin trees t) ≡ given_by f s t n
       reads_given t n i b = shown f g hang net hung (λ m h. input_drives d m) run t n i (let l = d.many in omega (arith, b, l)) ∙ by n b
         where
           by : (n : ℕ) → n < 65 → shows f g hang net hung (unwrap_or (stuck_register f t) s.init) drives t n ≡ given_by f s t n
@@ -140,13 +142,13 @@ module _ (told : Option Faults) (k : Kept) (trees : Trees) (ts : List Table) (fo
     abbrev pin : ℕ
     pin = output_pin trees t
 
-    read : (n : ℕ) → n < 65 → reads_at reads pin n ≡ given_by f s t n
+    read : (n : ℕ) → n < 65 → read_at reads n pin ≡ given_by f s t n
     read n b = reads_given f k trees ts forest known on holds s latched first.config first.laid d (first.run f is) t n one b
 
-    other : (n : ℕ) → n < 65 → reads_at opposite pin n ≡ given_by f z t n
+    other : (n : ℕ) → n < 65 → read_at opposite n pin ≡ given_by f z t n
     other n b = reads_given f k trees ts forest known on holds z (opposed.latched ∙ latched) second.config second.laid d (second.run f is) t n one b
 
-    other_first : reads_at opposite pin 0 ≡ unwrap_or (stuck_register f t) (not s.init)
+    other_first : read_at opposite 0 pin ≡ unwrap_or (stuck_register f t) (not s.init)
     other_first = other 0 (omega arith) ∙ ap (unwrap_or (stuck_register f t)) opposed.init
 
     -- one that is right in the first cycle has no stuck register
@@ -157,10 +159,10 @@ module _ (told : Option Faults) (k : Kept) (trees : Trees) (ts : List Table) (fo
     with_none None b e = refl
     with_none (Some v) b e = cc
 
-    cell_read : (a : ℕ) → a < 64 → stuck_register f t ≡ None → reads_at reads pin (suc a) ≡ unwrap_or (wrong_cell f t a) (cell_of s a)
+    cell_read : (a : ℕ) → a < 64 → stuck_register f t ≡ None → read_at reads (suc a) pin ≡ unwrap_or (wrong_cell f t a) (cell_of s a)
     cell_read a h free = read (suc a) (omega (arith, h)) ∙ with_none _ _ free
 
-    cell_other : (a : ℕ) → a < 64 → stuck_register f t ≡ None → reads_at opposite pin (suc a) ≡ unwrap_or (wrong_cell f t a) (not (cell_of s a))
+    cell_other : (a : ℕ) → a < 64 → stuck_register f t ≡ None → read_at opposite (suc a) pin ≡ unwrap_or (wrong_cell f t a) (not (cell_of s a))
     cell_other a h free = other (suc a) (omega (arith, h)) ∙ with_none _ _ free ∙ ap (unwrap_or (wrong_cell f t a)) (opposed.cells a h)
 
     -- and where it is right in the cycle of a cell, this isn't wrong

@@ -6,14 +6,16 @@ use Rattle.std.specs.List.{list_any}
 use Rattle.tm_bits.specs.Numbers.{has_number}
 use Rattle.hierarchy.specs.declared.Table.{Table}
 use Rattle.hierarchy.specs.Circuit.{Pins}
-use Rattle.hierarchy.specs.Faults.{Faults, wrong_cell, stuck_register}
+use Rattle.hierarchy.specs.Faults.{Faults}
 use Rattle.hierarchy.specs.Shape.{table_wire, tables_of}
+use Rattle.hierarchy.specs.Tight.{IsRightTable}
 use Rattle.config_set.specs.declared.Setting.{Setting}
 use Rattle.config_set.specs.Configuration.{Configuration, is_closed, setting_of, cell_of}
 use Rattle.config_set.specs.Faulty.{IsRun}
 use Rattle.rig.specs.Rig.{RigState}
 use Rattle.evidence.specs.Forests.{Trees, HangsOn, pin_of, is_laid}
 use Rattle.evidence.specs.Kept.{Kept, Gain, Gains, HoldsFor, nothing}
+use Rattle.evidence.specs.Looks.{read_at}
 use Rattle.evidence.specs.Readings.{HasCycled}
 
 -- one of these tables has the number
@@ -75,14 +77,10 @@ abbrev pub shown_in : Setting → ℕ → Bool
 shown_in s zero = s.init
 shown_in s (suc a) = cell_of s a
 
--- what a pin reads in a cycle
-abbrev pub reads_at : List Pins → ℕ → ℕ → Bool
-reads_at rows pin n = slice_index_or (slice_index_or rows n []) pin true
-
 -- the pin reads in a cycle what is shown, and in that of the second load the opposite
 abbrev pub is_right_in : Setting → List Pins → List Pins → ℕ → ℕ → Bool
 is_right_in s reads opposite pin n =
-    if shown_in s n then reads_at reads pin n && not (reads_at opposite pin n) else not (reads_at reads pin n) && reads_at opposite pin n
+    if shown_in s n then read_at reads n pin && not (read_at opposite n pin) else not (read_at reads n pin) && read_at opposite n pin
 
 -- it does in each of the first n cycles
 abbrev pub is_right_before : Setting → List Pins → List Pins → ℕ → ℕ → Bool
@@ -121,11 +119,6 @@ pub record HasTabled (told : Option Faults) (trees : Trees) (ts : List Table) (r
   pub marks : (t : ℕ) → has_number is t ≡
       ((is_one_of ts t && not (is_right_before setting reads opposite (output_pin trees t) 65)) || has_number was t)
   pub session : HasCycled second.config drives rig
-
--- no cell of the table is wrong, and its register isn't stuck
-pub record IsRightTable (f : Faults) (t : ℕ) : Type 0 where
-  pub cells : (a : ℕ) → a < 64 → wrong_cell f t a ≡ None
-  pub register : stuck_register f t ≡ None
 
 -- the marked tables have a wrong cell or a stuck register, where the faults are told and what is kept is true of them
 abbrev pub WrongIf : Option Faults → Kept → List Bool → Type 0
