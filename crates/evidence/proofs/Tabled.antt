@@ -175,6 +175,7 @@ module _ (told : Option Faults) (k : Kept) (trees : Trees) (ts : List Table) (fo
     right_in r (suc a) b = let h : a < 64 = omega (arith, b) in right_of (wrong_cell f t a) (cell_of s a) _ _ (cell_read a h r.register) (cell_other a h r.register) (r.cells a h)
 
     right_before : IsRightTable f t → (n : ℕ) → n < 66 → is_right_before s reads opposite pin n ≡ true
+    unfolding is_right_before
     right_before r zero b = refl
     right_before r (suc n) b = and_true _ _ (right_before r n (omega (arith, b))) (right_in r n (omega (arith, b)))
 

@@ -9,8 +9,8 @@ use Rattle.hierarchy.specs.Shape.{table_wire, tables_of, pins_of}
 use Rattle.config_set.specs.declared.Setting.{Setting}
 use Rattle.config_set.specs.Configuration.{Configuration, setting_of}
 use Rattle.config_set.specs.Faulty.{IsRun}
-use Rattle.evidence.specs.declared.table_rows.Sheet.{Sheet}
-use Rattle.evidence.specs.Forests.{Trees, HangsOn}
+use Rattle.evidence.specs.declared.sheets.Sheet.{Sheet}
+use Rattle.evidence.specs.Forests.{Trees, HangsOn, IsForest}
 use Rattle.evidence.specs.Kept.{Gain, nothing}
 use Rattle.evidence.specs.Readings.{HasCycled}
 use Rattle.evidence.specs.TableRows.{AreAddressDrives, AreOpposite, IsTableConfig, is_one_of, is_right_in}
@@ -67,6 +67,7 @@ pub record IsSheet (m : Shape) (s : Sheet) : Type 0 where
 
 -- the sheet is ready for the first load of these tables
 pub record IsReadyFor (trees : Trees) (ts : List Table) (s : Sheet) : Type 0 where
+  pub forest : IsForest trees
   pub sheet : IsSheet trees.shape s
   pub laid : IsTableConfig trees ts s.setting s.config.config
   pub driven : AreAddressDrives trees ts s.drives.items

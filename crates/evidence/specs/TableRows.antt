@@ -83,7 +83,7 @@ is_right_in s reads opposite pin n =
     if shown_in s n then read_at reads n pin && not (read_at opposite n pin) else not (read_at reads n pin) && read_at opposite n pin
 
 -- it does in each of the first n cycles
-abbrev pub is_right_before : Setting → List Pins → List Pins → ℕ → ℕ → Bool
+unfoldable pub is_right_before : Setting → List Pins → List Pins → ℕ → ℕ → Bool
 is_right_before s reads opposite pin zero = true
 is_right_before s reads opposite pin (suc n) = is_right_before s reads opposite pin n && is_right_in s reads opposite pin n
 

@@ -27,6 +27,7 @@ mod pins;
 mod proof;
 mod readings;
 mod routes;
+mod sheets;
 mod sights;
 mod table_rows;
 mod tells;
