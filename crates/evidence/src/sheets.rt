@@ -103,7 +103,12 @@ fn set_address(drive: &mut PinBits, forest: &Forest, t: Table, address: u32)
 }
 
 // A drive for an address.
-fn address_drive(alloc: Global, forest: &Forest, t: Table, address: u32) -> Result<PinBits, AllocError>
+fn address_drive(
+    alloc: Global,
+    forest: &Forest,
+    t: Table,
+    address: u32,
+) -> Result<PinBits, AllocError>
     requires { HasInputs forest.now t.0 }
     ensures address { IfOk result (HasAddress forest.now t.0 address 6) }
     ensures length { IfOk result (λ drive. length drive ≡ pins_of forest.now.shape) }
@@ -159,7 +164,11 @@ fn table_config(
 }
 
 /// What a test of these tables needs.
-pub(crate) fn sheet_of(alloc: Global, forest: &Forest, tables: &[Table]) -> Result<Sheet, AllocError>
+pub(crate) fn sheet_of(
+    alloc: Global,
+    forest: &Forest,
+    tables: &[Table],
+) -> Result<Sheet, AllocError>
     requires { AreTablesOn forest.now tables.now }
     ensures { IfOk result (IsReadyFor forest.now tables.now) }
 {
@@ -210,7 +219,11 @@ fn read_rows(
 }
 
 /// Makes both loads of a test. Between them the tables get the opposite setting.
-pub(crate) fn read_tables(rig: &mut Box<dyn Rig>, sheet: &mut Sheet, tables: &[Table]) -> Result<(), RigFail>
+pub(crate) fn read_tables(
+    rig: &mut Box<dyn Rig>,
+    sheet: &mut Sheet,
+    tables: &[Table],
+) -> Result<(), RigFail>
     requires attached { shape_of (rig_state rig.old) ≡ Some sheet.old.config.config.shape }
     requires sheet { IsSheet sheet.old.config.config.shape sheet.old }
     requires tables { All (λ t. t.0 < tables_of sheet.old.config.config.shape) tables.now }
