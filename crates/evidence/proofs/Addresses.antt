@@ -1,4 +1,4 @@
--- Drives for the addresses of tables, and the readings of a load under them.
+-- Drives for the addresses of tables.
 use Rattle.std.proofs.Common.{◌≡◌, ◌≢◌, ◌⊎◌, inl, inr, ℕ, zero, suc, ◌<◌, ◌≤◌, ◌+◌, Bool, true, false, Some, None, Option, List, [], ◌∷◌, ◌++◌, length, get_or, map, set, refl, sym, ap, ◌∙◌, subst, arith}
 use Rattle.std.specs.Prelude.{◌==◌, All, replicate, slice_set, IfSome, IsSome, option_map, Result, Ok, Err, OnOk}
 use Rattle.std.specs.Int.{bit_at}
@@ -9,16 +9,12 @@ use native.Mathlib.Decide.{ℕ_discrete, dec_lt}
 use Rattle.hierarchy.specs.declared.Cross.{Cross}
 use Rattle.hierarchy.specs.declared.Table.{Table}
 use Rattle.hierarchy.specs.Circuit.{Pins}
-use Rattle.hierarchy.specs.Faults.{Faults}
-use Rattle.hierarchy.specs.Shape.{table_wire, pins_of}
-use Rattle.config_set.specs.Configuration.{Configuration}
-use Rattle.config_set.specs.Faulty.{IsRun}
+use Rattle.hierarchy.specs.Shape.{table_wire, crosses_of}
 use Rattle.config_set.specs.Groups.{among}
 use Rattle.test_configs.specs.Routes.{cross_numbers}
-use Rattle.rig.specs.Rig.{RigState, Session, Exchange, AreRows, Begins, GoesOnBy, KeepLengths, config_of, cycles_of, drives_of, readings_of}
-use Rattle.evidence.specs.Forests.{Trees, HangsOn, pin_of}
-use Rattle.evidence.specs.Readings.{HasCycled}
-use Rattle.evidence.specs.Sheets.{AreAddressesOf, AreTableDrives, HasAddress, HasInputs, HaveWidth, IsPinOf, ReadsRows}
+use Rattle.rig.specs.Rig.{KeepLengths}
+use Rattle.evidence.specs.Forests.{Trees, HangsOn, IsForest, pin_of}
+use Rattle.evidence.specs.Sheets.{AreAddressesOf, AreTableDrives, HasAddress, HasInputs, HaveWidth, IsPinOf}
 use Rattle.evidence.specs.TableRows.{AreAddressDrives, AreTablesOn, IsInputPin, is_one_of}
 
 -- all pins are released
@@ -133,14 +129,6 @@ module _ (trees : Trees) (ts : List Table) (t : ℕ) (on : AreTablesOn trees ts)
       by_place n p low (no m) (yes e) = absurd (false≢true (sym low ∙ ap (λ k. get_or (get_or drives k []) p true) e ∙ h.last p))
       by_place n p low (no m) (no o) = absurd (false≢true (sym low ∙ ap (λ r. get_or r p true) (get_or_past drives n [] (let l = h.many in omega (arith, m, o, l)))))
 
--- rows that are as wide as the machine are rows of the session
-pub are_rows : (rig : RigState) (g : Configuration) (rows : List Pins) → config_of rig ≡ Some g → HaveWidth (pins_of g.shape) rows → AreRows rig rows
-are_rows rig g rows is wide k d here = ap (option_map (λ (h : Configuration). pins_of h.shape)) is ∙ ap Some (sym (wide k d here))
-
-pub has_session : (s : Option Session) (g : Configuration) → option_map (λ (t : Session). t.config) s ≡ Some g → IsSome s
-has_session (Some s) g is = refl
-has_session None g is = absurd (let no : ⊥ = cc in no)
-
 pub wide_still : (n : ℕ) (rows new : List Pins) → KeepLengths rows new → HaveWidth n rows → HaveWidth n new
 wide_still n [] [] same wide = wide
 wide_still n [] (y ∷ ys) same wide = absurd (let no : ⊥ = cc in no)
@@ -157,26 +145,12 @@ wide_still n (x ∷ xs) (y ∷ ys) same wide =
 pub many_still : (rows new : List Pins) → KeepLengths rows new → length new ≡ length rows
 many_still rows new same = sym (length-map new length) ∙ ap length same ∙ length-map rows length
 
-if_some : {T : Type 0} (P : T → Type 0) (o : Option T) (x : T) → o ≡ Some x → IfSome o P → P x
-if_some P None x e p = cc
-if_some P (Some y) x e p = subst P (let s : y ≡ x = cc in s) p
-
--- a session that went on from its load by these cycles
-module _ (told : Option Faults) (loaded new : RigState) (g : Configuration) (room : ℕ) (drives reads : List Pins) (begins : Begins g room loaded) (goes : GoesOnBy drives reads loaded new) where
-  cycles : cycles_of new ≡ goes.more
-  cycles = goes.cycles ∙ ap (λ xs. xs ++ goes.more) begins.cycles
-
-  pub cycled : HasCycled g drives new
-  cycled = record { config = goes.config ∙ begins.config; cycles = ap drives_of cycles ∙ goes.driven }
-
-  pub ran : new.machine.faults ≡ told → ReadsRows told g drives reads
-  ran same f is =
-      let ds : drives_of (cycles_of new) ≡ drives = ap drives_of cycles ∙ goes.driven in
-      let rs : readings_of (cycles_of new) ≡ reads = ap readings_of cycles ∙ goes.read in
-      rw (← ds, ← rs) (if_some _ (config_of new) g (goes.config ∙ begins.config) (if_some _ new.machine.faults f (same ∙ is) goes.told))
-
 -- each crosspoint of a list is among their numbers
 pub numbered : (xs : List Cross) (k : ℕ) (d : Cross) → k < length xs → among (cross_numbers xs) (get_or xs k d).0 ≡ true
 numbered [] k d h = absurd (omega (arith, h))
 numbered (x ∷ xs) zero d h = or_left (x.0 == x.0) _ (let e : (x.0 == x.0) ≡ true = grind (arith, nat_tests) in e)
 numbered (x ∷ xs) (suc k) d h = or_right (x.0 == (get_or xs k d).0) _ (numbered xs k d (omega (arith, h)))
+
+-- .. and those of a forest are crosspoints of the machine
+pub laid_below : (trees : Trees) → IsForest trees → All (λ (x : Cross). x.0 < crosses_of trees.shape) trees.crosses
+laid_below trees forest = λ k d h. (forest.crosses _ (numbered trees.crosses k d h)).below

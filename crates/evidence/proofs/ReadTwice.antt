@@ -19,14 +19,14 @@ module _ (told : Option Faults) (trees : Trees) (ts : List Table) (old new : She
   first_load = record {
     config = old.config.config;
     laid = subst (λ s. IsTableConfig trees ts s old.config.config) (sym read.setting) ready.laid;
-    run = read.run;
+    run = read.run.run;
   }
 
   second_load : IsTableLoad told trees ts read.other old.drives.items new.opposite.items
   second_load = record {
     config = new.config.config;
     laid = laid_again trees ts old.setting read.other old.config.config new.config.config ready.laid read.switched;
-    run = read.run_opposite;
+    run = read.run_opposite.run;
   }
 
   opposed : AreOpposite new.setting read.other

@@ -8,10 +8,10 @@ use Rattle.hierarchy.specs.Faults.{Faults}
 use Rattle.hierarchy.specs.Shape.{table_wire, tables_of, pins_of}
 use Rattle.config_set.specs.declared.Setting.{Setting}
 use Rattle.config_set.specs.Configuration.{Configuration, setting_of}
-use Rattle.config_set.specs.Faulty.{IsRun}
 use Rattle.evidence.specs.declared.sheets.Sheet.{Sheet}
 use Rattle.evidence.specs.Forests.{Trees, HangsOn, IsForest}
 use Rattle.evidence.specs.Kept.{Gain, nothing}
+use Rattle.evidence.specs.Looks.{ReadsEach}
 use Rattle.evidence.specs.Readings.{HasCycled}
 use Rattle.evidence.specs.TableRows.{AreAddressDrives, AreOpposite, IsTableConfig, is_one_of, is_right_in}
 use Rattle.rig.specs.Rig.{RigState}
@@ -31,7 +31,8 @@ pub record SwitchesOn (ts : List Table) (s : Setting) (g h : Configuration) : Ty
 -- inputs of a table hang, each on a pin of its own
 pub record HasInputs (trees : Trees) (t : ℕ) : Type 0 where
   pub within : t < tables_of trees.shape
-  pub differ : (i j p : ℕ) → i < 6 → j < 6 → HangsOn trees (table_wire trees.shape t i) p → HangsOn trees (table_wire trees.shape t j) p → i ≡ j
+  pub differ : (i j p : ℕ) → i < 6 → j < 6 → HangsOn trees (table_wire trees.shape t i) p →
+      HangsOn trees (table_wire trees.shape t j) p → i ≡ j
 
 -- one of the first n inputs of a table hangs on the pin
 pub record IsPinOf (trees : Trees) (t n p : ℕ) : Type 0 where
@@ -74,20 +75,16 @@ pub record IsReadyFor (trees : Trees) (ts : List Table) (s : Sheet) : Type 0 whe
   pub latched : s.setting.latched ≡ true
   pub low : s.setting.init ≡ false
 
--- what a load under these drives reads
-abbrev pub ReadsRows : Option Faults → Configuration → List Pins → List Pins → Type 0
-ReadsRows told g drives reads = (f : Faults) → told ≡ Some f → IsRun f g drives reads
-
 -- The sheet was read in two loads: in the first as it was, and in the second with the tables at the opposite setting. The session is
 -- the second.
 pub record IsReadTwice (told : Option Faults) (ts : List Table) (old new : Sheet) (rig : RigState) : Type 0 where
   pub setting : new.setting ≡ old.setting
   pub drives : new.drives.items ≡ old.drives.items
-  pub run : ReadsRows told old.config.config old.drives.items new.reads.items
+  pub run : ReadsEach told old.config.config old.drives.items new.reads.items
   pub other : Setting
   pub opposed : AreOpposite old.setting other
   pub switched : SwitchesOn ts other old.config.config new.config.config
-  pub run_opposite : ReadsRows told new.config.config old.drives.items new.opposite.items
+  pub run_opposite : ReadsEach told new.config.config old.drives.items new.opposite.items
   pub session : HasCycled new.config.config old.drives.items rig
   pub sheet : IsSheet old.config.config.shape new
 

@@ -4,24 +4,27 @@ ghost use Rattle.std.specs.Int.{bit_at};
 ghost use Rattle.tm_outside.specs.Counts.{Rose};
 ghost use Rattle.hierarchy.specs.Shape.{pins_of, tables_of};
 ghost use Rattle.rig.specs.Rig.{shape_of};
-ghost use Rattle.test_configs.specs.Configs.{Closes};
-ghost use Rattle.test_configs.specs.Routes.{cross_numbers};
+ghost use Rattle.evidence.specs.Looks.{ReadsEach};
 ghost use Rattle.evidence.specs.Readings.{HasCycled};
-ghost use Rattle.evidence.specs.Sheets.{AreTableDrives, HasAddress, HasInputs, HaveWidth, IsReadTwice, IsReadyFor, IsSheet, ReadsRows, SwitchesOn};
+ghost use Rattle.evidence.specs.Sheets.{AreTableDrives, HasAddress, HasInputs, HaveWidth, IsReadTwice, IsReadyFor, IsSheet, SwitchesOn};
 ghost use Rattle.evidence.specs.TableRows.{AreOpposite, AreTablesOn, IsTableConfig};
 
 use crate::Forest;
-use crate::readings::begin;
+use crate::readings::read_rows;
 use config_set::{Config, Setting};
 use hierarchy::Table;
-use rig::{PinBits, Rig, RigFail, cycles};
+use rig::{PinBits, Rig, RigFail};
 use std::alloc::{AllocError, Global};
+use test_configs::close_all;
 
 /// A cell is 1 where its address has an odd number of ones: so a wrong bit of an address shows.
 const CELLS: u64 = 0x6996_9669_9669_6996;
 
-/// How many cells a table has.
-pub(crate) const ADDRESSES: u32 = 64;
+// How many cells a table has.
+const ADDRESSES: u32 = 64;
+
+/// How many cycles a load has: one for each cell, and one in which the last is read.
+pub(crate) const CYCLES: u32 = 65;
 
 /// What the loads of a test need: all of it is made before the first one, so that no session ends for want of memory.
 #[derive(Drop)]
@@ -41,19 +44,6 @@ pub(crate) fn table_at(tables: &[Table], place: usize) -> Table
     ensures { slice_get tables.now place ≡ Some result }
 {
     tables[place]
-}
-
-// Closes the crosspoints of a forest.
-fn close_forest(config: &mut Config, forest: &Forest) -> Result<(), AllocError>
-    requires { config.old.config.shape ≡ forest.now.shape }
-    ensures { OnOk result (Closes (cross_numbers forest.now.crosses) config.old.config config.new.config) }
-{
-    let crosses = forest.crosses();
-    let _shape = forest.shape();
-    'crosses: for c in crosses {
-        config.close_cross(*c)?;
-    }
-    Ok(())
 }
 
 // Gives tables a setting.
@@ -140,7 +130,7 @@ fn blank_rows(alloc: Global, pins: u32) -> Result<Vec<PinBits>, AllocError>
     ensures width { IfOk result (λ rows. HaveWidth pins rows.items) }
 {
     let mut rows = Vec::new(alloc);
-    'rows: for _k in 0..ADDRESSES + 1 {
+    'rows: for _k in 0..CYCLES {
         let row = PinBits::new(alloc, pins)?;
         rows.push(row)?;
     }
@@ -158,7 +148,7 @@ fn table_config(
     ensures { IfOk result (λ g. IsTableConfig forest.now tables.now setting g.config) }
 {
     let mut config = Config::with_room(alloc, forest.shape(), 0)?;
-    close_forest(&mut config, forest)?;
+    close_all(&mut config, forest.crosses())?;
     switch_all(&mut config, tables, setting);
     Ok(config)
 }
@@ -191,8 +181,8 @@ pub(crate) fn sheet_of(
     })
 }
 
-// What all pins read in the cycles after a load.
-fn read_rows(
+// Makes a load and its cycles.
+fn read_load(
     rig: &mut Box<dyn Rig>,
     config: &Config,
     drives: &[PinBits],
@@ -212,10 +202,9 @@ fn read_rows(
     ensures width { HaveWidth (pins_of config.now.config.shape) reads.new }
     ensures as_many { length reads.new ≡ 65 }
     ensures session { OnOk result (HasCycled config.now.config drives.now (rig_state rig.new)) }
-    ensures run { OnOk result (ReadsRows (rig_state rig.old).machine.faults config.now.config drives.now reads.new) }
+    ensures run { OnOk result (ReadsEach (rig_state rig.old).machine.faults config.now.config drives.now reads.new) }
 {
-    begin(rig, config, drives.len() as u32)?;
-    cycles(rig, drives, reads)
+    read_rows(rig, config, drives, reads, CYCLES)
 }
 
 /// Makes both loads of a test. Between them the tables get the opposite setting.
@@ -235,7 +224,7 @@ pub(crate) fn read_tables(
     ensures wanting { IsErrOf result RigFail.Memory → (rig_state rig.new).session ≡ None }
     ensures read { OnOk result (IsReadTwice (rig_state rig.old).machine.faults tables.now sheet.old sheet.new (rig_state rig.new)) }
 {
-    read_rows(rig, &sheet.config, &sheet.drives, &mut sheet.reads)?;
+    read_load(rig, &sheet.config, &sheet.drives, &mut sheet.reads)?;
     switch_all(&mut sheet.config, tables, opposite_of(sheet.setting));
-    read_rows(rig, &sheet.config, &sheet.drives, &mut sheet.opposite)
+    read_load(rig, &sheet.config, &sheet.drives, &mut sheet.opposite)
 }

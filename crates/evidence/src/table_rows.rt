@@ -8,10 +8,10 @@ ghost use Rattle.evidence.specs.Forests.{HangsOn, KnowsForest};
 ghost use Rattle.evidence.specs.Kept.{Advances, Gains};
 ghost use Rattle.evidence.specs.Readings.{WantsBefore};
 ghost use Rattle.evidence.specs.Sheets.{IsSheet, right_cells};
-ghost use Rattle.evidence.specs.TableRows.{AreTablesOn, HasTabled, WrongIf, is_one_of, is_right_before, is_right_in, output_pin, right_parts};
-ghost use Rattle.evidence.specs.TableRows.{shown_in};
+ghost use Rattle.evidence.specs.TableRows.{AreTablesOn, HasTabled, WrongIf, is_one_of, is_right_before, is_right_in, output_pin};
+ghost use Rattle.evidence.specs.TableRows.{right_parts, shown_in};
 
-use crate::sheets::{ADDRESSES, Sheet, read_tables, sheet_of, table_at};
+use crate::sheets::{CYCLES, Sheet, read_tables, sheet_of, table_at};
 use crate::{Forest, Proof};
 use config_set::Setting;
 use hierarchy::Table;
@@ -61,7 +61,7 @@ fn is_right(sheet: &Sheet, pin: u32) -> bool
     requires pin { pin < pins_of sheet.now.config.config.shape }
     ensures { result ≡ is_right_before sheet.now.setting sheet.now.reads.items sheet.now.opposite.items pin 65 }
 {
-    'cycles: for cycle in 0..ADDRESSES + 1 {
+    'cycles: for cycle in 0..CYCLES {
         if !is_right_in(sheet, pin, cycle) {
             return false;
         }
@@ -144,8 +144,8 @@ impl Proof {
         requires tables { AreTablesOn forest.now tables.now }
         requires wrong { length wrong.old ≡ tables_of self.old.shape }
 
-        ensures tabled { OnOk result (HasTabled (rig_state rig.old).machine.faults forest.now tables.now (rig_state rig.new) self.old self.new
-            wrong.old wrong.new) }
+        ensures tabled { OnOk result (HasTabled (rig_state rig.old).machine.faults forest.now tables.now (rig_state rig.new) self.old
+            self.new wrong.old wrong.new) }
         ensures wrong { WrongIf (rig_state rig.old).machine.faults self.old wrong.old → WrongIf (rig_state rig.old).machine.faults self.new
             wrong.new }
         ensures marks { length wrong.new ≡ length wrong.old }
