@@ -1,6 +1,6 @@
 -- Drives for the addresses of tables.
-use Rattle.std.proofs.Common.{◌≡◌, ◌≢◌, ◌⊎◌, inl, inr, ℕ, zero, suc, ◌<◌, ◌≤◌, ◌+◌, Bool, true, false, Some, None, Option, List, [], ◌∷◌, ◌++◌, length, get_or, map, set, refl, sym, ap, ◌∙◌, subst, arith}
-use Rattle.std.specs.Prelude.{◌==◌, All, replicate, slice_set, IfSome, IsSome, option_map, Result, Ok, Err, OnOk}
+use Rattle.std.proofs.Common.{◌≡◌, ◌≢◌, ℕ, zero, suc, ◌<◌, ◌+◌, Bool, true, false, Some, None, List, [], ◌∷◌, ◌++◌, length, get_or, map, set, refl, sym, ap, ◌∙◌, subst, arith}
+use Rattle.std.specs.Prelude.{◌==◌, All, replicate, slice_set}
 use Rattle.std.specs.Int.{bit_at}
 use Rattle.std.proofs.lemmas.Bool.{false≢true, or_left, or_right}
 use Rattle.std.proofs.lemmas.Bool.Decides.{nat_tests}
@@ -24,9 +24,6 @@ released_at n p = by (dec_lt p n)
     by : Dec (p < n) → get_or (replicate n true) p true ≡ true
     by (yes h) = get_or-replicate n p true true h
     by (no h) = get_or_past (replicate n true) p true (let l = length-replicate n true in omega (arith, h, l))
-
-pub no_address : (trees : Trees) (t a n : ℕ) → HasAddress trees t a 0 (replicate n true)
-no_address trees t a n = record { bits = λ j p less. absurd (omega (arith, less)); only = λ p low. absurd (false≢true (sym low ∙ released_at n p)) }
 
 same_pin : {p q : ℕ} → Some p ≡ Some q → p ≡ q
 same_pin e = cc
@@ -83,20 +80,7 @@ any_default [] k d e h = absurd (omega (arith, h))
 any_default (x ∷ xs) zero d e h = refl
 any_default (x ∷ xs) (suc k) d e h = any_default xs k d e (omega (arith, h))
 
-pub no_addresses : (trees : Trees) (t : ℕ) → AreAddressesOf trees t 0 []
-no_addresses trees t = record { many = refl; each = λ a d h. absurd (omega (arith, h)) }
-
 module _ (trees : Trees) (t n : ℕ) (drives : List Pins) (h : AreAddressesOf trees t n drives) (drive : Pins) where
-  pub address_more : HasAddress trees t n 6 drive → AreAddressesOf trees t (n + 1) (drives ++ drive ∷ [])
-  address_more is = record {
-    many = let l = length-append drives (drive ∷ []) in let m = h.many in omega (arith, l, m);
-    each = λ a d less. by a d less (ℕ_discrete a n);
-  }
-    where
-      by : (a : ℕ) (d : Pins) → a < n + 1 → Dec (a ≡ n) → HasAddress trees t a 6 (get_or (drives ++ drive ∷ []) a d)
-      by a d less (yes e) = subst (λ r. HasAddress trees t a 6 r) (sym (behind drives drive d a (let m = h.many in omega (arith, e, m)))) (subst (λ i. HasAddress trees t i 6 drive) (sym e) is)
-      by a d less (no m) = subst (λ r. HasAddress trees t a 6 r) (sym (before drives drive d a (let l = h.many in omega (arith, less, m, l)))) (h.each a d (omega (arith, less, m)))
-
   pub all_drives : n ≡ 64 → ((p : ℕ) → get_or drive p true ≡ true) → AreTableDrives trees t (drives ++ drive ∷ [])
   all_drives whole free = record {
     many = let l = length-append drives (drive ∷ []) in let m = h.many in omega (arith, l, m, whole);

@@ -17,7 +17,7 @@ use Rattle.config_set.specs.declared.Setting.{Setting}
 use Rattle.config_set.specs.Configuration.{Configuration, is_closed, setting_of, cell_of}
 use Rattle.config_set.specs.Faulty.{circuit_of, table_of, table_or_off, held_by, IsRun}
 use Rattle.config_set.specs.Groups.{IsWithin, AreGroups}
-use Rattle.config_set.specs.Run.{Ticks, unticked, tick, Cycle, Cycles, none, cycle, at_load, after_tick, tick_output, edge_output, first_output, number_of, address_at}
+use Rattle.config_set.specs.Run.{Ticks, unticked, tick, Cycle, Cycles, none, cycle, tick_output, edge_output, first_output, number_of, address_at}
 use Rattle.config_set.proofs.Grouped.{left_unstuck, left_apart}
 use Rattle.config_set.proofs.Passing.{low_value, high_value}
 use Rattle.config_set.proofs.Readings.{pin_value}

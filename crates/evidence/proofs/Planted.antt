@@ -1,11 +1,10 @@
 -- The net of a forest that is closed.
-use Rattle.std.proofs.Common.{◌≡◌, ◌≢◌, ℕ, ◌<◌, Bool, true, Some, None, Option, List, [], ◌∷◌, refl, sym, ap, ◌∙◌, subst, arith}
-use Rattle.std.specs.Prelude.{◌==◌}
+use Rattle.std.proofs.Common.{◌≡◌, ℕ, ◌<◌, true, Some, List, ◌∷◌, sym, ap, ◌∙◌, subst, arith}
 use Rattle.std.proofs.lemmas.Bool.Decides.{nat_tests}
 use Rattle.hierarchy.specs.Shape.{Ends, in_order, turned, ends_of, pin_wire, pins_of}
 use Rattle.hierarchy.specs.Defects.{IsClear}
 use Rattle.hierarchy.specs.Faults.{Faults, stuck_cross}
-use Rattle.hierarchy.specs.Joined.{Joined, here, Shorted, net_of}
+use Rattle.hierarchy.specs.Joined.{here, Shorted}
 use Rattle.hierarchy.proofs.JoinedLemmas.{Joined-sym}
 use Rattle.config_set.specs.Configuration.{Configuration, is_closed}
 use Rattle.config_set.specs.Groups.{among}

@@ -1,16 +1,14 @@
 -- What is kept and marked of tables, one after the other.
-use Rattle.std.proofs.Common.{◌≡◌, ◌≢◌, ◌⊎◌, inl, inr, ℕ, zero, suc, ◌<◌, ◌≤◌, ◌+◌, Bool, true, false, not, ◌&&◌, ◌||◌, Some, None, Option, List, [], ◌∷◌, length, get_or, take, refl, sym, ap, ◌∙◌, subst, arith}
+use Rattle.std.proofs.Common.{◌≡◌, ℕ, zero, suc, ◌<◌, ◌+◌, Bool, true, false, not, ◌&&◌, ◌||◌, Some, List, length, take, refl, sym, ap, ◌∙◌, subst, arith}
 use Rattle.std.specs.Prelude.{◌==◌, nat_lt, slice_get, slice_set}
-use Rattle.std.proofs.lemmas.Bool.{false≢true}
 use Rattle.std.proofs.lemmas.Bool.Decides.{nat_tests}
-use Rattle.std.proofs.lemmas.Option.{gets}
 use native.Mathlib.Decide.{ℕ_discrete}
 use Rattle.tm_bits.specs.Numbers.{has_number}
 use Rattle.hierarchy.specs.declared.Table.{Table}
 use Rattle.hierarchy.specs.Circuit.{Pins}
 use Rattle.config_set.specs.declared.Setting.{Setting}
 use Rattle.evidence.specs.Forests.{Trees}
-use Rattle.evidence.specs.Kept.{Kept, Gain, Gains, nothing, one_cell, one_register, keeps_cross, keeps_wire, keeps_pair, keeps_cell, keeps_register}
+use Rattle.evidence.specs.Kept.{Kept, Gain, Gains, nothing, one_register, keeps_cross, keeps_wire, keeps_pair, keeps_cell, keeps_register}
 use Rattle.evidence.specs.Sheets.{right_cells}
 use Rattle.evidence.specs.TableRows.{is_one_of, is_right_before, is_right_in, output_pin, right_parts}
 use Rattle.evidence.proofs.KeptLemmas.{mark_set}
@@ -43,79 +41,6 @@ both_gained {g} {h} {a = old} i p q = record {
 
 pub none_gained : (a : Kept) → Gains nothing a a
 none_gained a = record { shape = refl; crosses = λ x. refl; wires = λ w. refl; pairs = λ a b. refl; cells = λ t a. refl; registers = λ t. refl }
-
-same : (n : ℕ) → (n == n) ≡ true
-same n = grind (arith, nat_tests)
-
--- the cells of a table, one after the other
-module _ (t : ℕ) (s : Setting) (reads opposite : List Pins) (pin n : ℕ) where
-  abbrev right : ℕ → Bool
-  right a = is_right_in s reads opposite pin (suc a)
-
-  abbrev one_right : ℕ → Bool
-  one_right a = nat_lt a (n + 1) && right a
-
-  at_last : (a : ℕ) → a ≡ n → one_right a ≡ right n
-  at_last a e = subst (λ b. one_right b ≡ right n) (sym e) (let h : nat_lt n (n + 1) ≡ true = grind (arith, nat_tests) in rw h refl)
-
-  before_last : (a : ℕ) → a ≢ n → nat_lt a (n + 1) ≡ nat_lt a n
-  before_last a m = by (nat_lt a n) refl
-    where
-      by : (b : Bool) → nat_lt a n ≡ b → nat_lt a (n + 1) ≡ b
-      by true e = grind (arith, nat_tests, e)
-      by false e = grind (arith, nat_tests, e, m)
-
-  not_last : nat_lt n n ≡ false
-  not_last = grind (arith, nat_tests)
-
-  with_right : right n ≡ true → (a : ℕ) → one_right a ≡ ((n == a) || (nat_lt a n && right a))
-  with_right on a = by (ℕ_discrete a n)
-    where
-      by : Dec (a ≡ n) → one_right a ≡ ((n == a) || (nat_lt a n && right a))
-      by (yes e) = at_last a e ∙ on ∙ ap (λ b. b || (nat_lt a n && right a)) (sym (let t : (n == a) ≡ true = grind (arith, nat_tests, e) in t))
-      by (no m) = ap (λ b. b && right a) (before_last a m) ∙ ap (λ b. b || (nat_lt a n && right a)) (sym (let f : (n == a) ≡ false = grind (arith, nat_tests, m) in f))
-
-  without_right : right n ≡ false → (a : ℕ) → one_right a ≡ (nat_lt a n && right a)
-  without_right off a = by (ℕ_discrete a n)
-    where
-      by : Dec (a ≡ n) → one_right a ≡ (nat_lt a n && right a)
-      by (yes e) = at_last a e ∙ off ∙ sym (subst (λ b. (nat_lt b n && right b) ≡ false) (sym e) (ap (λ b. b && right n) not_last))
-      by (no m) = ap (λ b. b && right a) (before_last a m)
-
-  spread : (b x y z : Bool) → x ≡ (y || z) → (b && x) ≡ ((b && y) || (b && z))
-  spread true x y z e = e
-  spread false x y z e = refl
-
-  pub cell_right : {a b c : Kept} → right n ≡ true → Gains (right_cells t s reads opposite pin n) a b → Gains (one_cell t n) b c → Gains (right_cells t s reads opposite pin (n + 1)) a c
-  cell_right on p q = both_gained (record {
-    crosses = λ x. refl;
-    wires = λ w. refl;
-    pairs = λ a b. refl;
-    cells = λ u a. spread (t == u) _ _ _ (with_right on a);
-    registers = λ u. refl;
-  }) p q
-
-  pub cell_left : {a b : Kept} → right n ≡ false → Gains (right_cells t s reads opposite pin n) a b → Gains (right_cells t s reads opposite pin (n + 1)) a b
-  cell_left {a} {b} off p = both_gained (record {
-    crosses = λ x. refl;
-    wires = λ w. refl;
-    pairs = λ a b. refl;
-    cells = λ u a. ap (λ x. (t == u) && x) (without_right off a);
-    registers = λ u. refl;
-  }) p (none_gained b)
-
-pub no_cells : (t : ℕ) (s : Setting) (reads opposite : List Pins) (pin : ℕ) (a : Kept) → Gains (right_cells t s reads opposite pin 0) a a
-no_cells t s reads opposite pin a = both_gained {g = nothing} {h = nothing} (record {
-  crosses = λ x. refl;
-  wires = λ w. refl;
-  pairs = λ a b. refl;
-  cells = λ u a. none (t == u) a;
-  registers = λ u. refl;
-}) (none_gained a) (none_gained a)
-  where
-    none : (b : Bool) (a : ℕ) → (b && (nat_lt a 0 && is_right_in s reads opposite pin (suc a))) ≡ false
-    none true a = ap (λ c. c && is_right_in s reads opposite pin (suc a)) (let e : nat_lt a 0 ≡ false = grind (arith, nat_tests) in e)
-    none false a = refl
 
 -- tables, one after the other
 module _ (ts : List Table) (k : ℕ) (t : Table) (below : k < length ts) (at : slice_get ts k ≡ Some t) where

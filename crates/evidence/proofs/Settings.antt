@@ -1,22 +1,20 @@
 -- Settings of tables, one table after the other, and what they are in a load.
-use Rattle.std.proofs.Common.{◌≡◌, ◌≢◌, ◌⊎◌, inl, inr, ℕ, zero, suc, ◌<◌, ◌≤◌, ◌+◌, ◌%◌, Bool, true, false, not, ◌&&◌, ◌||◌, Some, None, Option, List, [], ◌∷◌, length, get_or, take, set, refl, sym, ap, ◌∙◌, subst, arith}
-use Rattle.std.specs.Prelude.{◌==◌, bit_xor, nat_lt, All, slice_get, slice_set, replicate, if◌then◌else◌}
+use Rattle.std.proofs.Common.{◌≡◌, ◌≢◌, ◌⊎◌, inl, inr, ℕ, ◌<◌, ◌≤◌, ◌+◌, ◌%◌, Bool, true, false, not, ◌||◌, Some, None, Option, List, length, get_or, take, set, refl, sym, ap, ◌∙◌, subst, arith}
+use Rattle.std.specs.Prelude.{◌==◌, bit_xor, All, slice_get, slice_set, replicate}
 use Rattle.std.specs.Int.{bit_at}
-use Rattle.std.specs.List.{list_any}
 use Rattle.std.specs.Ordering.{nat_cmp}
 use Rattle.std.specs.FinSet.{contains-empty}
-use Rattle.std.proofs.lemmas.Bool.{false≢true, or_cases, or_left, or_right}
+use Rattle.std.proofs.lemmas.Bool.{false≢true, or_cases}
 use Rattle.std.proofs.lemmas.Bool.Decides.{nat_tests}
-use Rattle.std.proofs.lemmas.List.{get_or-set_same, get_or-set_other, get_or-replicate, get_or_past, length-replicate, length-set, take_all}
+use Rattle.std.proofs.lemmas.List.{get_or-set_same, get_or-set_other, get_or-replicate, get_or_past, length-replicate}
 use Rattle.std.proofs.lemmas.List.Folds.{list_any_more, list_any_at}
 use Rattle.std.proofs.lemmas.Nat.Bits.{bit_at_xor, bit_at_ones, bit_at-lt}
 use Rattle.std.proofs.lemmas.Option.{gets}
 use native.Mathlib.Decide.{ℕ_discrete, dec_lt}
 use Rattle.hierarchy.specs.declared.Table.{Table}
-use Rattle.hierarchy.specs.declared.Shape.{Shape}
 use Rattle.hierarchy.specs.Shape.{tables_of}
 use Rattle.config_set.specs.declared.Setting.{Setting}
-use Rattle.config_set.specs.Configuration.{Configuration, cell_of, cleared, is_closed, setting_of, with_setting}
+use Rattle.config_set.specs.Configuration.{Configuration, cleared, is_closed, with_setting}
 use Rattle.test_configs.specs.Configs.{Closes}
 use Rattle.test_configs.specs.Routes.{cross_numbers}
 use Rattle.evidence.specs.Forests.{Trees, is_laid}
@@ -53,9 +51,6 @@ pub within_at : (n : ℕ) (ts : List Table) (k : ℕ) (t : Table) → All (λ (t
 within_at n ts k t all below at =
     let value : get_or ts k t ≡ t = grind (arith, gets, at) in
     subst (λ (v : Table). v.0 < n) value (all k t below)
-
-pub switches_none : (ts : List Table) (s : Setting) (g : Configuration) → SwitchesOn (take 0 ts) s g g
-switches_none ts s g = record { on = λ t is. absurd (false≢true is); others = λ t out. refl; closed = refl; shape = refl; ticks = refl }
 
 pub switches_more : (ts : List Table) (k : ℕ) (t : Table) (s : Setting) (g h : Configuration) → k < length ts → slice_get ts k ≡ Some t → t.0 < length h.tables → SwitchesOn (take k ts) s g h → SwitchesOn (take (k + 1) ts) s g (with_setting h t.0 (Some s))
 switches_more ts k t s g h below at room p = record {

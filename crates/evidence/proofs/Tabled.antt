@@ -1,24 +1,22 @@
 -- What the readings of tables show of their cells and registers.
-use Rattle.std.proofs.Common.{◌≡◌, ◌≢◌, ◌⊎◌, inl, inr, ℕ, zero, suc, ◌<◌, ◌+◌, ◌*◌, ◌/◌, ◌%◌, Bool, true, false, not, ◌&&◌, ◌||◌, Some, None, Option, List, [], ◌∷◌, length, get_or, refl, sym, ap, ◌∙◌, subst, arith}
+use Rattle.std.proofs.Common.{◌≡◌, ◌≢◌, ◌⊎◌, inl, inr, ℕ, zero, suc, ◌<◌, Bool, true, false, not, ◌&&◌, ◌||◌, Some, None, Option, List, [], ◌∷◌, length, get_or, refl, sym, ap, ◌∙◌, subst, arith}
 use Rattle.std.specs.Prelude.{◌==◌, nat_lt, if◌then◌else◌, unwrap_or, map}
 use Rattle.std.specs.Int.{bit_at}
-use Rattle.std.specs.List.{range_with_len, list_any}
+use Rattle.std.specs.List.{range_with_len}
 use Rattle.std.proofs.lemmas.Bool.{false≢true, and_parts, or_cases}
 use Rattle.std.proofs.lemmas.Bool.Decides.{nat_tests}
 use Rattle.std.proofs.lemmas.Nat.Bits.{bit_at-lt}
 use native.Mathlib.Decide.{ℕ_discrete}
 use Rattle.tm_bits.specs.Numbers.{has_number}
 use Rattle.hierarchy.specs.declared.Table.{Table}
-use Rattle.hierarchy.specs.Shape.{ends_of, pin_wire, table_wire, pins_of}
+use Rattle.hierarchy.specs.Shape.{table_wire}
 use Rattle.hierarchy.specs.Circuit.{Pins}
-use Rattle.hierarchy.specs.Defects.{IsClear}
 use Rattle.hierarchy.specs.Faults.{Faults, stuck_register, wrong_cell}
-use Rattle.hierarchy.specs.Joined.{Shorted}
 use Rattle.config_set.specs.declared.Setting.{Setting}
 use Rattle.config_set.specs.Configuration.{Configuration, cell_of}
 use Rattle.config_set.specs.Faulty.{IsRun}
 use Rattle.config_set.specs.Run.{number_of}
-use Rattle.evidence.specs.Forests.{Trees, HangsOn, IsForest, KnowsForest, pin_of}
+use Rattle.evidence.specs.Forests.{Trees, IsForest, KnowsForest, pin_of}
 use Rattle.evidence.specs.Kept.{Kept, Gains, HoldsFor}
 use Rattle.evidence.specs.TableRows.{AreTablesOn, AreAddressDrives, AreOpposite, IsTableConfig, IsTableLoad, WrongIf, is_one_of, is_right_before, is_right_in, output_pin, right_parts}
 use Rattle.hierarchy.specs.Tight.{IsRightTable}

@@ -1,6 +1,6 @@
 -- Tables, many at once: two loads of 65 cycles, in which all of them are latched.
 use Rattle.std.specs.Prelude.{◌≡◌, ℕ, zero, suc, ◌<◌, ◌==◌, nat_lt, Bool, true, false, ◌&&◌, ◌||◌, not, if◌then◌else◌, Option, Some}
-use Rattle.std.specs.Prelude.{None, List, [], ◌∷◌, All}
+use Rattle.std.specs.Prelude.{None, List, [], All}
 use Rattle.std.specs.Prelude.{length, unwrap_or, slice_index_or}
 use Rattle.std.specs.Int.{bit_at}
 use Rattle.std.specs.List.{list_any}

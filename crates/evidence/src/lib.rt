@@ -15,6 +15,10 @@
 //! `lead_each` reads once while walks from pins to pins are closed, many of them: the crosspoints of those that lead are kept, and of
 //! one that doesn't the only crosspoint that isn't kept is marked (`led`). Where the faults are told, marks stay true (`stuck`).
 //! What it misses the six tests decide, so nothing says that it passes.
+//!
+//! `tables_each` reads many tables that hang in a forest through all addresses, in two loads, the second with all bits turned: of each
+//! just the parts that read rightly in both are kept, and just those tables are marked that don't in some cycle (`tabled`). Where the
+//! faults are told, a marked table has a wrong cell or a stuck register (`wrong`).
 #![tactic(auto)]
 
 mod again;

@@ -1,4 +1,4 @@
-use Rattle.std.proofs.Common.{◌≡◌, ◌∙◌}
+use Rattle.std.proofs.Common.{◌∙◌}
 use Rattle.evidence.proofs.Addresses.{wide_still, many_still}
 use Rattle.evidence.proofs.sheets.read_load.Goals as goal
 

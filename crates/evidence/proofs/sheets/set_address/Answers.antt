@@ -1,8 +1,7 @@
-use Rattle.std.proofs.Common.{◌≡◌, ◌<◌, ◌+◌, true, Some, length, get_or, sym, subst, ap, ◌∙◌, arith}
+use Rattle.std.proofs.Common.{◌≡◌, ◌<◌, length, sym, ap, ◌∙◌, arith}
 use Rattle.std.proofs.lemmas.List.{length-set}
-use Rattle.hierarchy.specs.Shape.{pins_of, table_wire}
+use Rattle.hierarchy.specs.Shape.{table_wire}
 use Rattle.evidence.specs.Forests.{HangsOn, pin_of}
-use Rattle.evidence.specs.Sheets.{HasAddress}
 use Rattle.evidence.proofs.Addresses.{input_set, input_loose}
 use Rattle.evidence.proofs.sheets.set_address.Goals as goal
 use Rattle.evidence.proofs.sheets.set_address.Goals.{in-Some, in_default}

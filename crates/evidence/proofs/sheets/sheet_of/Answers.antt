@@ -1,7 +1,6 @@
-use Rattle.std.proofs.Common.{◌≡◌, ◌<◌, true, refl, sym, subst, ap, ◌∙◌, arith}
-use Rattle.hierarchy.specs.Shape.{tables_of, pins_of}
+use Rattle.std.proofs.Common.{◌≡◌, refl, subst, ap, ◌∙◌}
+use Rattle.hierarchy.specs.Shape.{pins_of}
 use Rattle.evidence.specs.Sheets.{HaveWidth}
-use Rattle.evidence.specs.TableRows.{is_one_of}
 use Rattle.evidence.proofs.Settings.{is_one_at, within_at}
 use Rattle.evidence.proofs.Addresses.{drives_of_all}
 use Rattle.evidence.proofs.sheets.sheet_of.Goals as goal

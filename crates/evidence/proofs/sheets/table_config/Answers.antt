@@ -1,4 +1,4 @@
-use Rattle.std.proofs.Common.{◌≡◌, ◌<◌, List, All, sym, subst, ◌∙◌, ap}
+use Rattle.std.proofs.Common.{◌<◌, List, All, sym, subst, ◌∙◌, ap}
 use Rattle.hierarchy.specs.declared.Cross.{Cross}
 use Rattle.hierarchy.specs.Shape.{crosses_of}
 use Rattle.config_set.specs.Configuration.{Configuration, cleared}

@@ -1,7 +1,7 @@
-use Rattle.std.proofs.Common.{◌≡◌, ◌<◌, ◌+◌, true, replicate, get_or, length, sym, subst, ap, ◌∙◌, arith}
+use Rattle.std.proofs.Common.{length, ap, ◌∙◌, arith}
 use Rattle.std.proofs.lemmas.List.{length-replicate}
 use Rattle.hierarchy.specs.Shape.{pins_of}
-use Rattle.evidence.proofs.Addresses.{address_more, all_drives, no_addresses, released_at, width_more}
+use Rattle.evidence.proofs.Addresses.{all_drives, released_at, width_more}
 use Rattle.evidence.proofs.sheets.table_drives.Goals as goal
 
 pub returns-clause-drives : goal.returns-clause-drives

@@ -1,4 +1,4 @@
-use Rattle.std.proofs.Common.{◌≡◌, ◌<◌, ◌+◌, true, refl, sym, subst, ap, ◌∙◌, arith}
+use Rattle.std.proofs.Common.{◌≡◌, true, sym, subst, ◌∙◌, arith}
 use Rattle.evidence.specs.TableRows.{is_right_before}
 use Rattle.evidence.proofs.Righting.{right_none, right_more, wrong_before}
 use Rattle.evidence.proofs.table_rows.is_right.Goals as goal

@@ -1,7 +1,6 @@
-use Rattle.std.proofs.Common.{◌≡◌, ◌≤◌, ◌<◌, ◌+◌, ℕ, true, false, not, ◌&&◌, ◌||◌, length, take, sym, subst, ap, ◌∙◌, arith}
+use Rattle.std.proofs.Common.{◌≡◌, ◌<◌, ℕ, true, false, not, ◌&&◌, ◌||◌, length, take, sym, ap, ◌∙◌, arith}
 use Rattle.std.proofs.lemmas.List.{length-set, take_all}
 use Rattle.tm_bits.specs.Numbers.{has_number}
-use Rattle.hierarchy.specs.Shape.{pins_of, tables_of}
 use Rattle.evidence.specs.TableRows.{is_one_of, is_right_before, output_pin}
 use Rattle.evidence.proofs.Righting.{mark_left, mark_made}
 use Rattle.evidence.proofs.Settings.{is_one_at, within_at}

@@ -1,5 +1,4 @@
-use Rattle.std.proofs.Common.{◌≡◌, ◌≤◌, ◌<◌, ◌+◌, ℕ, true, false, length, take, sym, subst, ap, ◌∙◌, arith}
-use Rattle.hierarchy.specs.Shape.{pins_of, tables_of}
+use Rattle.std.proofs.Common.{◌≡◌, ◌<◌, true, false, length, sym, subst, ap, ◌∙◌, arith}
 use Rattle.evidence.specs.TableRows.{is_right_in, output_pin}
 use Rattle.evidence.specs.Kept.{Gains}
 use Rattle.evidence.specs.Sheets.{right_cells}

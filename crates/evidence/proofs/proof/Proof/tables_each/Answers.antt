@@ -1,4 +1,3 @@
-use Rattle.std.proofs.Common.{◌≡◌, ◌<◌, ◌+◌, sym, subst}
 use Rattle.evidence.specs.Kept.{Gains}
 use Rattle.evidence.specs.TableRows.{right_parts}
 use Rattle.evidence.proofs.Advancing.{advances_by}
