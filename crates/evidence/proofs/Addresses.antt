@@ -1,10 +1,10 @@
 -- Drives for the addresses of tables.
-use Rattle.std.proofs.Common.{◌≡◌, ◌≢◌, ℕ, zero, suc, ◌<◌, ◌+◌, Bool, true, false, Some, None, List, [], ◌∷◌, ◌++◌, length, get_or, map, set, refl, sym, ap, ◌∙◌, subst, arith}
+use Rattle.std.proofs.Common.{◌≡◌, ◌≢◌, ℕ, zero, suc, ◌<◌, ◌+◌, Bool, true, false, Some, None, List, [], ◌∷◌, ◌++◌, length, get_or, set, refl, sym, ap, ◌∙◌, subst, arith}
 use Rattle.std.specs.Prelude.{◌==◌, All, replicate, slice_set}
 use Rattle.std.specs.Int.{bit_at}
 use Rattle.std.proofs.lemmas.Bool.{false≢true, or_left, or_right}
 use Rattle.std.proofs.lemmas.Bool.Decides.{nat_tests}
-use Rattle.std.proofs.lemmas.List.{get_or-set_same, get_or-set_other, get_or-replicate, get_or_past, length-replicate, length-map, length-append}
+use Rattle.std.proofs.lemmas.List.{get_or-set_same, get_or-set_other, get_or-replicate, get_or_past, length-replicate, length-append}
 use native.Mathlib.Decide.{ℕ_discrete, dec_lt}
 use Rattle.hierarchy.specs.declared.Cross.{Cross}
 use Rattle.hierarchy.specs.declared.Table.{Table}
@@ -12,10 +12,10 @@ use Rattle.hierarchy.specs.Circuit.{Pins}
 use Rattle.hierarchy.specs.Shape.{table_wire, crosses_of}
 use Rattle.config_set.specs.Groups.{among}
 use Rattle.test_configs.specs.Routes.{cross_numbers}
-use Rattle.rig.specs.Rig.{KeepLengths}
 use Rattle.evidence.specs.Forests.{Trees, HangsOn, IsForest, pin_of}
 use Rattle.evidence.specs.Sheets.{AreAddressesOf, AreTableDrives, HasAddress, HasInputs, HaveWidth, IsPinOf}
 use Rattle.evidence.specs.TableRows.{AreAddressDrives, AreTablesOn, IsInputPin, is_one_of}
+use Rattle.evidence.proofs.Planted.{same_pin}
 
 -- all pins are released
 pub released_at : (n p : ℕ) → get_or (replicate n true) p true ≡ true
@@ -24,9 +24,6 @@ released_at n p = by (dec_lt p n)
     by : Dec (p < n) → get_or (replicate n true) p true ≡ true
     by (yes h) = get_or-replicate n p true true h
     by (no h) = get_or_past (replicate n true) p true (let l = length-replicate n true in omega (arith, h, l))
-
-same_pin : {p q : ℕ} → Some p ≡ Some q → p ≡ q
-same_pin e = cc
 
 -- an input more
 module _ (trees : Trees) (t a n : ℕ) (drive : Pins) (inputs : HasInputs trees t) (below : n < 6) (h : HasAddress trees t a n drive) where
@@ -75,11 +72,6 @@ before [] x d k h = absurd (omega (arith, h))
 before (y ∷ xs) x d zero h = refl
 before (y ∷ xs) x d (suc k) h = before xs x d k (omega (arith, h))
 
-any_default : (xs : List Pins) (k : ℕ) (d e : Pins) → k < length xs → get_or xs k d ≡ get_or xs k e
-any_default [] k d e h = absurd (omega (arith, h))
-any_default (x ∷ xs) zero d e h = refl
-any_default (x ∷ xs) (suc k) d e h = any_default xs k d e (omega (arith, h))
-
 module _ (trees : Trees) (t n : ℕ) (drives : List Pins) (h : AreAddressesOf trees t n drives) (drive : Pins) where
   pub all_drives : n ≡ 64 → ((p : ℕ) → get_or drive p true ≡ true) → AreTableDrives trees t (drives ++ drive ∷ [])
   all_drives whole free = record {
@@ -112,22 +104,6 @@ module _ (trees : Trees) (ts : List Table) (t : ℕ) (on : AreTablesOn trees ts)
       by_place n p low (yes less) e = let i = (h.each n less).only p low in record { table = t; input = i.input; is_one = one; below = i.below; hangs = i.hangs }
       by_place n p low (no m) (yes e) = absurd (false≢true (sym low ∙ ap (λ k. get_or (get_or drives k []) p true) e ∙ h.last p))
       by_place n p low (no m) (no o) = absurd (false≢true (sym low ∙ ap (λ r. get_or r p true) (get_or_past drives n [] (let l = h.many in omega (arith, m, o, l)))))
-
-pub wide_still : (n : ℕ) (rows new : List Pins) → KeepLengths rows new → HaveWidth n rows → HaveWidth n new
-wide_still n [] [] same wide = wide
-wide_still n [] (y ∷ ys) same wide = absurd (let no : ⊥ = cc in no)
-wide_still n (x ∷ xs) [] same wide = absurd (let no : ⊥ = cc in no)
-wide_still n (x ∷ xs) (y ∷ ys) same wide =
-    let head : length y ≡ length x = cc in
-    let tail : map length ys ≡ map length xs = cc in
-    by (head ∙ wide 0 x (omega arith)) (wide_still n xs ys tail (λ k d h. wide (suc k) d (omega (arith, h))))
-  where
-    by : length y ≡ n → HaveWidth n ys → HaveWidth n (y ∷ ys)
-    by first rest zero d h = first
-    by first rest (suc k) d h = rest k d (omega (arith, h))
-
-pub many_still : (rows new : List Pins) → KeepLengths rows new → length new ≡ length rows
-many_still rows new same = sym (length-map new length) ∙ ap length same ∙ length-map rows length
 
 -- each crosspoint of a list is among their numbers
 pub numbered : (xs : List Cross) (k : ℕ) (d : Cross) → k < length xs → among (cross_numbers xs) (get_or xs k d).0 ≡ true

@@ -16,7 +16,7 @@ use Rattle.evidence.specs.Kept.{Kept, HoldsFor}
 use Rattle.evidence.proofs.Advancing.{joined_along}
 use Rattle.evidence.proofs.Nets.{IsNet}
 
-same_pin : {p q : ℕ} → Some p ≡ Some q → p ≡ q
+pub same_pin : {p q : ℕ} → Some p ≡ Some q → p ≡ q
 same_pin e = cc
 
 module _ (trees : Trees) (forest : IsForest trees) where

@@ -24,7 +24,7 @@ use Rattle.evidence.specs.Looks.{read_at}
 use Rattle.evidence.proofs.Keeping.{holds_earlier}
 use Rattle.evidence.proofs.KeptLemmas.{GainHoldsFor, more_by_gain}
 use Rattle.evidence.proofs.Nets.{IsNet, AreHung, IsInputDrive, shown, shows, address_of}
-use Rattle.evidence.proofs.Planted.{net_of_forest}
+use Rattle.evidence.proofs.Planted.{net_of_forest, same_pin}
 
 bit_value : (n : ℕ) → n < 2 → (if n == 1 then 1 else 0) ≡ n
 bit_value n h = by (n == 1) refl
@@ -43,9 +43,6 @@ address_is a h =
 abbrev pub given_by : Faults → Setting → ℕ → ℕ → Bool
 given_by f s t zero = unwrap_or (stuck_register f t) s.init
 given_by f s t (suc a) = unwrap_or (stuck_register f t) (unwrap_or (wrong_cell f t a) (cell_of s a))
-
-same_pin : {p q : ℕ} → Some p ≡ Some q → p ≡ q
-same_pin e = cc
 
 or_zero : (o : Option ℕ) {p : ℕ} → o ≡ Some p → o ≡ Some (unwrap_or o 0)
 or_zero None e = cc

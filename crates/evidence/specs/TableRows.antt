@@ -104,7 +104,8 @@ pub record IsTableLoad (told : Option Faults) (trees : Trees) (ts : List Table) 
 
 -- What two loads show. The first has all tables latched, with the initial bit 0, and the second the opposite; both are driven through
 -- all addresses. What is right is kept, and each table that isn't right in each cycle is marked. The session is the second load.
-pub record HasTabled (told : Option Faults) (trees : Trees) (ts : List Table) (rig : RigState) (k l : Kept) (was is : List Bool) : Type 0 where
+pub record HasTabled (told : Option Faults) (trees : Trees) (ts : List Table) (rig : RigState) (k l : Kept)
+    (was is : List Bool) : Type 0 where
   pub setting : Setting
   pub latched : setting.latched ≡ true
   pub low : setting.init ≡ false
