@@ -22,6 +22,9 @@
 //! looks at both and at either alone: a crosspoint is kept where its pin changes without it and no other can be felt there, the wire and
 //! its pairs by what the pin of the other one reads (`tried`). A wire that makes a pin read oddly isn't fit, and is marked; `tell_each`
 //! marks the same by one look (`told`). Where the faults are told, what is kept stays true and so do marks (`advances`, `unfit`, `unclear`).
+//! `tables_each` reads many tables that hang in a forest through all addresses, in two loads, the second with all bits turned: of each
+//! just the parts that read rightly in both are kept, and just those tables are marked that don't in some cycle (`tabled`). Where the
+//! faults are told, a marked table has a wrong cell or a stuck register (`wrong`).
 #![tactic(auto)]
 
 mod again;
@@ -36,7 +39,9 @@ mod pins;
 mod proof;
 mod readings;
 mod routes;
+mod sheets;
 mod sights;
+mod table_rows;
 mod tells;
 mod toggles;
 
