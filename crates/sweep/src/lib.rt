@@ -11,12 +11,14 @@
 mod bad;
 mod climbs;
 mod draws;
+mod footing;
 mod gear;
 mod hanging;
 mod leading;
 mod learn;
 mod purse;
 mod search;
+mod seen;
 mod trees;
 mod turns;
 mod whole;

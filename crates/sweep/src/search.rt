@@ -51,9 +51,7 @@ impl Search {
     /// Chooses what hangs in the next load, of wires of this height.
     pub(crate) fn choose_hangs(
         &mut self,
-        _proof: &Proof,
-        _known: &Known,
-        _bad: &Bad,
+        _unfit: &BitSet,
         _height: u32,
     ) -> Result<(), AllocError> {
         self.hangs.clear();

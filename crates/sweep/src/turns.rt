@@ -82,7 +82,7 @@ fn hang_turn(
     ensures advances { Advances (rig_state rig.old) (rig_state rig.new) proof.old proof.new }
     ensures cause { IsErrOf result RigFail.Failed → Rose (rig_state rig.old).failures (rig_state rig.new).failures }
 {
-    let Ok(()) = gear.search.choose_hangs(proof, known, bad, height) else {
+    let Ok(()) = gear.search.choose_hangs(&bad.unfit, height) else {
         return Err(RigFail::Memory);
     };
     if gear.search.hangs.is_empty() || !gear.purse.can_pay(rig, 3) {
