@@ -4,7 +4,7 @@ mod Marking
 mod Paying
 mod Purses
 mod Sighting
-mod Footing
-mod Hanging
-mod Learning
-mod Trees
+mod Footed
+mod HungOn
+mod Learnt
+mod Forested

@@ -1,7 +1,7 @@
 -- Wires that come to be known.
 use Rattle.std.proofs.Common.{◌≡◌, ◌≢◌, ◌⊎◌, ℕ, ◌+◌, ◌<◌, ◌≤◌, true, List, [], ◌∷◌, ◌++◌, length, refl, sym, ap, ◌∙◌, subst, inl, inr, arith}
 use native.Mathlib.Decide.{ℕ_discrete}
-use Rattle.std.specs.Prelude.{Result, Ok, Err, OnOk, OnErr}
+use Rattle.std.specs.Prelude.{slice_get, Some, Result, Ok, Err, OnOk, OnErr}
 use Rattle.tm_bits.specs.Numbers.{has_number}
 use Rattle.hierarchy.specs.Shape.{pins_of, pin_wire}
 use Rattle.evidence.specs.Kept.{Kept, keeps_wire, keeps_pair}
@@ -19,7 +19,7 @@ use Rattle.sweep.proofs.Going.{grows_itself}
 has_pushed : {ss : List Step} (s : Step) (w : ℕ) → HasWire (ss ++ s ∷ []) w → HasWire ss w ⊎ (s.wire.0 ≡ w)
 has_pushed {ss} s w has = by (get_pushed ss s has.place has.at.step has.at.here)
   where
-    by : _ ⊎ _ → HasWire ss w ⊎ (s.wire.0 ≡ w)
+    by : (slice_get ss has.place ≡ Some has.at.step) ⊎ ((has.place ≡ length ss) × (s ≡ has.at.step)) → HasWire ss w ⊎ (s.wire.0 ≡ w)
     by (inl h) = inl (record { place = has.place; at = record { step = has.at.step; here = h; wire = has.at.wire } })
     by (inr h) = inr (ap (λ (t : Step). t.wire.0) h.1 ∙ has.at.wire)
 
@@ -36,9 +36,9 @@ pub learnt_known : {T E : Type 0} {k : Kept} {old new : KnownWires} {s : Step} (
 learnt_known (Ok v) steps same shape is good stands = learnt is good stands shape steps
 learnt_known {k = k} (Err e) steps same shape is good stands = subst (IsKnown k) (sym same) is
 
-pub learnt_grows : {T E : Type 0} {a : Field} {old new : KnownWires} {s : Step} (r : Result T E) → OnOk r (new.steps ≡ old.steps ++ s ∷ []) → OnErr r (new ≡ old) → has_number a.wires s.wire.0 ≡ true → GrowsIn a old.steps new.steps
-learnt_grows {a = a} {old = old} {s = s} (Ok v) steps same on = subst (GrowsIn a old.steps) (sym steps) (grows_one s on)
-learnt_grows {a = a} {old = old} (Err e) steps same on = subst (λ (n : KnownWires). GrowsIn a old.steps n.steps) (sym same) (grows_itself a old.steps)
+pub learnt_grows : {T E : Type 0} {a : Field} (old new : KnownWires) (s : Step) (r : Result T E) → OnOk r (new.steps ≡ old.steps ++ s ∷ []) → OnErr r (new ≡ old) → has_number a.wires s.wire.0 ≡ true → GrowsIn a old.steps new.steps
+learnt_grows {a = a} old new s (Ok v) steps same on = subst (GrowsIn a old.steps) (sym steps) (grows_one s on)
+learnt_grows {a = a} old new s (Err e) steps same on = subst (λ (n : KnownWires). GrowsIn a old.steps n.steps) (sym same) (grows_itself a old.steps)
 
 pub stands_on_feet : {k : Kept} {ss : List Step} {w : ℕ} (f g : Foot) → IsFoot k ss (length ss) w f → IsFoot k ss (length ss) w g → f.wire.0 ≢ g.wire.0 → Stands k ss (length ss) w (stand.Feet f g)
 stands_on_feet f g a b differ = on_feet a b differ

@@ -14,8 +14,8 @@ use Rattle.known.proofs.Apart.{known_pair}
 pub keeps_bare : {k : Kept} {trees : Trees} → trees ≡ bare k.shape → KeepsForest k trees
 keeps_bare {k} same = subst (KeepsForest k) (sym same) (record { shape = refl; crosses = λ x on. absurd (false≢true on) })
 
-pub keeps_planted : {k : Kept} {old new : Trees} {pin : ℕ} → new ≡ with_planted old pin → KeepsForest k old → KeepsForest k new
-keeps_planted {k} same keeps = subst (KeepsForest k) (sym same) (record { shape = keeps.shape; crosses = keeps.crosses })
+pub keeps_planted : {k : Kept} {old new : Trees} (pin : ℕ) → new ≡ with_planted old pin → KeepsForest k old → KeepsForest k new
+keeps_planted {k} pin same keeps = subst (KeepsForest k) (sym same) (record { shape = keeps.shape; crosses = keeps.crosses })
 
 hung : (o : Option ℕ) (pin : ℕ) → o ≡ Some pin → is_some o ≡ true
 hung o pin e = ap is_some e
@@ -40,8 +40,8 @@ all_hung {trees} {known} n forest whole each w on = by (dec_lt w n)
     by (no h) = absurd (false≢true (sym (ap is_some (get_or_past trees.pins w None (let len = forest.wires in omega (arith, h, whole, len)))) ∙ on))
 
 -- one wire more was looked at
-pub one_hung : {trees : Trees} {known : ℕ → Type 0} (n : ℕ) → ((w : ℕ) → w < n → is_hung trees w ≡ true → known w) → (is_hung trees n ≡ true → known n) → (w : ℕ) → w < n + 1 → is_hung trees w ≡ true → known w
-one_hung {trees} {known} n each here w less on = by (dec_lt w n)
+pub one_hung : (trees : Trees) {known : ℕ → Type 0} (n : ℕ) → ((w : ℕ) → w < n → is_hung trees w ≡ true → known w) → (is_hung trees n ≡ true → known n) → (w : ℕ) → w < n + 1 → is_hung trees w ≡ true → known w
+one_hung trees {known} n each here w less on = by (dec_lt w n)
   where
     by : Dec (w < n) → known w
     by (yes h) = each w h on
