@@ -13,6 +13,7 @@ mod climbs;
 mod draws;
 mod gear;
 mod hanging;
+mod laws;
 mod leading;
 mod learn;
 mod purse;
@@ -20,6 +21,9 @@ mod search;
 mod trees;
 mod turns;
 mod whole;
+mod without;
 
 pub use bad::Bad;
+pub use laws::{closed_without_bad, growth_after_a_sweep_is_paid};
 pub use whole::sweep;
+pub use without::without_bad;
