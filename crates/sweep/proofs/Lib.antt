@@ -8,3 +8,4 @@ mod Footed
 mod HungOn
 mod Learnt
 mod Forested
+mod Leaving

@@ -14,6 +14,7 @@ mod draws;
 mod footing;
 mod gear;
 mod hanging;
+mod laws;
 mod leading;
 mod learn;
 mod purse;
@@ -22,6 +23,9 @@ mod seen;
 mod trees;
 mod turns;
 mod whole;
+mod without;
 
 pub use bad::Bad;
+pub use laws::{closed_without_bad, growth_after_a_sweep_is_paid};
 pub use whole::sweep;
+pub use without::without_bad;
