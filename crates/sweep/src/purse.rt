@@ -80,6 +80,13 @@ fn pins_of_field(shape: &Shape, field: &Field) -> u32
     count
 }
 
+// How many loads there were.
+fn loads_of(rig: &Box<dyn Rig>) -> u64
+    ensures { result ≡ (rig_state rig.now).loads }
+{
+    rig.loads()
+}
+
 // So many loads more, as far as they can be counted.
 fn sum_of(loads: u64, more: u32) -> u64
     ensures low { loads ≤ result }
@@ -106,7 +113,7 @@ impl Purse {
     {
         let pins = pins_of_field(&proof.shape(), field);
         Ok(Purse {
-            most: sum_of(rig.loads(), pins),
+            most: sum_of(loads_of(rig), pins),
             unsettled: undecided_in(alloc, proof, bad, field)?,
         })
     }
