@@ -18,13 +18,21 @@
 #![tactic(auto)]
 
 mod again;
+mod forest;
+mod hangs;
 pub mod laws;
 mod leads;
+mod looks;
 mod pins;
 mod proof;
 mod readings;
 mod routes;
+mod sights;
+mod tells;
 mod toggles;
 
+pub use forest::Forest;
+pub use hangs::Hang;
 pub use leads::Lead;
+pub use looks::Looks;
 pub use proof::Proof;

@@ -1,0 +1,109 @@
+//! What a sweep may spend: a load for each pin of the machine in its field, and two for each crosspoint of the field that it decides.
+ghost use Rattle.std.specs.Prelude.{◌≡◌, ◌<◌, ◌≤◌, ◌+◌, ◌*◌, ◌&&◌, ℕ, true, IfOk, IsTrue, length};
+ghost use Rattle.tm_bits.specs.Numbers.{has_number, size_of};
+ghost use Rattle.hierarchy.specs.Shape.{crosses_of};
+ghost use Rattle.known.specs.Known.{KnownWires};
+ghost use Rattle.known.specs.Field.{IsFieldOf, pins_in};
+ghost use Rattle.sweep.specs.Marks.{AreMarksFor, is_undecided, undecided};
+ghost use Rattle.sweep.specs.Stages.{IsFunded, Settles, in_hand};
+
+use crate::bad::Bad;
+use evidence::Proof;
+use hierarchy::{Cross, Shape, the_numbering_is_sound};
+use known::Field;
+use rig::Rig;
+use std::alloc::{AllocError, Global};
+use tm_bits::BitSet;
+
+/// Up to which number of loads the rig may come, and the crosspoints of the field that count as undecided still.
+#[derive(Drop)]
+pub(crate) struct Purse {
+    pub most: u64,
+    pub unsettled: BitSet,
+}
+
+// Which crosspoints of a field are undecided.
+fn undecided_in(alloc: Global, proof: &Proof, bad: &Bad, field: &Field) -> Result<BitSet, AllocError>
+    requires field { IsFieldOf proof.now.shape field.now }
+    requires marks { AreMarksFor proof.now.shape bad.now }
+    ensures len { IfOk result (λ set. length set ≡ crosses_of proof.now.shape) }
+    ensures has { IfOk result (λ set. (x : ℕ) →
+        has_number set x ≡ (has_number field.now.crosses x && is_undecided proof.now bad.now x)) }
+{
+    let crosses = proof.shape().crosses();
+    let mut set = BitSet::new(alloc, crosses)?;
+    'crosses: for x in 0..crosses {
+        if field.crosses.has(x) && !proof.keeps_cross(Cross(x)) && !bad.stuck.has(x) {
+            set.insert(x);
+        }
+    }
+    Ok(set)
+}
+
+// How many pins of the machine are in a field.
+fn pins_of_field(shape: &Shape, field: &Field) -> u32
+    requires { IsFieldOf shape.now field.now }
+    ensures { result ≡ pins_in shape.now field.now }
+{
+    the_numbering_is_sound();
+    let mut count = 0;
+    'pins: for i in 0..shape.pins() {
+        if field.wires.has(shape.pin(i).0) {
+            count += 1;
+        }
+    }
+    count
+}
+
+impl Purse {
+    /// Holds a load for each pin of the machine in the field.
+    pub(crate) fn new(
+        alloc: Global,
+        rig: &Box<dyn Rig>,
+        proof: &Proof,
+        bad: &Bad,
+        field: &Field,
+    ) -> Result<Purse, AllocError>
+        requires field { IsFieldOf proof.now.shape field.now }
+        requires marks { AreMarksFor proof.now.shape bad.now }
+        ensures len { IfOk result (λ purse. length purse.unsettled ≡ crosses_of proof.now.shape) }
+        ensures funded { IfOk result (λ purse. (known : KnownWires) → IsFunded
+            ((rig_state rig.now).loads + (pins_in proof.now.shape field.now + 2 * undecided proof.now bad.now field.now)) field.now
+            (in_hand proof.now known bad.now purse (rig_state rig.now).loads)) }
+    {
+        let pins = pins_of_field(&proof.shape(), field);
+        Ok(Purse {
+            most: rig.loads().saturating_add(u64::from(pins)),
+            unsettled: undecided_in(alloc, proof, bad, field)?,
+        })
+    }
+
+    /// Whether so many loads can be paid.
+    pub(crate) fn can_pay(&self, rig: &Box<dyn Rig>, loads: u64) -> bool
+        ensures { IsTrue result → (rig_state rig.now).loads + loads ≤ self.now.most }
+    {
+        if loads > self.most {
+            return false;
+        }
+        rig.loads() <= self.most - loads
+    }
+
+    /// Takes two loads in for a crosspoint that was undecided and isn't any more.
+    pub(crate) fn settle(&mut self, proof: &Proof, bad: &Bad, c: Cross)
+        requires purse { length self.old.unsettled ≡ crosses_of proof.now.shape }
+        requires marks { AreMarksFor proof.now.shape bad.now }
+        ensures { Settles proof.now bad.now self.old self.new }
+    {
+        if c.0 >= self.unsettled.len() {
+            return;
+        }
+        if !self.unsettled.has(c.0) {
+            return;
+        }
+        if !proof.keeps_cross(c) && !bad.stuck.has(c.0) {
+            return;
+        }
+        self.unsettled.remove(c.0);
+        self.most = self.most.saturating_add(2);
+    }
+}

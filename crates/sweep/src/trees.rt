@@ -1,0 +1,1 @@
+//! Forests of a load.
