@@ -28,6 +28,7 @@ mod proof;
 mod readings;
 mod routes;
 mod sights;
+mod table_rows;
 mod tells;
 mod toggles;
 
