@@ -17,6 +17,7 @@ mod groups;
 mod hanging;
 mod hangs;
 mod heights;
+mod laws;
 mod leading;
 mod learn;
 mod purse;
@@ -26,6 +27,9 @@ mod trees;
 mod turns;
 mod walks;
 mod whole;
+mod without;
 
 pub use bad::Bad;
+pub use laws::{closed_without_bad, growth_after_a_sweep_is_paid};
 pub use whole::sweep;
+pub use without::without_bad;
