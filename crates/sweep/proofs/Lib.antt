@@ -3,4 +3,9 @@ mod Going
 mod Marking
 mod Paying
 mod Purses
+mod Sighting
+mod Footing
+mod Hanging
+mod Learning
+mod Trees
 mod Leaving

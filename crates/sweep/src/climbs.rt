@@ -58,6 +58,14 @@ impl Walk {
         self.wires.get(place).copied().unwrap_or(Wire(0))
     }
 
+    /// The crosspoint at a place, and the wire behind it.
+    pub(crate) fn foot(&self, place: usize) -> Foot {
+        Foot {
+            cross: self.crosses.get(place).copied().unwrap_or(Cross(0)),
+            wire: self.wire(place.saturating_add(1)),
+        }
+    }
+
     /// The last wire.
     pub(crate) fn end(&self) -> Wire {
         self.wire(self.wires.len().saturating_sub(1))

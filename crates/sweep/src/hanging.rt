@@ -6,7 +6,9 @@ ghost use Rattle.evidence.specs.Kept.{Advances};
 ghost use Rattle.sweep.specs.Stages.{Goes, IsHand, in_hand};
 
 use crate::bad::Bad;
+use crate::footing::{are_fit, are_of_field, hangs_of};
 use crate::gear::Gear;
+use crate::trees::{hang_forest, is_known, pin_forest};
 use evidence::Proof;
 use known::{Field, Known};
 use rig::{Rig, RigFail};
@@ -28,7 +30,13 @@ pub(crate) fn pin_load(
     ensures advances { Advances (rig_state rig.old) (rig_state rig.new) proof.old proof.new }
     ensures cause { IsErrOf result RigFail.Failed → Rose (rig_state rig.old).failures (rig_state rig.new).failures }
 {
-    Ok(())
+    let Ok(forest) = pin_forest(known.alloc(), proof) else {
+        return Err(RigFail::Memory);
+    };
+    if !gear.purse.can_pay(rig, 1) {
+        return Ok(());
+    }
+    proof.look_each(rig, &forest)
 }
 
 /// Tests the wires that the search has chosen over two crosspoints each, if they may be tested together and it can be paid.
@@ -48,5 +56,27 @@ pub(crate) fn hang_load(
     ensures advances { Advances (rig_state rig.old) (rig_state rig.new) proof.old proof.new }
     ensures cause { IsErrOf result RigFail.Failed → Rose (rig_state rig.old).failures (rig_state rig.new).failures }
 {
-    Ok(())
+    let alloc = known.alloc();
+    let Ok(forest) = hang_forest(alloc, proof, known, &mut gear.search) else {
+        return Err(RigFail::Memory);
+    };
+    let Ok(hangs) = hangs_of(alloc, &gear.search.hangs) else {
+        return Err(RigFail::Memory);
+    };
+    if !is_known(proof, known, &forest) {
+        return Ok(());
+    }
+    if !are_of_field(field, &hangs) {
+        return Ok(());
+    }
+    let Ok(fit) = are_fit(alloc, &forest, &hangs) else {
+        return Err(RigFail::Memory);
+    };
+    if !fit {
+        return Ok(());
+    }
+    if !gear.purse.can_pay(rig, 3) {
+        return Ok(());
+    }
+    proof.hang_each(rig, &forest, &hangs, &mut bad.unfit, &mut bad.unclear)
 }

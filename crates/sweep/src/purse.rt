@@ -1,5 +1,5 @@
 //! What a sweep may spend: a load for each pin of the machine in its field, and two for each crosspoint of the field that it decides.
-ghost use Rattle.std.specs.Prelude.{◌≡◌, ◌<◌, ◌≤◌, ◌+◌, ◌*◌, ◌&&◌, ℕ, true, IfOk, IsTrue, length};
+ghost use Rattle.std.specs.Prelude.{◌≡◌, ◌≢◌, ◌<◌, ◌≤◌, ◌+◌, ◌*◌, ◌&&◌, ℕ, false, IfOk, IsTrue, length};
 ghost use Rattle.tm_bits.specs.Numbers.{has_number, size_of};
 ghost use Rattle.hierarchy.specs.Shape.{crosses_of};
 ghost use Rattle.known.specs.Known.{KnownWires};
@@ -22,6 +22,33 @@ pub(crate) struct Purse {
     pub unsettled: BitSet,
 }
 
+// Whether a crosspoint is of a field and undecided.
+fn is_open(proof: &Proof, bad: &Bad, field: &Field, c: Cross) -> bool
+    requires field { IsFieldOf proof.now.shape field.now }
+    requires marks { AreMarksFor proof.now.shape bad.now }
+    requires cross { c.0 < crosses_of proof.now.shape }
+    ensures { result ≡ (has_number field.now.crosses c.0 && is_undecided proof.now bad.now c.0) }
+{
+    field.crosses.has(c.0) && !proof.keeps_cross(c) && !bad.stuck.has(c.0)
+}
+
+// Adds a crosspoint to a set, if it is of a field and undecided.
+fn add_open(set: &mut BitSet, proof: &Proof, bad: &Bad, field: &Field, c: Cross)
+    requires field { IsFieldOf proof.now.shape field.now }
+    requires marks { AreMarksFor proof.now.shape bad.now }
+    requires cross { c.0 < crosses_of proof.now.shape }
+    requires set { length set.old ≡ crosses_of proof.now.shape }
+    requires new { has_number set.old c.0 ≡ false }
+    ensures len { length set.new ≡ length set.old }
+    ensures this { has_number set.new c.0 ≡ (has_number field.now.crosses c.0 && is_undecided proof.now bad.now c.0) }
+    ensures others { (y : ℕ) → y ≢ c.0 → has_number set.new y ≡ has_number set.old y }
+{
+    if !is_open(proof, bad, field, c) {
+        return;
+    }
+    set.insert(c.0);
+}
+
 // Which crosspoints of a field are undecided.
 fn undecided_in(alloc: Global, proof: &Proof, bad: &Bad, field: &Field) -> Result<BitSet, AllocError>
     requires field { IsFieldOf proof.now.shape field.now }
@@ -33,9 +60,7 @@ fn undecided_in(alloc: Global, proof: &Proof, bad: &Bad, field: &Field) -> Resul
     let crosses = proof.shape().crosses();
     let mut set = BitSet::new(alloc, crosses)?;
     'crosses: for x in 0..crosses {
-        if field.crosses.has(x) && !proof.keeps_cross(Cross(x)) && !bad.stuck.has(x) {
-            set.insert(x);
-        }
+        add_open(&mut set, proof, bad, field, Cross(x));
     }
     Ok(set)
 }

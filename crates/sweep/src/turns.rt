@@ -72,7 +72,6 @@ fn hang_turn(
     bad: &mut Bad,
     field: &Field,
     gear: &mut Gear,
-    height: u32,
 ) -> Result<bool, RigFail>
     requires attached { shape_of (rig_state rig.old) ≡ Some proof.old.shape }
     requires hand { IsHand field.now (in_hand proof.old known.old bad.old gear.old.purse (rig_state rig.old).loads) }
@@ -82,7 +81,8 @@ fn hang_turn(
     ensures advances { Advances (rig_state rig.old) (rig_state rig.new) proof.old proof.new }
     ensures cause { IsErrOf result RigFail.Failed → Rose (rig_state rig.old).failures (rig_state rig.new).failures }
 {
-    let Ok(()) = gear.search.choose_hangs(proof, known, bad, height) else {
+    let height = gear.height;
+    let Ok(()) = gear.search.choose_hangs(&bad.unfit, height) else {
         return Err(RigFail::Memory);
     };
     if gear.search.hangs.is_empty() || !gear.purse.can_pay(rig, 3) {
@@ -105,7 +105,6 @@ fn hang_height(
     bad: &mut Bad,
     field: &Field,
     gear: &mut Gear,
-    height: u32,
 ) -> Result<(), RigFail>
     requires attached { shape_of (rig_state rig.old) ≡ Some proof.old.shape }
     requires hand { IsHand field.now (in_hand proof.old known.old bad.old gear.old.purse (rig_state rig.old).loads) }
@@ -116,14 +115,14 @@ fn hang_height(
     ensures cause { IsErrOf result RigFail.Failed → Rose (rig_state rig.old).failures (rig_state rig.new).failures }
 {
     'loads: for _load in 0..MOST_LOADS {
-        if !hang_turn(rig, proof, known, bad, field, gear, height)? {
+        if !hang_turn(rig, proof, known, bad, field, gear)? {
             return Ok(());
         }
     }
     Ok(())
 }
 
-// Tests the wires of a height, and then the crosspoints between known wires.
+// Tests the wires of a height, and then the crosspoints between known wires, if some wires came to be known in this pass.
 fn sweep_height(
     rig: &mut Box<dyn Rig>,
     proof: &mut Proof,
@@ -131,7 +130,6 @@ fn sweep_height(
     bad: &mut Bad,
     field: &Field,
     gear: &mut Gear,
-    height: u32,
 ) -> Result<(), RigFail>
     requires attached { shape_of (rig_state rig.old) ≡ Some proof.old.shape }
     requires hand { IsHand field.now (in_hand proof.old known.old bad.old gear.old.purse (rig_state rig.old).loads) }
@@ -141,7 +139,10 @@ fn sweep_height(
     ensures advances { Advances (rig_state rig.old) (rig_state rig.new) proof.old proof.new }
     ensures cause { IsErrOf result RigFail.Failed → Rose (rig_state rig.old).failures (rig_state rig.new).failures }
 {
-    hang_height(rig, proof, known, bad, field, gear, height)?;
+    hang_height(rig, proof, known, bad, field, gear)?;
+    if known.len() <= gear.start {
+        return Ok(());
+    }
     lead_paths(rig, proof, known, bad, field, gear)
 }
 
@@ -162,9 +163,9 @@ fn sweep_heights(
     ensures advances { Advances (rig_state rig.old) (rig_state rig.new) proof.old proof.new }
     ensures cause { IsErrOf result RigFail.Failed → Rose (rig_state rig.old).failures (rig_state rig.new).failures }
 {
-    gear.search.begin_pass();
     'heights: for height in 1..=MOST_HEIGHT {
-        sweep_height(rig, proof, known, bad, field, gear, height)?;
+        gear.height = height;
+        sweep_height(rig, proof, known, bad, field, gear)?;
     }
     Ok(())
 }
@@ -188,7 +189,9 @@ pub(crate) fn sweep_all(
 {
     pin_turn(rig, proof, known, bad, field, gear)?;
     'passes: for _pass in 0..PASSES {
+        gear.search.begin_pass();
         sweep_heights(rig, proof, known, bad, field, gear)?;
+        gear.start = known.len();
     }
     Ok(())
 }

@@ -52,6 +52,11 @@ pub fn sweep(
     let Ok(search) = Search::new(known.alloc(), proof, known, bad, field) else {
         return Err(RigFail::Memory);
     };
-    let mut gear = Gear { purse, search };
+    let mut gear = Gear {
+        purse,
+        search,
+        height: 0,
+        start: 0,
+    };
     sweep_all(rig, proof, known, bad, field, &mut gear)
 }
