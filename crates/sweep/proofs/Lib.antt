@@ -3,9 +3,9 @@ mod Going
 mod Marking
 mod Paying
 mod Purses
-mod Sighting
-mod Footing
-mod Hanging
-mod Learning
-mod Trees
 mod Leaving
+mod Sighting
+mod Coursing
+mod Led
+mod Sheeted
+mod Tabled

@@ -114,7 +114,7 @@ fn lay_walks(
     Ok(true)
 }
 
-// Leads the walks that the search has chosen, if they may be led together and it can be paid. False where not.
+// Leads the walks that the search has chosen, if they may be led together and it can be paid.
 fn lead_load(
     rig: &mut Box<dyn Rig>,
     proof: &mut Proof,
@@ -122,7 +122,7 @@ fn lead_load(
     bad: &mut Bad,
     field: &Field,
     gear: &Gear,
-) -> Result<bool, RigFail>
+) -> Result<(), RigFail>
     requires attached { shape_of (rig_state rig.old) ≡ Some proof.old.shape }
     requires hand { IsHand field.now (in_hand proof.old known.now bad.old gear.now.purse (rig_state rig.old).loads) }
     ensures goes { Goes (rig_state rig.old).machine.faults field.now []
@@ -138,15 +138,12 @@ fn lead_load(
         return Err(RigFail::Memory);
     };
     if !laid {
-        return Ok(false);
+        return Ok(());
     }
     if !gear.purse.can_pay(rig, 1) {
-        return Ok(false);
+        return Ok(());
     }
-    match proof.lead_each(rig, &course.config, &course.drive, &course.leads, &mut bad.stuck) {
-        Ok(()) => Ok(true),
-        Err(fail) => Err(fail),
-    }
+    proof.lead_each(rig, &course.config, &course.drive, &course.leads, &mut bad.stuck)
 }
 
 // Takes loads in for the crosspoints of a walk that were undecided and aren't any more.
@@ -197,10 +194,12 @@ fn lead_turn(
     if gear.search.trials.is_empty() {
         return Ok(true);
     }
-    if !lead_load(rig, proof, known, bad, field, gear)? {
+    let before = rig.loads();
+    lead_load(rig, proof, known, bad, field, gear)?;
+    settle_walks(&mut gear.purse, proof, bad, &gear.search.trials);
+    if rig.loads() == before {
         return Ok(false);
     }
-    settle_walks(&mut gear.purse, proof, bad, &gear.search.trials);
     let Ok(()) = gear.search.note_walks(proof, &bad.stuck) else {
         return Err(RigFail::Memory);
     };
