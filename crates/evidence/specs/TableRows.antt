@@ -1,21 +1,21 @@
 -- Tables, many at once: two loads of 65 cycles, in which all of them are latched.
-use Rattle.std.specs.Prelude.{◌≡◌, ◌≢◌, ℕ, zero, suc, ◌<◌, ◌==◌, nat_lt, Bool, true, false, ◌&&◌, ◌||◌, not, if◌then◌else◌, Option, Some, None, List, [], ◌∷◌, All}
+use Rattle.std.specs.Prelude.{◌≡◌, ℕ, zero, suc, ◌<◌, ◌==◌, nat_lt, Bool, true, false, ◌&&◌, ◌||◌, not, if◌then◌else◌, Option, Some, None, List, [], ◌∷◌, All}
 use Rattle.std.specs.Prelude.{length, unwrap_or, slice_index_or}
 use Rattle.std.specs.Int.{bit_at}
 use Rattle.std.specs.List.{list_any}
 use Rattle.tm_bits.specs.Numbers.{has_number}
 use Rattle.hierarchy.specs.declared.Table.{Table}
 use Rattle.hierarchy.specs.Circuit.{Pins}
-use Rattle.hierarchy.specs.Faults.{Faults, wrong_cell, stuck_register}
-use Rattle.hierarchy.specs.Shape.{table_wire, tables_of, pins_of}
+use Rattle.hierarchy.specs.Faults.{Faults}
+use Rattle.hierarchy.specs.Shape.{table_wire, tables_of}
+use Rattle.hierarchy.specs.Tight.{IsRightTable}
 use Rattle.config_set.specs.declared.Setting.{Setting}
 use Rattle.config_set.specs.Configuration.{Configuration, is_closed, setting_of, cell_of}
 use Rattle.config_set.specs.Faulty.{IsRun}
-use Rattle.config_set.specs.Groups.{among}
 use Rattle.rig.specs.Rig.{RigState}
-use Rattle.test_configs.specs.Routes.{cross_numbers}
-use Rattle.evidence.specs.Forests.{Trees, HangsOn}
+use Rattle.evidence.specs.Forests.{Trees, HangsOn, pin_of, is_laid}
 use Rattle.evidence.specs.Kept.{Kept, Gain, Gains, HoldsFor, nothing}
+use Rattle.evidence.specs.Looks.{read_at}
 use Rattle.evidence.specs.Readings.{HasCycled}
 
 -- one of these tables has the number
@@ -24,7 +24,7 @@ is_one_of ts t = list_any (λ u. u.0 == t) ts
 
 -- the pin on which a table's output hangs
 abbrev pub output_pin : Trees → ℕ → ℕ
-output_pin trees t = unwrap_or (slice_index_or trees.pins (table_wire trees.shape t 6) None) 0
+output_pin trees t = unwrap_or (pin_of trees (table_wire trees.shape t 6)) 0
 
 -- There is a table, and all pins of each hang. Input j of each hangs on one pin, for each j. These six pins differ, and the outputs
 -- of different tables hang on further pins, which differ too.
@@ -44,7 +44,7 @@ pub record AreTablesOn (trees : Trees) (ts : List Table) : Type 0 where
 -- the forest's crosspoints are closed, and no others; the tables have this setting, and no others are on; a cycle has one tick
 pub record IsTableConfig (trees : Trees) (ts : List Table) (s : Setting) (g : Configuration) : Type 0 where
   pub shape : g.shape ≡ trees.shape
-  pub closed : (x : ℕ) → is_closed g x ≡ among (cross_numbers trees.crosses) x
+  pub closed : (x : ℕ) → is_closed g x ≡ is_laid trees x
   pub on : (t : ℕ) → is_one_of ts t ≡ true → setting_of g t ≡ Some s
   pub off : (t : ℕ) → is_one_of ts t ≡ false → setting_of g t ≡ None
   pub one : g.ticks ≡ 1
@@ -57,13 +57,13 @@ pub record IsInputPin (trees : Trees) (ts : List Table) (p : ℕ) : Type 0 where
   pub below : input < 6
   pub hangs : HangsOn trees (table_wire trees.shape table input) p
 
--- There are 65 drives. The one for an address has bit j of it at the pin of input j, and releases all other pins; the last one
+-- There are 65 drives. The one for an address has bit j of it at the pin of input j, and pulls no other pin to 0; the last one
 -- releases all.
 pub record AreAddressDrives (trees : Trees) (ts : List Table) (drives : List Pins) : Type 0 where
   pub many : length drives ≡ 65
   pub bits : (a t j p : ℕ) → a < 64 → is_one_of ts t ≡ true → j < 6 → HangsOn trees (table_wire trees.shape t j) p →
       slice_index_or (slice_index_or drives a []) p true ≡ (bit_at a j == 1)
-  pub released : (a p : ℕ) → ¬ IsInputPin trees ts p → slice_index_or (slice_index_or drives a []) p true ≡ true
+  pub only : (n p : ℕ) → slice_index_or (slice_index_or drives n []) p true ≡ false → IsInputPin trees ts p
   pub last : (p : ℕ) → slice_index_or (slice_index_or drives 64 []) p true ≡ true
 
 -- the setting of the second load: the other initial bit, and each cell the other
@@ -77,14 +77,10 @@ abbrev pub shown_in : Setting → ℕ → Bool
 shown_in s zero = s.init
 shown_in s (suc a) = cell_of s a
 
--- what a pin reads in a cycle
-abbrev pub reads_at : List Pins → ℕ → ℕ → Bool
-reads_at rows pin n = slice_index_or (slice_index_or rows n []) pin true
-
 -- the pin reads in a cycle what is shown, and in that of the second load the opposite
 abbrev pub is_right_in : Setting → List Pins → List Pins → ℕ → ℕ → Bool
 is_right_in s reads opposite pin n =
-    if shown_in s n then reads_at reads pin n && not (reads_at opposite pin n) else not (reads_at reads pin n) && reads_at opposite pin n
+    if shown_in s n then read_at reads n pin && not (read_at opposite n pin) else not (read_at reads n pin) && read_at opposite n pin
 
 -- it does in each of the first n cycles
 abbrev pub is_right_before : Setting → List Pins → List Pins → ℕ → ℕ → Bool
@@ -99,33 +95,30 @@ right_parts trees ts s reads opposite = record nothing {
   registers = λ t. is_one_of ts t && is_right_in s reads opposite (output_pin trees t) 0;
 }
 
--- What the two loads show. The first has all tables latched, with initial bit 0, and the second the opposite; both are driven through
--- all addresses. What is right is kept, and each table that isn't right in each cycle is marked.
+-- the tables had this setting in a load, and all pins read so under these drives
+pub record IsTableLoad (told : Option Faults) (trees : Trees) (ts : List Table) (s : Setting) (drives reads : List Pins) : Type 0 where
+  pub config : Configuration
+  pub laid : IsTableConfig trees ts s config
+  pub run : (f : Faults) → told ≡ Some f → IsRun f config drives reads
+
+-- What two loads show. The first has all tables latched, with the initial bit 0, and the second the opposite; both are driven through
+-- all addresses. What is right is kept, and each table that isn't right in each cycle is marked. The session is the second load.
 pub record HasTabled (told : Option Faults) (trees : Trees) (ts : List Table) (rig : RigState) (k l : Kept) (was is : List Bool) : Type 0 where
   pub setting : Setting
   pub latched : setting.latched ≡ true
   pub low : setting.init ≡ false
   pub other : Setting
   pub opposed : AreOpposite setting other
-  pub first : Configuration
-  pub first_is : IsTableConfig trees ts setting first
-  pub second : Configuration
-  pub second_is : IsTableConfig trees ts other second
   pub drives : List Pins
-  pub drives_are : AreAddressDrives trees ts drives
+  pub driven : AreAddressDrives trees ts drives
   pub reads : List Pins
+  pub first : IsTableLoad told trees ts setting drives reads
   pub opposite : List Pins
-  pub run : (f : Faults) → told ≡ Some f → IsRun f first drives reads
-  pub run_opposite : (f : Faults) → told ≡ Some f → IsRun f second drives opposite
+  pub second : IsTableLoad told trees ts other drives opposite
   pub gains : Gains (right_parts trees ts setting reads opposite) k l
   pub marks : (t : ℕ) → has_number is t ≡
       ((is_one_of ts t && not (is_right_before setting reads opposite (output_pin trees t) 65)) || has_number was t)
-  pub session : HasCycled second drives rig
-
--- no cell of the table is wrong, and its register isn't stuck
-pub record IsRightTable (f : Faults) (t : ℕ) : Type 0 where
-  pub cells : (a : ℕ) → a < 64 → wrong_cell f t a ≡ None
-  pub register : stuck_register f t ≡ None
+  pub session : HasCycled second.config drives rig
 
 -- the marked tables have a wrong cell or a stuck register, where the faults are told and what is kept is true of them
 abbrev pub WrongIf : Option Faults → Kept → List Bool → Type 0

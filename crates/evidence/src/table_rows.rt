@@ -3,7 +3,7 @@ ghost use Rattle.std.specs.Prelude.{◌≡◌, ◌≤◌, ◌<◌, ◌+◌, Some
 ghost use Rattle.tm_outside.specs.Counts.{Rose};
 ghost use Rattle.hierarchy.specs.Shape.{tables_of};
 ghost use Rattle.rig.specs.Rig.{shape_of};
-ghost use Rattle.evidence.specs.Forests.{KeepsForest, KnowsForest};
+ghost use Rattle.evidence.specs.Forests.{KnowsForest};
 ghost use Rattle.evidence.specs.Kept.{Advances};
 ghost use Rattle.evidence.specs.Readings.{WantsBefore};
 ghost use Rattle.evidence.specs.TableRows.{AreTablesOn, HasTabled, WrongIf};
@@ -20,6 +20,10 @@ impl Proof {
     /// cell a in both. A register is kept exactly where the output is right in the first cycle, and cell a exactly where it is right in
     /// the first cycle and in cycle a + 1. A table that isn't right in some cycle is marked: a cell of it is wrong, or its register is
     /// stuck. `wrong` has a mark for each table.
+    ///
+    /// # Errors
+    ///
+    /// `Failed` where the rig failed, and want of memory. Then nothing is kept or marked.
     pub fn tables_each(
         &mut self,
         rig: &mut Box<dyn Rig>,
@@ -28,8 +32,7 @@ impl Proof {
         wrong: &mut BitSet,
     ) -> Result<(), RigFail>
         requires attached { shape_of (rig_state rig.old) ≡ Some self.old.shape }
-        requires forest { KeepsForest self.old forest.now }
-        requires known { KnowsForest self.old forest.now }
+        requires forest { KnowsForest self.old forest.now }
         requires tables { AreTablesOn forest.now tables.now }
         requires wrong { length wrong.old ≡ tables_of self.old.shape }
 
