@@ -69,6 +69,24 @@ fn sub(counts: &mut Vec<u32>, at: usize) {
     }
 }
 
+// All are none.
+fn clear(counts: &mut Vec<u32>) {
+    'places: for at in 0..counts.len() {
+        if at < counts.len() {
+            counts[at] = 0;
+        }
+    }
+}
+
+// No crosspoint is held.
+fn free_all(marks: &mut Vec<Mark>) {
+    'places: for at in 0..marks.len() {
+        if at < marks.len() && marks[at] == Mark::Held {
+            marks[at] = Mark::Undecided;
+        }
+    }
+}
+
 // A count at a place.
 fn count_at(counts: &Vec<u32>, at: usize) -> u32 {
     counts.get(at).copied().unwrap_or(0)
@@ -266,17 +284,9 @@ impl Board {
 
     /// Counts the crosspoints that are left, and holds none.
     pub(crate) fn count(&mut self, heights: &Heights) {
-        'wires: for at in 0..self.left.len() {
-            self.left[at] = 0;
-        }
-        'nodes: for node in 0..self.todo.len() {
-            self.todo[node] = 0;
-        }
-        'marks: for at in 0..self.marks.len() {
-            if self.marks[at] == Mark::Held {
-                self.marks[at] = Mark::Undecided;
-            }
-        }
+        clear(&mut self.left);
+        clear(&mut self.todo);
+        free_all(&mut self.marks);
         'bars: for node in 0..heights.nodes() {
             self.count_bar(heights, node);
         }
