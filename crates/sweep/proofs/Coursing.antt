@@ -1,14 +1,17 @@
 -- Walks that are laid one after the other.
 use Rattle.std.proofs.Common.{◌≡◌, ◌≢◌, ◌⊎◌, inl, inr, ℕ, zero, suc, ◌+◌, ◌<◌, ◌≤◌, Bool, true, false, ◌||◌, None, List, [], ◌∷◌, ◌++◌, length, refl, sym, ap, ◌∙◌, subst, arith}
-use Rattle.std.specs.Prelude.{◌==◌, All, flat_map, map, slice_index_or, slice_set}
+use Rattle.std.specs.Prelude.{◌==◌, All, flat_map, map, replicate, slice_index_or, slice_set}
 use Rattle.std.proofs.lemmas.Bool.{false≢true, or_cases}
 use Rattle.std.proofs.lemmas.Bool.Decides.{nat_tests}
-use Rattle.std.proofs.lemmas.List.{flat_map_more, map-append, length-set, get_or-set_same, get_or-set_other}
+use Rattle.std.proofs.lemmas.List.{flat_map_more, get_or-replicate, get_or_past, length-replicate, map-append, length-set, get_or-set_same, get_or-set_other}
 use Rattle.std.proofs.lemmas.List.Elements.{All-push}
 use Rattle.std.proofs.lemmas.List.Folds.{list_any-append}
-use native.Mathlib.Decide.{ℕ_discrete}
-use Rattle.hierarchy.specs.Shape.{Ends, ends_of, pin_wire, pins_of, wires_of}
-use Rattle.config_set.specs.Configuration.{Configuration}
+use native.Mathlib.Decide.{ℕ_discrete, dec_lt}
+use Rattle.std.specs.FinSet.{contains-empty}
+use Rattle.std.specs.Ordering.{nat_cmp}
+use Rattle.hierarchy.specs.declared.Shape.{Shape}
+use Rattle.hierarchy.specs.Shape.{Ends, ends_of, pin_wire, pins_of, tables_of, wires_of}
+use Rattle.config_set.specs.Configuration.{Configuration, cleared, is_closed}
 use Rattle.config_set.specs.Groups.{among}
 use Rattle.test_configs.specs.Routes.{Walk, IsRoute, Extends, at_pin}
 use Rattle.test_configs.specs.Configs.{Closes}
@@ -22,6 +25,7 @@ use Rattle.known.specs.declared.step.Step.{Step}
 use Rattle.known.proofs.Apart.{known_pair}
 use Rattle.sweep.specs.Courses.{EndsAt, GoesOn, IsCourse, IsFair, IsFairLead, MayTry}
 use Rattle.sweep.specs.Sights.{Seen, SeesMore}
+use Rattle.sweep.proofs.Sighting.{seen_first}
 
 join : {A : Type 0} (xs ys zs : List A) → (xs ++ ys) ++ zs ≡ xs ++ (ys ++ zs)
 join [] ys zs = refl
@@ -50,6 +54,22 @@ or_turned true true = refl
 or_turned true false = refl
 or_turned false true = refl
 or_turned false false = refl
+
+wires_more : (ls : List Lead) (l : Lead) → wires_of_leads ls ++ l.route.wires ≡ wires_of_leads (ls ++ l ∷ [])
+wires_more ls l = flat_map_more (λ (m : Lead). m.route.wires) [] ls l
+
+crosses_more : (ls : List Lead) (l : Lead) → crosses_of_leads ls ++ l.route.crosses ≡ crosses_of_leads (ls ++ l ∷ [])
+crosses_more ls l = flat_map_more (λ (m : Lead). m.route.crosses) [] ls l
+
+pins_more : (ls : List Lead) (l : Lead) → map (λ (m : Lead). m.route.pin) (ls ++ l ∷ []) ≡ map (λ (m : Lead). m.route.pin) ls ++ l.route.pin ∷ []
+pins_more ls l = map-append (λ (m : Lead). m.route.pin) ls (l ∷ [])
+
+same_in : {A : Type 0} (n i : ℕ) (x : A) → slice_index_or (replicate n x) i x ≡ x
+same_in n i x = by (dec_lt i n)
+  where
+    by : Dec (i < n) → slice_index_or (replicate n x) i x ≡ x
+    by (yes h) = get_or-replicate n i x x h
+    by (no h) = let past : n ≤ i = omega (arith, h) in get_or_past (replicate n x) i x (rw length-replicate past)
 
 module _ {k : Kept} {ss : List Step} {a : Field} where
   -- a route that is a pin alone
@@ -86,14 +106,24 @@ module _ {k : Kept} {ss : List Step} {a : Field} where
   pub fair_lead : {was is : List Bool} {l : Lead} → IsFair k ss a was is l.route → EndsAt k.shape l.route l.to → IsFairLead k ss a was is l
   fair_lead f e = record { fair = f; lead = record { route = f.route; long = e.long; pin = e.below; ends = e.is } }
 
-  wires_more : (ls : List Lead) (l : Lead) → wires_of_leads ls ++ l.route.wires ≡ wires_of_leads (ls ++ l ∷ [])
-  wires_more ls l = flat_map_more (λ (m : Lead). m.route.wires) [] ls l
-
-  crosses_more : (ls : List Lead) (l : Lead) → crosses_of_leads ls ++ l.route.crosses ≡ crosses_of_leads (ls ++ l ∷ [])
-  crosses_more ls l = flat_map_more (λ (m : Lead). m.route.crosses) [] ls l
-
-  pins_more : (ls : List Lead) (l : Lead) → map (λ (m : Lead). m.route.pin) (ls ++ l ∷ []) ≡ map (λ (m : Lead). m.route.pin) ls ++ l.route.pin ∷ []
-  pins_more ls l = map-append (λ (m : Lead). m.route.pin) ls (l ∷ [])
+  -- no walks
+  pub course_first : {g : Configuration} {drive seen : List Bool} {m : Shape} {pins wires : ℕ} → m ≡ k.shape → g ≡ cleared m → drive ≡ replicate pins true → pins ≡ pins_of m → seen ≡ replicate wires false → wires ≡ wires_of m → IsCourse k ss a g drive [] seen
+  course_first {g} {drive} {seen} {m} {pins} {wires} of cleared_ released many bare all = record {
+    shape = ap (λ h. h.shape) cleared_ ∙ of;
+    leads = λ i d below. absurd (none i below);
+    closed = λ x. ap (λ h. is_closed h x) cleared_ ∙ contains-empty nat_cmp x;
+    off = λ t. ap (λ h. slice_index_or h.tables t None) cleared_ ∙ same_in (tables_of m) t None;
+    pins = ap length released ∙ length-replicate pins true ∙ many ∙ ap pins_of of;
+    driven = λ j low. absurd (false≢true (sym low ∙ ap (λ d. slice_index_or d j true) released ∙ same_in pins j true));
+    drives = λ i d below. absurd (none i below);
+    marks = ap length bare ∙ length-replicate wires false ∙ all ∙ ap wires_of of;
+    met = seen_first seen;
+    known = λ w on. absurd (false≢true on);
+    tries = λ x on. absurd (false≢true on);
+  }
+    where
+      none : (i : ℕ) → i < 0 → ⊥
+      none i below = omega (arith, below)
 
   -- one walk more
   pub course_more : {g h : Configuration} {drive : List Bool} {ls : List Lead} {was is : List Bool} {l : Lead} → IsCourse k ss a g drive ls was → IsFairLead k ss a was is l → length is ≡ length was → Closes l.route.crosses g h →
@@ -108,7 +138,7 @@ module _ {k : Kept} {ss : List Step} {a : Field} where
     driven = λ j low. subst (λ ps. among ps j ≡ true) (sym (pins_more ls l)) (among-push (map (λ (m : Lead). m.route.pin) ls) l.route.pin j ∙ lowered j low (ℕ_discrete j l.route.pin));
     drives = All-push (λ (m : Lead). slice_index_or (slice_set drive l.route.pin false) m.route.pin true ≡ false) ls l (λ i d below. still (slice_index_or ls i d).route.pin (c.drives i d below) (ℕ_discrete (slice_index_or ls i d).route.pin l.route.pin)) low_here;
     marks = len ∙ c.marks;
-    seen = subst (Seen is) (wires_more ls l) (f.fair.sees.at (wires_of_leads ls) c.seen);
+    met = subst (Seen is) (wires_more ls l) (f.fair.sees.at (wires_of_leads ls) c.met);
     known = λ w on. among_either (HasWire ss) (wires_of_leads ls) l.route.wires c.known f.fair.known w (subst (λ ws. among ws w ≡ true) (sym (wires_more ls l)) on);
     tries = λ x on. among_either (MayTry k a) (crosses_of_leads ls) l.route.crosses c.tries f.fair.tries x (subst (λ xs. among xs x ≡ true) (sym (crosses_more ls l)) on);
   }
@@ -132,7 +162,7 @@ pub path_test : {k : Kept} {known : KnownWires} {a : Field} {g : Configuration} 
 path_test {k} {known} is c = record {
   shape = c.shape;
   leads = c.leads;
-  once = c.seen.once;
+  once = c.met.once;
   closed = c.closed;
   off = c.off;
   kept = λ w on. kept w (c.known w on);

@@ -3,8 +3,12 @@ mod Going
 mod Marking
 mod Paying
 mod Purses
-mod Leaving
 mod Sighting
+mod Footed
+mod Forested
+mod HungOn
+mod Learnt
+mod Leaving
 mod Coursing
 mod Led
 mod Sheeted

@@ -1,5 +1,5 @@
 -- Marks stay true as more is kept and more is known.
-use Rattle.std.proofs.Common.{◌≡◌, ◌⊎◌, ℕ, true, Option, List, refl, sym, ap, ◌∙◌, subst, inl, inr}
+use Rattle.std.proofs.Common.{◌≡◌, ◌⊎◌, ℕ, Bool, true, Option, List, refl, sym, ap, ◌∙◌, subst, inl, inr}
 use Rattle.tm_bits.specs.Numbers.{has_number}
 use Rattle.hierarchy.specs.declared.Shape.{Shape}
 use Rattle.hierarchy.specs.declared.Table.{Table}
@@ -17,7 +17,7 @@ pub some_itself : (these : ℕ → Type 0) (was : List Bool) → MarksSome these
 some_itself these was = record { len = refl; stays = λ i on. on; within = λ i on. inl on }
 
 pub some_then : {these : ℕ → Type 0} {x y z : List Bool} → MarksSome these x y → MarksSome these y z → MarksSome these x z
-some_then {these} {x} p q = record { len = q.len ∙ p.len; stays = λ i on. q.stays i (p.stays i on); within = λ i on. by i (q.within i on) }
+some_then {these} {x} {y} p q = record { len = q.len ∙ p.len; stays = λ i on. q.stays i (p.stays i on); within = λ i on. by i (q.within i on) }
   where
     by : (i : ℕ) → (has_number y i ≡ true) ⊎ these i → (has_number x i ≡ true) ⊎ these i
     by i (inl on) = p.within i on

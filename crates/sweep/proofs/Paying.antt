@@ -20,14 +20,14 @@ neither false true c d p q e = absurd (false≢true (sym (none c) ∙ ap (λ (x 
     none false = refl
 
 -- what is undecided was
-pub undecided_before : {k l : Kept} {b c : Bad} → IsMore k l → ((x : ℕ) → has_number b.stuck x ≡ true → has_number c.stuck x ≡ true) → (x : ℕ) → is_undecided l c x ≡ true → is_undecided k b x ≡ true
-undecided_before {k} {l} {b} {c} more stays x is = neither (keeps_cross k x) (has_number b.stuck x) (keeps_cross l x) (has_number c.stuck x) (more.crosses x) (stays x) is
+pub undecided_before : {k l : Kept} (b c : Bad) → IsMore k l → ((x : ℕ) → has_number b.stuck x ≡ true → has_number c.stuck x ≡ true) → (x : ℕ) → is_undecided l c x ≡ true → is_undecided k b x ≡ true
+undecided_before {k} {l} b c more stays x is = neither (keeps_cross k x) (has_number b.stuck x) (keeps_cross l x) (has_number c.stuck x) (more.crosses x) (stays x) is
 
 -- a test that the purse can pay for
 pub funded_test : {a : Field} {k l : Kept} {known new : KnownWires} {b c : Bad} {purse : Purse} {before after : ℕ} (n : ℕ) → before + n ≤ purse.most → after ≤ before + n → IsMore k l → ((x : ℕ) → has_number b.stuck x ≡ true → has_number c.stuck x ≡ true) →
     (limit : ℕ) → IsFunded limit a (in_hand k known b purse before) → IsFunded limit a (in_hand l new c purse after)
-funded_test n can took more stays limit f = record {
+funded_test {b = b} {c = c} n can took more stays limit f = record {
   paid = omega (arith, can, took);
   within = f.within;
-  whole = λ x on is. f.whole x on (undecided_before more stays x is);
+  whole = λ x on is. f.whole x on (undecided_before b c more stays x is);
 }

@@ -9,7 +9,7 @@ use Rattle.hierarchy.specs.Faults.{Faults}
 use Rattle.hierarchy.specs.Shape.{crosses_of}
 use Rattle.rig.specs.Rig.{RigState}
 use Rattle.evidence.specs.Forests.{Trees}
-use Rattle.evidence.specs.Kept.{Kept, HoldsFor, IsMore}
+use Rattle.evidence.specs.Kept.{Kept, Advances, HoldsFor, IsMore}
 use Rattle.evidence.specs.TableRows.{HasTabled, WrongIf, is_one_of, is_right_before, output_pin}
 use Rattle.evidence.proofs.Keeping.{holds_earlier}
 use Rattle.known.specs.Field.{IsFieldOf}
@@ -17,10 +17,10 @@ use Rattle.known.specs.Known.{KnownWires}
 use Rattle.known.specs.declared.field.Field.{Field}
 use Rattle.known.proofs.Later.{known_later}
 use Rattle.sweep.specs.Marks.{AreMarksFor, HasTable, MarksSome, MarksIn, TrueIf}
-use Rattle.sweep.specs.Stages.{Goes, IsHand, in_hand}
+use Rattle.sweep.specs.Stages.{Goes, Hand, IsHand, in_hand}
 use Rattle.sweep.specs.declared.bad.Bad.{Bad}
 use Rattle.sweep.specs.declared.purse.Purse.{Purse}
-use Rattle.sweep.proofs.Going.{grows_itself}
+use Rattle.sweep.proofs.Going.{grows_itself, goes_on}
 use Rattle.sweep.proofs.Marking.{true_later, some_itself, marks_for}
 use Rattle.sweep.proofs.Paying.{funded_test}
 
@@ -86,3 +86,7 @@ table_goes {told} {a} {k} {l} {known} {bad} {wrong} {purse} {before} {after} tab
         wrong = true_ (λ f e h. (t.at f e h).wrong) f e h;
       };
     }
+
+-- a step after calls that left the machine and the tables as they were
+pub table_on : {a : Field} {ts us : List Table} {x y z : Hand} {r s : RigState} {k l : Kept} → us ≡ ts → Advances r s k l → Goes r.machine.faults a ts x y → Goes s.machine.faults a us y z → Goes r.machine.faults a ts x z
+table_on {a = a} {y = y} {z = z} {s = s} same advances p q = goes_on advances p (subst (λ (t : List Table). Goes s.machine.faults a t y z) same q)

@@ -56,6 +56,6 @@ pub record IsCourse (k : Kept) (ss : List Step) (a : Field) (g : Configuration) 
   pub driven : (j : ℕ) → (slice_index_or drive j true ≡ false) → among (map (λ l. l.route.pin) ls) j ≡ true
   pub drives : All (λ l. slice_index_or drive l.route.pin true ≡ false) ls
   pub marks : length seen ≡ wires_of k.shape
-  pub seen : Seen seen (wires_of_leads ls)
+  pub met : Seen seen (wires_of_leads ls)
   pub known : (w : ℕ) → among (wires_of_leads ls) w ≡ true → HasWire ss w
   pub tries : (x : ℕ) → among (crosses_of_leads ls) x ≡ true → MayTry k a x

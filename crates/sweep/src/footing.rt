@@ -1,9 +1,9 @@
 //! Whether wires may be hung on a forest together, to be tested.
-ghost use Rattle.std.specs.Prelude.{◌≡◌, ◌<◌, ◌++◌, true, Some, All, IfOk, IfSome, IsTrue, length, map, slice_get};
+ghost use Rattle.std.specs.Prelude.{◌≡◌, ◌<◌, true, Some, All, IfOk, IfSome, IsTrue, length, map, slice_get};
 ghost use Rattle.tm_bits.specs.Numbers.{has_number};
 ghost use Rattle.hierarchy.specs.Shape.{Ends, ends_of, crosses_of, wires_of};
 ghost use Rattle.test_configs.specs.Routes.{other_end};
-ghost use Rattle.evidence.specs.Hangs.{AreHangs, IsFoot, over_of, other_of, pin_at};
+ghost use Rattle.evidence.specs.Hangs.{AreHangs, IsFoot, all_feet, overs, pin_at};
 
 use crate::search::Hung;
 use crate::seen::see_all;
@@ -26,35 +26,45 @@ pub(crate) fn hangs_of(alloc: Global, chosen: &Vec<Hung>) -> Result<Vec<Hang>, A
     Ok(hangs)
 }
 
+// A hang at a place.
+fn hang_at(hangs: &[Hang], place: usize) -> Hang
+    requires { place < length hangs.now }
+    ensures { slice_get hangs.now place ≡ Some result }
+{
+    hangs[place]
+}
+
 // The numbers of their wires.
 fn wires_of_hangs(alloc: Global, hangs: &[Hang]) -> Result<Vec<u32>, AllocError>
     ensures { IfOk result (λ wires. wires.items ≡ map (λ h. h.wire.0) hangs.now) }
 {
     let mut wires = Vec::new(alloc);
     'hangs: for k in 0..hangs.len() {
-        wires.push(hangs[k].wire.0)?;
+        wires.push(hang_at(hangs, k).wire.0)?;
     }
     Ok(wires)
 }
 
 // Their wires with their first crosspoints.
-fn overs(alloc: Global, hangs: &[Hang]) -> Result<Vec<(Wire, Cross)>, AllocError>
-    ensures { IfOk result (λ feet. feet.items ≡ map over_of hangs.now) }
+fn first_feet(alloc: Global, hangs: &[Hang]) -> Result<Vec<(Wire, Cross)>, AllocError>
+    ensures { IfOk result (λ feet. feet.items ≡ overs hangs.now) }
 {
     let mut feet = Vec::new(alloc);
     'hangs: for k in 0..hangs.len() {
-        feet.push((hangs[k].wire, hangs[k].over))?;
+        let hang = hang_at(hangs, k);
+        feet.push((hang.wire, hang.over))?;
     }
     Ok(feet)
 }
 
 // And then with their second ones.
 fn feet_of(alloc: Global, hangs: &[Hang]) -> Result<Vec<(Wire, Cross)>, AllocError>
-    ensures { IfOk result (λ feet. feet.items ≡ map over_of hangs.now ++ map other_of hangs.now) }
+    ensures { IfOk result (λ feet. feet.items ≡ all_feet hangs.now) }
 {
-    let mut feet = overs(alloc, hangs)?;
+    let mut feet = first_feet(alloc, hangs)?;
     'hangs: for k in 0..hangs.len() {
-        feet.push((hangs[k].wire, hangs[k].other))?;
+        let hang = hang_at(hangs, k);
+        feet.push((hang.wire, hang.other))?;
     }
     Ok(feet)
 }
@@ -140,14 +150,6 @@ pub(crate) fn are_fit(alloc: Global, forest: &Forest, hangs: &[Hang]) -> Result<
     };
     let mut marks = BitSet::new(alloc, shape.pins())?;
     Ok(see_all(&mut marks, &pins))
-}
-
-// A hang at a place.
-fn hang_at(hangs: &[Hang], place: usize) -> Hang
-    requires { place < length hangs.now }
-    ensures { slice_get hangs.now place ≡ Some result }
-{
-    hangs[place]
 }
 
 /// Whether the wires of hangs are of a field.

@@ -1,4 +1,4 @@
-//! What a sweep has at hand: the purse, and the search, with where it stands.
+//! What a sweep has at hand: the purse, and the search, with where it stands; and for tables those that may be tested.
 
 use crate::purse::Purse;
 use crate::search::Search;

@@ -80,6 +80,14 @@ fn pins_of_field(shape: &Shape, field: &Field) -> u32
     count
 }
 
+// So many loads more, as far as they can be counted.
+fn sum_of(loads: u64, more: u32) -> u64
+    ensures low { loads ≤ result }
+    ensures high { result ≤ loads + more }
+{
+    loads.saturating_add(u64::from(more))
+}
+
 impl Purse {
     /// Holds a load for each pin of the machine in the field.
     pub(crate) fn new(
@@ -98,7 +106,7 @@ impl Purse {
     {
         let pins = pins_of_field(&proof.shape(), field);
         Ok(Purse {
-            most: rig.loads().saturating_add(u64::from(pins)),
+            most: sum_of(rig.loads(), pins),
             unsettled: undecided_in(alloc, proof, bad, field)?,
         })
     }
