@@ -57,9 +57,9 @@ held_up k reading (l ∷ ls) x on = by (held_up k reading ls x) (or_cases (not (
         record { on = whole ∙ or_first (among l.route.crosses x) (among (crosses_of_leads ls) x) two.0; loose = not_kept (keeps_cross k x) (and_parts (not (keeps_cross k x)) _ two.1).0 }
     by later (inr more) = record { on = whole ∙ or_true (among l.route.crosses x) (among (crosses_of_leads ls) x) (later more).on; loose = (later more).loose }
 
-stuck_marks : {told : Option Faults} {a : Field} {k l : Kept} {known : KnownWires} {g : Configuration} {drive : List Bool} {ls : List Lead} {seen was is : List Bool} {T E : Type 0} (r : Result T E) → IsCourse k known.steps a g drive ls seen → length is ≡ length was →
+stuck_marks : (told : Option Faults) (a : Field) (k l : Kept) (known : KnownWires) (g : Configuration) (drive : List Bool) (ls : List Lead) (seen was is : List Bool) {T E : Type 0} (r : Result T E) → IsCourse k known.steps a g drive ls seen → length is ≡ length was →
     OnOk r (HasLed told g drive ls k l was is) → OnErr r (is ≡ was) → MarksSome (λ x. has_number a.crosses x ≡ true) was is
-stuck_marks {told} {a} {k} {l} {known} {g} {drive} {ls} {seen} {was} {is} (Ok v) c len led same = record {
+stuck_marks told a k l known g drive ls seen was is (Ok v) c len led same = record {
   len = len;
   stays = λ x on. led.marks x ∙ or_true (held_up_at k led.reading ls x) (has_number was x) on;
   within = λ x on. by x (or_cases (held_up_at k led.reading ls x) (has_number was x) (sym (led.marks x) ∙ on));
@@ -68,13 +68,13 @@ stuck_marks {told} {a} {k} {l} {known} {g} {drive} {ls} {seen} {was} {is} (Ok v)
     by : (x : ℕ) → (held_up_at k led.reading ls x ≡ true) ⊎ (has_number was x ≡ true) → (has_number was x ≡ true) ⊎ (has_number a.crosses x ≡ true)
     by x (inl new) = let h = held_up k led.reading ls x new in inr (c.tries x h.on h.loose)
     by x (inr on) = inl on
-stuck_marks {a = a} {was = was} (Err e) c len led same = subst (MarksSome (λ x. has_number a.crosses x ≡ true) was) (sym same) (some_itself _ was)
+stuck_marks told a k l known g drive ls seen was is (Err e) c len led same = subst (MarksSome (λ x. has_number a.crosses x ≡ true) was) (sym same) (some_itself _ was)
 
 pub lead_goes : {told : Option Faults} {a : Field} {k l : Kept} {known : KnownWires} {bad : Bad} {purse : Purse} {before after : ℕ} {g : Configuration} {drive : List Bool} {ls : List Lead} {seen stuck : List Bool} {T E : Type 0} (r : Result T E) →
     IsHand a (in_hand k known bad purse before) → IsCourse k known.steps a g drive ls seen → before + 1 ≤ purse.most → after ≤ before + 1 → IsMore k l → length stuck ≡ length bad.stuck →
     OnOk r (HasLed told g drive ls k l bad.stuck stuck) → OnErr r (stuck ≡ bad.stuck) → (StuckIf told k bad.stuck → StuckIf told l stuck) →
     Goes told a [] (in_hand k known bad purse before) (in_hand l known (record bad { stuck = stuck }) purse after)
-lead_goes {told} {a} {k} {l} {known} {bad} {purse} {before} {after} {stuck = stuck} r hand course can took more len led same true_ = record {
+lead_goes {told} {a} {k} {l} {known} {bad} {purse} {before} {after} {g} {drive} {ls} {seen} {stuck} r hand course can took more len led same true_ = record {
   hand = record {
     known = known_later more hand.known;
     field = subst (λ m. IsFieldOf m a) (sym more.shape) hand.field;
@@ -89,7 +89,7 @@ lead_goes {told} {a} {k} {l} {known} {bad} {purse} {before} {after} {stuck = stu
   where
     marked : MarksIn a [] bad (record bad { stuck = stuck })
     marked = record {
-      stuck = stuck_marks r course len led same;
+      stuck = stuck_marks told a k l known g drive ls seen bad.stuck stuck r course len led same;
       unfit = some_itself _ bad.unfit;
       unclear = some_itself _ bad.unclear;
       wrong = some_itself _ bad.wrong;

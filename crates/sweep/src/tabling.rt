@@ -9,6 +9,7 @@ use crate::bad::Bad;
 use crate::fits::{are_fit, are_given, table_forest};
 use crate::gear::Sheet;
 use crate::trees::is_known;
+use crate::turns::sweep_all;
 use evidence::Proof;
 use known::{Field, Known};
 use rig::{Rig, RigFail};
@@ -119,8 +120,8 @@ fn test_hextant(
     Ok(())
 }
 
-/// Tests the tables of each hextant.
-pub(crate) fn test_tables(
+// Tests the tables of each hextant.
+fn test_tables(
     rig: &mut Box<dyn Rig>,
     proof: &mut Proof,
     known: &Known,
@@ -143,4 +144,25 @@ pub(crate) fn test_tables(
         test_hextant(rig, proof, known, bad, field, sheet)?;
     }
     Ok(())
+}
+
+/// Tests what is further and further from the pins of the machine, and then the tables.
+pub(crate) fn sweep_sheet(
+    rig: &mut Box<dyn Rig>,
+    proof: &mut Proof,
+    known: &mut Known,
+    bad: &mut Bad,
+    field: &Field,
+    sheet: &mut Sheet,
+) -> Result<(), RigFail>
+    requires attached { shape_of (rig_state rig.old) ≡ Some proof.old.shape }
+    requires hand { IsHand field.now (in_hand proof.old known.old bad.old sheet.old.gear.purse (rig_state rig.old).loads) }
+    ensures goes { Goes (rig_state rig.old).machine.faults field.now sheet.old.tables.items
+        (in_hand proof.old known.old bad.old sheet.old.gear.purse (rig_state rig.old).loads)
+        (in_hand proof.new known.new bad.new sheet.new.gear.purse (rig_state rig.new).loads) }
+    ensures advances { Advances (rig_state rig.old) (rig_state rig.new) proof.old proof.new }
+    ensures cause { IsErrOf result RigFail.Failed → Rose (rig_state rig.old).failures (rig_state rig.new).failures }
+{
+    sweep_all(rig, proof, known, bad, field, &mut sheet.gear)?;
+    test_tables(rig, proof, known, bad, field, sheet)
 }

@@ -21,3 +21,9 @@ loads-preserved g c =
 
 pub returns-in_err-table_turn-clause-goes : goal.returns-in_err-table_turn-clause-goes
 returns-in_err-table_turn-clause-goes g c = let old = c.loads.invariant in table_on (ap (λ v. v.items) old.tables) old.advances old.goes c.table_turn.ensures.goes
+
+pub returns-then-not-branch-clause-goes : goal.returns-then-not-branch-clause-goes
+returns-then-not-branch-clause-goes g c = let old = c.loads.invariant in table_on (ap (λ v. v.items) old.tables) old.advances old.goes c.table_turn.ensures.goes
+
+pub returns-then-not-branch-clause-tables : goal.returns-then-not-branch-clause-tables
+returns-then-not-branch-clause-tables g c = c.table_turn.ensures.tables ∙ c.loads.invariant.tables
