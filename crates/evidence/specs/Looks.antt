@@ -1,5 +1,5 @@
 -- Looks: what all pins read while nothing is driven, and while each pin is driven alone.
-use Rattle.std.specs.Prelude.{◌≡◌, ◌⊎◌, ℕ, ◌+◌, ◌<◌, Bool, true, false, not, ◌&&◌, ◌||◌, if◌then◌else◌, Option, Some, None, List, [], ◌∷◌, map, length}
+use Rattle.std.specs.Prelude.{◌≡◌, ◌⊎◌, ℕ, ◌+◌, ◌^◌, ◌<◌, Bool, true, false, not, ◌&&◌, ◌||◌, if◌then◌else◌, Option, Some, None, List, [], ◌∷◌, map, length}
 use Rattle.std.specs.Prelude.{All, replicate, slice_index_or, slice_set, refl}
 use Rattle.std.specs.List.{list_any, range_with_len}
 use Rattle.std.specs.Option.{option_map_or}
@@ -29,6 +29,7 @@ coded_sights = code_by (ℕ × List (List Bool)) (coded× coded_ℕ (coded_list 
 pub record AreSights (s : Sights) : Type 0 where
   pub cycles : length s.rows ≡ s.pins + 1
   pub each : All (λ row. length row ≡ s.pins) s.rows
+  pub few : s.pins < 2 ^ 31
 
 -- no pin is driven, and one is alone
 abbrev pub none_driven : ℕ → Pins
@@ -54,13 +55,21 @@ read_under rows driven pin = read_at rows (driven + 1) pin
 abbrev pub differ : Bool → Bool → Bool
 differ a b = if a then not b else b
 
+-- the pin reads a bit in some cycle
+abbrev pub reads_somewhere : List Pins → ℕ → Bool → Bool
+reads_somewhere rows pin bit = list_any (λ row. not (differ (slice_index_or row pin true) bit)) rows
+
 -- the pin reads 0 in one cycle and 1 in another
 abbrev pub swings : List Pins → ℕ → Bool
-swings rows pin = list_any (λ row. not (slice_index_or row pin true)) rows && list_any (λ row. slice_index_or row pin true) rows
+swings rows pin = reads_somewhere rows pin false && reads_somewhere rows pin true
 
 -- the two pins read different values in some cycle
 abbrev pub parts : List Pins → ℕ → ℕ → Bool
 parts rows a b = list_any (λ row. differ (slice_index_or row a true) (slice_index_or row b true)) rows
+
+-- after a load, each row is what all pins read under its drive, where the faults are told
+pub record ReadsEach (told : Option Faults) (g : Configuration) (drives rows : List Pins) : Type 0 where
+  pub run : (f : Faults) → told ≡ Some f → IsRun f g drives rows
 
 -- A load that closes just these crosspoints, with nothing on and one tick, gives these rows in the cycles of a look, where the faults
 -- are told.
@@ -89,12 +98,13 @@ hangs_swinging trees rows w = option_map_or (λ p. swings rows p) (pin_of trees 
 abbrev pub hangs_apart : Trees → List Pins → ℕ → ℕ → Bool
 hangs_apart trees rows pin w = option_map_or (λ p. parts rows p pin) (pin_of trees w) false
 
+-- whether two wires hang on pins that part
+abbrev pub hang_apart : Trees → List Pins → ℕ → ℕ → Bool
+hang_apart trees rows a b = option_map_or (λ p. hangs_apart trees rows p b) (pin_of trees a) false
+
 -- the wires that hang on pins that swing, and the pairs of wires that hang on pins that part
 abbrev pub seen_in : Trees → List Pins → Gain
-seen_in trees rows = record nothing {
-  wires = hangs_swinging trees rows;
-  pairs = λ a b. option_map_or (λ p. hangs_apart trees rows p b) (pin_of trees a) false;
-}
+seen_in trees rows = record nothing { wires = hangs_swinging trees rows; pairs = hang_apart trees rows }
 
 -- What a look shows: just the wires that hang on pins that swing are kept, and the pairs of those that hang on pins that part.
 pub record HasSeen (told : Option Faults) (trees : Trees) (old new : Kept) : Type 0 where

@@ -1,10 +1,10 @@
 //! Wires that hang on pins of the machine.
-ghost use Rattle.std.specs.Prelude.{◌≡◌, ◌≢◌, ◌<◌, ℕ, Some, false, IsTrue, IfOk, OnErr};
+ghost use Rattle.std.specs.Prelude.{◌≡◌, ◌≢◌, ◌<◌, ℕ, true, false, IsTrue, IfOk, OnErr};
 ghost use Rattle.hierarchy.specs.Shape.{Ends, ends_of, pin_wire, crosses_of, wires_of, pins_of};
-ghost use Rattle.evidence.specs.Forests.{IsForest, KeepsForest, CanLay, bare, with_planted, with_laid, pin_of};
+ghost use Rattle.evidence.specs.Forests.{IsForest, KeepsForest, CanLay, bare, with_planted, with_laid, pin_of, is_hung};
 
 use crate::Proof;
-use hierarchy::{Cross, Shape, Wire};
+use hierarchy::{Cross, Shape, Wire, the_numbering_is_sound};
 use std::alloc::{AllocError, Global};
 use std::marker::Model;
 
@@ -87,8 +87,9 @@ impl Forest {
     pub fn plant(&mut self, pin: u32)
         requires { pin < pins_of self.old.shape }
         ensures planted { self.new ≡ with_planted self.old pin }
-        ensures same { pin_of self.old pin ≡ Some pin → self.new ≡ self.old }
+        ensures same { is_hung self.old (pin_wire self.old.shape pin) ≡ true → self.new ≡ self.old }
     {
+        the_numbering_is_sound();
         let wire = self.shape.pin(pin);
         self.pins[wire.0 as usize] = Some(pin);
     }

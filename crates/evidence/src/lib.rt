@@ -18,6 +18,8 @@
 #![tactic(auto)]
 
 mod again;
+mod apart;
+mod feet;
 mod forest;
 mod hangs;
 pub mod laws;

@@ -9,6 +9,8 @@ ghost use Rattle.evidence.specs.Hangs.{AreFeet, AreAllOf, HasTold, UnfitIf, Uncl
 ghost use Rattle.evidence.specs.Looks.{HasLooked};
 ghost use Rattle.evidence.specs.Readings.{WantsBefore};
 
+use crate::feet::mark_unfit;
+use crate::looks::look_drives;
 use crate::{Forest, Looks, Proof};
 use hierarchy::{Cross, Wire};
 use rig::{Rig, RigFail};

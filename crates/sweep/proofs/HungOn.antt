@@ -72,11 +72,11 @@ AreOf a hs = All (λ h. has_number a.wires h.wire.0 ≡ true) hs
 
 turned_of : (a : Field) (hs : List Hang) → AreOf a hs → AreOf a (map turned hs)
 turned_of a [] all = λ i d none. absurd (omega (arith, none))
-turned_of a (h ∷ hs) all = λ i d below. at i d below
+turned_of a (h ∷ hs) all = at (turned_of a hs (λ k e less. all (suc k) e (omega (arith, less))))
   where
-    at : (i : ℕ) (d : Hang) → i < length (map turned (h ∷ hs)) → has_number a.wires (get_or (map turned (h ∷ hs)) i d).wire.0 ≡ true
-    at zero d below = all 0 h (omega arith)
-    at (suc i) d below = turned_of a hs (λ k e less. all (suc k) e (omega (arith, less))) i d (omega (arith, below))
+    at : AreOf a (map turned hs) → (i : ℕ) (d : Hang) → i < length (map turned (h ∷ hs)) → has_number a.wires (get_or (map turned (h ∷ hs)) i d).wire.0 ≡ true
+    at rest zero d below = all 0 h (omega arith)
+    at rest (suc i) d below = rest i d (omega (arith, below))
 
 -- a wire of a foot
 wire_of_field : (a : Field) (q : Foot → Bool) (w : ℕ) (hs : List Hang) → AreOf a hs → list_any (λ foot. (foot.0.0 == w) && q foot) (overs hs) ≡ true → has_number a.wires w ≡ true

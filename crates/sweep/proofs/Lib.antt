@@ -5,11 +5,9 @@ mod Paying
 mod Purses
 mod Sighting
 mod Footed
-mod Forested
 mod HungOn
 mod Learnt
+mod Forested
 mod Leaving
 mod Coursing
 mod Led
-mod Sheeted
-mod Tabled

@@ -108,9 +108,9 @@ fn pin_over(forest: &Forest, foot: (Wire, Cross)) -> Option<u32>
 }
 
 // A foot at a place.
-fn foot_at(feet: &[(Wire, Cross)], place: usize) -> (Wire, Cross)
-    requires { place < length feet.now }
-    ensures { slice_get feet.now place ≡ Some result }
+fn foot_at(feet: &Vec<(Wire, Cross)>, place: usize) -> (Wire, Cross)
+    requires { place < length feet.now.items }
+    ensures { slice_get feet.now.items place ≡ Some result }
 {
     feet[place]
 }
@@ -119,10 +119,10 @@ fn foot_at(feet: &[(Wire, Cross)], place: usize) -> (Wire, Cross)
 fn pins_over(
     alloc: Global,
     forest: &Forest,
-    feet: &[(Wire, Cross)],
+    feet: &Vec<(Wire, Cross)>,
 ) -> Result<Option<Vec<u32>>, AllocError>
-    ensures each { IfOk result (λ found. IfSome found (λ pins. All (IsFoot forest.now) feet.now)) }
-    ensures pins { IfOk result (λ found. IfSome found (λ pins. pins.items ≡ map (pin_at forest.now) feet.now)) }
+    ensures each { IfOk result (λ found. IfSome found (λ pins. All (IsFoot forest.now) feet.now.items)) }
+    ensures pins { IfOk result (λ found. IfSome found (λ pins. pins.items ≡ map (pin_at forest.now) feet.now.items)) }
 {
     let mut pins = Vec::new(alloc);
     'feet: for k in 0..feet.len() {

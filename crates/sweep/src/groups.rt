@@ -92,7 +92,12 @@ impl Search {
     }
 
     // The stretch of a walk between two of its places, from the first held crosspoint to the last one.
-    pub(crate) fn trimmed(&self, walk: &Walk, begin: usize, end: usize) -> Result<Walk, AllocError> {
+    pub(crate) fn trimmed(
+        &self,
+        walk: &Walk,
+        begin: usize,
+        end: usize,
+    ) -> Result<Walk, AllocError> {
         let stretch = cut(self.alloc, walk, self.first_held(walk, begin), end)?;
         let last = self.end_of(&stretch, u32::MAX);
         cut(self.alloc, &stretch, 0, last)
@@ -221,7 +226,12 @@ impl Search {
 
     /// The first crosspoints of a group led, so many of them: the stuck one is behind them. Or they didn't: the stuck one is among them, and
     /// the others are left to be tried again.
-    pub(crate) fn note_half(&mut self, at: usize, end: usize, leads: bool) -> Result<(), AllocError> {
+    pub(crate) fn note_half(
+        &mut self,
+        at: usize,
+        end: usize,
+        leads: bool,
+    ) -> Result<(), AllocError> {
         if leads {
             return self.shorten(at, end, usize::MAX);
         }

@@ -60,16 +60,17 @@ pub(crate) fn hang_load(
     let Ok(forest) = hang_forest(alloc, proof, known, &mut gear.search) else {
         return Err(RigFail::Memory);
     };
-    let Ok(hangs) = hangs_of(alloc, &gear.search.hangs) else {
+    let Ok(chosen) = hangs_of(alloc, &gear.search.hangs) else {
         return Err(RigFail::Memory);
     };
+    let hangs = chosen.as_slice();
     if !is_known(proof, known, &forest) {
         return Ok(());
     }
-    if !are_of_field(field, &hangs) {
+    if !are_of_field(field, hangs) {
         return Ok(());
     }
-    let Ok(fit) = are_fit(alloc, &forest, &hangs) else {
+    let Ok(fit) = are_fit(alloc, &forest, hangs) else {
         return Err(RigFail::Memory);
     };
     if !fit {
@@ -78,5 +79,5 @@ pub(crate) fn hang_load(
     if !gear.purse.can_pay(rig, 3) {
         return Ok(());
     }
-    proof.hang_each(rig, &forest, &hangs, &mut bad.unfit, &mut bad.unclear)
+    proof.hang_each(rig, &forest, hangs, &mut bad.unfit, &mut bad.unclear)
 }

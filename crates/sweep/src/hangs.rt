@@ -24,10 +24,7 @@ const TABLE_PINS: usize = 8;
 impl Search {
     // How often a wire was hung.
     fn tries_of(&self, w: Wire) -> u32 {
-        self.tries
-            .get(w.0 as usize)
-            .copied()
-            .unwrap_or(MOST_TRIES)
+        self.tries.get(w.0 as usize).copied().unwrap_or(MOST_TRIES)
     }
 
     // Whether a wire is to be hung: it is of the field, neither known nor found unfit, and wasn't hung too often. Of two wires that are
@@ -98,7 +95,11 @@ impl Search {
         let level = self.heights.levels.get(height)?;
         let count = level.wires.len();
         let at = begin.saturating_add(place);
-        let at = if at >= count { at.saturating_sub(count) } else { at };
+        let at = if at >= count {
+            at.saturating_sub(count)
+        } else {
+            at
+        };
         level.wires.get(at).copied()
     }
 
@@ -111,12 +112,7 @@ impl Search {
     }
 
     // Hangs a wire if it is to be hung. The number of wires that failed to hang since one did.
-    fn try_hang(
-        &mut self,
-        unfit: &BitSet,
-        w: Wire,
-        misses: u32,
-    ) -> Result<u32, AllocError> {
+    fn try_hang(&mut self, unfit: &BitSet, w: Wire, misses: u32) -> Result<u32, AllocError> {
         if !self.is_wanted(unfit, w) {
             return Ok(misses);
         }

@@ -82,10 +82,7 @@ impl Bar {
         let first = if low { 0 } else { self.low };
         let end = if low { self.low } else { self.taps };
         Side {
-            start: self
-                .start
-                .wrapping_add(self.lines)
-                .wrapping_add(first),
+            start: self.start.wrapping_add(self.lines).wrapping_add(first),
             count: end.saturating_sub(first),
             cross: self
                 .cross
@@ -198,7 +195,11 @@ impl Heights {
     fn add_node(&mut self, shape: &Shape, n: Node) -> Result<(), AllocError>
         requires { n.0 < nodes_of shape.now }
     {
-        let low = if n.0 == 0 { shape.pins() } else { shape.ports(n) };
+        let low = if n.0 == 0 {
+            shape.pins()
+        } else {
+            shape.ports(n)
+        };
         let bar = Bar {
             start: u32::try_from(self.ends.len()).unwrap_or(0),
             lines: shape.lines(n),
@@ -250,9 +251,7 @@ impl Heights {
         let links = self.links.get(w.0 as usize)?;
         match links.low.at(&self.ends, j) {
             Some(link) => Some(link),
-            None => links
-                .high
-                .at(&self.ends, j.saturating_sub(links.low.count)),
+            None => links.high.at(&self.ends, j.saturating_sub(links.low.count)),
         }
     }
 
@@ -302,6 +301,8 @@ impl Heights {
         if place >= bar.lines.saturating_add(bar.taps) {
             return None;
         }
-        self.ends.get(bar.start.wrapping_add(place) as usize).copied()
+        self.ends
+            .get(bar.start.wrapping_add(place) as usize)
+            .copied()
     }
 }

@@ -143,7 +143,13 @@ fn lead_load(
     if !gear.purse.can_pay(rig, 1) {
         return Ok(());
     }
-    proof.lead_each(rig, &course.config, &course.drive, &course.leads, &mut bad.stuck)
+    proof.lead_each(
+        rig,
+        &course.config,
+        &course.drive,
+        &course.leads,
+        &mut bad.stuck,
+    )
 }
 
 // Takes loads in for the crosspoints of a walk that were undecided and aren't any more.

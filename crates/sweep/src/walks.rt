@@ -46,7 +46,11 @@ impl Search {
                 continue;
             };
             let left = self.board.left(w);
-            if left == 0 || left > most || (left == most && place < from) || !self.board.is_idle(w) {
+            if left == 0
+                || left > most
+                || (left == most && place < from)
+                || !self.board.is_idle(w)
+            {
                 continue;
             }
             if best.is_none_or(|found| found.0 < left) {
@@ -65,7 +69,8 @@ impl Search {
             let Some(link) = self.heights.link(w, j) else {
                 continue;
             };
-            if self.board.mark(link.cross) == mark && self.board.left(link.wire) > most
+            if self.board.mark(link.cross) == mark
+                && self.board.left(link.wire) > most
                 && self.board.is_idle(link.wire)
             {
                 most = self.board.left(link.wire);
@@ -217,7 +222,8 @@ impl Search {
             if todo > 0 {
                 let less = u64::from(u32::MAX.saturating_sub(todo));
                 let drawn = self.draws.short();
-                self.order.push((less << 31) | (drawn << 15) | (u64::from(node) % 32_768))?;
+                self.order
+                    .push((less << 31) | (drawn << 15) | (u64::from(node) % 32_768))?;
             }
         }
         self.order.sort_unstable();

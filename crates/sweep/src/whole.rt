@@ -8,10 +8,10 @@ ghost use Rattle.known.specs.Known.{IsKnown};
 ghost use Rattle.sweep.specs.Marks.{AreMarksFor, MarksIn, Pays, TrueIf};
 
 use crate::bad::Bad;
-use crate::gear::{Gear, Sheet};
+use crate::gear::Gear;
 use crate::purse::Purse;
 use crate::search::Search;
-use crate::tabling::sweep_sheet;
+use crate::turns::sweep_all;
 use evidence::Proof;
 use hierarchy::Table;
 use known::{Field, Known};
@@ -52,14 +52,11 @@ pub fn sweep(
     let Ok(search) = Search::new(known.alloc(), proof, known, bad, field) else {
         return Err(RigFail::Memory);
     };
-    let Ok(tables) = Vec::from_slice(known.alloc(), tables) else {
-        return Err(RigFail::Memory);
-    };
-    let gear = Gear {
+    let mut gear = Gear {
         purse,
         search,
         height: 0,
         start: 0,
     };
-    sweep_sheet(rig, proof, known, bad, field, &mut Sheet { gear, tables })
+    sweep_all(rig, proof, known, bad, field, &mut gear)
 }

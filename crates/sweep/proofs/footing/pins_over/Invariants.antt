@@ -5,6 +5,6 @@ use Rattle.sweep.proofs.footing.pins_over.Given as goal
 
 abbrev pub invariant-feet : goal.invariant-feet
 invariant-feet l = record {
-  each : All (IsFoot l.forest) (take l.k l.feet);
-  pins : l.pins.items ≡ map (pin_at l.forest) (take l.k l.feet);
+  each : All (IsFoot l.forest) (take l.k l.feet.items);
+  pins : l.pins.items ≡ map (pin_at l.forest) (take l.k l.feet.items);
 }

@@ -12,5 +12,5 @@ pub returns-clause-goes : goal.returns-clause-goes
 returns-clause-goes g c =
     let e = c.lead_each.ensures in
     let course = subst (λ (ls : List Lead). IsCourse c.args.proof.now c.args.known.now.steps c.args.field.now c.lay_walks.new.course.config.config c.lay_walks.new.course.drive ls c.lay_walks.new.course.seen)
-          (sym c.deref.ensures.value) (c.in-Ok-lay_walks.ensures c.if-not-laid.false) in
+    (sym c.deref.ensures.value) (c.in-Ok-lay_walks.ensures c.if-not-laid.false) in
     lead_goes c.lead_each.result c.requires.hand course (c.if-not-can_pay.ensures refl) e.loads e.advances.more e.marks e.led e.unmarked e.stuck

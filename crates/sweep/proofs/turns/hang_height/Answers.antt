@@ -15,3 +15,6 @@ loads-preserved g c =
 
 pub returns-in_err-hang_turn-clause-goes : goal.returns-in_err-hang_turn-clause-goes
 returns-in_err-hang_turn-clause-goes g c = goes_on c.loads.invariant.advances c.loads.invariant.goes c.hang_turn.ensures.goes
+
+pub returns-then-not-branch-clause-goes : goal.returns-then-not-branch-clause-goes
+returns-then-not-branch-clause-goes g c = goes_on c.loads.invariant.advances c.loads.invariant.goes c.hang_turn.ensures.goes
