@@ -47,7 +47,8 @@ pub record IsFairLead (k : Kept) (ss : List Step) (a : Field) (was is : List Boo
 
 -- Walks over known wires, no wire twice, and over crosspoints that may be tried. What is closed is their crosspoints, nothing is on, and
 -- their first pins are driven 0, and no others.
-pub record IsCourse (k : Kept) (ss : List Step) (a : Field) (g : Configuration) (drive : List Bool) (ls : List Lead) (seen : List Bool) : Type 0 where
+pub record IsCourse (k : Kept) (ss : List Step) (a : Field) (g : Configuration) (drive : List Bool) (ls : List Lead)
+    (seen : List Bool) : Type 0 where
   pub shape : g.shape ≡ k.shape
   pub leads : All (IsLead k) ls
   pub closed : (x : ℕ) → is_closed g x ≡ among (crosses_of_leads ls) x

@@ -224,8 +224,8 @@ impl Search {
         Ok(())
     }
 
-    /// The first crosspoints of a group led, so many of them: the stuck one is behind them. Or they didn't: the stuck one is among them, and
-    /// the others are left to be tried again.
+    /// So many first crosspoints of a group led: the stuck one is behind them. Or they didn't: the stuck one is among them, and the others
+    /// are left to be tried again.
     pub(crate) fn note_half(
         &mut self,
         at: usize,

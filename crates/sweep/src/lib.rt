@@ -4,8 +4,8 @@
 //! purse pays for it: a load for each pin of the machine in the field, and two for each crosspoint that was decided. What a sweep misses
 //! growth decides, and takes no load for what is decided.
 //!
-//! Promised of `sweep`, at every end, on every machine: what is known is so, and what is new is of the field (`known`, `grows`); marks are of
-//! the field and of the given tables, and where the faults are told stay true (`marks`, `right`); and loads are paid for (`pays`).
+//! Promised of `sweep`, at every end, on every machine: what is known is so, and what is new is of the field (`known`, `grows`); marks are
+//! of the field and of the given tables, and where the faults are told stay true (`marks`, `right`); and loads are paid for (`pays`).
 #![tactic(auto)]
 
 mod bad;

@@ -230,8 +230,8 @@ impl Search {
         Ok(())
     }
 
-    // Lays a walk through the crossbar at a place of the order. None where there is one already for which none can be laid; else whether one
-    // was laid.
+    // Lays a walk through the crossbar at a place of the order. None where it is known already that none can be laid there; else whether
+    // one was laid.
     fn lay_at(&mut self, place: usize) -> Result<Option<bool>, AllocError> {
         let Some(key) = self.order.get(place).copied() else {
             return Ok(None);
