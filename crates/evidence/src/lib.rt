@@ -30,6 +30,7 @@ mod proof;
 mod readings;
 mod routes;
 mod sights;
+mod table_rows;
 mod tells;
 mod toggles;
 

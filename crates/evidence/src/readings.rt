@@ -13,7 +13,7 @@ use rig::{PinBits, Rig, RigFail, cycle, cycles, load};
 use test_configs::Route;
 
 // Begins a session. No load is lost from the count.
-fn begin(rig: &mut Box<dyn Rig>, config: &Config, room: u32) -> Result<(), RigFail>
+pub(crate) fn begin(rig: &mut Box<dyn Rig>, config: &Config, room: u32) -> Result<(), RigFail>
     requires { shape_of (rig_state rig.old) ≡ Some config.now.config.shape }
     ensures machine { (rig_state rig.new).machine ≡ (rig_state rig.old).machine }
     ensures later { (rig_state rig.old).failures ≤ (rig_state rig.new).failures }

@@ -9,3 +9,5 @@ mod HungOn
 mod Learnt
 mod Forested
 mod Leaving
+mod Coursing
+mod Led

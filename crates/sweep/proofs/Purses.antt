@@ -82,7 +82,7 @@ pub pays : (k : Kept) (b : Bad) (before : ℕ) {l : Kept} {c : Bad} {a : Field} 
 pays k b before {l} {c} {a} {purse = purse} hand f =
     let paid = f.paid in let within = f.within in
     let few : undecided l c a ≤ size_of purse.unsettled = subst (λ n. undecided l c a ≤ n) (ap (how_many (has_number purse.unsettled)) (hand.field.crosses ∙ sym hand.purse) ∙ many_size purse.unsettled)
-        (many_more (λ x. has_number a.crosses x && is_undecided l c x) (has_number purse.unsettled) (length a.crosses) (λ x less on. let two = and_parts (has_number a.crosses x) (is_undecided l c x) on in f.whole x two.0 two.1)) in
+    (many_more (λ x. has_number a.crosses x && is_undecided l c x) (has_number purse.unsettled) (length a.crosses) (λ x less on. let two = and_parts (has_number a.crosses x) (is_undecided l c x) on in f.whole x two.0 two.1)) in
     omega (arith, paid, within, few)
 
 pub pays_nothing : (a : Field) (k : Kept) (b : Bad) (loads : ℕ) → Pays a k b loads k b loads

@@ -53,10 +53,12 @@ among_and_one (x ∷ xs) n m on = by (among_and_one xs n m) (or_cases (x == m) (
 
 -- one number more is seen, for the first time
 pub sees_one : (marks : List Bool) (n : ℕ) → n < length marks → has_number marks n ≡ false → SeesMore marks (slice_set marks n true) (n ∷ [])
-sees_one marks n within new = record { at = λ numbers s. record {
-  once = distinct_and_one numbers n s.once (not_among (among numbers n) refl s);
-  are = λ m on. by m s (among_and_one numbers n m on) (ℕ_discrete m n);
-} }
+sees_one marks n within new = record {
+  at = λ numbers s. record {
+    once = distinct_and_one numbers n s.once (not_among (among numbers n) refl s);
+    are = λ m on. by m s (among_and_one numbers n m on) (ℕ_discrete m n);
+  };
+}
   where
     not_among : {numbers : List ℕ} (t : Bool) → among numbers n ≡ t → Seen marks numbers → among numbers n ≡ false
     not_among true e s = absurd (false≢true (sym new ∙ s.are n e))

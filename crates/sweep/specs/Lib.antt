@@ -3,3 +3,4 @@ pub mod Without
 -- For this crate's bodies alone.
 pub mod Stages
 pub mod Sights
+pub mod Courses

@@ -4,24 +4,30 @@
 //! purse pays for it: a load for each pin of the machine in the field, and two for each crosspoint that was decided. What a sweep misses
 //! growth decides, and takes no load for what is decided.
 //!
-//! Promised of `sweep`, at every end, on every machine: what is known is so, and what is new is of the field (`known`, `grows`); marks are of
-//! the field and of the given tables, and where the faults are told stay true (`marks`, `right`); and loads are paid for (`pays`).
+//! Promised of `sweep`, at every end, on every machine: what is known is so, and what is new is of the field (`known`, `grows`); marks are
+//! of the field and of the given tables, and where the faults are told stay true (`marks`, `right`); and loads are paid for (`pays`).
 #![tactic(auto)]
 
 mod bad;
+mod board;
 mod climbs;
 mod draws;
 mod footing;
 mod gear;
+mod groups;
 mod hanging;
+mod hangs;
+mod heights;
 mod laws;
 mod leading;
 mod learn;
+mod paths;
 mod purse;
 mod search;
 mod seen;
 mod trees;
 mod turns;
+mod walks;
 mod whole;
 mod without;
 

@@ -50,7 +50,12 @@ fn add_open(set: &mut BitSet, proof: &Proof, bad: &Bad, field: &Field, c: Cross)
 }
 
 // Which crosspoints of a field are undecided.
-fn undecided_in(alloc: Global, proof: &Proof, bad: &Bad, field: &Field) -> Result<BitSet, AllocError>
+fn undecided_in(
+    alloc: Global,
+    proof: &Proof,
+    bad: &Bad,
+    field: &Field,
+) -> Result<BitSet, AllocError>
     requires field { IsFieldOf proof.now.shape field.now }
     requires marks { AreMarksFor proof.now.shape bad.now }
     ensures len { IfOk result (λ set. length set ≡ crosses_of proof.now.shape) }

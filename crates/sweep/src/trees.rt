@@ -91,7 +91,11 @@ fn lay_climb(forest: &mut Forest, proof: &Proof, walk: &Walk) -> Result<(), Allo
 }
 
 /// Lays all climbs.
-pub(crate) fn lay_climbs(forest: &mut Forest, proof: &Proof, search: &Search) -> Result<(), AllocError>
+pub(crate) fn lay_climbs(
+    forest: &mut Forest,
+    proof: &Proof,
+    search: &Search,
+) -> Result<(), AllocError>
     requires { KeepsForest proof.now forest.old }
     ensures { KeepsForest proof.now forest.new }
 {
