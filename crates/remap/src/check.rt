@@ -8,7 +8,8 @@ use crate::names::have_same_names;
 use crate::text::{Remapped, read_again};
 use map_search::{Made, Mapped, design_text, labels_by_name};
 use netlist::{Cover, Draft, Netlist};
-use same_rows::{Graph, agree, labelled_alike};
+use same_rows::laws::labelled_alike;
+use same_rows::{Graph, agree};
 use std::alloc::{AllocError, Global};
 use tm_items::{Items, TABLE_INPUTS};
 

@@ -75,7 +75,7 @@ fn with_room(
 {
     match found {
         Some(text) => {
-            if plain_size(&text.netlist) > plain_size(netlist) {
+            if plain_size(alloc, &text.netlist)? > plain_size(alloc, netlist)? {
                 return Ok(None);
             }
             if has_room(alloc, &text.netlist, defects)? {
@@ -116,7 +116,8 @@ fn some_order(
     if let Some(text) = fitting(alloc, netlist, &mapped.netlist, defects, 0)? {
         return Ok(Some(text));
     }
-    let fewer = plain_size(netlist).saturating_sub(plain_size(&mapped.netlist));
+    let most = plain_size(alloc, netlist)?;
+    let fewer = most.saturating_sub(plain_size(alloc, &mapped.netlist)?);
     let spare = fewer.min(u64::from(u32::MAX)) as u32;
     if let Some(text) = fitting(alloc, netlist, &mapped.netlist, defects, spare)? {
         return Ok(Some(text));

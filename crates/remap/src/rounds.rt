@@ -108,7 +108,7 @@ fn by_ways(alloc: Global, text: &[u8], netlist: &Netlist) -> Result<Search, Allo
         };
         let found = found_from(alloc, netlist, round)?;
         ands = ands.saturating_add(found.ands);
-        best = lesser(best, found.text);
+        best = lesser(alloc, best, found.text)?;
     }
     Ok(Search { best, ands })
 }
@@ -132,7 +132,7 @@ pub fn remapped(alloc: Global, text: &[u8], netlist: &Netlist) -> Result<Remappe
         }
         let found = found_from(alloc, &best.netlist, round_by_chance(number))?;
         ands = ands.saturating_add(found.ands);
-        best = lesser(best, found.text);
+        best = lesser(alloc, best, found.text)?;
     }
     Ok(best)
 }

@@ -48,17 +48,21 @@ pub fn given(alloc: Global, text: &[u8], netlist: &Netlist) -> Result<Remapped, 
 }
 
 /// The text that was found, where it has no more tables than the one before, and else that.
-pub fn lesser(before: Remapped, found: Option<Remapped>) -> Remapped
-    ensures { (result ≡ before) ⊎ ((found ≡ Some result) × (tables_in result.netlist ≤ tables_in before.netlist)) }
+pub fn lesser(
+    alloc: Global,
+    before: Remapped,
+    found: Option<Remapped>,
+) -> Result<Remapped, AllocError>
+    ensures { IfOk result (λ r. (r ≡ before) ⊎ ((found ≡ Some r) × (tables_in r.netlist ≤ tables_in before.netlist))) }
 {
     match found {
         Some(new) => {
-            if plain_size(&new.netlist) <= plain_size(&before.netlist) {
-                new
+            if plain_size(alloc, &new.netlist)? <= plain_size(alloc, &before.netlist)? {
+                Ok(new)
             } else {
-                before
+                Ok(before)
             }
         }
-        None => before,
+        None => Ok(before),
     }
 }
