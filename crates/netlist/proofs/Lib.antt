@@ -9,6 +9,7 @@ pub mod CheckLemmas
 pub mod RightLemmas
 pub mod MadeLemmas
 pub mod BitLemmas
+pub mod LaneLemmas
 -- For the proofs of this crate alone.
 mod SearchLemmas
 mod StepLemmas

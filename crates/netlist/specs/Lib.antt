@@ -11,3 +11,4 @@ pub mod States
 pub mod Sorts
 pub mod Groups
 pub mod Words
+pub mod Lanes

@@ -13,8 +13,8 @@ use Rattle.netlist.specs.Valuations.{number_at, bit_at, IsSettled}
 use Rattle.netlist.proofs.CheckLemmas.{cover_place, cover_signal}
 use Rattle.netlist_eval.specs.declared.block.Block.{Block}
 use Rattle.netlist_eval.specs.Blocks.{HaveKept, IsBlock, IsRowOf}
-use Rattle.netlist_eval.specs.Lanes.{is_bit, lane_bits}
-use Rattle.netlist_eval.proofs.LaneLemmas.{lane-at, no-bit}
+use Rattle.netlist.specs.Lanes.{is_bit, lane_bits}
+use Rattle.netlist.proofs.LaneLemmas.{lane-at, no-bit}
 use Rattle.netlist_eval.proofs.RunLemmas.{signals, input-driven}
 
 zero-word : (n s : ℕ) → number_at (replicate n 0) s ≡ 0

@@ -7,6 +7,5 @@ mod TurnLemmas
 mod ReaderLemmas
 mod MarkLemmas
 mod LatchLemmas
-mod LaneLemmas
 mod BlockLemmas
 mod TableWordLemmas

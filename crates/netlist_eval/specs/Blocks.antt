@@ -5,7 +5,7 @@ use Rattle.netlist.specs.Drafts.{IsDriven}
 use Rattle.netlist.specs.Valuations.{number_at, bit_at}
 use Rattle.netlist_eval.specs.declared.block.Block.{Block}
 use Rattle.netlist_eval.specs.Evals.{EvalState, IsStep}
-use Rattle.netlist_eval.specs.Lanes.{lane_bits}
+use Rattle.netlist.specs.Lanes.{lane_bits}
 use Rattle.netlist_eval.specs.Plans.{AllHold}
 
 -- the words of all signals but these are as they were

@@ -3,7 +3,7 @@
 ghost use Rattle.std.specs.Prelude.{◌≡◌, ◌<◌, true, length, map};
 ghost use Rattle.netlist.specs.Valuations.{bit_at};
 ghost use Rattle.netlist_eval.specs.Bits.{AreBelow};
-ghost use Rattle.netlist_eval.specs.Lanes.{is_bit, lane_bits};
+ghost use Rattle.netlist.specs.Lanes.{is_bit, lane_bits};
 
 /// How many lanes a word has.
 pub const LANES: u32 = 64;

@@ -3,7 +3,8 @@
 ghost use Rattle.std.specs.Prelude.{◌≡◌, ◌+◌, ◌*◌, ◌<◌, ◌≤◌, ℕ, true, false, length, take, slice_index_or};
 ghost use Rattle.netlist.specs.Valuations.{number_at, bit_at};
 ghost use Rattle.netlist_eval.specs.Bits.{AreBelow};
-ghost use Rattle.netlist_eval.specs.Lanes.{is_bit, lane_bits, chosen, addresses};
+ghost use Rattle.netlist.specs.Lanes.{is_bit, lane_bits};
+ghost use Rattle.netlist_eval.specs.Lanes.{chosen, addresses};
 ghost use Rattle.netlist_eval.specs.Tables.{address};
 
 use crate::tables::Table;

@@ -1,70 +1,16 @@
 //! The truths of a cover in all lanes at once.
 
-ghost use Rattle.std.specs.Prelude.{◌≡◌, ◌<◌, ℕ, [], length, map, not, slice_index_or, if◌then◌else◌};
-ghost use Rattle.netlist.specs.Covers.{fits, matches, some_matches, truth, cover_at, IsCoverOver};
+ghost use Rattle.std.specs.Prelude.{◌≡◌, ◌<◌, ℕ, length};
+ghost use Rattle.netlist.specs.Covers.{truth, cover_at, IsCoverOver};
 ghost use Rattle.netlist.specs.Valuations.{number_at, bit_at, IsSettled};
-ghost use Rattle.netlist_eval.specs.Bits.{AreBelow};
-ghost use Rattle.netlist_eval.specs.Lanes.{is_bit, lane_bits};
+ghost use Rattle.netlist.specs.Lanes.{is_bit, lane_bits};
 ghost use Rattle.netlist_eval.specs.Tables.{IsTable};
 ghost use Rattle.netlist_eval.specs.Turns.{IsTurn, AreTurns};
 
 use crate::table_word::{are_out, inputs_of, table_word};
 use crate::tables::Table;
 use crate::turns::Turn;
-use netlist::{Cover, Cube, Lit};
-
-// The lanes in which the input fits the literal.
-fn fits_word(lit: Lit, word: u64) -> u64
-    ensures { (j : ℕ) → j < 64 → is_bit result j ≡ fits lit (is_bit word j) }
-{
-    match lit {
-        Lit::Zero => !word,
-        Lit::One => word,
-        Lit::Any => u64::MAX,
-    }
-}
-
-// The lanes in which each literal of the row fits its input.
-fn row_word(row: &[Lit], ins: &[u32], words: &[u64]) -> u64
-    requires len { length row.now ≡ length ins.now }
-    requires within { AreBelow (length words.now) ins.now }
-    ensures { (j : ℕ) → j < 64 → is_bit result j ≡ matches row.now (map (bit_at (lane_bits words.now j)) ins.now) }
-{
-    let mut word = u64::MAX;
-    'places: for k in 0..row.len() {
-        word &= fits_word(row[k], words[ins[k] as usize]);
-    }
-    word
-}
-
-// The lanes in which some row matches.
-fn rows_word(rows: &[Cube], ins: &[u32], words: &[u64]) -> u64
-    requires within { AreBelow (length words.now) ins.now }
-    requires rows { (k : ℕ) → k < length rows.now → length (slice_index_or rows.now k []) ≡ length ins.now }
-    ensures { (j : ℕ) → j < 64 → is_bit result j ≡ some_matches rows.now (map (bit_at (lane_bits words.now j)) ins.now) }
-{
-    let mut word = 0;
-    'rows: for k in 0..rows.len() {
-        word |= row_word(rows[k].as_slice(), ins, words);
-    }
-    word
-}
-
-// The word, or its opposite where a cover lists its zeros.
-fn word_of(word: u64, off: bool) -> u64
-    ensures { (j : ℕ) → j < 64 → is_bit result j ≡ (if off then not (is_bit word j) else is_bit word j) }
-{
-    if off { !word } else { word }
-}
-
-// The lanes in which the cover is true.
-fn cover_word(cover: &Cover, words: &[u64]) -> u64
-    requires { IsCoverOver cover.now (length words.now) }
-    ensures { (j : ℕ) → j < 64 → is_bit result j ≡ truth (bit_at (lane_bits words.now j)) cover.now }
-{
-    let word = rows_word(cover.rows.as_slice(), cover.ins.as_slice(), words);
-    word_of(word, cover.off)
-}
+use netlist::{Cover, cover_word};
 
 // The lanes in which a cover that has a table is true.
 fn short_word(table: &Table, cover: &Cover, out: u32, words: &[u64], parts: &mut [u64; 64]) -> u64

@@ -1,40 +1,35 @@
-//! A graph of ANDs.
+//! Graphs of ANDs.
+//!
+//! The nodes of a graph are numbered: node 0 is the constant 0, then come the inputs, the latches and the ANDs, each in order. A
+//! literal is twice the number of a node, or one more, which negates it.
 
-use std::alloc::{AllocError, Global};
 use tm_items::Items;
 
-/// A latch of a graph: the literal that it reads, and what it gives at the first cycle.
+/// A latch of a graph.
 #[derive(Clone, Copy, Debug, PartialEq, Eq)]
 pub struct GraphLatch {
+    /// The literal that it reads.
     pub next: u32,
+    /// What it gives at the first cycle.
     pub init: bool,
 }
 
-/// An AND of a graph: its two literals.
+/// A node that is 1 where both its literals are.
 #[derive(Clone, Copy, Debug, PartialEq, Eq)]
 pub struct And {
+    /// A literal of a lower node.
     pub left: u32,
+    /// A literal of a lower node.
     pub right: u32,
 }
 
-/// A graph: node 0 is the constant 0, then come inputs, latches and ANDs.
+/// A graph of ANDs, of any numbers: whether its literals are of nodes, and those of ANDs of lower ones, is asked where it is used.
 #[derive(Debug, Drop)]
 pub struct Graph {
+    /// How many inputs it has.
     pub inputs: u32,
+    /// Its latches, in order.
     pub latches: Items<GraphLatch>,
+    /// Its ANDs, in order.
     pub ands: Items<And>,
-}
-
-/// The cells of a narrow cover whose inputs and output have these labels.
-pub fn cells_at(
-    alloc: Global,
-    graph: &Graph,
-    ins: &[u32],
-    root: u32,
-) -> Result<Option<u64>, AllocError> {
-    let _ = alloc;
-    let _ = graph.inputs;
-    let _ = ins.len();
-    let _ = root;
-    Ok(None)
 }

@@ -1,6 +1,6 @@
 use Rattle.std.proofs.Common.{◌≡◌, ℕ, List, map, length, refl, ap, subst, ◌∙◌}
 use Rattle.netlist.specs.Valuations.{bit_at}
-use Rattle.netlist_eval.specs.Lanes.{lane_bits}
+use Rattle.netlist.specs.Lanes.{lane_bits}
 use Rattle.netlist_eval.proofs.BlockLemmas.{row-of-lane}
 use Rattle.netlist_eval.proofs.RunLemmas.{below-at, inputs-below, outputs-below}
 use Rattle.netlist_eval.proofs.block.give_lane.Goals as goal

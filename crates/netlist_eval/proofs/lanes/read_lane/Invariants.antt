@@ -1,6 +1,6 @@
 use Rattle.std.proofs.Common.{◌≡◌, take, map}
 use Rattle.netlist.specs.Valuations.{bit_at}
-use Rattle.netlist_eval.specs.Lanes.{lane_bits}
+use Rattle.netlist.specs.Lanes.{lane_bits}
 use Rattle.netlist_eval.proofs.lanes.read_lane.Given as goal
 
 abbrev pub invariant-signals : goal.invariant-signals

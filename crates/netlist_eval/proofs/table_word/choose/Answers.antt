@@ -1,7 +1,7 @@
 use Rattle.std.proofs.Common.{ℕ, ◌-◌, ◌&&◌, ◌||◌, Bool, ap, ◌∙◌, bit_and}
 use Rattle.std.specs.Prelude.{not}
-use Rattle.netlist_eval.specs.Lanes.{is_bit}
-use Rattle.netlist_eval.proofs.LaneLemmas.{and-bit, or-bit, not-bit}
+use Rattle.netlist.specs.Lanes.{is_bit}
+use Rattle.netlist.proofs.LaneLemmas.{and-bit, or-bit, not-bit}
 use Rattle.netlist_eval.proofs.TableWordLemmas.{choice-is}
 use Rattle.netlist_eval.proofs.table_word.choose.Goals as goal
 

@@ -1,6 +1,7 @@
 use Rattle.std.proofs.Common.{◌≡◌, ◌+◌, ◌*◌, ◌<◌, ◌≤◌, ℕ}
 use Rattle.netlist.specs.Valuations.{number_at}
-use Rattle.netlist_eval.specs.Lanes.{is_bit, chosen}
+use Rattle.netlist.specs.Lanes.{is_bit}
+use Rattle.netlist_eval.specs.Lanes.{chosen}
 use Rattle.netlist_eval.proofs.table_word.halve.Given as goal
 
 abbrev pub invariant-parts : goal.invariant-parts

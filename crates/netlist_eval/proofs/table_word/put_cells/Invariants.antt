@@ -1,6 +1,6 @@
 use Rattle.std.proofs.Common.{◌≡◌, ◌<◌, ℕ, get_or, false}
 use Rattle.netlist.specs.Valuations.{number_at}
-use Rattle.netlist_eval.specs.Lanes.{is_bit}
+use Rattle.netlist.specs.Lanes.{is_bit}
 use Rattle.netlist_eval.proofs.table_word.put_cells.Given as goal
 
 abbrev pub invariant-cells : goal.invariant-cells

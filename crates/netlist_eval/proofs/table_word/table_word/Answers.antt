@@ -1,9 +1,10 @@
 use Rattle.std.proofs.Common.{◌≡◌, ℕ, ◌+◌, ◌-◌, ◌/◌, ◌<◌, ◌≤◌, Bool, false, List, [], length, take, drop, get_or, arith, ap, subst, sym, ◌∙◌}
 use Rattle.std.proofs.lemmas.List.{length-take-le, length-drop, get_or-take, drop_all}
 use Rattle.netlist.specs.Valuations.{number_at, bit_at}
-use Rattle.netlist_eval.specs.Lanes.{is_bit, lane_bits, addresses}
+use Rattle.netlist.specs.Lanes.{is_bit, lane_bits}
+use Rattle.netlist_eval.specs.Lanes.{addresses}
 use Rattle.netlist_eval.specs.Tables.{address}
-use Rattle.netlist_eval.proofs.LaneLemmas.{lane-at}
+use Rattle.netlist.proofs.LaneLemmas.{lane-at}
 use Rattle.netlist_eval.proofs.TableLemmas.{address-nil, address-below}
 use Rattle.netlist_eval.proofs.TableWordLemmas.{few-addresses, half-addresses, part-kept}
 use Rattle.netlist_eval.proofs.table_word.table_word.Goals as goal

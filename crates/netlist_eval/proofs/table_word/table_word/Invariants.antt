@@ -1,6 +1,7 @@
 use Rattle.std.proofs.Common.{◌≡◌, ◌-◌, ◌<◌, ℕ, get_or, take, drop, false}
 use Rattle.netlist.specs.Valuations.{number_at, bit_at}
-use Rattle.netlist_eval.specs.Lanes.{is_bit, lane_bits, addresses}
+use Rattle.netlist.specs.Lanes.{is_bit, lane_bits}
+use Rattle.netlist_eval.specs.Lanes.{addresses}
 use Rattle.netlist_eval.specs.Tables.{address}
 use Rattle.netlist_eval.proofs.table_word.table_word.Given as goal
 

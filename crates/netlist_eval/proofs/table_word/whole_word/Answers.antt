@@ -1,5 +1,5 @@
 use Rattle.std.proofs.Common.{sym, ◌∙◌}
-use Rattle.netlist_eval.proofs.LaneLemmas.{all-bits, no-bit}
+use Rattle.netlist.proofs.LaneLemmas.{all-bits, no-bit}
 use Rattle.netlist_eval.proofs.table_word.whole_word.Goals as goal
 
 pub returns-then-bit : goal.returns-then-bit

@@ -3,9 +3,9 @@ use Rattle.std.proofs.lemmas.List.{length-map, length-set}
 use Rattle.netlist.specs.declared.draft.Cover.{Cover}
 use Rattle.netlist.specs.Covers.{cover_at, truth, IsCoverOver}
 use Rattle.netlist.specs.Valuations.{bit_at, IsSettledTo}
-use Rattle.netlist_eval.specs.Lanes.{is_bit, lane_bits}
+use Rattle.netlist.specs.Lanes.{is_bit, lane_bits}
 use Rattle.netlist_eval.specs.Turns.{turn_at, places}
-use Rattle.netlist_eval.proofs.LaneLemmas.{lane-set}
+use Rattle.netlist.proofs.LaneLemmas.{lane-set}
 use Rattle.netlist_eval.proofs.TableWordLemmas.{not-own}
 use Rattle.netlist_eval.proofs.TurnLemmas.{place-within, out-below, turn-settles, turns-settle}
 use Rattle.netlist_eval.proofs.word_truth.settle_words.Goals as goal

@@ -1,6 +1,6 @@
 use Rattle.std.proofs.Common.{◌≡◌, ◌<◌, ℕ, length}
 use Rattle.netlist.specs.Valuations.{IsSettledTo}
-use Rattle.netlist_eval.specs.Lanes.{lane_bits}
+use Rattle.netlist.specs.Lanes.{lane_bits}
 use Rattle.netlist_eval.specs.Turns.{places}
 use Rattle.netlist_eval.proofs.word_truth.settle_words.Given as goal
 

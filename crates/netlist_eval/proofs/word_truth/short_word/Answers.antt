@@ -1,6 +1,6 @@
 use Rattle.std.proofs.Common.{length, sym, refl, ◌∙◌}
 use Rattle.netlist.specs.Valuations.{bit_at}
-use Rattle.netlist_eval.specs.Lanes.{lane_bits}
+use Rattle.netlist.specs.Lanes.{lane_bits}
 use Rattle.netlist_eval.proofs.TableWordLemmas.{table-truth}
 use Rattle.netlist_eval.proofs.word_truth.short_word.Goals as goal
 

@@ -2,9 +2,9 @@ use Rattle.std.proofs.Common.{◌&&◌, Bool, get_or, ap, sym, ◌∙◌, add-on
 use Rattle.netlist.specs.declared.draft.Lit.TheVariants.{Zero}
 use Rattle.netlist.specs.Covers.{fits, matches}
 use Rattle.netlist.specs.Valuations.{bit_at}
-use Rattle.netlist_eval.specs.Lanes.{is_bit, lane_bits}
-use Rattle.netlist_eval.proofs.LaneLemmas.{all-bits, and-bit, lane-at, matches-more}
-use Rattle.netlist_eval.proofs.word_truth.row_word.Goals as goal
+use Rattle.netlist.specs.Lanes.{is_bit, lane_bits}
+use Rattle.netlist.proofs.LaneLemmas.{all-bits, and-bit, lane-at, matches-more}
+use Rattle.netlist.proofs.word_truth.row_word.Goals as goal
 
 pub places-init : goal.places-init
 places-init c = λ j lj. all-bits j lj

@@ -1,5 +1,5 @@
-use Rattle.netlist_eval.proofs.LaneLemmas.{not-bit, all-bits}
-use Rattle.netlist_eval.proofs.word_truth.fits_word.Goals as goal
+use Rattle.netlist.proofs.LaneLemmas.{not-bit, all-bits}
+use Rattle.netlist.proofs.word_truth.fits_word.Goals as goal
 
 pub returns-in-Zero : goal.returns-in-Zero
 returns-in-Zero c = rw c.in-Zero.is (λ j lj. not-bit c.args.word j c.ranges.word.fits lj)

@@ -1,6 +1,6 @@
 use Rattle.std.proofs.Common.{refl}
-use Rattle.netlist_eval.proofs.LaneLemmas.{not-bit}
-use Rattle.netlist_eval.proofs.word_truth.word_of.Goals as goal
+use Rattle.netlist.proofs.LaneLemmas.{not-bit}
+use Rattle.netlist.proofs.word_truth.word_of.Goals as goal
 
 pub returns-then-off : goal.returns-then-off
 returns-then-off c = rw c.if-off.true (λ j lj. not-bit c.args.word j c.ranges.word.fits lj)

@@ -3,9 +3,9 @@ use Rattle.std.proofs.lemmas.List.{get_or_default}
 use Rattle.netlist.specs.declared.draft.Lit.{Lit}
 use Rattle.netlist.specs.Covers.{matches, some_matches}
 use Rattle.netlist.specs.Valuations.{bit_at}
-use Rattle.netlist_eval.specs.Lanes.{is_bit, lane_bits}
-use Rattle.netlist_eval.proofs.LaneLemmas.{or-bit, some-more}
-use Rattle.netlist_eval.proofs.word_truth.rows_word.Goals as goal
+use Rattle.netlist.specs.Lanes.{is_bit, lane_bits}
+use Rattle.netlist.proofs.LaneLemmas.{or-bit, some-more}
+use Rattle.netlist.proofs.word_truth.rows_word.Goals as goal
 
 pub rows-preserved : goal.rows-preserved
 rows-preserved c = λ j lj.

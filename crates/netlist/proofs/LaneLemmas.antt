@@ -11,7 +11,7 @@ use Rattle.netlist.specs.declared.draft.Lit.{Lit}
 use Rattle.netlist.specs.declared.draft.Lit.TheVariants.{Zero}
 use Rattle.netlist.specs.Covers.{fits, matches, some_matches}
 use Rattle.netlist.specs.Valuations.{number_at, bit_at}
-use Rattle.netlist_eval.specs.Lanes.{is_bit, lane_bits}
+use Rattle.netlist.specs.Lanes.{is_bit, lane_bits}
 
 pub lane-set : (words : List ℕ) (s word j : ℕ) → lane_bits (slice_set words s word) j ≡ slice_set (lane_bits words j) s (is_bit word j)
 lane-set words s word j = map-set (λ w. is_bit w j) words s word

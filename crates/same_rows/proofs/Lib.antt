@@ -1,0 +1,3 @@
+-- Valuations of a graph, and the rows of designs that are labelled by it.
+mod GraphLemmas
+mod RowLemmas
