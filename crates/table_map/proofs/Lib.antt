@@ -20,3 +20,4 @@ mod CompactLemmas
 mod ReaderLemmas
 mod AddressLemmas
 mod ReducedLemmas
+mod SpreadLemmas
