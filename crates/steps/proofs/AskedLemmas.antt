@@ -1,5 +1,6 @@
 -- What words ask for, done to the end of the program.
-use Rattle.std.proofs.Common.{◌≡◌, ◌∙◌, ◌⊎◌, ℕ, ◌≤◌, IsTrue, refl, sym, inl, inr, arith}
+use Rattle.std.proofs.Common.{◌≡◌, ◌∙◌, ◌⊎◌, ℕ, ◌≤◌, Bool, true, false, List, [], ◌∷◌, map, IsTrue, refl, sym, inl, inr, arith}
+use Rattle.std.specs.List.{list_any}
 use Rattle.std.specs.Prelude.{Result, Ok, Err, OnOk, IfErr}
 use Rattle.tm_outside.specs.Counts.{Rose}
 use Rattle.tm_outside.specs.Sink.{SinkState}
@@ -12,10 +13,10 @@ use Rattle.steps.specs.declared.refusal.Refusal.{Refusal}
 use Rattle.steps.specs.declared.refusal.Refusal.TheVariants.{Words, Machine, Faults, Defects, Image, Design, Vectors, Room, Rig, Store, Memory}
 use Rattle.steps.specs.declared.refusal.Stop.{Stop}
 use Rattle.steps.specs.declared.refusal.Stop.TheVariants.{Refused, Sink}
-use Rattle.steps.proofs.Done.{finishes-some}
 use Rattle.steps.proofs.EndLemmas.{ended}
 use Rattle.steps.proofs.JobLemmas.{wrong-lawful, does-wrong, does-asked, ends-done, ends-stopped, end-wrong}
-use Rattle.tera_top.specs.Words.{Asked, no_job, a_job, HasNoJob, job_of, DoesAsked}
+use Rattle.steps.proofs.Done.{EndedAs, finishes-some}
+use Rattle.steps.specs.Words.{Asked, no_job, a_job, HasNoJob, job_of, asked_if, DoesAsked}
 
 -- wrong words are refused at once
 pub does-none : (o : Outside) → DoesAsked {T = Unit {0}} no_job (Err (Refused Words)) o o
@@ -60,3 +61,14 @@ pub ends-so : {T : Type 0} (asked : Asked) (result : Result T Stop) (old mid : O
 ends-so asked (Ok x) old mid sink status d all stopped later kind =
     rw (all.0, all.1) (ends-well asked x old mid d)
 ends-so asked (Err stop) old mid sink status d all stopped later kind = ends-badly asked stop old mid sink status d stopped later kind
+
+-- words of which one may begin with `-` are wrong, or their job was done
+pub ended-asked : {job : Job} (b : Bool) {status : ℕ} (old new : Outside)
+    → Ended (HasNoJob (asked_if b no_job (a_job job))) (job_of (asked_if b no_job (a_job job))) old new status → EndedAs job old new status
+ended-asked true old new e = inl e
+ended-asked false old new e = inr e
+
+-- a test of what each element becomes
+pub list_any-map : {A B : Type 0} (f : B → Bool) (g : A → B) (xs : List A) → list_any f (map g xs) ≡ list_any (λ x. f (g x)) xs
+list_any-map f g [] = refl
+list_any-map f g (x ∷ xs) = rw (list_any-map f g xs) refl
