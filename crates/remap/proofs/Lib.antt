@@ -1,2 +1,3 @@
 -- For the proofs of this crate alone.
 mod RemapLemmas
+mod NameLemmas

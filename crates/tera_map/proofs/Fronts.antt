@@ -1,5 +1,5 @@
 -- What all is right asks, and the statuses.
-use Rattle.std.proofs.Common.{◌≡◌, ◌∙◌, ◌⊎◌, ◌≤◌, ℕ, suc, List, [], ◌∷◌, Bool, true, false, ap, subst, inl, inr, refl, arith}
+use Rattle.std.proofs.Common.{◌≡◌, ◌∙◌, ◌⊎◌, ◌≤◌, ℕ, suc, List, [], ◌∷◌, length, Bool, true, false, ap, sym, subst, inl, inr, refl, arith}
 use Rattle.std.specs.List.{list_any}
 use Rattle.tm_outside.specs.Counts.{Rose}
 use Rattle.tm_outside.specs.Store.{StoreState}
@@ -7,9 +7,10 @@ use Rattle.rig.specs.Rig.{RigState}
 use Rattle.steps.specs.Outside.{Around, Outside, outside, around}
 use Rattle.steps.specs.Jobs.{Job}
 use Rattle.steps.specs.Ends.{Ended, Unless}
-use Rattle.steps.specs.Words.{Asked, no_job, a_job, HasNoJob, job_of, asked_if, is_dashed}
-use Rattle.steps.proofs.Done.{EndedAs, done-as}
+use Rattle.steps.specs.Words.{Asked, no_job, a_job, HasNoJob, job_of, asked_if, is_dashed, word_at}
+use Rattle.steps.proofs.Done.{EndedAs}
 use Rattle.steps.proofs.AskedLemmas.{ended-asked}
+use Rattle.tera_map.specs.Maps.{map_job, fit_job}
 use Rattle.tera_map.specs.Words.{asked_in, asked_by}
 use Rattle.tera_map.specs.Promises.{IsStatus}
 
@@ -66,3 +67,37 @@ complete-so old new f0 f1 t0 t1 (inl h) = inl h
 complete-so old new f0 f1 t0 t1 (inr (inl h)) = inr h
 complete-so old new f0 f1 t0 t1 (inr (inr (inl rose))) = absurd (let no : ⊥ = omega (arith, f0, f1, rose) in no)
 complete-so old new f0 f1 t0 t1 (inr (inr (inr rose))) = absurd (let no : ⊥ = omega (arith, t0, t1, rose) in no)
+
+-- ---- how many words there are
+
+one-word : (words : List (List ℕ)) → length words ≡ 1 → a_job (map_job (word_at words 0)) ≡ asked_in words
+one-word [] is = absurd (let no : ⊥ = omega (arith, is) in no)
+one-word (design ∷ []) is = refl
+one-word (a ∷ b ∷ words) is = absurd (let no : ⊥ = omega (arith, is) in no)
+
+three-words : (words : List (List ℕ)) → length words ≡ 3 → a_job (fit_job (word_at words 0) (word_at words 1) (word_at words 2)) ≡ asked_in words
+three-words [] is = absurd (let no : ⊥ = omega (arith, is) in no)
+three-words (a ∷ []) is = absurd (let no : ⊥ = omega (arith, is) in no)
+three-words (a ∷ b ∷ []) is = absurd (let no : ⊥ = omega (arith, is) in no)
+three-words (machine ∷ defects ∷ design ∷ []) is = refl
+three-words (a ∷ b ∷ c ∷ d ∷ words) is = absurd (let no : ⊥ = omega (arith, is) in no)
+
+other-words : (words : List (List ℕ)) → (length words ≡ 1 → ⊥) → (length words ≡ 3 → ⊥) → no_job ≡ asked_in words
+other-words [] one three = refl
+other-words (a ∷ []) one three = absurd (one refl)
+other-words (a ∷ b ∷ []) one three = refl
+other-words (a ∷ b ∷ c ∷ []) one three = absurd (three refl)
+other-words (a ∷ b ∷ c ∷ d ∷ words) one three = refl
+
+module _ (words : List (List ℕ)) (dashed : list_any is_dashed words ≡ false) where
+  asked-so : (asked : Asked) → asked ≡ asked_in words → asked ≡ asked_by words
+  asked-so asked is = is ∙ ap (λ b. asked_if b no_job (asked_in words)) (sym dashed)
+
+  pub one-asked : (design : List ℕ) → length words ≡ 1 → design ≡ word_at words 0 → a_job (map_job design) ≡ asked_by words
+  one-asked design count is = asked-so (a_job (map_job design)) (ap (λ d. a_job (map_job d)) is ∙ one-word words count)
+
+  pub three-asked : (machine defects design : List ℕ) → length words ≡ 3 → machine ≡ word_at words 0 → defects ≡ word_at words 1 → design ≡ word_at words 2 → a_job (fit_job machine defects design) ≡ asked_by words
+  three-asked machine defects design count m d n = rw (m, d, n) (asked-so _ (three-words words count))
+
+  pub none-asked : (length words ≡ 1 → ⊥) → (length words ≡ 3 → ⊥) → no_job ≡ asked_by words
+  none-asked one three = asked-so no_job (other-words words one three)
