@@ -1,6 +1,7 @@
 //! Texts that the search wrote, and whether they are another text of a design.
 ghost use Rattle.std.specs.Prelude.{IsTrue, IfOk, IfSome};
 ghost use Rattle.std.specs.List.{All};
+ghost use Rattle.netlist.specs.Checks.{IsChecked};
 ghost use Rattle.table_map.specs.Plain.{is_narrow};
 ghost use Rattle.remap.specs.Remapped.{HaveSameRows, HaveSamePorts, HasNarrowCovers, IsAnotherText};
 
@@ -49,6 +50,8 @@ fn have_same_rows(
     other: &Netlist,
     other_labels: &[u32],
 ) -> Result<bool, AllocError>
+    requires design { IsChecked design.now }
+    requires other { IsChecked other.now }
     ensures { IfOk result (λ yes. IsTrue yes → HaveSameRows design.now other.now) }
 {
     labelled_alike();
