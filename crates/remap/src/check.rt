@@ -82,9 +82,19 @@ pub fn checked(
         return Ok(None);
     }
     let labels = labels_by_name(alloc, &drawn.draft, drawn.labels.as_slice(), &read)?;
-    if !have_same_rows(alloc, &made.graph, design, made.labels.as_slice(), &read, &labels)? {
+    if !have_same_rows(
+        alloc,
+        &made.graph,
+        design,
+        made.labels.as_slice(),
+        &read,
+        &labels,
+    )? {
         return Ok(None);
     }
     let text = Items::new(text);
-    Ok(Some(Remapped { text, netlist: read }))
+    Ok(Some(Remapped {
+        text,
+        netlist: read,
+    }))
 }

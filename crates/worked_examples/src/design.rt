@@ -38,7 +38,9 @@ fn words_of(alloc: Global, text: &str, head: &str) -> Result<String, AllocError>
 
 // How many lines are covers or latches.
 fn count_tables(text: &str) -> usize {
-    text.lines().filter(|line| head_of(line) == ".names" || head_of(line) == ".latch").count()
+    text.lines()
+        .filter(|line| head_of(line) == ".names" || head_of(line) == ".latch")
+        .count()
 }
 
 // Whether a line is no instance, and no cover with more inputs than a table has.
@@ -63,8 +65,10 @@ pub fn ports_of(alloc: Global, text: &str, most: Option<usize>) -> Result<Ports,
 pub fn has_ports(alloc: Global, ports: &Ports, text: &str) -> Result<bool, AllocError> {
     let inputs = words_of(alloc, text, ".inputs")?;
     let outputs = words_of(alloc, text, ".outputs")?;
-    Ok(inputs.as_str() == ports.inputs.as_str()
-        && outputs.as_str() == ports.outputs.as_str()
-        && count_tables(text) <= ports.most_tables
-        && text.lines().all(is_plain))
+    Ok(
+        inputs.as_str() == ports.inputs.as_str()
+            && outputs.as_str() == ports.outputs.as_str()
+            && count_tables(text) <= ports.most_tables
+            && text.lines().all(is_plain),
+    )
 }
