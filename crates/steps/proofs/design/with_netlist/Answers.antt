@@ -9,7 +9,7 @@ pub returns-in-Ok : goal.returns-in-Ok
 returns-in-Ok c =
     λ o.
     let took = rw c.deref.ensures.value at (c.in-Ok.ensures o) in
-    took-value (reads_text c.args.file (holds c.args.text.items)) _ o (record { design = took.gives; file = refl })
+    rw c.new.ensures (took-value (reads_text c.args.file (holds c.args.text.items)) _ o (record { design = took.gives; file = refl }))
 
 pub returns-in-Err : goal.returns-in-Err
 returns-in-Err c =
