@@ -11,8 +11,7 @@ use Rattle.tera_bench.specs.Promises.{BenchPromises}
 use Rattle.tera_check.specs.Promises.{CheckPromises}
 use Rattle.tera_repair.specs.Promises.{RepairPromises}
 use Rattle.tera_pair.specs.Promises.{PairPromises}
-use Rattle.steps.specs.Words.{HasNoJob, job_of}
-use Rattle.tera_top.specs.Words.{asked_by}
+use Rattle.tera_top.specs.Words.{HasNoJob, job_of, asked_by}
 
 -- Of these words, to this status: what was asked, what was written, what stays, and the cause of the status; and what each command
 -- promises where the words are its own
