@@ -1,5 +1,5 @@
 -- What all is right asks, and the statuses.
-use Rattle.std.proofs.Common.{◌≡◌, ◌∙◌, ◌⊎◌, ◌≤◌, ℕ, suc, List, [], ◌∷◌, length, Bool, true, false, ap, sym, subst, inl, inr, refl, arith}
+use Rattle.std.proofs.Common.{◌≡◌, ◌∙◌, ◌⊎◌, ◌≤◌, ℕ, zero, suc, List, [], ◌∷◌, length, Bool, true, false, ap, sym, subst, inl, inr, refl, arith}
 use Rattle.std.specs.List.{list_any}
 use Rattle.tm_outside.specs.Counts.{Rose}
 use Rattle.tm_outside.specs.Store.{StoreState}
@@ -47,13 +47,13 @@ ended-as {line} {job} words {status} old new ended is asks = ended-asked (list_a
 
 -- a status other than 4
 pub is-status : (status : ℕ) → status ≤ 6 → (status ≡ 4 → ⊥) → IsStatus status
-is-status 0 le four = inl (omega arith)
-is-status 1 le four = inl (omega arith)
-is-status 2 le four = inl (omega arith)
-is-status 3 le four = inl (omega arith)
-is-status 4 le four = absurd (four refl)
-is-status 5 le four = inr (inl refl)
-is-status 6 le four = inr (inr refl)
+is-status zero le four = inl (omega arith)
+is-status (suc zero) le four = inl (omega arith)
+is-status (suc (suc zero)) le four = inl (omega arith)
+is-status (suc (suc (suc zero))) le four = inl (omega arith)
+is-status (suc (suc (suc (suc zero)))) le four = absurd (four refl)
+is-status (suc (suc (suc (suc (suc zero))))) le four = inr (inl refl)
+is-status (suc (suc (suc (suc (suc (suc zero)))))) le four = inr (inr refl)
 is-status (suc (suc (suc (suc (suc (suc (suc n))))))) le four = absurd (let no : ⊥ = omega (arith, le) in no)
 
 -- no rig is asked, so its count doesn't rise

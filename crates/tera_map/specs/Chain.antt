@@ -30,8 +30,8 @@ pub record WroteRightImage (list : DefectList) (draft : Draft) (old new : Outsid
   pub written : Wrote old.sink.written new.sink.written (image_bytes image)
   pub right : (f : Faults) → Covers list.shape list.list f → IsRightImage f image draft
 
--- Then all is right for `compile` with that text, so it ends with status 0 or for want of memory where no count rises; and the image
--- that it writes is right for the design as given
+-- Then all is right for `compile` with that text, so where no count rises it ends with status 0 or for want of memory; and the
+-- image that it writes is right for the design as given
 pub record FitsThenCompiles (machine defects design name : List ℕ) (old new handed : Outside) (f : IsFitted machine defects design old new)
     : Type 0 where
   pub right : CompileRight (compile_files handed.store machine defects name)

@@ -1,4 +1,4 @@
-use Rattle.std.proofs.Common.{[], ◌∷◌, refl}
+use Rattle.std.proofs.Common.{◌≡◌, [], ◌∷◌, refl}
 use Rattle.std.proofs.lemmas.Result.{err_from_is_err_and}
 use Rattle.steps.specs.Texts.{reads_text}
 use Rattle.steps.specs.declared.design_file.DesignFile.TheVariants.{Design}
