@@ -11,6 +11,7 @@ pub mod Passing
 pub mod Loops
 pub mod Cells
 pub mod FirstReadings
+pub mod Distance
 -- For the proofs of this crate alone.
 mod Finite
 mod Registers

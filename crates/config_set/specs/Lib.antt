@@ -5,3 +5,4 @@ pub mod Kept
 pub mod Route
 pub mod Groups
 pub mod Tests
+pub mod Distance

@@ -1,7 +1,7 @@
 //! What later crates rest on, of configurations and their runs. The laws on readings hold whatever faults
 //! there are elsewhere.
 ghost use Rattle.std.specs.Prelude.{◌≡◌, ◌≢◌, ◌==◌, ℕ, ◌<◌, Bool, true, false, if◌then◌else◌, List, [], ◌∷◌, ◌++◌, Option, Some, None};
-ghost use Rattle.std.specs.Prelude.{length, take, slice_index_or};
+ghost use Rattle.std.specs.Prelude.{length, take, slice_get, slice_index_or};
 ghost use Rattle.std.specs.List.{AllByRecursion};
 ghost use Rattle.hierarchy.specs.Circuit.{Circuit, Outputs, Pins};
 ghost use Rattle.hierarchy.specs.Defects.{IsClear};
@@ -12,6 +12,7 @@ ghost use Rattle.hierarchy.specs.Sound.{IsSoundWire};
 ghost use Rattle.hierarchy.specs.declared.Shape.{Shape};
 ghost use Rattle.config_set.specs.Configuration.{Configuration, IsConfiguration, is_closed, setting_of, with_closed, with_open};
 ghost use Rattle.config_set.specs.Configuration.{with_setting, cell_of, with_cell, with_init};
+ghost use Rattle.config_set.specs.Distance.{OpensFarFrom};
 ghost use Rattle.config_set.specs.Faulty.{circuit_of, IsRun};
 ghost use Rattle.config_set.specs.Groups.{AreGroups};
 ghost use Rattle.config_set.specs.Route.{LeadsTo};
@@ -146,4 +147,19 @@ pub fn sound_parts_serve()
         IsDrivenIn m drive k group }
     ensures loose { (m : Shape) (f : Faults) (left right : ℕ → Bool) (w : ℕ) → IsSoundWire m f w → left w ≡ false → right w ≡ false →
         IsLoose m f left right w }
+{}
+
+/// With all tables off no cycle leaves anything behind: each reading of a run is that of a first cycle under its drive.
+pub fn cycles_alike()
+    ensures { (f : Faults) (g : Configuration) (drives reads : List Pins) (k : ℕ) (drive read : Pins) → AreOff g → IsRun f g drives reads →
+        slice_get drives k ≡ Some drive → slice_get reads k ≡ Some read → IsRun f g (drive ∷ []) (read ∷ []) }
+{}
+
+/// Of two configurations with all tables off the second is the first with some crosspoints open, one of them x, and each other of
+/// these has an end that isn't joined to a pin. Where this pin reads otherwise under one drive, x isn't stuck: if it were, all
+/// that is joined to the pin in the first would be in the second, and nothing else.
+pub fn change_at_a_distance()
+    ensures { (f : Faults) (g h : Configuration) (x k : ℕ) (drive r s : Pins) → AreOff g → AreOff h → k < pins_of g.shape →
+        OpensFarFrom f g h x (pin_wire g.shape k) → IsRun f g (drive ∷ []) (r ∷ []) → IsRun f h (drive ∷ []) (s ∷ []) →
+        slice_index_or r k true ≢ slice_index_or s k true → stuck_cross f x ≡ None }
 {}

@@ -1,10 +1,10 @@
 -- Valuations of a graph: for each vector and each state of its latches there is one.
-use Rattle.std.proofs.Common.{◌≡◌, ℕ, zero, suc, ◌+◌, ◌*◌, ◌/◌, ◌%◌, ◌<◌, ◌≤◌, ◌&&◌, ◌==◌, Bool, true, false, List, [], ◌∷◌, ◌++◌, length, map, get_or, refl, sym, ap, subst, ◌∙◌, arith}
+use Rattle.std.proofs.Common.{◌≡◌, ℕ, zero, suc, ◌+◌, ◌*◌, ◌/◌, ◌%◌, ◌<◌, ◌&&◌, ◌==◌, Bool, false, List, [], ◌∷◌, ◌++◌, length, get_or, refl, sym, ap, ◌∙◌, arith}
 use Rattle.std.specs.Prelude.{not, if◌then◌else◌}
-use Rattle.std.proofs.lemmas.List.{get_or_append_left, get_or-append-add, length-append, get_or-map, length-map}
+use Rattle.std.proofs.lemmas.List.{get_or_append_left, get_or-append-add, length-append}
 use Rattle.same_rows.specs.declared.graph.And.{And}
 use Rattle.same_rows.specs.declared.graph.Graph.{Graph}
-use Rattle.same_rows.specs.Graphs.{and_at, first_and, first_latch, literal_in, node_of, IsGraph, IsValued}
+use Rattle.same_rows.specs.Graphs.{first_and, first_latch, literal_in, node_of, IsGraph, IsValued}
 
 abbrev pub bit_of : List Bool → ℕ → Bool
 bit_of bits n = get_or bits n false

@@ -1,5 +1,5 @@
 -- A design that is labelled by a graph has the graph's rows.
-use Rattle.std.proofs.Common.{◌≡◌, ◌⊎◌, ℕ, zero, suc, ◌+◌, ◌*◌, ◌<◌, ◌≤◌, ◌==◌, Bool, true, false, List, [], ◌∷◌, ◌++◌, length, map, replicate, get_or, refl, sym, ap, subst, ◌∙◌, inl, inr, arith}
+use Rattle.std.proofs.Common.{◌≡◌, ◌⊎◌, ℕ, suc, ◌+◌, ◌<◌, ◌≤◌, ◌==◌, Bool, false, List, [], ◌∷◌, length, map, replicate, get_or, refl, sym, ap, subst, ◌∙◌, inl, inr, arith}
 use Rattle.std.specs.Prelude.{◌↔◌}
 use Rattle.std.proofs.lemmas.Bool.{cases_lt}
 use Rattle.std.proofs.lemmas.List.{get_or-map, length-map, length-replicate, get_or_past}
@@ -12,9 +12,9 @@ use Rattle.netlist.specs.Rows.{IsRightValuation, RowsFrom, AreRows, outputs_in, 
 use Rattle.netlist.proofs.RightLemmas.{right_agrees}
 use Rattle.same_rows.specs.declared.graph.Graph.{Graph}
 use Rattle.same_rows.specs.declared.graph.GraphLatch.{GraphLatch}
-use Rattle.same_rows.specs.Graphs.{IsGraph, IsValued, first_latch, graph_latch_at, literal_in, node_of}
+use Rattle.same_rows.specs.Graphs.{IsValued, first_latch, literal_in}
 use Rattle.same_rows.specs.Labels.{label_at, signal_bits, IsLatchAt, IsConstantLatch, IsLatchOf, IsLabelled, DoAgree, output_labels}
-use Rattle.same_rows.proofs.GraphLemmas.{bit_of, same_literal, even_literal, constant_literal, node_bits, bits_valued, input_bit, latch_bit}
+use Rattle.same_rows.proofs.GraphLemmas.{bit_of, even_literal, constant_literal, node_bits, bits_valued, input_bit, latch_bit}
 
 map_each : {X : Type 0} (f g : X → Bool) (d : X) (xs : List X) → ((k : ℕ) → k < length xs → f (get_or xs k d) ≡ g (get_or xs k d)) → map f xs ≡ map g xs
 map_each f g d [] h = refl

@@ -1,6 +1,6 @@
 -- Graphs of ANDs. Node 0 is the constant 0, then come the inputs, the latches and the ANDs, each in order. A literal is twice the
 -- number of a node, or one more, which negates it.
-use Rattle.std.specs.Prelude.{ℕ, ◌≡◌, ◌==◌, ◌<◌, ◌+◌, ◌/◌, ◌%◌, ◌&&◌, not, List, Bool, false, length, if◌then◌else◌, slice_index_or}
+use Rattle.std.specs.Prelude.{ℕ, ◌≡◌, ◌==◌, ◌<◌, ◌+◌, ◌/◌, ◌%◌, ◌&&◌, not, Bool, false, length, if◌then◌else◌, slice_index_or}
 use Rattle.same_rows.specs.declared.graph.And.{And}
 use Rattle.same_rows.specs.declared.graph.Graph.{Graph}
 use Rattle.same_rows.specs.declared.graph.GraphLatch.{GraphLatch}

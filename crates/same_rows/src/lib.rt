@@ -6,9 +6,20 @@
 //! hard to show.
 #![tactic(auto)]
 
+mod cells;
 mod check;
+mod cover;
+mod expand;
 mod graph;
 pub mod laws;
+mod nodes;
+mod plan;
+mod ports;
+mod products;
+mod steps;
+mod wide;
+mod words;
 
-pub use check::{agree, cells_at, is_labelled};
+pub use cells::cells_at;
+pub use check::{agree, is_labelled};
 pub use graph::{And, Graph, GraphLatch};

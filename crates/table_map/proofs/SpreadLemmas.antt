@@ -1,5 +1,5 @@
 -- Tables that were put into all their readers.
-use Rattle.std.proofs.Common.{◌≡◌, Bool, ℕ, ◌<◌, ◌≤◌, List, [], true, length, refl, sym, ap, subst, ◌∙◌, arith}
+use Rattle.std.proofs.Common.{◌≡◌, Bool, ℕ, ◌<◌, ◌≤◌, List, [], true, length, set, refl, sym, ap, subst, ◌∙◌, arith}
 use Rattle.table_map.specs.declared.source.Source.{Source}
 use Rattle.table_map.specs.declared.network.NetTable.{NetTable}
 use Rattle.table_map.specs.declared.network.Network.{Network}
@@ -9,6 +9,10 @@ use Rattle.table_map.specs.Compacting.{is_dropped, IsClosed, IsCompacted}
 use Rattle.table_map.specs.Spreading.{Spreads, begins, puts, IsSpreadFrom}
 use Rattle.table_map.proofs.PutLemmas.{net, IsAfter, after_none, after_put, same_length}
 use Rattle.table_map.proofs.CompactLemmas.{compacted_reduced}
+
+-- a table is put into a reader
+pub one_spread : (ts us : List NetTable) (j r : ℕ) (t : NetTable) → us ≡ ts → MayPut us j r × IsJoined j (in_tables us j) (in_tables us r) t → Spreads ts (set ts r t)
+one_spread ts us j r t e h = subst (λ vs. Spreads vs (set vs r t)) e (puts begins (record { may = h.0; table = t; joined = h.1; set = refl }))
 
 -- one step after another
 pub spreads_on : {a b c : List NetTable} → Spreads a b → Spreads b c → Spreads a c
@@ -55,6 +59,9 @@ spread_put n m ts is ps e = subst (IsSpreadFrom n) (sym e) (record {
   where
     all : IsAfter n.inputs n.outputs n.tables ts
     all = after_spreads n.inputs n.outputs ps is
+
+pub spread_changed : (n : Network) (ts us : List NetTable) (qs : List Source) → IsNetwork n → Spreads n.tables ts → us ≡ ts → qs ≡ n.outputs → IsSpreadFrom n (net n.inputs us qs)
+spread_changed n ts us qs is ps e f = spread_put n (net n.inputs us qs) ts is ps (ap (λ xs. net n.inputs xs qs) e ∙ ap (λ xs. net n.inputs ts xs) f)
 
 -- what is marked is dropped
 pub spread_less : (n m : Network) (marks : List Bool) → IsNetwork n → IsClosed marks n.tables n.outputs → IsCompacted n marks m → (j : ℕ) → j < length n.tables → is_dropped marks j ≡ true → IsSpreadFrom n m

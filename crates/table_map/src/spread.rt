@@ -1,6 +1,6 @@
 //! A network with tables put into all their readers.
 
-ghost use Rattle.std.specs.Prelude.{◌≡◌, ◌<◌, ◌≤◌, ◌↔◌, List, Bool, true, length, IfOk, IfSome};
+ghost use Rattle.std.specs.Prelude.{◌≡◌, ◌<◌, ◌≤◌, ◌↔◌, ℕ, List, Bool, true, length, IfOk};
 ghost use Rattle.table_map.specs.Networks.{IsNetwork};
 ghost use Rattle.table_map.specs.Rows.{AreRows};
 ghost use Rattle.table_map.specs.Merging.{IsWhole};
@@ -19,16 +19,15 @@ use tm_items::Items;
 /// How often tables are put into their readers at most.
 const ROUNDS: usize = 3;
 
-/// The first table with a mark.
-fn first_marked(marks: &[bool]) -> Option<usize>
-    ensures { IfSome result (λ j. (is_dropped marks.now j ≡ true) × (j < length marks.now)) }
+fn is_some_marked(marks: &[bool]) -> bool
+    ensures { result ≡ true → (j : ℕ) × (j < length marks.now) × (is_dropped marks.now j ≡ true) }
 {
     'marks: for j in 0..marks.len() {
         if marks[j] {
-            return Some(j);
+            return true;
         }
     }
-    None
+    false
 }
 
 /// The network without the marked tables, where nothing that stays reads one of them, and else as it is.
@@ -39,7 +38,7 @@ fn without(alloc: Global, network: Network, marks: &[bool]) -> Result<Network, A
     if marks.len() != network.tables.as_slice().len() {
         return Ok(network);
     }
-    if first_marked(marks).is_none() {
+    if !is_some_marked(marks) {
         return Ok(network);
     }
     if !is_closed(marks, &network) {
