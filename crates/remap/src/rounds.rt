@@ -24,7 +24,7 @@ const FIRST_WAYS: [Way; 7] = [
     Way::Multiplexers,
     Way::RowsInPairs,
     Way::RowsLowest,
-    Way::RowsInChain,
+    Way::RowsInChains,
 ];
 
 /// How a round goes about it.
