@@ -28,7 +28,7 @@ const FIRST_WAYS: [Way; 7] = [
 ];
 
 /// How a round goes about it.
-#[derive(Clone, Copy, Debug)]
+#[derive(Clone, Copy)]
 struct Round {
     way: Way,
     /// How many cuts a node of the graph keeps.
@@ -38,7 +38,7 @@ struct Round {
 }
 
 /// What a round came to.
-#[derive(Debug, Drop)]
+#[derive(Drop)]
 struct Found {
     text: Option<Remapped>,
     /// How many ANDs its graph had.
@@ -46,7 +46,7 @@ struct Found {
 }
 
 /// The best text so far.
-#[derive(Debug, Drop)]
+#[derive(Drop)]
 struct Search {
     best: Remapped,
     /// How many ANDs the graphs of all rounds had in sum.

@@ -28,7 +28,7 @@ returns-then-words-eq3 g c =
     let words = map (string_bytes {Z = Global}) c.args.words.now in
     let count = length-map c.args.words.now (string_bytes {Z = Global}) ∙ c.if-words-eq3.true in
     let asked = three-asked words dashed c.word-first.result.now c.word-second.result.now c.word-third.result.now count
-        c.word-first.ensures c.word-second.ensures c.word-third.ensures in
+    c.word-first.ensures c.word-second.ensures c.word-third.ensures in
     λ rig. rw (← asked) (does-job _ _ _ _ c.fit_design.ensures.lawful (c.fit_design.ensures.does rig))
 
 pub returns : goal.returns
