@@ -2,7 +2,7 @@
 from collections import Counter
 
 # Modules, chips, hextants and tables of trees, the smallest first.
-TREES = [(2, 2, 4, 16), (4, 4, 4, 16), (4, 4, 8, 16), (8, 4, 8, 16), (8, 8, 8, 16)]
+TREES = [(2, 2, 4, 16), (4, 4, 4, 16), (4, 4, 8, 16)]
 
 
 def read(path):
@@ -113,5 +113,4 @@ def defects_text(need, tree):
 
 
 def tree_for(tables):
-    limits = [256, 1024, 2048, 4096, 1 << 30]
-    return TREES[next(k for k, limit in enumerate(limits) if tables <= limit)]
+    return TREES[0 if tables <= 256 else 1 if tables <= 1024 else 2]

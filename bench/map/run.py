@@ -1,7 +1,7 @@
 """Measures the mapper: python3 run.py FOLDER TERAMAC_MAP [room]. FOLDER is what make.py made; wants berkeley-abc.
 
 Of each design of 20 to 5,000 tables: tables as given, of ABC's `if -K 6 -a`, of its `ifraig; dch; if -a; mfs2` thrice, of the mapper, and
-the mapper's seconds. With `room`, of each design of at least 100 tables: the crosspoints of the smallest machine that was found on which
+the mapper's seconds. With `room`, of each design of 100 to 2,048 tables: the crosspoints of the smallest machine that was found on which
 the text of the mapper fits in order, against those of the smallest on which the text as given does."""
 import glob
 import math
@@ -43,15 +43,18 @@ def fitted(program, design, need, tree, work):
 
 
 def smallest(program, design, work):
-    """Crosspoints for the text as given, the least found for the mapper's, and the longest run."""
+    """Crosspoints for the text as given, the least found for the mapper's, and the longest run. Machines are pressed down while texts are
+    found that fit; the first may be above a machine's limits."""
     tree = tree_for(len(plain(design)[0]))
     given = needs(design, tree)
-    best, longest = given, 0.0
-    for share in (1.0, 0.85, 0.85, 0.85, 0.92, 0.92, 0.96, 0.96):
+    best, longest, share = given, 0.0, 1.0
+    for _ in range(10):
         need, seconds = fitted(program, design, scaled(best, share), tree, work)
         longest = max(longest, seconds)
         if need and crosspoints(need, tree) < crosspoints(best, tree):
-            best = need
+            best, share = need, 0.9
+        else:
+            share = share * 0.8 if best == given else (1 + share) / 2
     return crosspoints(given, tree), crosspoints(best, tree), longest
 
 
@@ -73,7 +76,7 @@ def main(folder, program, room):
         tables = len(plain(out)[0])
         sums = [s + t for s, t in zip(sums, (given, area, thrice, tables))]
         line = f"| {name} | {given} | {area} | {thrice} | {tables} | {seconds:.1f} |"
-        if room and given >= 100:
+        if room and 100 <= given <= 2048:
             before, after, longest = smallest(program, design, work)
             shares.append(after / before)
             line += f" {after / before:.2f} | {longest:.1f} |"
