@@ -9,7 +9,7 @@ from designs import designs
 
 HERE = os.path.dirname(os.path.abspath(__file__))
 SYNTH = ("read_verilog -sv {v}; synth -flatten -top top; opt -full; simplemap; "
-         "dfflegalize -cell $_DFF_P_ 01; setundef -zero; opt_clean -purge; write_blif {b}")
+         "dfflegalize -cell $_DFF_P_ 01; setundef -undriven -zero; opt_clean -purge; write_blif {b}")
 LUTS = "read {b}; strash; if -K 4; write_blif {o}"
 
 

@@ -75,8 +75,8 @@ impl<'a> Growth<'a> {
 
     // What a net adds for a place, the last of whose tables sits at another one.
     fn score_last(&self, net: usize, last: usize, left: u32, place: usize) -> i64 {
-        let span = self.tree.tiers[0].span;
-        let here = over(last, span) == over(place, span);
+        let [hextants, _, _] = &self.tree.tiers;
+        let here = over(last, hextants.span) == over(place, hextants.span);
         let near = self.nearness(last, place);
         if here && left == 1 && !is_pinned(self.nets, net) {
             near.wrapping_add(ENDS)

@@ -12,7 +12,7 @@ use std::alloc::{AllocError, Global};
 const TURNS: usize = 6;
 
 /// How many exchanges are tried in all, at most so many for each table in a search, and at least so many.
-const MOST_TRIES: usize = 4_000_000;
+const MOST_TRIES: usize = 3_000_000;
 
 const MOST_EFFORT: usize = 480;
 
