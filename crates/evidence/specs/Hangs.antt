@@ -1,5 +1,6 @@
 -- Wires that are hung on forests, to be tested.
-use Rattle.std.specs.Prelude.{◌≡◌, ◌≢◌, ℕ, ◌+◌, ◌<◌, ◌==◌, Bool, true, false, not, ◌&&◌, ◌||◌, Option, Some, None, List, [], ◌∷◌, ◌++◌, All, map, filter, unwrap_or}
+use Rattle.std.specs.Prelude.{◌≡◌, ℕ, ◌<◌, ◌==◌, Bool, true, false, not, ◌&&◌, ◌||◌, Option, Some, None, List, ◌++◌, All, map}
+use Rattle.std.specs.Prelude.{filter, unwrap_or}
 use Rattle.std.specs.List.{list_any, list_all, range_with_len, IsDistinct}
 use Rattle.hierarchy.specs.Circuit.{Pins}
 use Rattle.hierarchy.specs.Faults.{Faults}
@@ -86,7 +87,8 @@ others_part trees feet rows foot =
 -- a pin reads otherwise than 1 where another pin that hangs is driven
 abbrev pub falls_with_others : Trees → List Pins → ℕ → Bool
 falls_with_others trees rows pin = list_any
-    (λ k. not (k == pin) && (is_hung trees (pin_wire trees.shape k) && not (read_under rows k pin))) (range_with_len 0 (pins_of trees.shape))
+    (λ k. not (k == pin) && (is_hung trees (pin_wire trees.shape k) && not (read_under rows k pin)))
+    (range_with_len 0 (pins_of trees.shape))
 
 -- .. or otherwise than 0 where it is driven itself, or otherwise than 1 where nothing is
 abbrev pub reads_oddly : Trees → List Pins → ℕ → Bool
@@ -147,12 +149,16 @@ pin_q trees h = pin_at trees (over_of (turned h))
 abbrev pub some_answers : Trees → List Hang → List Pins → Bool
 some_answers trees hs rows = list_any (λ h. read_free rows (pin_q trees h) && not (read_under rows (pin_p trees h) (pin_q trees h))) hs
 
+-- from this pin, of a hang of this wire, parts the p of each other hang
+abbrev pub others_part_from : Trees → List Hang → List Pins → ℕ → ℕ → Bool
+others_part_from trees hs rows w q = list_all (λ o. (o.wire.0 == w) || parts rows (pin_p trees o) q) hs
+
 -- The first crosspoint of a hang is shown where q reads otherwise without the first ones, while p alone is driven, and where the p of
 -- each other hang parts from this q.
 abbrev pub is_shown : Trees → List Hang → List Pins → List Pins → Hang → Bool
 is_shown trees hs rows without h =
     differ (read_under rows (pin_p trees h) (pin_q trees h)) (read_under without (pin_p trees h) (pin_q trees h))
-    && list_all (λ o. (o.wire.0 == h.wire.0) || parts rows (pin_p trees o) (pin_q trees h)) hs
+    && others_part_from trees hs rows h.wire.0 (pin_q trees h)
 
 -- the feet over first crosspoints that are shown
 abbrev pub shown : Trees → List Hang → List Pins → List Pins → List Foot
@@ -182,7 +188,8 @@ seen_on trees feet rows = record nothing {
 
 -- The second and third look: in one the second crosspoints alone are closed beside the forest, in the other the first ones. The feet
 -- over second crosspoints that are shown are seen in the former, the others in the latter.
-pub record HasHungOn (told : Option Faults) (trees : Trees) (hs : List Hang) (rows : List Pins) (old new : Kept) (was is were are : List Bool) : Type 0 where
+pub record HasHungOn (told : Option Faults) (trees : Trees) (hs : List Hang) (rows : List Pins) (old new : Kept)
+    (was is were are : List Bool) : Type 0 where
   pub without_over : List Pins
   pub over_look : IsLook told trees.shape (closes trees (others hs)) without_over
   pub without_other : List Pins
@@ -200,4 +207,5 @@ pub data HasTried (told : Option Faults) (trees : Trees) (hs : List Hang) (old n
   silent : (rows : List Pins) → IsLook told trees.shape (closes trees (all_feet hs)) rows →
       some_answers trees hs rows ≡ false → new ≡ old → is ≡ was → are ≡ were → HasTried told trees hs old new was is were are
   answered : (rows : List Pins) → IsLook told trees.shape (closes trees (all_feet hs)) rows →
-      some_answers trees hs rows ≡ true → HasHungOn told trees hs rows old new was is were are → HasTried told trees hs old new was is were are
+      some_answers trees hs rows ≡ true → HasHungOn told trees hs rows old new was is were are →
+      HasTried told trees hs old new was is were are

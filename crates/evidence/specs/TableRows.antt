@@ -1,5 +1,6 @@
 -- Tables, many at once: two loads of 65 cycles, in which all of them are latched.
-use Rattle.std.specs.Prelude.{◌≡◌, ℕ, zero, suc, ◌<◌, ◌==◌, nat_lt, Bool, true, false, ◌&&◌, ◌||◌, not, if◌then◌else◌, Option, Some, None, List, [], ◌∷◌, All}
+use Rattle.std.specs.Prelude.{◌≡◌, ℕ, zero, suc, ◌<◌, ◌==◌, nat_lt, Bool, true, false, ◌&&◌, ◌||◌, not, if◌then◌else◌, Option, Some}
+use Rattle.std.specs.Prelude.{None, List, [], All}
 use Rattle.std.specs.Prelude.{length, unwrap_or, slice_index_or}
 use Rattle.std.specs.Int.{bit_at}
 use Rattle.std.specs.List.{list_any}
@@ -83,7 +84,7 @@ is_right_in s reads opposite pin n =
     if shown_in s n then read_at reads n pin && not (read_at opposite n pin) else not (read_at reads n pin) && read_at opposite n pin
 
 -- it does in each of the first n cycles
-abbrev pub is_right_before : Setting → List Pins → List Pins → ℕ → ℕ → Bool
+unfoldable pub is_right_before : Setting → List Pins → List Pins → ℕ → ℕ → Bool
 is_right_before s reads opposite pin zero = true
 is_right_before s reads opposite pin (suc n) = is_right_before s reads opposite pin n && is_right_in s reads opposite pin n
 
@@ -103,7 +104,8 @@ pub record IsTableLoad (told : Option Faults) (trees : Trees) (ts : List Table) 
 
 -- What two loads show. The first has all tables latched, with the initial bit 0, and the second the opposite; both are driven through
 -- all addresses. What is right is kept, and each table that isn't right in each cycle is marked. The session is the second load.
-pub record HasTabled (told : Option Faults) (trees : Trees) (ts : List Table) (rig : RigState) (k l : Kept) (was is : List Bool) : Type 0 where
+pub record HasTabled (told : Option Faults) (trees : Trees) (ts : List Table) (rig : RigState) (k l : Kept)
+    (was is : List Bool) : Type 0 where
   pub setting : Setting
   pub latched : setting.latched ≡ true
   pub low : setting.init ≡ false

@@ -4,6 +4,7 @@ ghost use Rattle.std.specs.List.{list_any};
 ghost use Rattle.tm_bits.specs.Numbers.{has_number};
 ghost use Rattle.tm_bits.specs.Pairs.{has_pair};
 ghost use Rattle.hierarchy.specs.Shape.{pins_of, wires_of};
+ghost use Rattle.evidence.specs.Forests.{IsForest};
 ghost use Rattle.evidence.specs.Looks.{hangs_swinging, hangs_apart, hang_apart, parts, swings};
 ghost use Rattle.evidence.specs.Hangs.{IsFoot, pin_at, stands_apart, is_swinging_on, are_apart_on};
 
@@ -28,19 +29,14 @@ fn part_pins(parted: &mut BitSet, reads: &Looks, pin: u32)
 }
 
 // Puts the wires that hang on pins that part from one into a set, and no other. The set `parted` then has these pins.
-fn gather_apart(
-    wires: &mut BitSet,
-    parted: &mut BitSet,
-    forest: &Forest,
-    reads: &Looks,
-    pin: u32,
-)
+fn gather_apart(wires: &mut BitSet, parted: &mut BitSet, forest: &Forest, reads: &Looks, pin: u32)
     requires wires { length wires.old ≡ wires_of forest.now.shape }
     requires pins { length parted.old ≡ pins_of forest.now.shape }
     requires reads { reads.now.pins ≡ pins_of forest.now.shape }
     requires pin { pin < reads.now.pins }
     ensures apart { (w : ℕ) → has_number wires.new w ≡ hangs_apart forest.now reads.now.rows pin w }
     ensures parted { (t : ℕ) → t < reads.now.pins → has_number parted.new t ≡ parts reads.now.rows t pin }
+    ensures forest { IsForest forest.now }
     ensures len { length wires.new ≡ length wires.old }
     ensures len_too { length parted.new ≡ length parted.old }
 {

@@ -1,12 +1,26 @@
 //! Feet: wires that hang nowhere, each with a crosspoint to a wire that hangs, and what a look shows of them.
 ghost use Rattle.std.specs.Prelude.{◌≡◌, ◌<◌, ◌≤◌, ◌||◌, ℕ, All, length, get_or};
 ghost use Rattle.tm_bits.specs.Numbers.{has_number};
-ghost use Rattle.hierarchy.specs.Shape.{pins_of, wires_of};
+ghost use Rattle.hierarchy.specs.Shape.{crosses_of, pins_of, wires_of};
+ghost use Rattle.test_configs.specs.Routes.{other_end};
 ghost use Rattle.evidence.specs.Hangs.{IsFoot, HasMarked, pin_at, others_part, falls_with_others, reads_oddly};
 
 use crate::{Forest, Looks};
-use hierarchy::{Cross, Wire};
+use hierarchy::{Cross, Shape, Wire};
 use tm_bits::BitSet;
+
+// The end of the crosspoint of a foot that isn't its wire.
+fn far_end(shape: Shape, foot: (Wire, Cross)) -> Wire
+    requires { foot.1.0 < crosses_of shape }
+    ensures end { result.0 ≡ other_end shape foot.1.0 foot.0.0 }
+    ensures within { result.0 < wires_of shape }
+{
+    let (tap, line) = shape.ends(foot.1);
+    if tap.0 == foot.0.0 {
+        return line;
+    }
+    tap
+}
 
 // The pin of the tree to which a foot leads.
 pub(crate) fn pin_at(forest: &Forest, foot: (Wire, Cross)) -> u32
@@ -14,8 +28,7 @@ pub(crate) fn pin_at(forest: &Forest, foot: (Wire, Cross)) -> u32
     ensures pin { result ≡ pin_at forest.now foot }
     ensures within { result < pins_of forest.now.shape }
 {
-    let (tap, line) = forest.shape().ends(foot.1);
-    let end = if tap.0 == foot.0.0 { line } else { tap };
+    let end = far_end(forest.shape(), foot);
     forest.pin_of(end).unwrap_or(0)
 }
 

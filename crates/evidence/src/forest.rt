@@ -1,5 +1,5 @@
 //! Wires that hang on pins of the machine.
-ghost use Rattle.std.specs.Prelude.{◌≡◌, ◌≢◌, ◌<◌, ℕ, true, false, IsTrue, IfOk, OnErr};
+ghost use Rattle.std.specs.Prelude.{◌≡◌, ◌≢◌, ◌<◌, ◌≤◌, ℕ, true, false, IsTrue, IfOk, OnErr};
 ghost use Rattle.hierarchy.specs.Shape.{Ends, ends_of, pin_wire, crosses_of, wires_of, pins_of};
 ghost use Rattle.evidence.specs.Forests.{IsForest, KeepsForest, CanLay, bare, with_planted, with_laid, pin_of, is_hung};
 
@@ -24,12 +24,30 @@ fn are_ends(shape: Shape, cross: Cross, a: Wire, b: Wire) -> bool
     false
 }
 
-// Whether a wire is a pin of the machine.
-fn is_pin(shape: Shape, w: Wire) -> bool
-    requires { w.0 < wires_of shape }
+// The highest number of a wire that is a pin of the machine.
+fn last_pin(shape: Shape) -> u32
+    ensures { (k : ℕ) → k < pins_of shape → pin_wire shape k ≤ result }
+{
+    let mut last = 0;
+    'pins: for k in 0..shape.pins() {
+        let wire = shape.pin(k);
+        if last < wire.0 {
+            last = wire.0;
+        }
+    }
+    last
+}
+
+// Whether a wire is a pin of the machine, none of which has a higher number than `last`.
+fn is_pin(shape: Shape, last: u32, w: Wire) -> bool
+    requires wire { w.0 < wires_of shape }
+    requires last { (k : ℕ) → k < pins_of shape → pin_wire shape k ≤ last }
     ensures yes { IsTrue result → (k : ℕ) × (k < pins_of shape) × (pin_wire shape k ≡ w.0) }
     ensures no { result ≡ false → (k : ℕ) → k < pins_of shape → pin_wire shape k ≢ w.0 }
 {
+    if last < w.0 {
+        return false;
+    }
     'pins: for k in 0..shape.pins() {
         if shape.pin(k).0 == w.0 {
             return true;
@@ -46,12 +64,16 @@ fn is_pin(shape: Shape, w: Wire) -> bool
 #[derive(Drop)]
 pub struct Forest {
     shape: Shape,
+    // No pin of the machine has a higher number.
+    last_pin: u32,
     // For each wire the pin on which it hangs.
     pins: Vec<Option<u32>>,
     crosses: Vec<Cross>,
 }
 
 impl Model for Forest {
+    ghost use Rattle.std.specs.Prelude.{ℕ, ◌<◌, ◌≤◌};
+    ghost use Rattle.hierarchy.specs.Shape.{pins_of, pin_wire};
     ghost use Rattle.evidence.specs.Forests.{Trees, IsForest, coded_trees};
 
     ghost Value = { Trees };
@@ -60,7 +82,8 @@ impl Model for Forest {
 
     ghost view = { λ t. record { shape = t.shape; pins = t.pins.items; crosses = t.crosses.items } };
 
-    ghost invariant = { λ t. IsForest (record { shape = t.shape; pins = t.pins.items; crosses = t.crosses.items }) };
+    ghost invariant = { λ t. IsForest (record { shape = t.shape; pins = t.pins.items; crosses = t.crosses.items })
+        × ((k : ℕ) → k < pins_of t.shape → pin_wire t.shape k ≤ t.last_pin) };
 }
 
 impl Forest {
@@ -70,6 +93,7 @@ impl Forest {
     {
         Ok(Forest {
             shape: *shape,
+            last_pin: last_pin(*shape),
             pins: vec![in alloc; None; shape.wires() as usize]?,
             crosses: Vec::new(alloc),
         })
@@ -115,7 +139,7 @@ impl Forest {
         if self.pins[to.0 as usize].is_some() {
             return false;
         }
-        !is_pin(self.shape, to)
+        !is_pin(self.shape, self.last_pin, to)
     }
 
     /// Hangs the wire `to` on the pin of the wire `from`, over a crosspoint between them. False, and nothing changes, exactly

@@ -162,7 +162,8 @@ impl Looks {
         ensures cause { IsErrOf result RigFail.Failed → Rose (rig_state rig.old).failures (rig_state rig.new).failures }
         ensures wanting { IsErrOf result RigFail.Memory → (rig_state rig.new).session ≡ None }
         ensures session { OnOk result (HasCycled config.now.config (look_drives self.old.pins) (rig_state rig.new)) }
-        ensures run { OnOk result (ReadsEach (rig_state rig.old).machine.faults config.now.config (look_drives self.old.pins) self.new.rows) }
+        ensures run { OnOk result (ReadsEach (rig_state rig.old).machine.faults config.now.config (look_drives self.old.pins)
+            self.new.rows) }
     {
         read_rows(rig, config, drives, &mut self.rows, self.pins + 1)
     }

@@ -195,7 +195,13 @@ impl Proof {
         ensures { Gains (seen_in forest.now reads.now.rows) self.old self.new }
     {
         mark_swinging(&mut self.wires, forest, reads);
-        mark_apart(&mut self.pairs, &mut self.others, &mut self.parted, forest, reads);
+        mark_apart(
+            &mut self.pairs,
+            &mut self.others,
+            &mut self.parted,
+            forest,
+            reads,
+        );
     }
 
     // Keeps the crosspoints of feet, and what a look shows of their wires.
@@ -207,7 +213,14 @@ impl Proof {
     {
         mark_crosses(&mut self.crosses, feet);
         mark_swinging_feet(&mut self.wires, forest, feet, reads);
-        mark_apart_feet(&mut self.pairs, &mut self.others, &mut self.parted, forest, feet, reads);
+        mark_apart_feet(
+            &mut self.pairs,
+            &mut self.others,
+            &mut self.parted,
+            forest,
+            feet,
+            reads,
+        );
     }
 }
 

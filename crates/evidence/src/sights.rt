@@ -67,7 +67,8 @@ impl Proof {
         ensures loads { (rig_state rig.new).loads ≤ (rig_state rig.old).loads + 1 }
         ensures cause { IsErrOf result RigFail.Failed → Rose (rig_state rig.old).failures (rig_state rig.new).failures }
         ensures wanting { IsErrOf result RigFail.Memory → WantsBefore (rig_state rig.old) (rig_state rig.new) }
-        ensures looked { OnOk result (IsLook (rig_state rig.old).machine.faults forest.now.shape (closes forest.now feet.now) reads.new.rows) }
+        ensures looked { OnOk result (IsLook (rig_state rig.old).machine.faults forest.now.shape (closes forest.now feet.now)
+            reads.new.rows) }
         ensures session { OnOk result (HasLooked self.old.shape (rig_state rig.new)) }
     {
         let mut config = self.config()?;
@@ -91,6 +92,11 @@ impl Proof {
         ensures cause { IsErrOf result RigFail.Failed → Rose (rig_state rig.old).failures (rig_state rig.new).failures }
         ensures wanting { IsErrOf result RigFail.Memory → WantsBefore (rig_state rig.old) (rig_state rig.new) }
     {
-        Err(RigFail::Memory)
+        let shape = forest.shape();
+        let drives = look_drives(self.alloc, shape.pins())?;
+        let mut reads = Looks::new(self.alloc, &shape)?;
+        self.look(rig, forest, &[], &drives, &mut reads)?;
+        self.keep_seen(forest, &reads);
+        Ok(())
     }
 }

@@ -39,7 +39,8 @@ impl Proof {
 
         ensures told { OnOk result (HasTold (rig_state rig.old).machine.faults forest.now hangs.now reads.new.rows
             unfit.old unfit.new unclear.old unclear.new) }
-        ensures unfit { (known : ℕ → Bool) → AreAllOf forest.now known → UnfitIf (rig_state rig.old).machine.faults self.old known unfit.old →
+        ensures unfit { (known : ℕ → Bool) → AreAllOf forest.now known →
+            UnfitIf (rig_state rig.old).machine.faults self.old known unfit.old →
             UnfitIf (rig_state rig.old).machine.faults self.new known unfit.new }
         ensures unclear { UnclearIf (rig_state rig.old).machine.faults self.old unclear.old →
             UnclearIf (rig_state rig.old).machine.faults self.new unclear.new }
@@ -57,6 +58,9 @@ impl Proof {
         ensures cause { IsErrOf result RigFail.Failed → Rose (rig_state rig.old).failures (rig_state rig.new).failures }
         ensures wanting { IsErrOf result RigFail.Memory → WantsBefore (rig_state rig.old) (rig_state rig.new) }
     {
-        Err(RigFail::Memory)
+        let drives = look_drives(self.alloc, forest.shape().pins())?;
+        self.look(rig, forest, hangs, &drives, reads)?;
+        mark_unfit(forest, hangs, reads, unfit, unclear);
+        Ok(())
     }
 }

@@ -1,6 +1,6 @@
 mod PathLemmas
 mod SearchLemmas
-mod CellLemmas
+pub mod CellLemmas
 mod TreeLemmas
 mod NameLemmas
 mod PlainLemmas
@@ -16,7 +16,8 @@ mod SourceLemmas
 mod JoinLemmas
 mod PutLemmas
 mod MergeLemmas
-mod CompactLemmas
+pub mod CompactLemmas
 mod ReaderLemmas
 mod AddressLemmas
 mod ReducedLemmas
+mod SpreadLemmas

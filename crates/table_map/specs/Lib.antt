@@ -16,3 +16,4 @@ pub mod Sizes
 pub mod Drives
 pub mod Bounds
 pub mod Passes
+pub mod Spreading

@@ -93,7 +93,8 @@ fn renamed_ins(alloc: Global, ranks: &[u32], ins: &[Source]) -> Sources
     sources
 }
 
-fn renamed_table(alloc: Global, ranks: &[u32], table: &NetTable) -> NetTable
+/// The table with new numbers of the tables that it reads, by their old ones. Takes no memory.
+pub fn renamed_table(alloc: Global, ranks: &[u32], table: &NetTable) -> NetTable
     requires { AreSourcesIn (length ranks.now) table.now.ins }
     ensures { result ≡ renamed_table (named_by ranks.now) table.now }
 {

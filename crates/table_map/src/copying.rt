@@ -51,7 +51,11 @@ pub fn copied_sources(alloc: Global, sources: &[Source]) -> Result<Vec<Source>, 
     Ok(copies)
 }
 
-/// The same network.
+/// The same network once more.
+///
+/// # Errors
+///
+/// Want of memory.
 pub fn copied_network(alloc: Global, network: &Network) -> Result<Network, AllocError>
     ensures { IfOk result (λ copy. copy ≡ network.now) }
 {

@@ -209,3 +209,16 @@ pub fn joined_at(alloc: Global, tables: &[NetTable], table: u32, reader: u32) ->
     }
     joined(alloc, table, inner, outer)
 }
+
+/// Whether the table can be put into the reader, as far as its kind and the number of their sources go.
+pub fn have_room(alloc: Global, tables: &[NetTable], table: u32, reader: u32) -> bool {
+    if table as usize >= tables.len() || reader as usize >= tables.len() || table == reader {
+        return false;
+    }
+    let inner = &tables[table as usize];
+    let outer = &tables[reader as usize];
+    if inner.latched {
+        return false;
+    }
+    together(alloc, table, outer.ins.as_slice(), inner.ins.as_slice()).is_some()
+}

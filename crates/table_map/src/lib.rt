@@ -5,8 +5,10 @@
 //! sources are in range and its combinational tables have no cycle. `merged` comes from the plain network by steps, each of which
 //! puts a combinational table that one table alone reads, and no output, into that reader, where the two have at most six
 //! different sources together, or drops what was put away (`merged`). It has the same rows and no more tables, and no table of it
-//! can be put into its reader any more (`whole`). `merged_of` does the same of any network. `depth` is the most combinational
-//! tables on a path. A network has exactly one list of rows for vectors of the right length (`laws`).
+//! can be put into its reader any more (`whole`). `merged_of` does the same of any network. `spread_of` puts tables into all
+//! their readers first, and drops those that no output needs: the same rows, no more tables, and none that can be put into its
+//! one reader. `plain_size` is the number of tables of the plain network, which isn't made for it. `depth` is the most
+//! combinational tables on a path. A network has exactly one list of rows for vectors of the right length (`laws`).
 #![tactic(auto)]
 
 mod build;
@@ -22,13 +24,21 @@ mod merge;
 mod names;
 mod network;
 mod readers;
+mod size;
 mod source;
+mod spread;
+mod spreading;
 mod trees;
+mod useless;
 mod want;
 mod work;
 
 pub use build::plain;
+pub use compact::renamed_table;
+pub use copying::copied_network;
 pub use longest::depth;
 pub use merge::{merged, merged_of};
 pub use network::{NetTable, Network};
+pub use size::plain_size;
 pub use source::{Source, Sources};
+pub use spread::spread_of;

@@ -5,6 +5,7 @@
 
 mod configs;
 mod generated;
+mod graphs;
 mod images;
 mod networks;
 mod outside;
@@ -81,6 +82,36 @@ fn try_networks(rt: &HostRuntime, tally: &mut Tally, alloc: Global) -> io::Resul
     )
 }
 
+// Designs and the labels of their signals.
+fn try_graphs(rt: &HostRuntime, tally: &mut Tally, alloc: Global) -> io::Result<()> {
+    tally.count(rt, "other-rows", graphs::labels_of_other_rows(alloc))?;
+    tally.count(
+        rt,
+        "dependent-inputs",
+        graphs::labels_of_dependent_inputs(alloc),
+    )?;
+    tally.count(rt, "seven-inputs", graphs::labels_of_seven_inputs(alloc))?;
+    tally.count(rt, "forty-inputs", graphs::labels_of_forty_inputs(alloc))?;
+    tally.count(rt, "labels-of-latches", graphs::labels_of_latches(alloc))?;
+    tally.count(
+        rt,
+        "wrong-labels-of-latches",
+        graphs::wrong_labels_of_latches(alloc),
+    )?;
+    tally.count(rt, "other-outputs", graphs::labels_of_other_outputs(alloc))?;
+    tally.count(
+        rt,
+        "lists-that-do-not-fit",
+        graphs::lists_that_do_not_fit(alloc),
+    )?;
+    tally.count(
+        rt,
+        "undriven-signal",
+        graphs::label_of_an_undriven_signal(alloc),
+    )?;
+    tally.count(rt, "cells-of-labels", graphs::cells_of_labels(alloc))
+}
+
 // Sets, vectors and the bytes of images.
 fn try_bytes(rt: &HostRuntime, tally: &mut Tally, alloc: Global) -> io::Result<()> {
     tally.count(rt, "sets-of-numbers", sets::holds_numbers(alloc))?;
@@ -97,6 +128,7 @@ fn run(rt: &HostRuntime) -> io::Result<bool> {
     let mut tally = Tally { right: 0, all: 0 };
     try_machines(rt, &mut tally, rt.alloc())?;
     try_networks(rt, &mut tally, rt.alloc())?;
+    try_graphs(rt, &mut tally, rt.alloc())?;
     try_bytes(rt, &mut tally, rt.alloc())?;
     tally.count(rt, "file-store", outside::file_store(rt))?;
     tally.count(rt, "std-sink", outside::std_sink(rt))?;

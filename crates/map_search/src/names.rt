@@ -1,0 +1,83 @@
+//! Names that are free.
+
+use netlist::{Name, Names};
+use numerals::{put_number, read_number};
+use std::alloc::{AllocError, Global};
+use tm_items::Items;
+
+/// The names of a letter and a number that are free, in order.
+#[derive(Debug, Drop)]
+pub struct FreeNames {
+    letter: u8,
+    next: u64,
+    taken: Vec<u64>,
+}
+
+// The number of a name that is the letter and a number.
+fn number_in(name: &[u8], letter: u8) -> Option<u64> {
+    match name {
+        [first, digits @ ..] if *first == letter => read_number(digits, u64::MAX),
+        _ => None,
+    }
+}
+
+/// The name of a signal, none where there is no such signal.
+pub fn name_of(alloc: Global, names: &Names, signal: u32) -> Result<Name, AllocError> {
+    if (signal as usize) < names.len() {
+        names.get(alloc, signal as usize)
+    } else {
+        Ok(Items::empty(alloc))
+    }
+}
+
+impl FreeNames {
+    /// Those of this letter, as long as no name is taken.
+    pub fn new(alloc: Global, letter: u8) -> FreeNames {
+        FreeNames {
+            letter,
+            next: 0,
+            taken: Vec::new(alloc),
+        }
+    }
+
+    /// Takes a name. All names that are taken come before the first free one is asked for.
+    ///
+    /// # Errors
+    ///
+    /// Want of memory.
+    pub fn take(&mut self, name: &[u8]) -> Result<(), AllocError> {
+        if let Some(number) = number_in(name, self.letter) {
+            self.taken.push(number)?;
+        }
+        Ok(())
+    }
+
+    /// Puts the names that were taken in order.
+    pub fn close(&mut self) {
+        self.taken.sort_unstable();
+    }
+
+    // Goes on behind numbers that are taken.
+    fn skip(&mut self) {
+        'numbers: for _ in 0..self.taken.len() {
+            if self.taken.binary_search(&self.next).is_err() {
+                break;
+            }
+            self.next = self.next.saturating_add(1);
+        }
+    }
+
+    /// The next free name.
+    ///
+    /// # Errors
+    ///
+    /// Want of memory.
+    pub fn next(&mut self, alloc: Global) -> Result<Name, AllocError> {
+        self.skip();
+        let mut text = Vec::new(alloc);
+        text.push(self.letter)?;
+        put_number(&mut text, self.next)?;
+        self.next = self.next.saturating_add(1);
+        Ok(Items::new(text))
+    }
+}

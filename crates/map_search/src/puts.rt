@@ -1,0 +1,246 @@
+//! Tables that are put into all their readers.
+
+use crate::cuts::{Cut, union};
+use crate::layout::{Layout, NOWHERE, Table, without_leaf};
+use crate::numbers::{at, mark, marked, set, small};
+use std::alloc::{AllocError, Global};
+
+/// With few readers first: what costs no copy goes first.
+const MOST_READERS: [usize; 4] = [1, 2, 4, 16];
+
+/// How often tables are looked at in each round, for each of them.
+const MOST_LOOKS: usize = 64;
+
+/// Tables, and which read each of them. Lists of readers may hold tables that read it no more.
+#[derive(Drop)]
+struct Puts {
+    alloc: Global,
+    tables: Vec<Table>,
+    /// The table of each wire that one drives.
+    table_of: Vec<u32>,
+    readers: Vec<Vec<u32>>,
+    /// Tables that an output shows or a latch reads.
+    fixed: Vec<bool>,
+    gone: Vec<bool>,
+    waiting: Vec<u32>,
+}
+
+// The table of each wire.
+fn tables_by_wire(alloc: Global, tables: &[Table], wires: usize) -> Result<Vec<u32>, AllocError> {
+    let mut found = vec![in alloc; NOWHERE; wires]?;
+    'tables: for k in 0..tables.len() {
+        set(&mut found, tables[k].out as usize, small(k));
+    }
+    Ok(found)
+}
+
+// Lists without numbers.
+fn no_lists(alloc: Global, count: usize) -> Result<Vec<Vec<u32>>, AllocError> {
+    let mut lists = Vec::with_capacity(alloc, count)?;
+    'lists: for _ in 0..count {
+        lists.push(Vec::new(alloc))?;
+    }
+    Ok(lists)
+}
+
+// Marks the tables of wires that outputs show and latches read.
+fn fixed_of(alloc: Global, layout: &Layout, table_of: &[u32]) -> Result<Vec<bool>, AllocError> {
+    let mut fixed = vec![in alloc; false; layout.tables.len()]?;
+    let shown = layout.outputs.iter();
+    let read = layout.registers.iter().map(|register| &register.from);
+    'wires: for wire in shown.chain(read) {
+        let _ = mark(&mut fixed, table_at(table_of, *wire));
+    }
+    Ok(fixed)
+}
+
+// The table of a wire, or no table's number.
+fn table_at(table_of: &[u32], wire: u32) -> usize {
+    let place = wire as usize;
+    if place < table_of.len() {
+        table_of[place] as usize
+    } else {
+        usize::MAX
+    }
+}
+
+// Nothing is put anywhere.
+fn puts_of(alloc: Global, layout: &mut Layout) -> Result<Puts, AllocError> {
+    let table_of = tables_by_wire(alloc, &layout.tables, layout.wires.len())?;
+    let fixed = fixed_of(alloc, layout, &table_of)?;
+    let count = layout.tables.len();
+    let mut puts = Puts {
+        alloc,
+        tables: std::mem::replace(&mut layout.tables, Vec::new(alloc)),
+        table_of,
+        readers: no_lists(alloc, count)?,
+        fixed,
+        gone: vec![in alloc; false; count]?,
+        waiting: Vec::new(alloc),
+    };
+    puts.list_readers()?;
+    Ok(puts)
+}
+
+impl Puts {
+    // Notes that a table reads these wires.
+    fn read(&mut self, table: u32, ins: &Cut) -> Result<(), AllocError> {
+        'ins: for k in 0..ins.count {
+            let source = table_at(&self.table_of, ins.leaf(k));
+            if source < self.readers.len() {
+                self.readers[source].push(table)?;
+            }
+        }
+        Ok(())
+    }
+
+    // Notes which tables read which.
+    fn list_readers(&mut self) -> Result<(), AllocError> {
+        'tables: for k in 0..self.tables.len() {
+            if k < self.tables.len() {
+                let ins = self.tables[k].ins;
+                self.read(small(k), &ins)?;
+            }
+        }
+        Ok(())
+    }
+
+    // Whether a table is there and reads a wire.
+    fn reads(&self, table: u32, wire: u32) -> bool {
+        let place = table as usize;
+        if place >= self.tables.len() || marked(&self.gone, place) {
+            return false;
+        }
+        self.tables[place].ins.leaves.contains(&wire)
+    }
+
+    // The tables that read a table's wire, each once, if they are at most so many.
+    fn readers_of(
+        &mut self,
+        table: usize,
+        wire: u32,
+        most: usize,
+    ) -> Result<Option<Vec<u32>>, AllocError> {
+        if table >= self.readers.len() {
+            return Ok(None);
+        }
+        let mut listed = std::mem::replace(&mut self.readers[table], Vec::new(self.alloc));
+        listed.sort_unstable();
+        listed.dedup();
+        let mut readers = Vec::new(self.alloc);
+        'readers: for reader in &listed {
+            if self.reads(*reader, wire) {
+                readers.push(*reader)?;
+            }
+        }
+        let few = readers.len() <= most;
+        if table < self.readers.len() {
+            self.readers[table] = Vec::from_slice(self.alloc, &readers)?;
+        }
+        if few { Ok(Some(readers)) } else { Ok(None) }
+    }
+
+    // What a reader reads with a table put into it.
+    fn joined(&self, table: &Table, reader: u32) -> Option<Cut> {
+        let reader = self.tables.get(reader as usize)?;
+        let others = without_leaf(&reader.ins, table.out);
+        union(&others, &table.ins)
+    }
+
+    // What all readers read with a table put into them, if each of them has room.
+    fn all_joined(&self, table: &Table, readers: &[u32]) -> Result<Option<Vec<Cut>>, AllocError> {
+        let mut cuts = Vec::new(self.alloc);
+        'readers: for reader in readers {
+            let Some(cut) = self.joined(table, *reader) else {
+                return Ok(None);
+            };
+            cuts.push(cut)?;
+        }
+        Ok(Some(cuts))
+    }
+
+    // Puts a table into readers.
+    fn put(&mut self, table: &Table, readers: &[u32], cuts: &[Cut]) -> Result<(), AllocError> {
+        'readers: for (reader, cut) in readers.iter().zip(cuts) {
+            let place = *reader as usize;
+            if place < self.tables.len() {
+                self.tables[place].ins = *cut;
+            }
+            self.read(*reader, &table.ins)?;
+            self.waiting.push(*reader)?;
+        }
+        Ok(())
+    }
+
+    // Looks again at what a table reads.
+    fn wake_sources(&mut self, table: &Table) -> Result<(), AllocError> {
+        'ins: for k in 0..table.ins.count {
+            let source = table_at(&self.table_of, table.ins.leaf(k));
+            if source < self.tables.len() {
+                self.waiting.push(small(source))?;
+            }
+        }
+        Ok(())
+    }
+
+    // Puts a table into all its readers, if they are few and have room.
+    fn look(&mut self, place: usize, most: usize) -> Result<(), AllocError> {
+        if place >= self.tables.len() || marked(&self.gone, place) || marked(&self.fixed, place) {
+            return Ok(());
+        }
+        let table = self.tables[place];
+        let Some(readers) = self.readers_of(place, table.out, most)? else {
+            return Ok(());
+        };
+        let Some(cuts) = self.all_joined(&table, &readers)? else {
+            return Ok(());
+        };
+        self.put(&table, &readers, &cuts)?;
+        let _ = mark(&mut self.gone, place);
+        self.wake_sources(&table)
+    }
+
+    // All tables wait, the last first.
+    fn wake_all(&mut self) -> Result<(), AllocError> {
+        self.waiting.clear();
+        let count = self.tables.len();
+        'tables: for k in 0..count {
+            self.waiting
+                .push(small(count.saturating_sub(k).saturating_sub(1)))?;
+        }
+        Ok(())
+    }
+
+    // Looks at all tables, and at those that may have become better, for so many readers.
+    fn round(&mut self, most: usize) -> Result<(), AllocError> {
+        self.wake_all()?;
+        'looks: for _ in 0..self.tables.len().saturating_mul(MOST_LOOKS) {
+            let Some(table) = self.waiting.pop() else {
+                break;
+            };
+            self.look(table as usize, most)?;
+        }
+        Ok(())
+    }
+
+    // The tables that are there.
+    fn kept(&self) -> Result<Vec<Table>, AllocError> {
+        let mut kept = Vec::new(self.alloc);
+        'tables: for k in 0..self.tables.len() {
+            if !marked(&self.gone, k) {
+                kept.push(self.tables[k])?;
+            }
+        }
+        Ok(kept)
+    }
+}
+
+/// Puts tables into all their readers, where these are other tables and have room.
+pub fn put_tables(alloc: Global, layout: &mut Layout) -> Result<(), AllocError> {
+    let mut puts = puts_of(alloc, layout)?;
+    'rounds: for most in &MOST_READERS {
+        puts.round(*most)?;
+    }
+    layout.tables = puts.kept()?;
+    Ok(())
+}

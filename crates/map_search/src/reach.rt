@@ -1,0 +1,117 @@
+//! Nodes that outputs need.
+
+use crate::numbers::{mark, marked, node_of, small};
+use netlist::Draft;
+use same_rows::{And, Graph};
+use std::alloc::{AllocError, Global};
+
+/// The nodes of a graph: the first of its ANDs, and the ANDs.
+#[derive(Clone, Copy)]
+pub struct Nodes<'a> {
+    pub first: usize,
+    pub ands: &'a [And],
+}
+
+impl<'a> Nodes<'a> {
+    /// Those of a graph.
+    pub fn of(graph: &'a Graph) -> Nodes<'a> {
+        let inputs = graph.inputs as usize;
+        let latches = graph.latches.as_slice().len();
+        Nodes {
+            first: inputs.saturating_add(latches).saturating_add(1),
+            ands: graph.ands.as_slice(),
+        }
+    }
+
+    /// How many there are.
+    pub fn count(&self) -> usize {
+        self.first.saturating_add(self.ands.len())
+    }
+
+    /// The AND that a node is, if it is one.
+    pub fn and(&self, node: usize) -> Option<And> {
+        if node < self.first {
+            return None;
+        }
+        self.ands.get(node.wrapping_sub(self.first)).copied()
+    }
+
+    /// Whether a node is an AND.
+    pub fn is_and(&self, node: usize) -> bool {
+        node >= self.first
+    }
+}
+
+/// The nodes that outputs need, latches and what they read among them, and the nodes that are to have tables: those that outputs
+/// show and that these latches read, each as often as that.
+#[derive(Drop)]
+pub struct Reach {
+    pub live: Vec<bool>,
+    pub roots: Vec<u32>,
+}
+
+// The node that the latch at a node reads, if there is one.
+fn read_by(graph: &Graph, node: usize) -> Option<u32> {
+    let inputs = graph.inputs as usize;
+    if node <= inputs {
+        return None;
+    }
+    let place = node.wrapping_sub(inputs).wrapping_sub(1);
+    Some(small(node_of(graph.latches.as_slice().get(place)?.next)))
+}
+
+// Notes what a node that is needed needs itself.
+fn follow(
+    graph: &Graph,
+    node: usize,
+    waiting: &mut Vec<u32>,
+    roots: &mut Vec<u32>,
+) -> Result<(), AllocError> {
+    if let Some(and) = Nodes::of(graph).and(node) {
+        waiting.push(and.left >> 1)?;
+        waiting.push(and.right >> 1)?;
+    } else if let Some(next) = read_by(graph, node) {
+        roots.push(next)?;
+        waiting.push(next)?;
+    }
+    Ok(())
+}
+
+// The nodes of the outputs.
+fn shown_nodes(alloc: Global, draft: &Draft, labels: &[u32]) -> Result<Vec<u32>, AllocError> {
+    let mut shown = Vec::new(alloc);
+    'outputs: for port in draft.outputs.as_slice() {
+        let label = labels.get(port.signal as usize).copied().unwrap_or(0);
+        shown.push(label >> 1)?;
+    }
+    Ok(shown)
+}
+
+/// What the outputs of a design with these labels need.
+pub fn reach_of(
+    alloc: Global,
+    draft: &Draft,
+    graph: &Graph,
+    labels: &[u32],
+) -> Result<Reach, AllocError> {
+    let mut live = vec![in alloc; false; Nodes::of(graph).count()]?;
+    let mut roots = shown_nodes(alloc, draft, labels)?;
+    let mut waiting = Vec::from_slice(alloc, &roots)?;
+    'nodes: for _ in 0..u64::MAX {
+        let Some(node) = waiting.pop() else {
+            break;
+        };
+        if mark(&mut live, node as usize) {
+            follow(graph, node as usize, &mut waiting, &mut roots)?;
+        }
+    }
+    Ok(Reach { live, roots })
+}
+
+/// Whether outputs need the latch of this number of the graph.
+pub fn needs_latch(graph: &Graph, reach: &Reach, place: usize) -> bool {
+    let node = (graph.inputs as usize)
+        .saturating_add(place)
+        .saturating_add(1);
+    marked(&reach.live, node)
+}

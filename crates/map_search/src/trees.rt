@@ -1,0 +1,104 @@
+//! ANDs of many literals.
+
+use crate::builder::Builder;
+use crate::way::Join;
+use std::alloc::AllocError;
+
+/// With more literals pairs are made in place of the lowest.
+const MOST_SORTED: usize = 1000;
+
+// The ANDs of the first two literals, of the next two, and so on.
+fn pairs(builder: &mut Builder, literals: &[u32]) -> Result<Vec<u32>, AllocError> {
+    let mut ands = Vec::new(builder.alloc);
+    'pairs: for pair in literals.chunks(2) {
+        let and = match pair {
+            [a, b] => builder.and(*a, *b)?,
+            [a] => *a,
+            _ => 1,
+        };
+        ands.push(and)?;
+    }
+    Ok(ands)
+}
+
+// In pairs of pairs.
+fn balanced(builder: &mut Builder, literals: Vec<u32>) -> Result<u32, AllocError> {
+    let mut left = literals;
+    'levels: for _ in 0..64 {
+        if left.len() < 2 {
+            break;
+        }
+        left = pairs(builder, &left)?;
+    }
+    Ok(left.first().copied().unwrap_or(1))
+}
+
+// One after the other.
+fn chained(builder: &mut Builder, literals: &[u32]) -> Result<u32, AllocError> {
+    let mut and = 1;
+    'literals: for literal in literals {
+        and = builder.and(and, *literal)?;
+    }
+    Ok(and)
+}
+
+// How many of the literals, the highest first, are higher than this level.
+fn higher_than(builder: &Builder, literals: &[u32], level: u32) -> usize {
+    let mut count = 0usize;
+    'literals: for literal in literals {
+        if builder.level(*literal) > level {
+            count = count.saturating_add(1);
+        }
+    }
+    count
+}
+
+// Joins the two lowest of literals that stand by their level, the highest first.
+fn join_lowest(builder: &mut Builder, literals: &mut Vec<u32>) -> Result<bool, AllocError> {
+    let Some(a) = literals.pop() else {
+        return Ok(false);
+    };
+    let Some(b) = literals.pop() else {
+        literals.push(a)?;
+        return Ok(false);
+    };
+    let and = builder.and(a, b)?;
+    let place = higher_than(builder, literals, builder.level(and));
+    if place <= literals.len() {
+        literals.insert(place, and)?;
+    }
+    Ok(true)
+}
+
+// The literals with their levels, the highest first.
+fn by_level(builder: &Builder, literals: &[u32]) -> Result<Vec<u32>, AllocError> {
+    let mut sorted = Vec::from_slice(builder.alloc, literals)?;
+    sorted.sort_by_key(|literal| u32::MAX - builder.level(*literal))?;
+    Ok(sorted)
+}
+
+// The two lowest first, again and again.
+fn lowest_first(builder: &mut Builder, literals: &[u32]) -> Result<u32, AllocError> {
+    let mut left = by_level(builder, literals)?;
+    'pairs: for _ in 0..literals.len() {
+        if !join_lowest(builder, &mut left)? {
+            break;
+        }
+    }
+    Ok(left.first().copied().unwrap_or(1))
+}
+
+/// The AND of literals.
+pub fn and_all(builder: &mut Builder, literals: Vec<u32>, join: Join) -> Result<u32, AllocError> {
+    match join {
+        Join::Pairs => balanced(builder, literals),
+        Join::Chain => chained(builder, &literals),
+        Join::Lowest => {
+            if literals.len() > MOST_SORTED {
+                balanced(builder, literals)
+            } else {
+                lowest_first(builder, &literals)
+            }
+        }
+    }
+}

@@ -1,0 +1,4 @@
+pub mod Graphs
+pub mod Labels
+pub mod Plans
+pub mod Products
