@@ -5,7 +5,7 @@ open: so many of 100 crosspoints are stuck open. mix: besides, a tenth as many a
 stuck, as many bridges join a wire and one of the next four, and one of 100 tables has a wrong cell. A row is about some machines,
 with faults made from the seeds 1, 2 and so on: shares are of all of them, other figures means. A wire is sound that is neither
 stuck nor shorted; a crosspoint or table that has no fault and sound wires alone; listed is what the list doesn't leave free. Loads
-are those that `teramac_report` tells, if it is named.
+are those that `teramac_report` tells, if it is named, in all and by part; of a further one those in all stand beside them.
 """
 
 import argparse
@@ -22,7 +22,8 @@ from faults import amount, count_of, make_faults
 from program import add_program, call
 
 BENCH = (2, 2, 4, 8, 24, 24, 24, 32, 32, 32, 32, 28)
-HEAD = "Faults | Number | Sound wires, crosspoints, tables listed, of 100 | Loads | Seconds of processor | Entries | Lists that cover"
+HEAD = "Faults | Number | Sound wires, crosspoints, tables listed, of 100 | Loads | Sweep, growth, tests of tables | Loads beside"
+HEAD += " | Seconds of processor | Entries | Tables free | Lists that cover"
 
 
 def faults_of(machine, kind, rate, seed):
@@ -67,9 +68,9 @@ def diagnosed(program, *files):
 
 
 def loads_of(report, machine, faults):
-    """The loads of a diagnosis; 0 where no report is named."""
-    told = re.search(rb"^diagnosis loads (\d+)$", call(report, machine, faults).written, re.MULTILINE) if report else None
-    return int(told[1]) if told else 0
+    """The loads of a diagnosis in all, and those of its sweeps, of growth, and of the tests of tables; 0 where none are told."""
+    told = re.findall(rb"^(?:diagnosis|part \w+) loads (\d+)$", call(report, machine, faults).written if report else b"", re.MULTILINE)
+    return [*map(int, told), 0, 0, 0, 0][:4]
 
 
 def row(programs, machine, kind, rate, seeds):
@@ -81,15 +82,17 @@ def row(programs, machine, kind, rate, seeds):
             files = [f"{folder}/{name}" for name in ("machine", "faults", "defects")]
             for path, text in zip(files, (machine.text, texts.faults_text(machine, faults))):
                 texts.write_new(path, text)
-            taken = diagnosed(programs[0], *files), loads_of(programs[1], *files[:2])
+            taken = [diagnosed(programs[0], *files), *loads_of(programs[1], *files[:2]), loads_of(programs[2], *files[:2])[0]]
             defects = texts.read_text(texts.read_defects, files[2], machine)
-        entries = sum(map(len, defects.values()))
-        columns.append((*sound_and_listed(machine, faults, defects), faults.count, *taken, entries, covers(machine, faults, defects)))
+        taken += [sum(map(len, defects.values())), sum(defects.is_free(machine, "table", at) for at in range(machine.sizes["table"]))]
+        columns.append((*sound_and_listed(machine, faults, defects), faults.count, *taken, covers(machine, faults, defects)))
     sums = [sum(column) for column in zip(*columns)]
     shares = ", ".join(f"{100 * listed / sound:.4g}" if sound else "-" for sound, listed in zip(sums[:3], sums[3:6]))
-    count, seconds, loads, entries = (total / len(seeds) for total in sums[6:10])
-    loads = f"{loads:,.0f}" if programs[1] else ""
-    return f"| {kind} {rate:g} % | {count:,.0f} | {shares} | {loads} | {seconds:.1f} | {entries:,.0f} | {sums[10]} of {len(seeds)} |"
+    count, seconds, *told, entries, free = (total / len(seeds) for total in sums[6:-1])
+    loads, *parts, beside = (f"{number:,.0f}" for number in told)
+    told = f"{loads} | {', '.join(parts)}" if programs[1] else " | "
+    last = f"{seconds:.2f} | {entries:,.0f} | {free:.1f} | {sums[-1]} of {len(seeds)}"
+    return f"| {kind} {rate:g} % | {count:,.0f} | {shares} | {told} | {beside if programs[2] else ''} | {last} |"
 
 
 def main():
@@ -101,13 +104,14 @@ def main():
     parser.add_argument("--machines", type=int, default=3, choices=range(1, 21), metavar="COUNT", help="for each row (default: 3)")
     add_program(parser)
     parser.add_argument("--report", help="the built teramac_report, for the loads")
+    parser.add_argument("--beside", help="another teramac_report, as one that was built before, for the loads beside them")
     args = parser.parse_args()
     machine = texts.read_text(texts.read_machine, args.machine) if args.machine else texts.Machine(BENCH)
     seeds = range(1, args.machines + 1)
     print(f"| {HEAD} |\n|{'---|' * (HEAD.count('|') + 1)}")
     for kind, rate in [(kind, rate) for kind in args.kinds for rate in args.rates]:
         try:
-            print(row((args.program, args.report), machine, kind, rate, seeds), flush=True)
+            print(row((args.program, args.report, args.beside), machine, kind, rate, seeds), flush=True)
         except ValueError as error:
             sys.exit(f"{kind} {rate:g} %: {error}")
 

@@ -17,11 +17,16 @@ from program import wilson
 plt.switch_backend("svg")
 plt.rcParams.update({"svg.hashsalt": "teramac", "legend.fontsize": 8, "legend.handlelength": 3.6, "axes.grid": True, "grid.alpha": 0.3})
 
-NUMBERS = "crosspoints rate seed faults thrown_wires thrown_crosses thrown_tables tables closed loads spare".split()
+# Who made which loads of a diagnosis.
+LOADS = {"all loads": "loads", "of growth": "loads_growth", "of the sweep": "loads_sweep", "of tests of tables": "loads_tables"}
+NUMBERS = [*"crosspoints rate seed faults thrown_wires thrown_crosses thrown_tables tables closed spare".split(), *LOADS.values()]
 # A run that was cut off or found no memory says nothing of room; it is counted apart.
 UNDECIDED = ("cut off", "6")
 DECIDED = ("0", "3", "wrong")
 LEVELS = ("root", "module", "chip", "hextant")
+SHARE = ["share", "low", "high", "runs", "undecided"]
+# Student's quantiles for 1 to 8 degrees of freedom.
+STUDENT = (12.71, 4.303, 3.182, 2.776, 2.571, 2.447, 2.365, 2.306)
 # How each list is drawn, named, and modelled.
 STYLES = {
     "exact": ("-", "o", "exact list", "every fault and nothing else is listed; compile, run"),
@@ -65,13 +70,6 @@ def share(rows, holds=lambda row: row["status"] == "0"):
     return [hits / len(decided) if decided else math.nan, *wilson(hits, len(decided)), len(decided), len(rows) - len(decided)]
 
 
-SHARE = ["share", "low", "high", "runs", "undecided"]
-
-
-# Student's quantiles for 1 to 8 degrees of freedom.
-STUDENT = (12.71, 4.303, 3.182, 2.776, 2.571, 2.447, 2.365, 2.306)
-
-
 def mean(values):
     """The mean with its interval of 95 % by Student's law, and how many there are."""
     middle, free = sum(values) / len(values), max(1, len(values) - 1)
@@ -83,7 +81,7 @@ def mean(values):
 def facets(rows, columns=("machine", "kind")):
     """A picture with one pair of axes for each machine and kind; gives it, and for each the axes and the rows."""
     parts = split(rows, *columns)
-    across = min(3, len(parts))
+    across = 2 if len(parts) == 4 else min(3, len(parts))
     down = -(-len(parts) // across)
     picture, axes = plt.subplots(down, across, figsize=(1.6 + 5.6 * across, 4.2 * down), squeeze=False, layout="constrained")
     for spare in axes.flat[len(parts) :]:
@@ -177,6 +175,15 @@ def nothing(title):
     return picture
 
 
+def axis_of_counts(axes, most, label):
+    """A logarithmic axis that shows 0 too, up to somewhat more than the most; gives its ticks."""
+    ticks = [0, *(10**k for k in range(math.ceil(math.log10(max(1, most))) + 1))]
+    axes.set_yscale("symlog", linthresh=1)
+    axes.set_yticks(ticks, [f"{tick:,}" for tick in ticks])
+    axes.set(ylim=(-0.1, 1.3 * max(1, most)), ylabel=label)
+    return ticks
+
+
 def thrown(rows, _):
     """Sound parts that the diagnosis throws away (mean, bars: 95 %)"""
     rows, columns = diagnoses(rows, "thrown_wires"), ["machine", "kind", "rate", "part", "mean", "low", "high", "diagnoses"]
@@ -190,41 +197,34 @@ def thrown(rows, _):
             points = {rate: mean([row[f"thrown_{kind}"] for row in runs]) for (rate,), runs in by_rate.items()}
             table += [[*names, rate, named, *point] for rate, point in points.items()]
             curve(axes, points, points.values(), 0, ("-", marker), label=named)
-        most = max([1, *(line[-2] for line in table if line[:2] == [*names])])
-        ticks = [0, *(10**k for k in range(math.ceil(math.log10(most)) + 1))]
-        axes.set_yscale("symlog", linthresh=1)
-        axes.set_yticks(ticks, [f"{tick:,}" for tick in ticks])
-        axes.set(ylim=(-0.1, 1.3 * most), xlabel="rate of faults", ylabel="sound parts on the list")
+        axis_of_counts(axes, max(line[-2] for line in table if line[:2] == [*names]), "sound parts on the list")
+        axes.set_xlabel("rate of faults")
         axes.legend(loc="upper left")
     return picture, columns, table
 
 
 def loads(rows, per_second):
-    """Loads of a diagnosis, and what they take on a machine of so many loads a second"""
-    rows, columns = diagnoses(rows, "loads"), ["mean", "low", "high", "count"]
+    """Loads of a diagnosis, in all and by part, and what they take on a machine of so many loads a second"""
+    rows, columns = diagnoses(rows, "loads"), ["mean", "low", "high", "diagnoses", "seconds"]
     if not rows:
         return nothing("no loads were told: build crates/teramac_report (rt run there) or name it by TERAMAC_REPORT"), columns, []
-    sizes = sorted({row["crosspoints"] for row in rows})
-    # Where one machine is drawn, against the rate.
-    series, along = (("kind", "rate"), "crosspoints") if len(sizes) > 1 else (("machine", "kind"), "rate")
-    picture, axes = plt.subplots(figsize=(7.2, 4.4), layout="constrained")
-    table = []
-    for (names, part), marker in zip(split(rows, *series).items(), cycle("os^Dv")):
-        points = {x: mean([row["loads"] for row in runs]) for (x,), runs in split(part, along).items()}
-        table += [[*names, x, *point] for x, point in points.items()]
-        words = [f"rate {name:g}" if isinstance(name, float) else name for name in names]
-        curve(axes, points, points.values(), 0, ("-", marker), label=", ".join(words))
-    if len(sizes) > 1:
-        axes.plot(sizes, [16 * size for size in sizes], color="grey", linestyle=":", label="16 a crosspoint, of what is promised at most")
-        axes.set_xscale("log")
-    across = {"crosspoints": "crosspoints of the machine", "rate": "rate of faults"}[along]
-    axes.set(xlabel=across, yscale="log", ylabel="loads (mean, bars: 95 %)")
-    if per_second:
-        right = axes.secondary_yaxis("right", functions=(lambda count: count / per_second, lambda time: time * per_second))
-        right.set_ylabel(f"seconds at {per_second:g} loads a second")
-        columns, table = [*columns, "seconds"], [[*line, line[-4] / per_second] for line in table]
-    axes.legend(fontsize=7)
-    return picture, [*series, along, *columns], table
+    one = len({row["crosspoints"] for row in rows}) == 1  # then against the rate
+    series, along = (("machine", "kind"), "rate") if one else (("kind", "rate"), "crosspoints")
+    rows = [{**row, "part": part, "loads": row[name]} for row in rows for part, name in LOADS.items() if row[name] is not None]
+    picture, parts = facets(rows, ("part",))
+    table, most = [], max(row["loads"] for row in rows)
+    for axes, part, runs in parts:
+        for (names, those), marker in zip(split(runs, *series).items(), cycle("os^Dv")):
+            points = {x: mean([row["loads"] for row in of]) for (x,), of in split(those, along).items()}
+            table += [[*part, *names, x, *point, point[0] / per_second] for x, point in points.items()]
+            words = [f"rate {name:g}" if isinstance(name, float) else name for name in names]
+            curve(axes, points, points.values(), 0, ("-", marker), label=", ".join(words))
+        axes.set(xlabel="rate of faults" if one else "crosspoints of the machine", xscale="linear" if one else "log")
+        ticks, right = axis_of_counts(axes, most, "loads (mean, bars: 95 %)"), axes.twinx()
+        axis_of_counts(right, most, f"seconds at {per_second:g} loads a second")
+        right.set_yticks(ticks, [f"{tick / per_second:g}" for tick in ticks])
+    parts[0][0].legend(fontsize=7)
+    return picture, ["part", *series, along, *columns], table
 
 
 def redundancy(rows, _):
@@ -291,7 +291,7 @@ def main():
     parser.add_argument("rows", help="the CSV of a study")
     parser.add_argument("--figures", default="fits,thrown,loads", help=f"of {','.join(FIGURES)} (default: %(default)s)")
     parser.add_argument("--folder", default=".", help="where fits.svg, fits.csv and the others are written (default: here)")
-    parser.add_argument("--loads-per-second", type=float, default=0, help="of a machine, for the time of a diagnosis")
+    parser.add_argument("--loads-per-second", type=float, default=1000, help="of a machine, for the time of a diagnosis (default: 1000)")
     parser.add_argument("--force", action="store_true", help="write over figures that stand there")
     args = parser.parse_args()
     rows, names = read_rows(args.rows), args.figures.split(",")

@@ -91,10 +91,7 @@ class Study:
         return str(path)
 
     def sized(self, blif, name):
-        """For each share of spare parts a machine of the design, all on one tree: that of the settings, or the best without any.
-
-        `three` is what three copies with voters want, and a quarter more.
-        """
+        """For each share to spare a machine, all on one tree; `three` is what three copies with voters want, and a quarter more."""
         design = checked_design(self.program, blif)
         network, three = map(designs.plain_network, (design, designs.triplicated(design)))
         tree = self.settings.get("tree") or best_machine(network, TREES, 0.0).counts[:3]
@@ -166,16 +163,14 @@ class Study:
 
     def table(self):
         """Writes the rows of all trials into one table; gives its path."""
-        rows = os.path.join(self.folder, "rows.csv")
-        with open(rows, "w", encoding="utf-8") as table:
-            for k, name in enumerate(self.trials):
-                lines = Path(self.path(name)).read_text(encoding="utf-8").splitlines(keepends=True)
-                table.writelines(lines[min(k, 1) :])
+        rows = Path(self.folder, "rows.csv")
+        lines = [Path(self.path(name)).read_text(encoding="utf-8").splitlines(keepends=True) for name in self.trials]
+        rows.write_text("".join([lines[0][0], *(line for found in lines for line in found[1:])]), encoding="utf-8")
         return rows
 
     def figure_words(self):
         """The words of figures.py after the table's path."""
-        rate = self.settings.get("loads_per_second", 0)
+        rate = self.settings.get("loads_per_second", 1000)
         return ["--figures", ",".join(self.figures), "--folder", self.folder, "--loads-per-second", str(rate), "--force"]
 
 

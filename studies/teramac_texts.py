@@ -445,5 +445,3 @@ def write_new(path, data):
         sys.exit(f"{path}: stands there already; nothing was written")
     except OSError as error:
         sys.exit(f"{path}: {error.strerror}")
-
-

@@ -22,7 +22,6 @@ try:
 except ModuleNotFoundError:
     figures = None
 
-BENCH = texts.Machine((2, 2, 4, 8, 24, 24, 24, 32, 32, 32, 32, 28))
 SMALL = texts.Machine((1, 2, 2, 4, 20, 20, 20, 24, 24, 24, 24, 16))
 
 
@@ -62,19 +61,28 @@ class Figures(unittest.TestCase):
             with self.assertRaisesRegex(SystemExit, "line 3: a run that ended with status 5"):
                 figures.read_rows(path)
 
-    def test_axes_ticks_and_legends(self):
-        """What wasn't told is said; one machine is drawn against the rate; ticks are plain, and curves differ in the legend."""
-        picture, _, _ = figures.loads(rows_of(list=["diagnosed"], loads=[None]), 0)
+    def test_loads(self):
+        """What wasn't told is said; each part that was is drawn by itself, of one machine against the rate, with seconds beside."""
+        picture, _, _ = figures.loads(rows_of(list=["diagnosed"], loads=[None]), 1000)
         self.assertIn("teramac_report", picture.axes[0].texts[0].get_text())
-        for machines, label in ((["1"], "rate of faults"), (["1", "2"], "crosspoints of the machine")):
-            rows = [{**row, "crosspoints": float(row["machine"])} for row in rows_of(list=["diagnosed"], machine=machines, rate=[0.1, 0.2])]
-            self.assertEqual(figures.loads(rows, 100)[0].axes[0].get_xlabel(), label)
+        for machines, swept, label in (("m", 4.0, "rate of faults"), ("mn", None, "crosspoints of the machine")):
+            rows = rows_of(list=["diagnosed"], machine=machines, rate=[0.1], loads=[6.0], loads_sweep=[swept], loads_growth=[2.0])
+            picture, columns, table = figures.loads([{**row, "crosspoints": ord(row["machine"])} for row in rows], 100)
+            found = {row["part"]: [row["mean"], row["seconds"]] for row in (dict(zip(columns, line)) for line in table)}
+            told = {"of the sweep": [4, 0.04]} if swept else {}
+            self.assertEqual(found, {"all loads": [6, 0.06], "of growth": [2, 0.02], "of tests of tables": [1, 0.01], **told})
+            self.assertEqual((picture.axes[0].get_xlabel(), len(picture.axes)), (label, 2 * len(found)))
+
+    def test_ticks_and_legends(self):
+        """Ticks are plain, and curves differ in the legend."""
         picture, _, _ = figures.thrown(rows_of(list=["diagnosed"], rate=[0.1, 0.2], thrown_wires=[2000.0]), 0)
         self.assertEqual([tick.get_text() for tick in picture.axes[0].get_yticklabels()], ["0", "1", "10", "100", "1,000", "10,000"])
         self.assertGreater(figures.plt.rcParams["legend.handlelength"], 3)
         self.assertEqual(len({style[1] for style in figures.STYLES.values()}), len(trial.LISTS))
 
-    def test_means(self):
+    def test_means_and_intervals(self):
+        for hits, tries, want in ((8, 10, (0.4902, 0.9433)), (0, 0, (0, 1))):
+            self.assertEqual(tuple(round(bound, 4) for bound in figures.wilson(hits, tries)), want)
         self.assertEqual(figures.mean([5.0, 5.0, 5.0]), [5, 5, 5, 3])
         self.assertAlmostEqual(figures.mean([1.0, 2.0, 3.0])[2], 2 + 4.303 / 3**0.5, 3)
 
@@ -102,7 +110,7 @@ class Kinds(unittest.TestCase):
     def test_clusters_are_not_heaped_at_edges(self):
         """Line 31 next to line 30: with what falls beyond the edge put onto it, it had several times as many."""
         chance = random.Random(1)
-        places, found = Places(BENCH, chance, 9, "spots"), Counter()
+        places, found = Places(SMALL, chance, 9, "spots"), Counter()
         for _ in range(4000):
             found[places.near(32, 30, 3)] += 1
         self.assertLess(found[31], 1.25 * found[30])

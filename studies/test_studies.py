@@ -13,7 +13,7 @@ import designs
 import teramac_texts as texts
 from draw import FOUND, MARKS
 from faults import KINDS, make_faults
-from program import DEFAULT, HERE, call, wilson
+from program import DEFAULT, HERE, call
 from size import compiles, counts_for
 from trial import hextants_list, wires_list
 
@@ -151,10 +151,14 @@ class Studies(unittest.TestCase):
             self.assertEqual(("Traceback" in ran.stderr, ran.returncode > 0), (False, True))
 
     def test_trial(self):
+        """Two designs on two lists; the loads of the own list are those that a stand-in of the report tells."""
+        texts.write_new(self.out, "#!/bin/sh\nprintf 'diagnosis loads 9\npart sweep loads 4\npart growth loads 0\npart tables loads 5\n'\n")
+        os.chmod(self.out, 0o755)
         pairs = [f"{EXAMPLES}/{name}.blif:{EXAMPLES}/{name}.vec" for name in ("and", "counter")]
-        ran = run("trial.py", "tiny.machine", *pairs, "--rate", "0.0")
-        found = [line.split(",")[6:9] for line in ran.stdout.splitlines()[1:]]
-        self.assertEqual(sorted(found), [[d, k, s] for d, s in (("and", "0"), ("counter", "3")) for k in ("diagnosed", "exact")])
+        ran = run("trial.py", "tiny.machine", *pairs, "--rate", "0.0", "--report", self.out)
+        found, told = [line.split(",") for line in ran.stdout.splitlines()[1:]], {"diagnosed": [*"9405"], "exact": [""] * 4}
+        wanted = [[d, k, s, *told[k]] for d, s in (("and", "0"), ("counter", "3")) for k in told]
+        self.assertEqual(sorted(row[6:9] + row[-5:-1] for row in found), wanted)
 
     def test_picture(self):
         given = ["--faults", "tiny.faults", "--defects", "tiny.defects", "--image", "and.image", "--design", "and.blif"]
@@ -176,7 +180,3 @@ class Studies(unittest.TestCase):
             for listed in (wires_list(machine, faults), hextants_list(machine, faults)):
                 self.assertEqual(texts.read_defects(machine, texts.defects_text(machine, listed).encode()), listed)
                 self.assertFalse(any(listed.is_free(machine, kind, at) for kind in texts.PARTS for at in exact[kind]))
-
-    def test_interval(self):
-        for hits, tries, want in ((8, 10, (0.4902, 0.9433)), (0, 0, (0, 1))):
-            self.assertEqual(tuple(round(bound, 4) for bound in wilson(hits, tries)), want)

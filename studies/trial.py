@@ -19,8 +19,8 @@ from faults import KINDS, SHAPES, add_clusters, amount, make_faults
 from program import REPORT, add_program, call
 
 COLUMNS = (
-    "machine crosspoints kind rate seed faults design list status refusal listed_wires listed_crosses listed_tables "
-    "thrown_wires thrown_crosses thrown_tables tables nets crossings closed seconds diagnose_seconds loads spare"
+    "machine crosspoints kind rate seed faults design list status refusal listed_wires listed_crosses listed_tables thrown_wires "
+    "thrown_crosses thrown_tables tables nets crossings closed seconds diagnose_seconds loads loads_sweep loads_growth loads_tables spare"
 ).split()
 LISTS = ("exact", "diagnosed", "wires", "hextants", "none", "triplicated")
 UNDIAGNOSED = ("none", "triplicated")
@@ -134,12 +134,12 @@ class Trial:
         return self.compared(ran, design, vectors, promised), self.shape_of(image.written)
 
     def loads(self):
-        """The loads of a diagnosis, by the program of reports; none without it."""
+        """The loads of a diagnosis, in all and by part, by the program of reports; none without it."""
         if not self.args.report:
             return {}
         answer = call(self.args.report, self.args.machine, self.fault_text, seconds=self.args.seconds)
-        line = [words[-1] for words in map(bytes.split, answer.written.splitlines()) if words[:1] == [b"diagnosis"]]
-        return {"loads": int(line[0])} if answer.status == 0 and line else {}
+        told = re.findall(rb"^(?:diagnosis|part (sweep|growth|tables)) loads (\d+)$", answer.written, re.MULTILINE)
+        return {f"loads_{part.decode()}" if part else "loads": int(count) for part, count in told} if answer.status == 0 else {}
 
     def rows(self):
         for kind in self.args.lists:
