@@ -175,13 +175,12 @@ def nothing(title):
     return picture
 
 
-def axis_of_counts(axes, most, label):
-    """A logarithmic axis that shows 0 too, up to somewhat more than the most; gives its ticks."""
+def axis_of_counts(axes, most, label, unit=1):
+    """A logarithmic axis that shows 0 too, up to somewhat more than the most, in units of so many."""
     ticks = [0, *(10**k for k in range(math.ceil(math.log10(max(1, most))) + 1))]
     axes.set_yscale("symlog", linthresh=1)
-    axes.set_yticks(ticks, [f"{tick:,}" for tick in ticks])
+    axes.set_yticks(ticks, [f"{tick / unit:,.10g}" for tick in ticks])
     axes.set(ylim=(-0.1, 1.3 * max(1, most)), ylabel=label)
-    return ticks
 
 
 def thrown(rows, _):
@@ -220,9 +219,8 @@ def loads(rows, per_second):
             words = [f"rate {name:g}" if isinstance(name, float) else name for name in names]
             curve(axes, points, points.values(), 0, ("-", marker), label=", ".join(words))
         axes.set(xlabel="rate of faults" if one else "crosspoints of the machine", xscale="linear" if one else "log")
-        ticks, right = axis_of_counts(axes, most, "loads (mean, bars: 95 %)"), axes.twinx()
-        axis_of_counts(right, most, f"seconds at {per_second:g} loads a second")
-        right.set_yticks(ticks, [f"{tick / per_second:g}" for tick in ticks])
+        axis_of_counts(axes, most, "loads (mean, bars: 95 %)")
+        axis_of_counts(axes.twinx(), most, f"seconds at {per_second:g} loads a second", per_second)
     parts[0][0].legend(fontsize=7)
     return picture, ["part", *series, along, *columns], table
 
