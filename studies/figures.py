@@ -26,6 +26,7 @@ LEVELS = ("root", "module", "chip", "hextant")
 STYLES = {
     "exact": ("-", "o", "exact list", "every fault and nothing else is listed; compile, run"),
     "diagnosed": ((0, (5, 2)), "s", "own diagnosis", "the list of diagnose; compile, run"),
+    "mapped": ((0, (4, 1)), "*", "exact list, design remapped", "teramac_map writes a text for this machine and list; compile, run"),
     "wires": ((0, (1, 1.5)), "^", "spare rows and columns", "of a faulty crosspoint its tap or line is given up, of a table its output"),
     "hextants": ("-.", "D", "whole hextants dropped", "a hextant with a fault is given up, above the exact list"),
     "none": ((0, (8, 2, 1, 2)), "x", "no list", "the design as it is, undiagnosed; right where its rows are"),

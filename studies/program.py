@@ -2,6 +2,7 @@
 
 import math
 import os
+import shutil
 import subprocess
 import sys
 import tempfile
@@ -12,8 +13,15 @@ import teramac_texts as texts
 
 HERE = os.path.dirname(os.path.abspath(__file__))
 DEFAULT = os.environ.get("TERAMAC", os.path.normpath(os.path.join(HERE, "../crates/teramac/out/teramac")))
-REPORT = os.environ.get("TERAMAC_REPORT", os.path.normpath(os.path.join(HERE, "../crates/teramac_report/out/teramac_report")))
-REPORT = REPORT if os.path.exists(REPORT) else ""
+
+
+def beside(name):
+    """Another program: as the environment says (TERAMAC_MAP, ..), as it stands built here, or on the path; '' where it isn't there."""
+    found = os.environ.get(name.upper(), os.path.normpath(os.path.join(HERE, f"../crates/{name}/out/{name}")))
+    return found if os.path.exists(found) else shutil.which(name) or ""
+
+
+REPORT, MAPPER = map(beside, ("teramac_report", "teramac_map"))
 
 
 class Answer:
@@ -69,6 +77,10 @@ def checked_design(program, path):
 
 def add_program(parser):
     parser.add_argument("--program", default=DEFAULT, help="the built teramac (default: %(default)s, or $TERAMAC)")
+
+
+def add_mapper(parser):
+    parser.add_argument("--mapper", default=MAPPER, help="the built teramac_map (default: %(default)s)")
 
 
 def wilson(hits, tries, z=1.959964):

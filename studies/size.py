@@ -1,28 +1,32 @@
 #!/usr/bin/env python3
 """The least machine on which a design fits: its tables, ports, lines and pins by the plan in order, checked by one compile.
 
-How much must be spare at which rate of faults is the study `redundancy`.
+How much must be spare at which rate of faults is the study `redundancy`. With --map the machine is one for a text of `teramac_map`
+with the same rows: ports and lines are pressed down while the mapper finds a text that fits.
 """
 
 import argparse
 import math
 import sys
+from pathlib import Path
 
 import designs
 import teramac_texts as texts
 from faults import amount
-from program import add_program, call, checked_design
+from program import add_mapper, add_program, call, checked_design
 
 TREES = [(m, c, h) for m in (1, 2, 4) for c in (1, 2, 4) for h in (1, 2, 4, 8)]
+# By how much ports and lines are pressed down at first, and after a text was found; and how often the mapper is asked.
+FIRST, NEXT, CALLS = 0.66, 0.85, 6
 
 
 def spared(count, spare):
     return max(1, math.ceil(count * (1 + spare) - 1e-9))
 
 
-def counts_for(network, tree, spare):
-    """The counts of a machine on this tree with what the plan wants and so much to spare."""
-    tables = -(-spared(len(network.tables), spare) // math.prod(tree))
+def counts_for(network, tree, spare, tables=0):
+    """The counts of a machine on this tree with what the plan wants and so much to spare; with so many tables in a hextant, or enough."""
+    tables = tables or -(-spared(len(network.tables), spare) // math.prod(tree))
     wanted = [*designs.needs(network, *tree, tables), network.inputs + len(network.outputs)]
     return (*tree, tables, *(spared(count, spare) for count in wanted))
 
@@ -41,6 +45,21 @@ def compiles(program, machine, defects, design):
     return call(program, "compile", machine.text.encode(), texts.defects_text(machine, defects).encode(), design)
 
 
+def remapped(mapper, machine, design, spare):
+    """The least machine found for a text of the mapper, on the tree of one that holds the design, and the text; else what was given."""
+    (*head, pins), share, text = machine.counts, FIRST, None
+    for _ in range(CALLS):
+        tried = texts.Machine((*head[:4], *(max(1, int(count * share)) for count in head[4:]), pins))
+        answer = call(mapper, tried.text.encode(), texts.defects_text(tried, texts.Defects()).encode(), design)
+        if answer.status == 0:
+            text, network = answer.written, designs.plain_network(texts.read_design(answer.written))
+            *head, pins = counts_for(network, head[:3], 0.0, head[3])
+        share = max(share, NEXT) if answer.status == 0 else (1 + share) / 2
+    if text is None:
+        return machine, Path(design).read_bytes()
+    return texts.Machine((*head[:4], *(spared(count, spare) for count in [*head[4:], pins]))), text
+
+
 def main():
     parser = argparse.ArgumentParser(description=__doc__, formatter_class=argparse.RawDescriptionHelpFormatter)
     parser.add_argument("design", help="the design's BLIF file")
@@ -48,17 +67,24 @@ def main():
         parser.add_argument(f"--{name}", type=int, metavar="N", help=f"how many {name} in each node above (default: the cheapest)")
     parser.add_argument("--spare", type=amount, default=0.0, metavar="SHARE", help="so much more, as 10%% or 0.1 (default: 0)")
     parser.add_argument("-o", "--output", default="-", help="the machine's new file (default: standard output)")
+    parser.add_argument("--map", metavar="FILE", help="a new file for the text of teramac_map that this machine holds")
+    add_mapper(parser)
     add_program(parser)
     args = parser.parse_args()
     given = args.modules, args.chips, args.hextants
     trees = [tree for tree in TREES if all(want in (None, have) for want, have in zip(given, tree))] or [given]
     if min(count for count in given + (1,) if count is not None) < 1 or None in trees[0]:
         sys.exit("--modules, --chips, --hextants: give all three, each at least 1, beyond 4, 4 and 8")
-    network = designs.plain_network(checked_design(args.program, args.design))
-    machine = best_machine(network, trees, args.spare)
-    answer = compiles(args.program, machine, texts.Defects(), args.design)
+    network, text = designs.plain_network(checked_design(args.program, args.design)), args.design
+    machine = given = best_machine(network, trees, args.spare)
+    if args.map:
+        machine, text = remapped(args.mapper, given, args.design, args.spare)
+        print(f"crosspoints: {given.sizes['cross']:,} as given, {machine.sizes['cross']:,} remapped", file=sys.stderr)
+    answer = compiles(args.program, machine, texts.Defects(), text)
     if answer.status:
         sys.exit(f"compile of the design on this machine: {' '.join(answer.refusal)}")
+    if args.map:
+        texts.write_new(args.map, text)
     texts.write_new(args.output, machine.text)
 
 

@@ -13,7 +13,7 @@ import teramac_texts as texts
 import trial
 from explain import explain
 from faults import Places, largest_rate, make_faults
-from program import DEFAULT, HERE, call
+from program import DEFAULT, HERE, MAPPER, call
 from study import KNOWN, Study, names_of
 from test_studies import EXAMPLES, run
 
@@ -189,6 +189,17 @@ class Runs(unittest.TestCase):
         ran = self.study()
         self.assertIn("refused design 2 undriven y; no run", ran.stderr)
         self.assertNotEqual(ran.returncode, 0)
+
+    @unittest.skipUnless(MAPPER, "teramac_map isn't there")
+    def test_remapped(self):
+        """A smaller machine holds the mapper's text, with the same rows, and not the design as given."""
+        machine, text = str(self.folder / "m.machine"), str(self.folder / "t.blif")
+        ran = run("size.py", "uart.blif", "--map", text, "-o", machine)
+        given, least = (int(word.replace(",", "")) for word in ran.stderr.split() if word[0].isdigit())
+        self.assertLess(least, given)
+        self.assertEqual(*(call(DEFAULT, "eval", design, f"{EXAMPLES}/uart.vec").rows for design in (text, f"{EXAMPLES}/uart.blif")))
+        ran = run("trial.py", machine, f"{EXAMPLES}/uart.blif:{EXAMPLES}/uart.vec", "--rate", "0.0", "--lists", "exact,mapped")
+        self.assertEqual([line.split(",")[7:9] for line in ran.stdout.splitlines()[1:]], [["exact", "3"], ["mapped", "0"]])
 
     def test_machines_of_one_name(self):
         self.assertEqual([*names_of(["a/x.machine", "b/x.machine"]), *names_of(["a/x.machine", "b/y.machine"])], ["a-x", "b-x", "x", "y"])

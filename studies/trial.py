@@ -16,13 +16,13 @@ from pathlib import Path
 import designs
 import teramac_texts as texts
 from faults import KINDS, SHAPES, add_clusters, amount, make_faults
-from program import REPORT, add_program, call
+from program import REPORT, Answer, add_mapper, add_program, call
 
 COLUMNS = (
     "machine crosspoints kind rate seed faults design list status refusal listed_wires listed_crosses listed_tables "
     "thrown_wires thrown_crosses thrown_tables tables nets crossings closed seconds diagnose_seconds loads spare"
 ).split()
-LISTS = ("exact", "diagnosed", "wires", "hextants", "none", "triplicated")
+LISTS = ("exact", "diagnosed", "mapped", "wires", "hextants", "none", "triplicated")
 UNDIAGNOSED = ("none", "triplicated")
 # Answers that say nothing of room: wrong texts or words, a rig, a store or an output that failed.
 NO_RUN = (1, 2, 4, 5)
@@ -70,7 +70,7 @@ def hextants_list(machine, faults):
     return found
 
 
-BY_FAULTS = {"exact": texts.exact_list, "wires": wires_list, "hextants": hextants_list}
+BY_FAULTS = {"exact": texts.exact_list, "mapped": texts.exact_list, "wires": wires_list, "hextants": hextants_list}
 
 
 class Trial:
@@ -88,8 +88,8 @@ class Trial:
         given = (args.name or Path(args.machine).stem, self.machine.sizes["cross"], name, args.rate, args.seed, self.faults.count)
         self.head = dict(zip(COLUMNS, given)) | {"spare": args.spare}
 
-    def call(self, *words):
-        answer = call(self.args.program, *words, seconds=self.args.seconds)
+    def call(self, *words, program=None):
+        answer = call(program or self.args.program, *words, seconds=self.args.seconds)
         if answer.status in NO_RUN:
             said = " ".join(answer.refusal) or f"status {answer.status}"
             sys.exit(f"{words[0]} on {self.head['machine']}, {self.head['kind']} {self.args.rate}, seed {self.args.seed}: {said}; no run")
@@ -125,12 +125,17 @@ class Trial:
         return answer
 
     def laid(self, listed, design, vectors, promised=True, given=None):
-        """compile and run on a list; the answer with the seconds of both, and the image's sizes where there is one."""
-        image = self.call("compile", self.args.machine, listed, given or design)
+        """compile and run on a list; the answer with the seconds of both, and the image's sizes where there is one.
+
+        `given` is the text that is laid in the design's place; of the mapper it is what it answers.
+        """
+        if isinstance(given, Answer) and given.status:
+            return given, {}
+        image = self.call("compile", self.args.machine, listed, getattr(given, "written", given) or design)
         if image.status:
             return image, {}
         ran = self.call("run", self.args.machine, self.fault_text, image.written, vectors)
-        ran.seconds += image.seconds
+        ran.seconds += image.seconds + getattr(given, "seconds", 0.0)
         return self.compared(ran, design, vectors, promised), self.shape_of(image.written)
 
     def loads(self):
@@ -151,6 +156,8 @@ class Trial:
                 given = design
                 if kind == "triplicated":
                     given = designs.blif_text(designs.triplicated(texts.read_text(texts.read_design, design))).encode()
+                if kind == "mapped":
+                    given = self.call(self.args.machine, listed, design, program=self.args.mapper)
                 answer, sizes = self.laid(listed, design, vectors, kind not in UNDIAGNOSED, given)
                 yield self.row(name, kind, None if kind in UNDIAGNOSED else listed, answer, **sizes)
 
@@ -189,11 +196,14 @@ def main():
     parser.add_argument("--name", help="the machine's name in the table (default: its file's)")
     parser.add_argument("--spare", type=float, help="what the machine has to spare, for the table")
     parser.add_argument("-o", "--output", default="-", help="a new file (default: standard output)")
+    add_mapper(parser)
     add_program(parser)
     args = parser.parse_args()
     args.lists = args.lists.split(",")
     if not set(args.lists) <= set(LISTS):
         sys.exit(f"--lists: some of {', '.join(LISTS)}")
+    if "mapped" in args.lists and not args.mapper:
+        sys.exit("--lists: mapped wants teramac_map, built or named by --mapper")
     try:
         rows = list(Trial(args).rows())
     except ValueError as error:
