@@ -28,8 +28,9 @@ pub mod Exits
 pub mod Sure
 pub mod Values
 pub mod ListFiles
+pub mod AskedLemmas
+pub mod TextLemmas
 -- For the proofs of this crate alone.
-mod TextLemmas
 mod CutRows
 mod AttachLemmas
 mod TookLemmas

@@ -12,12 +12,12 @@ use Rattle.tm_text.specs.Size.{most_bytes}
 use Rattle.steps.specs.Outside.{Around}
 use Rattle.steps.specs.Courses.{Course, Next, Step, after, write, done, ends, refuses, writes}
 use Rattle.steps.specs.Jobs.{IsExcused}
-use Rattle.steps.specs.Texts.{reads_machine, reads_defects, reads_design, reads_image}
+use Rattle.steps.specs.Texts.{reads_machine, reads_defects, reads_design, reads_text, reads_image}
 use Rattle.steps.specs.declared.design_file.DesignFile.{DesignFile}
 use Rattle.steps.specs.declared.refusal.Refusal.{Refusal}
 use Rattle.steps.proofs.Leading.{after-leads, write-leads, done-leads}
 use Rattle.steps.proofs.Excused.{machine-excused, defects-excused, design-excused, image-excused}
-use Rattle.steps.proofs.ShapeLemmas.{one-machine, one-list, one-design, one-image}
+use Rattle.steps.proofs.ShapeLemmas.{one-machine, one-list, one-design, one-text, one-image, with_text}
 
 -- such comes next, whatever was written
 pub record IsLed (next_is : Next → Type 0) (course : Course) : Type 0 where
@@ -75,6 +75,12 @@ module _ {old new : Around} {told : Told} {bytes : List ℕ} (is : told ≡ hold
   pub design-sure : (file : DesignFile) (draft : Draft) → IsDesign bytes draft → IsSure (reads_design file told) draft old new
   design-sure file draft right = record {
     only = λ other. one-design file told bytes draft other is right;
+    excused = λ refusal stops. design-excused old new file bytes draft right within refusal (rw is at stops);
+  }
+
+  pub text-sure : (file : DesignFile) (draft : Draft) → IsDesign bytes draft → IsSure (reads_text file told) (with_text bytes draft) old new
+  text-sure file draft right = record {
+    only = λ other. one-text file told bytes draft other is right;
     excused = λ refusal stops. design-excused old new file bytes draft right within refusal (rw is at stops);
   }
 

@@ -17,6 +17,7 @@ use Rattle.rig.specs.Rig.{RigState, Asked, IsDetached, RefusesText}
 use Rattle.tm_text.specs.Size.{most_bytes}
 use Rattle.steps.specs.Courses.{Step}
 use Rattle.steps.specs.declared.design_file.DesignFile.{DesignFile}
+use Rattle.steps.specs.declared.design.DesignText.{DesignText}
 use Rattle.steps.specs.declared.refusal.Refusal.{Refusal}
 use Rattle.steps.specs.declared.refusal.Refusal.TheVariants as refused
 use Rattle.steps.specs.declared.refusal.Stop.{Stop}
@@ -85,6 +86,15 @@ NoDesign file told refusal = ⊥
 
 abbrev pub reads_design : DesignFile → Told → Step Draft
 reads_design file told = record { stops = NoDesign file told; gives = λ draft. IfTold told (λ bytes. IsDesignText bytes draft) }
+
+-- the bytes are those of the file, and the text of this design, and of no other
+pub record IsTextRead (told : Told) (read : DesignText) : Type 0 where
+  pub design : IsDesignText read.text read.netlist
+  pub file : IfTold told (λ bytes. read.text ≡ bytes)
+
+-- a design that is read with its bytes
+abbrev pub reads_text : DesignFile → Told → Step DesignText
+reads_text file told = record { stops = NoDesign file told; gives = IsTextRead told }
 
 -- ---- images of a machine
 

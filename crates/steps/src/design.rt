@@ -4,7 +4,7 @@ ghost use Rattle.tm_outside.specs.Sink.{SinkState};
 ghost use Rattle.tm_outside.specs.Told.{holds};
 ghost use Rattle.rig.specs.Rig.{RigState};
 ghost use Rattle.steps.specs.Outside.{Outside, outside};
-ghost use Rattle.steps.specs.Texts.{IsRefusedAt, reads_design};
+ghost use Rattle.steps.specs.Texts.{IsRefusedAt, reads_design, reads_text};
 ghost use Rattle.steps.specs.Took.{Took};
 
 use crate::design_file::DesignFile;
@@ -12,8 +12,17 @@ use crate::refusal::{Refusal, RefusedDesign, Stop};
 use blif_read::read_blif;
 use netlist::{DesignFault, DesignKind, Netlist};
 use std::alloc::Global;
+use tm_items::Items;
 use tm_outside::{Store, read_within};
 use tm_text::MOST_BYTES;
+
+/// A design, and the bytes that it was read from.
+#[derive(Debug, Drop)]
+pub struct DesignText {
+    /// The bytes of its file.
+    pub text: Items<u8>,
+    pub netlist: Netlist,
+}
 
 // The refusal of a design.
 fn refused(alloc: Global, file: DesignFile, line: u64, kind: DesignKind) -> Stop
@@ -51,6 +60,38 @@ pub fn read_design<S: Store>(
 {
     match read_within(alloc, store, name, MOST_BYTES)? {
         Some(text) => netlist_of(alloc, file, &text),
+        None => Err(refused(alloc, file, 0, DesignKind::Limit)),
+    }
+}
+
+// The netlist of a text, with the text.
+fn with_netlist(alloc: Global, file: DesignFile, text: Vec<u8>) -> Result<DesignText, Stop>
+    // Whatever is outside.
+    ensures { (o : Outside) → Took [] (reads_text file (holds text.items)) result o o }
+{
+    match netlist_of(alloc, file, &text) {
+        Ok(netlist) => Ok(DesignText {
+            text: Items::new(text),
+            netlist,
+        }),
+        Err(stop) => Err(stop),
+    }
+}
+
+/// Reads a design as [`read_design`] does, and keeps its bytes.
+pub fn read_text<S: Store>(
+    alloc: Global,
+    file: DesignFile,
+    store: &mut S,
+    name: &str,
+) -> Result<DesignText, Stop>
+    // Whatever the rig and the sink are.
+    ensures took { (rig : RigState) (sink : SinkState) →
+        Took (name.now ∷ []) (reads_text file ((S.store_state store.old).contents name.now)) result
+        (outside (S.store_state store.old) rig sink) (outside (S.store_state store.new) rig sink) }
+{
+    match read_within(alloc, store, name, MOST_BYTES)? {
+        Some(text) => with_netlist(alloc, file, text),
         None => Err(refused(alloc, file, 0, DesignKind::Limit)),
     }
 }

@@ -1,6 +1,7 @@
 //! A text of examples, case by case.
 
 use crate::block::{Block, blocks};
+use crate::design::ports_of;
 use crate::judge::{Trial, Want, judge};
 use crate::step::{Each, Marks, Step, Turn};
 use crate::trial::Given;
@@ -211,7 +212,7 @@ impl Book {
             faults: Vec::new(alloc),
             files: Vec::new(alloc),
             name: String::new(alloc),
-            step: Step::new(alloc, Vec::new(alloc)),
+            step: Step::new(alloc, Vec::new(alloc), false),
             tried: false,
             wrong: false,
             right: 0,
@@ -335,6 +336,20 @@ impl Book {
         self.end(rt, status.as_str(), &bytes, true)
     }
 
+    // Says of the step that it writes a design with the ports of a file; false where the words name none.
+    fn ask_design(&mut self, words: &[String]) -> Result<bool, AllocError> {
+        let [name, most @ ..] = words else {
+            return Ok(false);
+        };
+        let Some(file) = self.named(name.as_str()) else {
+            return Ok(false);
+        };
+        let text = String::from_utf8_lossy(self.alloc, &file.bytes)?;
+        let most = first_of(most).parse::<usize>().ok();
+        self.step.marks.design = Some(ports_of(self.alloc, text.as_str(), most)?);
+        Ok(true)
+    }
+
     // Does what a head says, with the bytes below it; false where it says nothing.
     fn read(&mut self, rt: &impl Print, head: &str, body: Vec<u8>) -> Result<bool, AllocError> {
         let words = rest_of(self.alloc, head)?;
@@ -345,10 +360,11 @@ impl Book {
                 self.begin(first)?;
                 Ok(true)
             }
-            "words" => {
-                self.step = Step::new(self.alloc, words);
+            "words" | "maps" => {
+                self.step = Step::new(self.alloc, words, key == "maps");
                 Ok(true)
             }
+            "design" => self.ask_design(&words),
             "text" | "faults" | "file" => self.give(key, first, body),
             "cut" | "flip" => self.change(key, &words),
             "some" | "only" | "last" => { mark(self.alloc, &mut self.step.marks, key, words, body) }

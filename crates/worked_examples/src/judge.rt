@@ -1,5 +1,6 @@
 //! Whether what came of a command is what had to come.
 
+use crate::design::has_ports;
 use crate::step::{Each, Fails, Marks, Step};
 use crate::trial::{Given, Manner, Outcome, outcome_of};
 use std::alloc::{AllocError, Global};
@@ -74,6 +75,14 @@ fn begins_with_one(line: &str, words: &[String]) -> bool {
     words.iter().any(|word| word.as_str() == first)
 }
 
+// Whether a text is a design as is said, if anything is.
+fn is_design(alloc: Global, marks: &Marks, text: &str) -> Result<bool, AllocError> {
+    match &marks.design {
+        Some(ports) => has_ports(alloc, ports, text),
+        None => Ok(true),
+    }
+}
+
 // Whether all holds that is said of the lines of a text.
 fn is_marked(marks: &Marks, text: &str) -> bool {
     if let Some(some) = &marks.some {
@@ -114,6 +123,7 @@ fn outcome(
 ) -> Result<Outcome, AllocError> {
     let manner = Manner {
         words: trial.step.words.as_slice(),
+        maps: trial.step.maps,
         fails,
         before: trial.step.before,
         piece,
@@ -143,6 +153,7 @@ fn try_piece(
     let right = is_wanted(&trial.want, &outcome)
         && is_within(trial.step.most_loads, outcome.loads)
         && is_marked(marks, text.as_str())
+        && is_design(alloc, marks, text.as_str())?
         && outcome.bytes.as_slice().ends_with(&marks.last);
     if !right {
         tell(rt, alloc, trial.name, &outcome)?;

@@ -5,6 +5,7 @@
 
 mod block;
 mod book;
+mod design;
 mod judge;
 mod step;
 mod trial;

@@ -1,5 +1,6 @@
 //! A command to be tried: its words, what is given besides, and which calls fail.
 
+use crate::design::Ports;
 use std::alloc::{AllocError, Global};
 
 /// Which calls fail in turn, the first, the second and so on, until none is left that can.
@@ -42,12 +43,16 @@ pub struct Marks {
     pub only: String,
     /// What stands last.
     pub last: Vec<u8>,
+    /// The ports of the design that is written, and how many tables it has at most.
+    pub design: Option<Ports>,
 }
 
 /// A command to be tried.
 #[derive(Drop)]
 pub struct Step {
     pub words: Vec<String>,
+    /// Whether the mapper is called and not the program of the commands.
+    pub maps: bool,
     pub fails: Fails,
     /// The status with which it ended before, over the same rig, where it was done before.
     pub before: Option<u8>,
@@ -100,15 +105,17 @@ impl Marks {
             words: Vec::new(alloc),
             only: String::new(alloc),
             last: Vec::new(alloc),
+            design: None,
         }
     }
 }
 
 impl Step {
-    /// A command of these words, and nothing else said.
-    pub fn new(alloc: Global, words: Vec<String>) -> Step {
+    /// A command of these words, of the mapper or not, and nothing else said.
+    pub fn new(alloc: Global, words: Vec<String>, maps: bool) -> Step {
         Step {
             words,
+            maps,
             fails: Fails::new(alloc),
             before: None,
             takes: None,

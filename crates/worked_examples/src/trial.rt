@@ -4,6 +4,7 @@ use crate::step::Fails;
 use cycle_sim::SimRig;
 use rig::{FlakyRig, LogRig, Rig};
 use std::alloc::{AllocError, Global};
+use tera_map::teramac_map;
 use tera_top::teramac;
 use tm_outside::{CutSink, File, MemorySink, MemoryStore, Sink};
 
@@ -30,6 +31,7 @@ pub struct Outcome {
 #[derive(Drop)]
 pub struct Manner<'a> {
     pub words: &'a [String],
+    pub maps: bool,
     pub fails: &'a Fails,
     pub before: Option<u8>,
     pub piece: Option<usize>,
@@ -84,6 +86,10 @@ fn end_over<K: Sink>(
     given: &Given<'_>,
     sink: &mut K,
 ) -> Result<(u8, u64), AllocError> {
+    if manner.maps {
+        let mut store = store_of(alloc, given, manner.fails, manner.piece)?;
+        return Ok((teramac_map(alloc, manner.words, &mut store, sink), 0));
+    }
     let sim = sim_of(alloc, given.faults, manner.fails)?;
     let mut rig: Box<dyn Rig> = Box::new(alloc, LogRig::new(sim))?;
     if let Some(before) = manner.before {

@@ -1,0 +1,20 @@
+//! Orders of a design's covers for a machine.
+//!
+//! In the plan in order tables sit on the free tables of the machine as their covers stand in the text. `ordered` exchanges
+//! seats by chance, so that fewer nets cross nodes, above all where more cross than the machine has ports; empty covers leave
+//! seats free. Nothing is proved of it but that it returns: whether the plan fits is asked of the text.
+#![tactic(auto)]
+
+mod copying;
+mod count;
+mod grow;
+mod levels;
+mod luck;
+mod need;
+mod nets;
+mod order;
+mod rooms;
+mod search;
+mod tree;
+
+pub use order::ordered;

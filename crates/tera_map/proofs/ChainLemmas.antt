@@ -1,0 +1,69 @@
+-- A `compile` of what the mapper wrote.
+use Rattle.std.proofs.Common.{◌≡◌, ℕ, List, sym, subst}
+use Rattle.hierarchy.specs.declared.Shape.{Shape}
+use Rattle.hierarchy.specs.Defects.{Covers}
+use Rattle.hierarchy.specs.Faults.{Faults}
+use Rattle.defect_db.specs.Lists.{DefectList}
+use Rattle.defect_db.specs.Faults.{IsText}
+use Rattle.netlist.specs.declared.draft.Draft.{Draft}
+use Rattle.config_image.specs.Images.{ImageValue}
+use Rattle.crossbar_route.specs.RightImages.{IsRightImage}
+use Rattle.remap.specs.Remapped.{HaveSameRows}
+use Rattle.steps.specs.Outside.{Outside}
+use Rattle.steps.specs.Texts.{IsMachineText, IsDefectsText, IsDesignText}
+use Rattle.steps.proofs.ShapeLemmas.{same-shape}
+use Rattle.tera_compile.specs.Compile.{CompileRight, compile_files}
+use Rattle.tera_compile.specs.Headline.{IsCompiled}
+use Rattle.tera_map.specs.Headline.{IsFitted}
+use Rattle.tera_map.specs.Chain.{HoldsText, WroteRightImage, FitsThenCompiles}
+
+-- an image that is right for a design is right for one with the same rows
+right-for : (f : Faults) (i : ImageValue) (d e : Draft) → HaveSameRows d e → IsRightImage f i e → IsRightImage f i d
+right-for f i d e same right = λ vectors reads widths run. (same.rows vectors _).1 (right vectors reads widths run)
+
+module _ (machine defects design name : List ℕ) (old new handed : Outside) (f : IsFitted machine defects design old new) (h : HoldsText machine defects name f.text old handed.store) where
+  machine-text : IsMachineText h.machine_file f.list.shape
+  machine-text = rw h.machine_told at f.machine_is
+
+  defects-text : IsDefectsText f.list.shape h.defects_file f.list
+  defects-text = rw h.defects_told at f.list_is
+
+  all-right : CompileRight (compile_files handed.store machine defects name)
+  all-right = record {
+    files = record {
+      list = f.list;
+      draft = f.mapped;
+      machine_file = h.machine_file;
+      defects_file = h.defects_file;
+      design_file = f.text;
+      machine_told = h.machine_again;
+      machine = machine-text.text;
+      machine_within = machine-text.within;
+      defects_told = h.defects_again;
+      defects = defects-text.text;
+      defects_within = defects-text.within;
+      design_told = h.text_told;
+      design = f.wrote.remapped.another.design;
+      design_within = f.wrote.remapped.another.short;
+    };
+    room = f.room;
+  }
+
+  right-image : (compiled : Outside) → IsCompiled machine defects name handed compiled → WroteRightImage f.list f.draft handed compiled
+  right-image compiled c =
+      let machine_read : IsMachineText h.machine_file c.list.shape = rw h.machine_again at c.machine_is in
+      let shapes : f.list.shape ≡ c.list.shape = same-shape f.list.shape c.list.shape (machine_read.only f.list.shape.counts machine-text.text) in
+      let list_read : IsDefectsText c.list.shape h.defects_file c.list = rw h.defects_again at c.list_is in
+      let lists : f.list ≡ c.list = list_read.only f.list (subst (λ (s : Shape). IsText s h.defects_file f.list) shapes defects-text.text) in
+      let design_read : IsDesignText f.text c.draft = rw h.text_told at c.design_is in
+      let drafts : f.mapped ≡ c.draft = design_read.only f.mapped f.wrote.remapped.another.design in
+      record {
+        image = c.image;
+        written = c.written;
+        right = λ faults covers.
+            let right : IsRightImage faults c.image c.draft = c.image_for.right faults (subst (λ (l : DefectList). Covers l.shape l.list faults) lists covers) in
+            right-for faults c.image f.draft f.mapped f.wrote.remapped.another.same (subst (λ (d : Draft). IsRightImage faults c.image d) (sym drafts) right);
+      }
+
+  pub fits-then-compiles : FitsThenCompiles machine defects design name old new handed f
+  fits-then-compiles = record { right = all-right; image = right-image }

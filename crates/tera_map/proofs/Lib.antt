@@ -1,0 +1,6 @@
+-- For the proofs of this crate alone.
+mod MapLemmas
+mod MapLaws
+mod Headlines
+mod Fronts
+mod ChainLemmas

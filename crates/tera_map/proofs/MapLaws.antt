@@ -1,0 +1,39 @@
+-- What the jobs of the mapper lead to.
+use Rattle.std.proofs.Common.{ℕ, List, [], ◌∷◌}
+use Rattle.steps.specs.Outside.{Around}
+use Rattle.steps.specs.Jobs.{IsLawful, EndsWell}
+use Rattle.steps.specs.declared.design_file.DesignFile.TheVariants.{Design}
+use Rattle.steps.proofs.Sure.{IsLed, led-after, led-sure, led-line, machine-sure, list-sure, text-sure}
+use Rattle.steps.proofs.QuietJobs.{quiet-lawful}
+use Rattle.lay.proofs.Rooms.{AreDecided, never-refused, lay-excused}
+use Rattle.tera_compile.specs.Compile.{CompileRight, compile_files}
+use Rattle.tera_map.specs.Maps.{MapRight, HasSameRig, map_course, map_job, fit_course, fit_job}
+use Rattle.tera_map.proofs.MapLemmas.{map-excused}
+
+module _ (old new : Around) where
+  -- a right design is remapped
+  map-right : (design : List ℕ) → MapRight (old.store.contents design) → IsLed (EndsWell old new) (map_course design old.store new.store)
+  map-right design right =
+      led-sure (text-sure right.design_told right.within Design right.draft right.is_design) (λ refusal h. h)
+      (led-after (map-excused old new) (λ r is. led-line tt tt))
+
+  -- and where there is room for it, one with room
+  fit-right : AreDecided → (machine defects design : List ℕ) → CompileRight (compile_files old.store machine defects design) →
+      IsLed (EndsWell old new) (fit_course machine defects design old.store new.store)
+  fit-right decided machine defects design right =
+      let t = right.files in
+      led-sure (machine-sure t.machine_told t.machine_within t.list.shape t.machine) (λ refusal h. h)
+      (led-sure (list-sure t.defects_told t.defects_within t.list t.defects) (λ refusal h. h)
+      (led-sure (text-sure t.design_told t.design_within Design t.draft t.design) (λ refusal h. h)
+      (led-after (lay-excused t.list t.draft old new (never-refused decided t.list t.draft right.room)) (λ r is. led-line tt tt))))
+
+pub map-lawful : (design : List ℕ) → IsLawful (map_job design)
+map-lawful design =
+    quiet-lawful (design ∷ []) HasSameRig (λ old new. map_course design old.store new.store) (λ old. MapRight (old.store.contents design))
+    (λ old new right. record { well = (map-right old new design right).leads })
+
+pub fit-lawful : AreDecided → (machine defects design : List ℕ) → IsLawful (fit_job machine defects design)
+fit-lawful decided machine defects design =
+    quiet-lawful (machine ∷ defects ∷ design ∷ []) HasSameRig (λ old new. fit_course machine defects design old.store new.store)
+    (λ old. CompileRight (compile_files old.store machine defects design))
+    (λ old new right. record { well = (fit-right old new decided machine defects design right).leads })

@@ -1,0 +1,45 @@
+-- The steps of the mapper.
+use Rattle.std.proofs.Common.{◌≡◌, [], refl}
+use Rattle.std.specs.Prelude.{Result, Ok, Err}
+use Rattle.defect_db.specs.Lists.{DefectList}
+use Rattle.netlist.specs.declared.draft.Draft.{Draft}
+use Rattle.table_map.specs.Plain.{plain_network}
+use Rattle.remap.specs.Remapped.{HasPlan, MayStandFor}
+use Rattle.remap.specs.declared.text.Remapped.{Remapped}
+use Rattle.lay.specs.Laying.{HasRoom}
+use Rattle.lay.specs.Wants.{PlanStops}
+use Rattle.steps.specs.Outside.{Around, Outside}
+use Rattle.steps.specs.Stops.{StepStops, IsCounted}
+use Rattle.steps.specs.Took.{Took}
+use Rattle.steps.specs.Jobs.{IsExcused}
+use Rattle.steps.specs.declared.design.DesignText.{DesignText}
+use Rattle.steps.specs.declared.refusal.Refusal.{Refusal}
+use Rattle.steps.specs.declared.refusal.Refusal.TheVariants as refused
+use Rattle.steps.specs.declared.refusal.Stop.{Stop}
+use Rattle.steps.specs.declared.refusal.Stop.TheVariants.{Refused}
+use Rattle.steps.proofs.Taking.{took-stop}
+use Rattle.tera_map.specs.Maps.{NotMapped, maps_within}
+
+-- a plan of the plain network is room
+pub room-of : (d : DefectList) (draft : Draft) → HasPlan d draft → HasRoom d draft
+room-of d draft h = record { network = plain_network draft; plan = h.plan; plain = refl; fits = h.fits }
+
+-- there is no plan for the design as given, and so no text
+fit-stops : (d : DefectList) (read : DesignText) (stop : Stop) → PlanStops d (plain_network read.netlist) stop → StepStops (maps_within d read) stop
+fit-stops d read (Refused (refused.Room place)) stops =
+    record { network = plain_network read.netlist; plain = refl; shape = stops.0; short = stops.1 }
+fit-stops d read (Refused refused.Memory) stops = tt
+fit-stops d read stop stops = absurd stops
+
+fit-counted : (d : DefectList) (read : DesignText) (stop : Stop) (o : Outside) → PlanStops d (plain_network read.netlist) stop → IsCounted ⊥ stop o o
+fit-counted d read (Refused (refused.Room place)) o stops = tt
+fit-counted d read (Refused refused.Memory) o stops = tt
+fit-counted d read stop o stops = absurd stops
+
+pub fit-took : (d : DefectList) (read : DesignText) (stop : Stop) (o : Outside) → PlanStops d (plain_network read.netlist) stop → Took {T = Remapped} [] (maps_within d read) (Err stop) o o
+fit-took d read stop o stops = took-stop (maps_within d read) stop o (fit-stops d read stop stops) (fit-counted d read stop o stops)
+
+-- want of memory is excused
+pub map-excused : (old new : Around) (refusal : Refusal) → NotMapped refusal → IsExcused refusal old new
+map-excused old new refused.Memory stops = tt
+map-excused old new refusal stops = absurd stops
