@@ -10,8 +10,8 @@ const NEAR: [i64; 4] = [8, 6, 4, 2];
 /// What a net without a pin adds besides, if it is in the seat's hextant and lacks no other table.
 const ENDS: i64 = 4;
 
-/// What a net costs that has no table anywhere.
-const NEW: i64 = 2;
+/// What a net adds that has no table anywhere.
+const NEW: i64 = -2;
 
 /// Nets with more tables say little about which table is to come next.
 const MOST_REACHED: usize = 16;
@@ -73,19 +73,30 @@ impl<'a> Growth<'a> {
         }
     }
 
+    // What a net adds for a place, the last of whose tables sits at another one.
+    fn score_last(&self, net: usize, last: usize, left: u32, place: usize) -> i64 {
+        let [hextants, _, _] = &self.tree.tiers;
+        let here = over(last, hextants.span) == over(place, hextants.span);
+        let near = self.nearness(last, place);
+        if here && left == 1 && !is_pinned(self.nets, net) {
+            near.wrapping_add(ENDS)
+        } else {
+            near
+        }
+    }
+
     // What a net adds for a place.
     fn score_net(&self, net: usize, place: usize) -> i64 {
-        let Some(spread) = self.spreads.get(net) else {
-            return 0;
-        };
-        if spread.last == NOWHERE {
-            return -NEW;
+        match self.spreads.get(net) {
+            None => 0,
+            Some(spread) => {
+                if spread.last == NOWHERE {
+                    NEW
+                } else {
+                    self.score_last(net, spread.last as usize, spread.left, place)
+                }
+            }
         }
-        let span = self.tree.tiers[0].span;
-        let here = over(spread.last as usize, span) == over(place, span);
-        let ends = here && spread.left == 1 && !is_pinned(self.nets, net);
-        let near = self.nearness(spread.last as usize, place);
-        near.wrapping_add(if ends { ENDS } else { 0 })
     }
 
     // The score of a table for a place.

@@ -5,7 +5,7 @@ use std::alloc::{AllocError, Global};
 use std::num::saturating_f64_to_i64;
 
 /// What a crossing costs.
-pub const UNIT: i64 = 64;
+pub const UNIT: f64 = 64.0;
 
 /// No limit.
 pub const NO_LIMIT: f64 = 1e9;
@@ -26,12 +26,8 @@ pub struct Level {
 // What so many crossings of a node cost: half the square of those above the limit more.
 fn cost_of(crossings: f64, limit: f64) -> i64 {
     let above = crossings - limit;
-    let more = if above > 0.0 {
-        32.0 * above * above
-    } else {
-        0.0
-    };
-    saturating_f64_to_i64(64.0 * crossings + more)
+    let more = if above > 0.0 { above * above } else { 0.0 };
+    saturating_f64_to_i64(UNIT * (crossings + 0.5 * more))
 }
 
 // The costs of counts up to this one.

@@ -44,27 +44,36 @@ fn counts_of(alloc: Global, tier: &Tier) -> Result<Counts, AllocError> {
     })
 }
 
+// What is known of the nodes of all levels below the root.
+#[derive(Drop)]
+struct AllCounts {
+    hextants: Counts,
+    chips: Counts,
+    modules: Counts,
+}
+
 // Counts the crossings and visits of a net at all levels; whether it visits the root.
 fn count_net(
     tree: &Tree,
-    counts: &mut [Counts; 3],
+    counts: &mut AllCounts,
     strands: &mut Strands,
     pins: u32,
 ) -> Result<bool, AllocError> {
-    let [hextants, chips, modules] = counts;
-    count_level(hextants, strands, tree.tiers[1].children, pins > 0)?;
-    count_level(chips, strands, tree.tiers[2].children, pins > 0)?;
-    count_level(modules, strands, usize::MAX, pins > 0)?;
+    let [_, chips, modules] = &tree.tiers;
+    count_level(&mut counts.hextants, strands, chips.children, pins > 0)?;
+    count_level(&mut counts.chips, strands, modules.children, pins > 0)?;
+    count_level(&mut counts.modules, strands, usize::MAX, pins > 0)?;
     Ok(root_strands(strands).saturating_add(pins as usize) >= 2)
 }
 
 /// What the plan needs in which tables have these seats.
 pub fn need_of(alloc: Global, nets: &Nets, tree: &Tree, seats: &[u32]) -> Result<Need, AllocError> {
-    let mut counts = [
-        counts_of(alloc, &tree.tiers[0])?,
-        counts_of(alloc, &tree.tiers[1])?,
-        counts_of(alloc, &tree.tiers[2])?,
-    ];
+    let [hextants, chips, modules] = &tree.tiers;
+    let mut counts = AllCounts {
+        hextants: counts_of(alloc, hextants)?,
+        chips: counts_of(alloc, chips)?,
+        modules: counts_of(alloc, modules)?,
+    };
     let mut visits = small(tree.no_lines);
     let mut strands = Strands::new(alloc);
     'nets: for net in &nets.nets {
@@ -73,17 +82,16 @@ pub fn need_of(alloc: Global, nets: &Nets, tree: &Tree, seats: &[u32]) -> Result
             visits = visits.saturating_add(1);
         }
     }
-    let [hextants, chips, modules] = &counts;
     Ok(Need {
         ports: [
-            greatest(&hextants.crossings),
-            greatest(&chips.crossings),
-            greatest(&modules.crossings),
+            greatest(&counts.hextants.crossings),
+            greatest(&counts.chips.crossings),
+            greatest(&counts.modules.crossings),
         ],
         lines: [
-            greatest(&hextants.visits),
-            greatest(&chips.visits),
-            greatest(&modules.visits),
+            greatest(&counts.hextants.visits),
+            greatest(&counts.chips.visits),
+            greatest(&counts.modules.visits),
             (visits as usize).max(1),
         ],
     })

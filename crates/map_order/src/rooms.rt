@@ -9,10 +9,10 @@ use crate::tree::{Tree, over, small};
 use std::alloc::{AllocError, Global};
 
 /// How often limits are pressed down.
-const TURNS: usize = 3;
+const TURNS: usize = 6;
 
 /// How many exchanges are tried in all, at most so many for each table in a search, and at least so many.
-const MOST_TRIES: usize = 4_000_000;
+const MOST_TRIES: usize = 3_000_000;
 
 const MOST_EFFORT: usize = 480;
 
@@ -117,7 +117,7 @@ fn search_room(
         let mut luck = Luck::new();
         let mut trial = trial_of(alloc, nets, tree, seats, room)?;
         trial.anneal(&mut luck, if anew { WARM } else { HOT }, steps);
-        tighten(alloc, best, &mut trial, &mut luck, steps / 2)?;
+        tighten(alloc, best, &mut trial, &mut luck, steps / 3)?;
     }
     Ok(())
 }
@@ -177,7 +177,7 @@ pub fn best_order(
     let most = count.saturating_add(spare).min(tree.seats.len());
     let latches = count.saturating_sub(nets.split);
     let rooms = rooms_of(alloc, nets, tree, most.saturating_sub(latches))?;
-    let searches = rooms.len().saturating_mul(5).saturating_mul(count);
+    let searches = rooms.len().saturating_mul(6).saturating_mul(count);
     let effort = over(MOST_TRIES, searches)
         .max(LEAST_EFFORT)
         .min(MOST_EFFORT);

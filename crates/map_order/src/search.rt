@@ -1,6 +1,6 @@
 //! The search for seats by exchanges.
 
-use crate::levels::{Level, NO_LIMIT, level_of};
+use crate::levels::{Level, NO_LIMIT, UNIT, level_of};
 use crate::luck::Luck;
 use crate::nets::{NOTHING, Nets, is_pinned, nets_at, tables_at};
 use crate::tree::{Tree, over, small};
@@ -46,8 +46,16 @@ pub struct Trial<'a> {
     holders: Vec<u32>,
     /// The seat at each table of the machine.
     seat_at: Vec<u32>,
-    levels: [Level; 3],
+    levels: Levels,
     cost: i64,
+}
+
+/// The levels of a tree below its root.
+#[derive(Drop)]
+struct Levels {
+    hextants: Level,
+    chips: Level,
+    modules: Level,
 }
 
 // The seat at each table of the machine that is free.
@@ -68,13 +76,14 @@ fn levels_of(
     nets: &Nets,
     tree: &Tree,
     limits: [f64; 3],
-) -> Result<[Level; 3], AllocError> {
+) -> Result<Levels, AllocError> {
     let count = nets.nets.len();
-    Ok([
-        level_of(alloc, &tree.tiers[0], count, limits[0])?,
-        level_of(alloc, &tree.tiers[1], count, limits[1])?,
-        level_of(alloc, &tree.tiers[2], count, limits[2])?,
-    ])
+    let [hextants, chips, modules] = &tree.tiers;
+    Ok(Levels {
+        hextants: level_of(alloc, hextants, count, limits[0])?,
+        chips: level_of(alloc, chips, count, limits[1])?,
+        modules: level_of(alloc, modules, count, limits[2])?,
+    })
 }
 
 /// A trial that begins with these seats.
@@ -123,10 +132,9 @@ impl<'a> Trial<'a> {
     // A table of a net comes to a table of the machine or goes from there.
     fn change(&mut self, net: usize, place: usize, comes: bool) {
         let pinned = is_pinned(self.nets, net);
-        let [hextants, chips, modules] = &mut self.levels;
-        let low = hextants.change(net, place, pinned, comes);
-        let middle = chips.change(net, place, pinned, comes);
-        let high = modules.change(net, place, pinned, comes);
+        let low = self.levels.hextants.change(net, place, pinned, comes);
+        let middle = self.levels.chips.change(net, place, pinned, comes);
+        let high = self.levels.modules.change(net, place, pinned, comes);
         self.cost = self
             .cost
             .wrapping_add(low)
@@ -223,10 +231,16 @@ impl<'a> Trial<'a> {
             return self.tree.tables;
         }
         match luck.below(3) {
-            0 => self.levels[0].span,
-            1 => self.levels[1].span,
-            _ => self.levels[2].span,
+            0 => self.levels.hextants.span,
+            1 => self.levels.chips.span,
+            _ => self.levels.modules.span,
         }
+    }
+
+    // Whether two tables of the machine are of one hextant.
+    fn is_near(&self, place: usize, other: usize) -> bool {
+        let hextants = &self.levels.hextants;
+        hextants.node(place) == hextants.node(other)
     }
 
     // A seat in a node that has a table of a net of this table.
@@ -242,9 +256,7 @@ impl<'a> Trial<'a> {
         let target = first.saturating_add(luck.below(span));
         let seat = *self.seat_at.get(target)? as usize;
         let from = self.seat(table);
-        if !self.may_have(table, seat)
-            || self.levels[0].node(self.place(from)) == self.levels[0].node(target)
-        {
+        if !self.may_have(table, seat) || self.is_near(self.place(from), target) {
             return None;
         }
         let other = self.holder(seat);
@@ -278,7 +290,7 @@ impl<'a> Trial<'a> {
 
     /// Tries so many exchanges while the heat falls.
     pub fn anneal(&mut self, luck: &mut Luck, heat: Heat, steps: usize) {
-        let mut now = heat.first * 64.0;
+        let mut now = heat.first * UNIT;
         'rounds: for _ in 0..ROUNDS {
             self.round(luck, over(steps, ROUNDS), now);
             now = now * heat.fall;

@@ -36,11 +36,15 @@ fn refer(places: &mut Vec<Place>, node: usize) {
     }
 }
 
-// Counts what roots and live ANDs read.
-fn count_reads(places: &mut Vec<Place>, nodes: Nodes<'_>, reach: &Reach) {
+// Counts what roots read: themselves.
+fn count_roots(places: &mut Vec<Place>, reach: &Reach) {
     'roots: for root in &reach.roots {
         refer(places, *root as usize);
     }
+}
+
+// Counts what live ANDs read.
+fn count_ands(places: &mut Vec<Place>, nodes: Nodes<'_>, reach: &Reach) {
     'nodes: for node in 0..reach.live.len() {
         if let Some(and) = nodes.and(node) {
             if reach.live[node] {
@@ -71,7 +75,8 @@ pub fn areas_of<'a>(
         share: 0.0,
     };
     let mut places = vec![in alloc; place; reach.live.len()]?;
-    count_reads(&mut places, nodes, reach);
+    count_roots(&mut places, reach);
+    count_ands(&mut places, nodes, reach);
     expect_reads(&mut places);
     Ok(Areas {
         live: &reach.live,

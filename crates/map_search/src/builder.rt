@@ -1,6 +1,6 @@
 //! A graph of ANDs while it is made.
 
-use crate::numbers::{literal_of, node_of, small};
+use crate::numbers::{literal_of, node_of};
 use std::alloc::{AllocError, Global};
 use std::collections::HashMap;
 
@@ -29,6 +29,7 @@ pub struct Builder {
     /// How many literals may still be looked at to factor sums.
     pub effort: u64,
     ands: usize,
+    full: bool,
 }
 
 impl Builder {
@@ -41,14 +42,15 @@ impl Builder {
             counts: Vec::new(alloc),
             effort: MOST_EFFORT,
             ands: 0,
+            full: false,
         };
         let _ = builder.add_leaf()?;
         Ok(builder)
     }
 
-    /// Whether the graph would have too many ANDs.
+    /// Whether one more AND was asked for than a graph may have.
     pub fn is_full(&self) -> bool {
-        self.ands >= MOST_ANDS
+        self.full
     }
 
     /// Adds an input or a latch, and gives its literal.
@@ -77,7 +79,8 @@ impl Builder {
         if let Some(literal) = self.known.get(&key) {
             return Ok(*literal);
         }
-        if self.is_full() {
+        if self.ands >= MOST_ANDS {
+            self.full = true;
             return Ok(0);
         }
         let level = self.level(left).max(self.level(right)).saturating_add(1);
@@ -135,10 +138,5 @@ impl Builder {
         };
         self.counts[place] = count;
         count
-    }
-
-    /// How many nodes there are.
-    pub fn size(&self) -> u32 {
-        small(self.nodes.len())
     }
 }
