@@ -3,3 +3,4 @@ mod Knowing
 mod Covering
 mod Preferring
 mod Stepping
+mod Sweeping

@@ -28,36 +28,6 @@ use Rattle.diagnose.specs.Stages.{HasTable, IfFaultless, IsReached, ReachedIf, T
 use Rattle.diagnose.proofs.Covering.{covers, tight}
 use Rattle.diagnose.proofs.Preferring.{reached_later}
 
--- A field has no more numbers than the machine has wires and crosspoints.
-size_few : (numbers : List Bool) (n : ℕ) → length numbers ≡ n → size_of numbers ≤ n
-size_few numbers n e = omega (arith, count_by-le-length (λ b. b) numbers, e)
-
-pub few_loads : {told : Option Faults} {m : Shape} {k : Kept} {a : Field} {before after : ℕ} → m ≡ k.shape → IsFieldOf m a → TakesFew told k a before after → IfFaultless told k (after ≤ before + loads_for k 2 3)
-few_loads {told} {m} {k} {a} {before} {after} e field few = record { at = λ f t none holds. by (few_wide few t none holds) }
-  where
-    by : after ≤ before + (2 * size_of a.crosses + 3 * size_of a.wires) → after ≤ before + loads_for k 2 3
-    by h =
-        let x = size_few a.crosses (crosses_of m) field.crosses in
-        let w = size_few a.wires (wires_of m) field.wires in
-        let s = ap crosses_of e in
-        let t = ap wires_of e in
-        omega (arith, h, x, w, s, t)
-
-pub most_loads : {m : Shape} (k : Kept) {a : Field} (before : ℕ) {after : ℕ} → m ≡ k.shape → IsFieldOf m a → after + pins_in k.shape a ≤ before + (8 * fresh k a + 3 * size_of a.wires) → after ≤ before + loads_for k 8 3
-most_loads {m} k {a} before {after} e field most = by (takes_wide k a before most)
-  where
-    by : after ≤ before + (8 * size_of a.crosses + 3 * size_of a.wires) → after ≤ before + loads_for k 8 3
-    by h =
-        let x = size_few a.crosses (crosses_of m) field.crosses in
-        let w = size_few a.wires (wires_of m) field.wires in
-        let s = ap crosses_of e in
-        let t = ap wires_of e in
-        omega (arith, h, x, w, s, t)
-
--- tables that aren't kept are no more than all
-pub tables_most : (k : Kept) (tables : List Table) (before : ℕ) {n after : ℕ} → length tables ≡ n → after ≤ before + 130 * fresh_tables k tables → after ≤ before + 130 * n
-tables_most k tables before count loads = let few = count_by-le-length (λ (t : Table). not (keeps_table k t.0)) tables in omega (arith, count, loads, few)
-
 -- What is closed in the whole machine is all that can be reached.
 pub reached_if : {told : Option Faults} {m : Shape} {l : Kept} {a : Field} {ss : List Step} → m ≡ l.shape → IsNumbered l.shape → ((w : ℕ) → w < wires_of m → has_number a.wires w ≡ true) →
     ((x : ℕ) → x < crosses_of m → has_number a.crosses x ≡ true) → ClosedIf told l a ss → ReachedIf told l ss
@@ -94,24 +64,16 @@ get_last : (ts : List Table) (t : Table) → slice_get (ts ++ t ∷ []) (length 
 get_last [] t = refl
 get_last (v ∷ ts) t = get_last ts t
 
--- One table more is among those of the machine.
-module _ (old new : List Table) (n : ℕ) (t : Table) (is : t.0 ≡ n) (more : new ≡ old ++ t ∷ []) where
-  pub tables_count : length old ≡ n → length new ≡ n + 1
-  tables_count e = let l = ap length more ∙ length-append old (t ∷ []) in omega (arith, l, e)
+-- One table more is in the list.
+module _ (old : List Table) (t : Table) (new : List Table) (more : new ≡ old ++ t ∷ []) where
+  pub has_before : {u : ℕ} → HasTable old u → HasTable new u
+  has_before x = record { place = x.place; table = x.table; here = subst (λ us. slice_get us x.place ≡ Some x.table) (sym more) (get_before old t x.place x.table x.here); is = x.is }
 
-  pub tables_within : (m : Shape) → All (λ (u : Table). u.0 < tables_of m) old → n < tables_of m → All (λ (u : Table). u.0 < tables_of m) new
-  tables_within m all less = rw more (All-push (λ (u : Table). u.0 < tables_of m) old t all (subst (λ i. i < tables_of m) (sym is) less))
+  pub has_last : {u : ℕ} → t.0 ≡ u → HasTable new u
+  has_last e = record { place = length old; table = t; here = subst (λ us. slice_get us (length old) ≡ Some t) (sym more) (get_last old t); is = e }
 
-  pub tables_each : length old ≡ n → ((u : ℕ) → u < n → HasTable old u) → (u : ℕ) → u < n + 1 → HasTable new u
-  tables_each e each u less = by (dec_lt u n)
-    where
-      by : Dec (u < n) → HasTable new u
-      by (yes h) = let x = each u h in record { place = x.place; table = x.table; here = subst (λ us. slice_get us x.place ≡ Some x.table) (sym more) (get_before old t x.place x.table x.here); is = x.is }
-      by (no h) = record { place = length old; table = t; here = subst (λ us. slice_get us (length old) ≡ Some t) (sym more) (get_last old t); is = is ∙ omega arith }
-
--- All tables were tested.
-pub tables_if : {told : Option Faults} {m : Shape} {k l : Kept} {ss : List Step} {tables : List Table} → m ≡ k.shape → ((t : ℕ) → t < tables_of m → HasTable tables t) → SeatedAreKept told k l ss tables → TablesIf told k l ss
-tables_if {told} {m} {k} {l} {ss} e has kept = record { each = λ t h. let x = has t (subst (λ n. t < tables_of n) (sym e) h) in subst (SeatedIsKept told k l ss) x.is (kept.each x.place x.table x.here) }
+  pub tables_within : {n : ℕ} → t.0 ≡ n → (m : Shape) → All (λ (u : Table). u.0 < tables_of m) old → n < tables_of m → All (λ (u : Table). u.0 < tables_of m) new
+  tables_within is m all less = rw more (All-push (λ (u : Table). u.0 < tables_of m) old t all (subst (λ i. i < tables_of m) (sym is) less))
 
 -- What was known by the first proof, and what the second kept besides of tables, makes the list a diagnosis.
 pub diagnosed : {s t u : RigState} {k l n : Kept} {known : KnownWires} {d : Defects} → ((m : Shape) → IsNumbered m) → ((m : Shape) (d : Defects) (f : Faults) → IsTight m d f → IsFair m d f) →

@@ -1,8 +1,9 @@
 //! The whole machine: from tests to a list of defects.
 //!
-//! Known wires grow from the pins of the machine as far as two routes reach. Of wires that are shorted to one another only one
-//! can be known: pins of tables take the place of lines and ports, and what is known grows again. Then the tables are tested
-//! over known wires. What isn't known or kept in the end is listed.
+//! A sweep decides many crosspoints, wires and tables in each load. Then known wires grow from the pins of the machine as far as
+//! two routes reach, without what the sweep has marked. Of wires that are shorted to one another only one can be known: pins of
+//! tables take the place of lines and ports, and both are made again. Then the tables that aren't marked are tested over known
+//! wires. What isn't known or kept in the end is listed.
 //!
 //! Promised, where the rig tells its faults: the list covers them, is tight to them and so is fair, whatever they are (`right`).
 //! It covers: no free crosspoint is stuck, no free table has a wrong cell or a stuck register, no free wire is shorted to a stuck

@@ -1,11 +1,14 @@
 //! The whole machine: from tests to a list of defects.
-ghost use Rattle.std.specs.Prelude.{◌≡◌, ◌≤◌, ◌<◌, ◌+◌, ◌*◌, ℕ, All, Some, IfOk, OnOk, IsErrOf, length};
+ghost use Rattle.std.specs.Prelude.{◌≡◌, ◌⊎◌, ◌≤◌, ◌<◌, ◌+◌, ◌*◌, ℕ, true, All, List, Some, IfOk, OnOk, IsErrOf, length};
+ghost use Rattle.tm_bits.specs.Numbers.{has_number};
 ghost use Rattle.tm_outside.specs.Counts.{Rose};
 ghost use Rattle.hierarchy.specs.Shape.{tables_of};
 ghost use Rattle.rig.specs.Rig.{shape_of};
 ghost use Rattle.evidence.specs.Kept.{Advances, KeepsNothing};
 ghost use Rattle.known.specs.Known.{IsKnown};
+ghost use Rattle.known.specs.declared.step.Step.{Step};
 ghost use Rattle.table_test.specs.Seats.{AddsOnlyTableFacts};
+ghost use Rattle.sweep.specs.Marks.{AreMarksFor, TrueIf};
 ghost use Rattle.diagnose.specs.Diagnosis.{IsDiagnosis, TakesFewLoads};
 ghost use Rattle.diagnose.specs.Stages.{HasTable, IfFaultless, ReachedIf, TablesIf, loads_for};
 
@@ -18,17 +21,33 @@ use growth::{Field, Known, grow, test_tables};
 use hierarchy::{Shape, Table, the_numbering_is_sound, tight_lists_are_fair};
 use rig::{Rig, RigFail};
 use std::alloc::{AllocError, Global};
+use sweep::{Bad, closed_without_bad, growth_after_a_sweep_is_paid, sweep, without_bad};
+use tm_bits::BitSet;
 
-// What is known grows in the whole machine.
-fn grow_whole(
+// All tables of a machine.
+fn all_tables(alloc: Global, shape: &Shape) -> Result<Vec<Table>, AllocError> {
+    let mut tables = Vec::new(alloc);
+    'tables: for t in 0..shape.tables() {
+        tables.push(Table(t))?;
+    }
+    Ok(tables)
+}
+
+// The whole machine is swept, and what is known grows in what isn't marked bad.
+fn know_whole(
     alloc: Global,
     rig: &mut Box<dyn Rig>,
     proof: &mut Proof,
     known: &mut Known,
+    bad: &mut Bad,
 ) -> Result<(), RigFail>
     requires attached { shape_of (rig_state rig.old) ≡ Some proof.old.shape }
     requires known { IsKnown proof.old known.old }
+    requires marks { AreMarksFor proof.old.shape bad.old }
+    requires right { TrueIf (rig_state rig.old).machine.faults proof.old known.old.steps bad.old }
     ensures known { IsKnown proof.new known.new }
+    ensures marks { AreMarksFor proof.old.shape bad.new }
+    ensures right { TrueIf (rig_state rig.old).machine.faults proof.new known.new.steps bad.new }
     ensures reached { OnOk result (ReachedIf (rig_state rig.old).machine.faults proof.new known.new.steps) }
     ensures advances { Advances (rig_state rig.old) (rig_state rig.new) proof.old proof.new }
     ensures loads { (rig_state rig.new).loads ≤ (rig_state rig.old).loads + loads_for proof.old 8 3 }
@@ -37,16 +56,35 @@ fn grow_whole(
     ensures cause { IsErrOf result RigFail.Failed → Rose (rig_state rig.old).failures (rig_state rig.new).failures }
 {
     the_numbering_is_sound();
+    closed_without_bad();
+    growth_after_a_sweep_is_paid();
+    tests_add_up();
     let Ok(field) = Field::whole(alloc, &proof.shape()) else {
         return Err(RigFail::Memory);
     };
-    grow(rig, proof, known, &field)
+    let Ok(tables) = all_tables(alloc, &proof.shape()) else {
+        return Err(RigFail::Memory);
+    };
+    sweep(rig, proof, known, bad, &field, &tables)?;
+    let Ok(rest) = without_bad(alloc, bad, &field) else {
+        return Err(RigFail::Memory);
+    };
+    grow(rig, proof, known, &rest)
 }
 
 // The known wires of the machine. Where wires are shorted, pins of tables are known first, as far as that can be.
-fn known_wires(alloc: Global, rig: &mut Box<dyn Rig>, proof: &mut Proof) -> Result<Known, RigFail>
+fn known_wires(
+    alloc: Global,
+    rig: &mut Box<dyn Rig>,
+    proof: &mut Proof,
+    bad: &mut Bad,
+) -> Result<Known, RigFail>
     requires attached { shape_of (rig_state rig.old) ≡ Some proof.old.shape }
+    requires marks { AreMarksFor proof.old.shape bad.old }
+    requires right { (ss : List Step) → TrueIf (rig_state rig.old).machine.faults proof.old ss bad.old }
     ensures known { IfOk result (IsKnown proof.new) }
+    ensures marks { AreMarksFor proof.old.shape bad.new }
+    ensures right { IfOk result (λ known. TrueIf (rig_state rig.old).machine.faults proof.new known.steps bad.new) }
     ensures reached { IfOk result (λ known. ReachedIf (rig_state rig.old).machine.faults proof.new known.steps) }
     ensures advances { Advances (rig_state rig.old) (rig_state rig.new) proof.old proof.new }
     ensures loads { (rig_state rig.new).loads ≤ (rig_state rig.old).loads + loads_for proof.old 16 20 }
@@ -58,36 +96,45 @@ fn known_wires(alloc: Global, rig: &mut Box<dyn Rig>, proof: &mut Proof) -> Resu
     let Ok(mut known) = Known::new(alloc, &proof.shape()) else {
         return Err(RigFail::Memory);
     };
-    grow_whole(alloc, rig, proof, &mut known)?;
+    know_whole(alloc, rig, proof, &mut known, bad)?;
     let changed = prefer_pins(alloc, rig, proof, &mut known)?;
     if changed {
-        grow_whole(alloc, rig, proof, &mut known)?;
+        // An unfit wire may have been shorted to one that gave way.
+        bad.unfit.clear();
+        know_whole(alloc, rig, proof, &mut known, bad)?;
     }
     Ok(known)
 }
 
-// All tables of a machine.
-fn all_tables(alloc: Global, shape: &Shape) -> Result<Vec<Table>, AllocError>
-    ensures count { IfOk result (λ tables. length tables.items ≡ tables_of shape.now) }
+// The tables that aren't marked wrong.
+fn tables_left(alloc: Global, shape: &Shape, wrong: &BitSet) -> Result<Vec<Table>, AllocError>
+    requires { length wrong.now ≡ tables_of shape.now }
+    ensures count { IfOk result (λ tables. length tables.items ≤ tables_of shape.now) }
     ensures within { IfOk result (λ tables. All (λ t. t.0 < tables_of shape.now) tables.items) }
-    ensures each { IfOk result (λ tables. (t : ℕ) → t < tables_of shape.now → HasTable tables.items t) }
+    ensures each { IfOk result (λ tables. (t : ℕ) → t < tables_of shape.now → (has_number wrong.now t ≡ true) ⊎ HasTable tables.items t) }
 {
     let mut tables = Vec::new(alloc);
     'tables: for t in 0..shape.tables() {
+        if wrong.has(t) {
+            continue;
+        }
         tables.push(Table(t))?;
     }
     Ok(tables)
 }
 
-// Tests all tables over known wires.
+// Tests over known wires all tables that aren't marked wrong.
 fn test_all(
     alloc: Global,
     rig: &mut Box<dyn Rig>,
     proof: &mut Proof,
     known: &Known,
+    bad: &Bad,
 ) -> Result<(), RigFail>
     requires attached { shape_of (rig_state rig.old) ≡ Some proof.old.shape }
     requires known { IsKnown proof.old known.now }
+    requires marks { AreMarksFor proof.old.shape bad.now }
+    requires right { TrueIf (rig_state rig.old).machine.faults proof.old known.now.steps bad.now }
     ensures tables { OnOk result (TablesIf (rig_state rig.old).machine.faults proof.old proof.new known.now.steps) }
     ensures advances { Advances (rig_state rig.old) (rig_state rig.new) proof.old proof.new }
     ensures only { AddsOnlyTableFacts proof.old proof.new }
@@ -95,7 +142,7 @@ fn test_all(
     ensures cause { IsErrOf result RigFail.Failed → Rose (rig_state rig.old).failures (rig_state rig.new).failures }
 {
     tests_add_up();
-    let Ok(tables) = all_tables(alloc, &proof.shape()) else {
+    let Ok(tables) = tables_left(alloc, &proof.shape(), &bad.wrong) else {
         return Err(RigFail::Memory);
     };
     test_tables(rig, proof, known, &tables)
@@ -119,8 +166,11 @@ fn diagnose_with(
     the_numbering_is_sound();
     tight_lists_are_fair();
     kept_facts_are_sound();
-    let known = known_wires(alloc, rig, proof)?;
-    test_all(alloc, rig, proof, &known)?;
+    let Ok(mut bad) = Bad::none(alloc, &proof.shape()) else {
+        return Err(RigFail::Memory);
+    };
+    let known = known_wires(alloc, rig, proof, &mut bad)?;
+    test_all(alloc, rig, proof, &known, &bad)?;
     match list_of(alloc, proof, &known) {
         Ok(list) => Ok(list),
         Err(_) => Err(RigFail::Memory),

@@ -14,7 +14,7 @@ use test_configs::{Route, close_loop};
 
 impl Proof {
     // A configuration of the machine.
-    fn config(&mut self) -> Result<Config, AllocError>
+    pub(crate) fn config(&mut self) -> Result<Config, AllocError>
         ensures shape { IfOk result (λ g. g.config.shape ≡ self.old.shape) }
         ensures same { self.new ≡ self.old }
     {

@@ -1,4 +1,4 @@
-//! Facts about one rig's faults, and the tests that gain them: six for one fact each, and one in bulk.
+//! Facts about one rig's faults, and the tests that gain them: six for one fact each, and others in bulk.
 //!
 //! A fact is kept only where the answer of a test shows it, whatever other faults the machine has. A toggle that a stuck
 //! crosspoint, a wrong cell or a stuck register makes void reads the same twice. A pin that reads 0 and 1 in one session
@@ -15,16 +15,38 @@
 //! `lead_each` reads once while walks from pins to pins are closed, many of them: the crosspoints of those that lead are kept, and of
 //! one that doesn't the only crosspoint that isn't kept is marked (`led`). Where the faults are told, marks stay true (`stuck`).
 //! What it misses the six tests decide, so nothing says that it passes.
+//!
+//! The other bulk tests take looks: loads in which first nothing is driven, and then one pin after the other alone. A forest hangs wires
+//! on pins of the machine, over crosspoints that are kept. `look_each` looks at a forest: wires that hang on pins that swing are kept,
+//! and pairs of those on pins that part (`seen`). `hang_each` hangs further wires on it, over two crosspoints each that aren't known, and
+//! looks at both and at either alone: a crosspoint is kept where its pin changes without it and no other can be felt there, the wire and
+//! its pairs by what the pin of the other one reads (`tried`). A wire that makes a pin read oddly isn't fit, and is marked; `tell_each`
+//! marks the same by one look (`told`). Where the faults are told, what is kept stays true and so do marks (`advances`, `unfit`, `unclear`).
+//! `tables_each` reads many tables that hang in a forest through all addresses, in two loads, the second with all bits turned: of each
+//! just the parts that read rightly in both are kept, and just those tables are marked that don't in some cycle (`tabled`). Where the
+//! faults are told, a marked table has a wrong cell or a stuck register (`wrong`).
 #![tactic(auto)]
 
 mod again;
+mod apart;
+mod feet;
+mod forest;
+mod hangs;
 pub mod laws;
 mod leads;
+mod looks;
 mod pins;
 mod proof;
 mod readings;
 mod routes;
+mod sheets;
+mod sights;
+mod table_rows;
+mod tells;
 mod toggles;
 
+pub use forest::Forest;
+pub use hangs::Hang;
 pub use leads::Lead;
+pub use looks::Looks;
 pub use proof::Proof;

@@ -2,14 +2,18 @@
 ghost use Rattle.std.specs.Prelude.{◌≡◌, ◌≢◌, ◌<◌, ◌||◌, ℕ, All, IfOk, length, true, false, [], ◌∷◌};
 ghost use Rattle.tm_bits.specs.Numbers.{has_number};
 ghost use Rattle.tm_bits.specs.Pairs.{has_pair};
-ghost use Rattle.hierarchy.specs.Shape.{crosses_of, wires_of, tables_of};
+ghost use Rattle.hierarchy.specs.Shape.{crosses_of, pins_of, wires_of, tables_of};
+ghost use Rattle.evidence.specs.Hangs.{IsFoot, feet_crosses, seen_on};
+ghost use Rattle.evidence.specs.Looks.{seen_in};
 ghost use Rattle.config_set.specs.Groups.{among};
 ghost use Rattle.test_configs.specs.Routes.{IsRoute};
 ghost use Rattle.evidence.specs.Kept.{KeepsNothing, Gains, keeps_cross, keeps_wire, keeps_pair, keeps_cell, keeps_register, one_cross};
 ghost use Rattle.evidence.specs.Kept.{these_wires, these_pairs, one_cell, one_register, is_between, is_across};
 ghost use Rattle.evidence.specs.Readings.{wires_over};
 
+use crate::apart::{mark_apart, mark_apart_feet, mark_swinging, mark_swinging_feet};
 use crate::pins::Pins;
+use crate::{Forest, Looks};
 use config_set::Config;
 use hierarchy::{Cross, Shape, Table, Wire};
 use std::alloc::{AllocError, Global};
@@ -18,7 +22,7 @@ use test_configs::Route;
 use tm_bits::{BitSet, PairSet};
 
 /// Facts about the faults of one rig's machine: kept crosspoints aren't stuck, kept wires are shorted to no stuck wire,
-/// kept pairs of wires aren't shorted, kept cells aren't wrong, and kept registers aren't stuck. Only the six tests
+/// kept pairs of wires aren't shorted, kept cells aren't wrong, and kept registers aren't stuck. Only tests
 /// add one.
 #[derive(Drop)]
 pub struct Proof {
@@ -32,8 +36,9 @@ pub struct Proof {
     pairs: PairSet,
     cells: BitSet,
     registers: BitSet,
-    // The wires of the routes that were last told apart from one.
+    // The wires, and the pins, that were last told apart from one.
     others: BitSet,
+    parted: BitSet,
 }
 
 impl Model for Proof {
@@ -62,7 +67,7 @@ impl Model for Proof {
       cells = p.cells;
       registers = p.registers;
     }) × IfSome p.done (λ g. g.config.shape ≡ p.shape) × (p.pins ≡ pins_of p.shape)
-        × (length p.others ≡ wires_of p.shape) };
+        × (length p.others ≡ wires_of p.shape) × (length p.parted ≡ pins_of p.shape) };
 }
 
 impl Proof {
@@ -82,6 +87,7 @@ impl Proof {
             cells: BitSet::new(alloc, 64 * shape.tables())?,
             registers: BitSet::new(alloc, shape.tables())?,
             others: BitSet::new(alloc, shape.wires())?,
+            parted: BitSet::new(alloc, shape.pins())?,
         })
     }
 
@@ -181,6 +187,41 @@ impl Proof {
     {
         mark_all(&mut self.pairs, &mut self.others, left, rights);
     }
+
+    // Keeps what a look at a forest shows: the wires that hang on pins that swing, and the pairs of those on pins that part.
+    pub(crate) fn keep_seen(&mut self, forest: &Forest, reads: &Looks)
+        requires forest { forest.now.shape ≡ self.old.shape }
+        requires reads { reads.now.pins ≡ pins_of self.old.shape }
+        ensures { Gains (seen_in forest.now reads.now.rows) self.old self.new }
+    {
+        mark_swinging(&mut self.wires, forest, reads);
+        mark_apart(
+            &mut self.pairs,
+            &mut self.others,
+            &mut self.parted,
+            forest,
+            reads,
+        );
+    }
+
+    // Keeps the crosspoints of feet, and what a look shows of their wires.
+    pub(crate) fn keep_feet(&mut self, forest: &Forest, feet: &[(Wire, Cross)], reads: &Looks)
+        requires forest { forest.now.shape ≡ self.old.shape }
+        requires feet { All (IsFoot forest.now) feet.now }
+        requires reads { reads.now.pins ≡ pins_of self.old.shape }
+        ensures { Gains (seen_on forest.now feet.now reads.now.rows) self.old self.new }
+    {
+        mark_crosses(&mut self.crosses, feet);
+        mark_swinging_feet(&mut self.wires, forest, feet, reads);
+        mark_apart_feet(
+            &mut self.pairs,
+            &mut self.others,
+            &mut self.parted,
+            forest,
+            feet,
+            reads,
+        );
+    }
 }
 
 // Marks the wires of a route.
@@ -191,6 +232,17 @@ fn mark_wires(wires: &mut BitSet, route: &Route)
 {
     'wires: for k in 0..=route.len() {
         wires.insert(route.wire_at(k).0);
+    }
+}
+
+// Marks the crosspoints of feet.
+fn mark_crosses(crosses: &mut BitSet, feet: &[(Wire, Cross)])
+    requires { All (λ foot. foot.1.0 < length crosses.old) feet.now }
+    ensures marked { (x : ℕ) → has_number crosses.new x ≡ (among (feet_crosses feet.now) x || has_number crosses.old x) }
+    ensures len { length crosses.new ≡ length crosses.old }
+{
+    'feet: for k in 0..feet.len() {
+        crosses.insert(feet[k].1.0);
     }
 }
 

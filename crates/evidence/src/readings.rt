@@ -3,16 +3,17 @@ ghost use Rattle.std.specs.Prelude.{◌≡◌, ◌≢◌, ◌≤◌, ◌<◌, �
 ghost use Rattle.std.specs.Prelude.{OnOk, OnErr, IsTrue, IsErrOf};
 ghost use Rattle.tm_outside.specs.Counts.{Rose};
 ghost use Rattle.hierarchy.specs.Shape.{pins_of};
-ghost use Rattle.rig.specs.Rig.{shape_of, Begins};
+ghost use Rattle.rig.specs.Rig.{shape_of, Begins, KeepLengths};
+ghost use Rattle.evidence.specs.Looks.{ReadsEach};
 ghost use Rattle.evidence.specs.Readings.{HasCycled, ReadsOnce, Reads, ReadsPins, ReadsTwice, WantsBefore};
 
 use crate::pins::Pins;
 use config_set::Config;
-use rig::{PinBits, Rig, RigFail, cycle, load};
+use rig::{PinBits, Rig, RigFail, cycle, cycles, load};
 use test_configs::Route;
 
 // Begins a session. No load is lost from the count.
-fn begin(rig: &mut Box<dyn Rig>, config: &Config, room: u32) -> Result<(), RigFail>
+pub(crate) fn begin(rig: &mut Box<dyn Rig>, config: &Config, room: u32) -> Result<(), RigFail>
     requires { shape_of (rig_state rig.old) ≡ Some config.now.config.shape }
     ensures machine { (rig_state rig.new).machine ≡ (rig_state rig.old).machine }
     ensures later { (rig_state rig.old).failures ≤ (rig_state rig.new).failures }
@@ -48,6 +49,33 @@ fn read_once(
 {
     begin(rig, config, 1)?;
     cycle(rig, drive, read)
+}
+
+// What all pins read in as many cycles as there are drives, after a load.
+pub(crate) fn read_rows(
+    rig: &mut Box<dyn Rig>,
+    config: &Config,
+    drives: &[PinBits],
+    rows: &mut [PinBits],
+    room: u32,
+) -> Result<(), RigFail>
+    requires attached { shape_of (rig_state rig.old) ≡ Some config.now.config.shape }
+    requires drives { All (λ row. length row ≡ pins_of config.now.config.shape) drives.now }
+    requires rows { All (λ row. length row ≡ pins_of config.now.config.shape) rows.old }
+    requires as_many { length drives.now ≡ length rows.old }
+    requires room { room ≡ length drives.now }
+    ensures machine { (rig_state rig.new).machine ≡ (rig_state rig.old).machine }
+    ensures later { (rig_state rig.old).failures ≤ (rig_state rig.new).failures }
+    ensures counted { (rig_state rig.old).loads ≤ (rig_state rig.new).loads }
+    ensures loads { (rig_state rig.new).loads ≤ (rig_state rig.old).loads + 1 }
+    ensures cause { IsErrOf result RigFail.Failed → Rose (rig_state rig.old).failures (rig_state rig.new).failures }
+    ensures wanting { IsErrOf result RigFail.Memory → (rig_state rig.new).session ≡ None }
+    ensures lengths { KeepLengths rows.old rows.new }
+    ensures session { OnOk result (HasCycled config.now.config drives.now (rig_state rig.new)) }
+    ensures run { OnOk result (ReadsEach (rig_state rig.old).machine.faults config.now.config drives.now rows.new) }
+{
+    begin(rig, config, room)?;
+    cycles(rig, drives, rows)
 }
 
 // What all pins read after a load.

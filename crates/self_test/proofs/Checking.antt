@@ -1,9 +1,9 @@
 -- The test of an image, step by step.
-use Rattle.std.proofs.Common.{◌≡◌, ℕ, ◌+◌, ◌*◌, ◌≤◌, Bool, true, Some, Option, List, length, arith}
-use Rattle.std.specs.Prelude.{◌==◌, not, if◌then◌else◌, is_some, IsTrue}
+use Rattle.std.proofs.Common.{◌≡◌, ℕ, ◌+◌, ◌*◌, ◌≤◌, Bool, true, false, Some, Option, List, length, refl, subst, arith}
+use Rattle.std.specs.Prelude.{◌==◌, ◌&&◌, not, if◌then◌else◌, is_some, IsTrue}
 use Rattle.std.specs.List.{count_by}
 use Rattle.std.proofs.lemmas.List.Sums.{count_by-le-length}
-use Rattle.tm_bits.specs.Numbers.{size_of}
+use Rattle.tm_bits.specs.Numbers.{has_number, size_of}
 use Rattle.hierarchy.specs.declared.Table.{Table}
 use Rattle.hierarchy.specs.Faults.{Faults}
 use Rattle.config_set.specs.Configuration.{setting_of}
@@ -13,6 +13,9 @@ use Rattle.known.specs.Field.{IsFieldOf, ClosedIf}
 use Rattle.seats.specs.Tables.{SeatedAreKept, fresh_tables, keeps_table}
 use Rattle.known.specs.declared.field.Field.{Field}
 use Rattle.known.specs.declared.step.Step.{Step}
+use Rattle.known.proofs.Counting.{many_more, many_size}
+use Rattle.sweep.specs.Marks.{undecided}
+use Rattle.sweep.specs.declared.bad.Bad.{Bad}
 use Rattle.self_test.specs.Fields.{IsFewFor}
 use Rattle.self_test.specs.Looks.{AreRoutesKnown, KeepsTableOf, AreSeated, RoutesIf, TablesIf, WholeIf, TakesInField, TakesAtMost, HasClosed, HasTablesOn}
 use Rattle.self_test.specs.Skeleton.{HasSkeleton}
@@ -60,25 +63,29 @@ parts_found k l i answer more routes tables e = record { routes = routes_stay mo
 
 -- ---- in both fields
 
-pub loads_one : (i : ImageValue) (nodes used : List Bool) (a : Field) (before after : ℕ) → IsFewFor i nodes used 2 a → TakesInField i a before after → TakesAtMost i nodes used before after
-loads_one i nodes used a before after few takes = record { few = by }
+pub loads_one : (i : ImageValue) (nodes used : List Bool) (a : Field) (before swept after : ℕ) → swept ≤ before + 170 * size_of used → IsFewFor i nodes used 2 a → TakesInField i a swept after → TakesAtMost i nodes used before after
+loads_one i nodes used a before swept after around few takes = record { few = by }
   where
-    by : (xs ts : List ℕ) → HasClosed i xs → HasTablesOn i ts → after ≤ before + (238 * size_of nodes + 86 * size_of used + 16 * length xs + 130 * length ts)
+    by : (xs ts : List ℕ) → HasClosed i xs → HasTablesOn i ts → after ≤ before + (238 * size_of nodes + 256 * size_of used + 16 * length xs + 130 * length ts)
     by xs ts closed on =
         let wires = few.wires in
         let crosses = few.crosses xs closed in
-        let loads = takes.few ts on in omega (arith, wires, crosses, loads)
+        let loads = takes.few ts on in omega (arith, around, wires, crosses, loads)
 
-pub loads_two : (i : ImageValue) (nodes used : List Bool) (a b : Field) (before mid after : ℕ) → IsFewFor i nodes used 2 a → IsFewFor i nodes used 3 b → mid ≤ before + (8 * size_of a.crosses + 3 * size_of a.wires) → TakesInField i b mid after → TakesAtMost i nodes used before after
-loads_two i nodes used a b before mid after few_a few_b first takes = record { few = by }
+pub loads_two : (i : ImageValue) (nodes used : List Bool) (a b : Field) (before swept mid after : ℕ) → swept ≤ before + 170 * size_of used → IsFewFor i nodes used 2 a → IsFewFor i nodes used 3 b → mid ≤ swept + (8 * size_of a.crosses + 3 * size_of a.wires) → TakesInField i b mid after → TakesAtMost i nodes used before after
+loads_two i nodes used a b before swept mid after around few_a few_b first takes = record { few = by }
   where
-    by : (xs ts : List ℕ) → HasClosed i xs → HasTablesOn i ts → after ≤ before + (238 * size_of nodes + 86 * size_of used + 16 * length xs + 130 * length ts)
+    by : (xs ts : List ℕ) → HasClosed i xs → HasTablesOn i ts → after ≤ before + (238 * size_of nodes + 256 * size_of used + 16 * length xs + 130 * length ts)
     by xs ts closed on =
         let wires = few_a.wires in
         let crosses = few_a.crosses xs closed in
         let more_wires = few_b.wires in
         let more_crosses = few_b.crosses xs closed in
-        let loads = takes.few ts on in omega (arith, wires, crosses, more_wires, more_crosses, loads, first)
+        let loads = takes.few ts on in omega (arith, around, wires, crosses, more_wires, more_crosses, loads, first)
+
+first_on : (a b : Bool) → (a && b) ≡ true → a ≡ true
+first_on true b e = refl
+first_on false b e = e
 
 -- ---- the answer
 
@@ -88,3 +95,14 @@ sound_if told k l i answer nothing holds_on keeps law = record { at = λ f is so
 
 pub yes_if : (told : Option Faults) (k : Kept) (i : ImageValue) (answer : Bool) → ((f : Faults) → HoldsFor k f) → WholeIf told k i answer → YesIf told i answer
 yes_if told k i answer nothing whole = record { at = λ f is unharmed. whole.at f is (nothing f) unharmed }
+
+-- ---- the sweep around an image
+
+pub loads_swept : (k : Kept) (b : Bad) (a : Field) (used : List Bool) (before after : ℕ) → 2 * size_of a.crosses + size_of a.wires ≤ 170 * size_of used → after ≤ before + (2 * undecided k b a + size_of a.wires) → after ≤ before + 170 * size_of used
+loads_swept k b a used before after paid took = let few = undecided_few in omega (arith, paid, took, few)
+  where
+    undecided_few : undecided k b a ≤ size_of a.crosses
+    undecided_few = subst (λ (n : ℕ). undecided k b a ≤ n) (many_size a.crosses) (many_more _ (has_number a.crosses) (length a.crosses) (λ x less on. first_on (has_number a.crosses x) _ on))
+
+pub loads_around : (i : ImageValue) (nodes used : List Bool) (before after : ℕ) → after ≤ before + 170 * size_of used → TakesAtMost i nodes used before after
+loads_around i nodes used before after around = record { few = λ xs ts closed on. omega (arith, around) }

@@ -57,7 +57,7 @@ HasTablesOn i ts = (t : ℕ) → IsSome (setting_of i.config t) → Contains ts 
 pub record TakesInField (i : ImageValue) (a : Field) (before after : ℕ) : Type 0 where
   pub few : (ts : List ℕ) → HasTablesOn i ts → after ≤ before + (8 * size_of a.crosses + 3 * size_of a.wires) + 130 * length ts
 
--- the loads in both fields: so many for any lists that have each closed crosspoint and each switched-on table
+-- the loads of the sweep and in both fields: so many for any lists that have each closed crosspoint and each switched-on table
 pub record TakesAtMost (i : ImageValue) (nodes used : List Bool) (before after : ℕ) : Type 0 where
   pub few : (xs ts : List ℕ) → HasClosed i xs → HasTablesOn i ts →
-      after ≤ before + (238 * size_of nodes + 86 * size_of used + 16 * length xs + 130 * length ts)
+      after ≤ before + (238 * size_of nodes + 256 * size_of used + 16 * length xs + 130 * length ts)

@@ -25,6 +25,7 @@ use hierarchy::{
 };
 use rig::{Rig, RigFail};
 use std::alloc::Global;
+use sweep::{Bad, growth_after_a_sweep_is_paid, sweep};
 use tm_bits::BitSet;
 
 // Grows in a field, and looks whether the image's wires are known and its crosspoints kept then.
@@ -119,7 +120,52 @@ fn check_in(
     }
 }
 
-// Tests the image in two fields, the second with a further port and line of each node, for where one of the first is bad.
+// How many ports and lines of each involved node a sweep goes over.
+const BROAD: usize = 10;
+
+// Whether the wires that the image uses pay for a sweep of the field.
+fn is_paid(field: &Field, used: &BitSet) -> bool
+    ensures { IsTrue result → 2 * size_of field.now.crosses + size_of field.now.wires ≤ 170 * size_of used.now }
+{
+    let most = 2 * u64::from(field.crosses.count()) + u64::from(field.wires.count());
+    most <= 170 * u64::from(used.count())
+}
+
+// Sweeps a broad field around the image, where that is paid for. What it finds bad is left to growth.
+fn sweep_around(
+    alloc: Global,
+    rig: &mut Box<dyn Rig>,
+    proof: &mut Proof,
+    known: &mut Known,
+    image: &Image,
+    parts: &Parts,
+) -> Result<(), RigFail>
+    requires attached { shape_of (rig_state rig.old) ≡ Some proof.old.shape }
+    requires known { IsKnown proof.old known.old }
+    requires image { image.now.config.shape ≡ proof.old.shape }
+    requires used { AreUsed image.now parts.now.used }
+    requires nodes { AreInvolved image.now parts.now.nodes }
+    ensures known { IsKnown proof.new known.new }
+    ensures advances { Advances (rig_state rig.old) (rig_state rig.new) proof.old proof.new }
+    ensures loads { (rig_state rig.new).loads ≤ (rig_state rig.old).loads + 170 * size_of parts.now.used }
+    ensures cause { IsErrOf result RigFail.Failed → Rose (rig_state rig.old).failures (rig_state rig.new).failures }
+{
+    tests_add_up();
+    growth_after_a_sweep_is_paid();
+    let Ok(field) = field_of(alloc, image, parts, BROAD) else {
+        return Err(RigFail::Memory);
+    };
+    if !is_paid(&field, &parts.used) {
+        return Ok(());
+    }
+    let Ok(mut bad) = Bad::none(alloc, &proof.shape()) else {
+        return Err(RigFail::Memory);
+    };
+    let config = image.config();
+    sweep(rig, proof, known, &mut bad, &field, config.tables_on())
+}
+
+// Sweeps around the image, and then tests it in two fields, the second with a further port and line of each node, for where one of the first is bad.
 fn check_with(
     alloc: Global,
     rig: &mut Box<dyn Rig>,
@@ -147,6 +193,10 @@ fn check_with(
     let Ok(mut known) = Known::new(alloc, &proof.shape()) else {
         return Err(RigFail::Memory);
     };
+    match sweep_around(alloc, rig, proof, &mut known, image, parts) {
+        Ok(()) => {}
+        Err(fail) => return Err(fail),
+    }
     match check_in(rig, proof, &mut known, &narrow, image, &parts.used) {
         Ok(Some(yes)) => return Ok(yes),
         Ok(None) => {}

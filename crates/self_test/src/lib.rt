@@ -1,7 +1,8 @@
 //! Whether an image still runs on a machine as on one without faults.
 //!
-//! Each part of the image is tested over routes of the test's own: known wires grow in a field of the image's parts and a
-//! few ports and lines of each node that has one of them, or is above such a node. Then one look decides: each used wire has
+//! Each part of the image is tested over routes of the test's own. A sweep goes over a broad field of the image's parts and some
+//! ports and lines of each node that has one of them, or is above such a node, as far as the image's wires pay for it; then known
+//! wires grow in a field with few of these. Then one look decides: each used wire has
 //! to be known, each closed crosspoint kept, and each cell and latched register of the image's tables. What is kept then
 //! leaves no room for a fault that the image could meet.
 //!

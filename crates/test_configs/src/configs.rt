@@ -20,8 +20,8 @@ fn close_route(config: &mut Config, route: &Route) -> Result<(), AllocError>
     Ok(())
 }
 
-// Closes these crosspoints.
-fn close_all(config: &mut Config, ties: &[Cross]) -> Result<(), AllocError>
+/// Closes these crosspoints besides, and changes nothing else.
+pub fn close_all(config: &mut Config, ties: &[Cross]) -> Result<(), AllocError>
     requires { All (λ c. c.0 < crosses_of config.old.config.shape) ties.now }
     ensures { OnOk result (Closes (cross_numbers ties.now) config.old.config config.new.config) }
 {

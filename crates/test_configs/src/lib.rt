@@ -9,6 +9,6 @@ mod configs;
 mod route;
 mod trunk;
 
-pub use configs::{cell_config, close_loop, loop_config};
+pub use configs::{cell_config, close_all, close_loop, loop_config};
 pub use route::{Route, extended, route_at};
 pub use trunk::Trunk;

@@ -1,0 +1,150 @@
+-- A sweep of the whole machine, and growth behind it.
+use Rattle.std.proofs.Common.{◌≡◌, ◌⊎◌, ◌≤◌, ◌<◌, ◌+◌, ◌*◌, ℕ, Bool, true, false, Option, Some, List, [], ◌∷◌, ◌++◌, length, replicate, length-append, refl, sym, ap, ◌∙◌, subst, inl, inr, arith}
+use Rattle.std.specs.Prelude.{Result, OnOk, All, not}
+use Rattle.std.proofs.lemmas.Bool.{false≢true}
+use Rattle.std.proofs.lemmas.Result.{on_ok_weaker}
+use Rattle.std.proofs.lemmas.List.{get_or-replicate, get_or_past, length-replicate}
+use Rattle.std.proofs.lemmas.List.Sums.{count_by-le-length}
+use native.Mathlib.Decide.{dec_lt, ℕ_discrete}
+use Rattle.tm_bits.specs.Numbers.{has_number, size_of}
+use Rattle.hierarchy.specs.declared.Shape.{Shape}
+use Rattle.hierarchy.specs.declared.Table.{Table}
+use Rattle.hierarchy.specs.Shape.{wires_of, crosses_of, tables_of}
+use Rattle.hierarchy.specs.Faults.{Faults, IsFaultless}
+use Rattle.evidence.specs.Kept.{Kept, HoldsFor, IsMore}
+use Rattle.evidence.proofs.Keeping.{holds_earlier}
+use Rattle.known.specs.Field.{ClosedIf, IsFieldOf, how_many}
+use Rattle.known.specs.Known.{HasWire, KnownWires}
+use Rattle.known.specs.declared.field.Field.{Field}
+use Rattle.known.specs.declared.step.Step.{Step}
+use Rattle.known.proofs.Counting.{many_all}
+use Rattle.seats.specs.Tables.{SeatedIsKept, SeatedAreKept, fresh_tables, keeps_table}
+use Rattle.sweep.specs.Marks.{AreMarksFor, AreTrueMarks, MarksIn, TrueIf, undecided}
+use Rattle.sweep.specs.declared.bad.Bad.{Bad}
+use Rattle.diagnose.specs.Stages.{HasTable, IfFaultless, TablesIf, loads_for}
+use Rattle.diagnose.proofs.Stepping.{has_before, has_last}
+
+-- A field has no more than the machine.
+module _ {m : Shape} (k : Kept) (a : Field) (b : Bad) (same : m ≡ k.shape) (field : IsFieldOf m a) where
+  undecided_most : undecided k b a ≤ crosses_of k.shape
+  undecided_most = subst (λ (n : ℕ). undecided k b a ≤ n) (field.crosses ∙ ap crosses_of same) (many_all _ (length a.crosses))
+
+  wires_most : size_of a.wires ≤ wires_of k.shape
+  wires_most = subst (λ (n : ℕ). size_of a.wires ≤ n) (field.wires ∙ ap wires_of same) (count_by-le-length (λ b. b) a.wires)
+
+  pub swept_most : (before : ℕ) {after : ℕ} → after ≤ before + (2 * undecided k b a + size_of a.wires) → after ≤ before + loads_for k 8 3
+  swept_most before took = let x = undecided_most in let w = wires_most in omega (arith, took, x, w)
+
+  pub swept_few : (before : ℕ) {after : ℕ} → after ≤ before + (2 * undecided k b a + size_of a.wires) → after ≤ before + loads_for k 2 3
+  swept_few before took = let x = undecided_most in let w = wires_most in omega (arith, took, x, w)
+
+  pub grown_most : (before : ℕ) {after : ℕ} → after ≤ before + (8 * undecided k b a + 3 * size_of a.wires) → after ≤ before + loads_for k 8 3
+  grown_most before took = let x = undecided_most in let w = wires_most in omega (arith, took, x, w)
+
+  pub grown_few : (before : ℕ) {after : ℕ} → after ≤ before + (2 * undecided k b a + 3 * size_of a.wires) → after ≤ before + loads_for k 2 3
+  grown_few before took = let x = undecided_most in let w = wires_most in omega (arith, took, x, w)
+
+pub always : {told : Option Faults} {k : Kept} {P : Type 0} → P → IfFaultless told k P
+always p = record { at = λ f e none holds. p }
+
+pub few_when : {told : Option Faults} {k : Kept} {P : Type 0} → ((f : Faults) → told ≡ Some f → IsFaultless f → HoldsFor k f → P) → IfFaultless told k P
+few_when p = record { at = p }
+
+pub closed_told : {told now : Option Faults} {k : Kept} {a : Field} {ss : List Step} → now ≡ told → ClosedIf now k a ss → ClosedIf told k a ss
+closed_told e c = record { at = λ f told holds. c.at f (e ∙ told) holds }
+
+-- Marks stay true as more is kept and more is known.
+pub marks_later : {told : Option Faults} {k l : Kept} {ss ts : List Step} {b : Bad} → IsMore k l → ((w : ℕ) → HasWire ss w → HasWire ts w) → TrueIf told k ss b → TrueIf told l ts b
+marks_later {told} {k} {l} {ss} {ts} {b} more known t = record { at = λ f e h. subst (λ (m : Shape). AreTrueMarks m f (HasWire ts) b) (sym more.shape) (at f (t.at f e (holds_earlier more h))) }
+  where
+    at : (f : Faults) → AreTrueMarks k.shape f (HasWire ss) b → AreTrueMarks k.shape f (HasWire ts) b
+    at f old = record {
+      stuck = old.stuck;
+      unfit = λ w on clear alone. old.unfit w on clear (λ u has. alone u (known u has));
+      unclear = old.unclear;
+      wrong = old.wrong;
+    }
+
+pub marks_told : {told now : Option Faults} {k : Kept} {ss : List Step} {b : Bad} → now ≡ told → TrueIf told k ss b → TrueIf now k ss b
+marks_told e t = record { at = λ f told holds. t.at f (sym e ∙ told) holds }
+
+pub marks_by : {told now : Option Faults} {k : Kept} {ss : List Step} {b : Bad} → now ≡ told → TrueIf now k ss b → TrueIf told k ss b
+marks_by e t = record { at = λ f told holds. t.at f (e ∙ told) holds }
+
+pub known_by : {told : Option Faults} {k l : Kept} {a b : KnownWires} {m : Bad} → IsMore k l → b ≡ a → TrueIf told k a.steps m → TrueIf told l b.steps m
+known_by {told} {k} {l} {a} {b} {m} more e t = subst (λ (n : KnownWires). TrueIf told l n.steps m) (sym e) (marks_later more (λ w has. has) t)
+
+-- Without the marks of unfit wires they are true of whatever is known.
+pub marks_again : {told : Option Faults} {k l : Kept} {ss ts : List Step} (b : Bad) (unfit : List Bool) (n : ℕ) → IsMore k l → unfit ≡ replicate n false → TrueIf told k ss b → TrueIf told l ts (record b { unfit = unfit })
+marks_again {told} {k} {l} {ss} {ts} b unfit n more none t = record { at = λ f e h. subst (λ (m : Shape). AreTrueMarks m f (HasWire ts) (record b { unfit = unfit })) (sym more.shape) (at f (t.at f e (holds_earlier more h))) }
+  where
+    off : (w : ℕ) → has_number (replicate n false) w ≡ true → ⊥
+    off w on = by (dec_lt w n)
+      where
+        by : Dec (w < n) → ⊥
+        by (yes h) = false≢true (sym (get_or-replicate n w false false h) ∙ on)
+        by (no h) = false≢true (sym (get_or_past (replicate n false) w false (rw length-replicate (omega arith))) ∙ on)
+
+    at : (f : Faults) → AreTrueMarks k.shape f (HasWire ss) b → AreTrueMarks k.shape f (HasWire ts) (record b { unfit = unfit })
+    at f old = record {
+      stuck = old.stuck;
+      unfit = λ w on clear alone. off w (subst (λ (s : List Bool). has_number s w ≡ true) none on);
+      unclear = old.unclear;
+      wrong = old.wrong;
+    }
+
+-- Nothing is marked.
+pub marks_of_none : {told : Option Faults} {k : Kept} (ss : List Step) {b : Bad} → ((x : ℕ) → has_number b.stuck x ≡ false) → ((x : ℕ) → has_number b.unfit x ≡ false) → ((x : ℕ) → has_number b.unclear x ≡ false) →
+    ((x : ℕ) → has_number b.wrong x ≡ false) → TrueIf told k ss b
+marks_of_none ss stuck unfit unclear wrong = record {
+  at = λ f e h. record {
+    stuck = λ x on. absurd (false≢true (sym (stuck x) ∙ on));
+    unfit = λ x on. absurd (false≢true (sym (unfit x) ∙ on));
+    unclear = λ x on. absurd (false≢true (sym (unclear x) ∙ on));
+    wrong = λ x on. absurd (false≢true (sym (wrong x) ∙ on));
+  };
+}
+
+-- Marks of a machine stay so.
+pub marks_of : {m : Shape} {a : Field} {tables : List Table} {b c : Bad} → AreMarksFor m b → MarksIn a tables b c → AreMarksFor m c
+marks_of are in_ = record {
+  stuck = in_.stuck.len ∙ are.stuck;
+  unfit = in_.unfit.len ∙ are.unfit;
+  unclear = in_.unclear.len ∙ are.unclear;
+  wrong = in_.wrong.len ∙ are.wrong;
+}
+
+-- One table more is among those that are left, or it is marked.
+module _ (wrong : List Bool) (old : List Table) (n : ℕ) where
+  pub left_kept : (t : Table) (new : List Table) → t.0 ≡ n → new ≡ old ++ t ∷ [] → ((u : ℕ) → u < n → (has_number wrong u ≡ true) ⊎ HasTable old u) → (u : ℕ) → u < n + 1 → (has_number wrong u ≡ true) ⊎ HasTable new u
+  left_kept t new is more each u less = by (dec_lt u n)
+    where
+      later : (has_number wrong u ≡ true) ⊎ HasTable old u → (has_number wrong u ≡ true) ⊎ HasTable new u
+      later (inl on) = inl on
+      later (inr x) = inr (has_before old t new more x)
+
+      by : Dec (u < n) → (has_number wrong u ≡ true) ⊎ HasTable new u
+      by (yes h) = later (each u h)
+      by (no h) = inr (has_last old t new more (is ∙ omega (arith, h, less)))
+
+  pub left_out : has_number wrong n ≡ true → ((u : ℕ) → u < n → (has_number wrong u ≡ true) ⊎ HasTable old u) → (u : ℕ) → u < n + 1 → (has_number wrong u ≡ true) ⊎ HasTable old u
+  left_out on each u less = by (dec_lt u n)
+    where
+      by : Dec (u < n) → (has_number wrong u ≡ true) ⊎ HasTable old u
+      by (yes h) = each u h
+      by (no h) = let e : u ≡ n = omega (arith, h, less) in inl (ap (has_number wrong) e ∙ on)
+
+pub left_count : (old : List Table) (t : Table) (new : List Table) (n : ℕ) → new ≡ old ++ t ∷ [] → length old ≤ n → length new ≤ n + 1
+left_count old t new n more few = let l = ap length more ∙ length-append old (t ∷ []) in omega (arith, l, few)
+
+-- All tables were tested that aren't marked wrong.
+pub tables_left_if : {told : Option Faults} {m : Shape} {k l : Kept} {ss ts : List Step} {b : Bad} {tables : List Table} → m ≡ k.shape → TrueIf told k ts b →
+    ((t : ℕ) → t < tables_of m → (has_number b.wrong t ≡ true) ⊎ HasTable tables t) → SeatedAreKept told k l ss tables → TablesIf told k l ss
+tables_left_if {told} {m} {k} {l} {ss} {ts} {b} {tables} e marks has kept = record { each = λ t h. by t (has t (subst (λ n. t < tables_of n) (sym e) h)) }
+  where
+    by : (t : ℕ) → (has_number b.wrong t ≡ true) ⊎ HasTable tables t → SeatedIsKept told k l ss t
+    by t (inl on) = record { at = λ f is holds seated right. absurd ((marks.at f is holds).wrong t on right) }
+    by t (inr x) = subst (SeatedIsKept told k l ss) x.is (kept.each x.place x.table x.here)
+
+pub tables_left_most : (k : Kept) (tables : List Table) (before : ℕ) {n after : ℕ} → length tables ≤ n → after ≤ before + 130 * fresh_tables k tables → after ≤ before + 130 * n
+tables_left_most k tables before count loads = let few = count_by-le-length (λ (t : Table). not (keeps_table k t.0)) tables in omega (arith, count, loads, few)

@@ -1,0 +1,89 @@
+-- Marks are true.
+use Rattle.std.proofs.Common.{◌≡◌, ◌⊎◌, inl, inr, ℕ, ◌<◌, Bool, true, false, ◌&&◌, ◌||◌, Some, Option, List, All, length, get_or, refl, sym, ap, ◌∙◌, subst, arith}
+use Rattle.std.specs.Prelude.{◌==◌, map}
+use Rattle.std.specs.List.{IsDistinct, list_any}
+use Rattle.std.proofs.lemmas.Bool.{and_parts, or_cases, or_right}
+use Rattle.std.proofs.lemmas.Bool.Decides.{nat_tests}
+use Rattle.hierarchy.specs.Circuit.{Pins}
+use Rattle.hierarchy.specs.Faults.{Faults}
+use Rattle.hierarchy.specs.Joined.{Shorted}
+use Rattle.hierarchy.specs.Defects.{IsClear}
+use Rattle.hierarchy.specs.Tight.{IsAlone}
+use Rattle.tm_bits.specs.Numbers.{has_number}
+use Rattle.evidence.specs.Kept.{Kept, HoldsFor, IsMore}
+use Rattle.evidence.specs.Forests.{Trees, IsForest, KnowsForest, is_hung}
+use Rattle.evidence.specs.Looks.{IsLook}
+use Rattle.evidence.specs.Hangs.{Foot, IsFoot, closes, pin_at, others_part, reads_oddly, reads_alike, shows_unfit, shows_unclear, is_unfit_in, is_unclear_in, UnfitIf, UnclearIf, AreAllOf, StayMarked, HasMarked}
+use Rattle.evidence.proofs.Keeping.{holds_earlier}
+use Rattle.evidence.proofs.Seeing.{IsSome_of, some_of}
+use Rattle.evidence.proofs.Unfitting.{not_odd, not_alike}
+
+same_number : (a b : ℕ) → (a == b) ≡ true → a ≡ b
+same_number a b e = grind (arith, nat_tests, e)
+
+-- what was marked stays so
+pub still_unfit : {trees : Trees} {feet : List Foot} {rows : List Pins} {was is were are : List Bool} → HasMarked trees feet rows was is were are → StayMarked was is
+still_unfit {trees} {feet} {rows} {was} h w on = h.unfit w ∙ or_right (is_unfit_in trees feet rows w) (has_number was w) on
+
+pub still_unclear : {trees : Trees} {feet : List Foot} {rows : List Pins} {was is were are : List Bool} → HasMarked trees feet rows was is were are → StayMarked were are
+still_unclear {trees} {feet} {rows} {were = were} h w on = h.unclear w ∙ or_right (is_unclear_in trees feet rows w) (has_number were w) on
+
+-- marks are true of what is kept later
+pub unfit_later : (told : Option Faults) (k l : Kept) (known : ℕ → Bool) (marks : List Bool) → IsMore k l → UnfitIf told k known marks → UnfitIf told l known marks
+unfit_later told k l known marks more h f is holds w on clear alone =
+    h f is (holds_earlier more holds) w on (subst (λ m. IsClear m f w) more.shape clear) (subst (λ m. IsAlone m f (λ u. known u ≡ true) w) more.shape alone)
+
+pub unclear_later : (told : Option Faults) (k l : Kept) (marks : List Bool) → IsMore k l → UnclearIf told k marks → UnclearIf told l marks
+unclear_later told k l marks more h f is holds w on clear = h f is (holds_earlier more holds) w on (subst (λ m. IsClear m f w) more.shape clear)
+
+-- .. and of the same
+pub unfit_same : (told : Option Faults) (k l : Kept) (known : ℕ → Bool) (marks : List Bool) → l ≡ k → UnfitIf told k known marks → UnfitIf told l known marks
+unfit_same told k l known marks e h = subst (λ n. UnfitIf told n known marks) (sym e) h
+
+pub unclear_same : (told : Option Faults) (k l : Kept) (marks : List Bool) → l ≡ k → UnclearIf told k marks → UnclearIf told l marks
+unclear_same told k l marks e h = subst (λ n. UnclearIf told n marks) (sym e) h
+
+-- what a look at a forest and feet marks
+module _ (told : Option Faults) (k : Kept) (trees : Trees) (feet : List Foot) (rows : List Pins) (forest : IsForest trees) (knows : KnowsForest k trees) (each : All (IsFoot trees) feet)
+    (once : IsDistinct (λ a b. a == b) (map (λ (foot : Foot). foot.0.0) feet)) (look : IsLook told trees.shape (closes trees feet) rows) {was is were are : List Bool} (marked : HasMarked trees feet rows was is were are) where
+  d : Foot
+  d = (record { 0 = 0 }, record { 0 = 0 })
+
+  pub unfit_true : (known : ℕ → Bool) → AreAllOf trees known → UnfitIf told k known was → UnfitIf told k known is
+  unfit_true known all before f e holds w on clear alone = by (or_cases (is_unfit_in trees feet rows w) (has_number was w) (sym (marked.unfit w) ∙ on))
+    where
+      here : k.shape ≡ look.config.shape
+      here = sym knows.keeps.shape ∙ sym look.shape
+
+      of_foot : IsSome_of (λ (foot : Foot). (foot.0.0 == w) && shows_unfit trees feet rows foot) feet → ⊥
+      of_foot s =
+          let foot = get_or feet s.place d in
+          let h = and_parts _ _ (s.holds d) in
+          let both = and_parts (others_part trees feet rows foot) (reads_oddly trees rows (pin_at trees foot)) h.1 in
+          let same = same_number foot.0.0 w h.0 in
+          not_odd trees feet rows forest each once look f e k knows holds s.place d s.below both.0
+          (subst (λ m. IsClear m f foot.0.0) here (subst (IsClear k.shape f) (sym same) clear))
+          (λ u hung. subst (λ m. ¬ Shorted m f foot.0.0 u) here (subst (λ v. ¬ Shorted k.shape f v u) (sym same) (alone u (all u hung)))) both.1
+
+      by : (is_unfit_in trees feet rows w ≡ true) ⊎ (has_number was w ≡ true) → ⊥
+      by (inl h) = of_foot (some_of _ feet h)
+      by (inr h) = before f e holds w h clear alone
+
+  pub unclear_true : UnclearIf told k were → UnclearIf told k are
+  unclear_true before f e holds w on clear = by (or_cases (is_unclear_in trees feet rows w) (has_number were w) (sym (marked.unclear w) ∙ on))
+    where
+      here : k.shape ≡ look.config.shape
+      here = sym knows.keeps.shape ∙ sym look.shape
+
+      of_foot : IsSome_of (λ (foot : Foot). (foot.0.0 == w) && shows_unclear trees feet rows foot) feet → ⊥
+      of_foot s =
+          let foot = get_or feet s.place d in
+          let h = and_parts _ _ (s.holds d) in
+          let alike = and_parts (shows_unfit trees feet rows foot) (reads_alike rows (pin_at trees foot)) h.1 in
+          let both = and_parts (others_part trees feet rows foot) (reads_oddly trees rows (pin_at trees foot)) alike.0 in
+          let same = same_number foot.0.0 w h.0 in
+          not_alike trees feet rows forest each once look f e k knows holds s.place d s.below both.0 (subst (λ m. IsClear m f foot.0.0) here (subst (IsClear k.shape f) (sym same) clear)) alike.1
+
+      by : (is_unclear_in trees feet rows w ≡ true) ⊎ (has_number were w ≡ true) → ⊥
+      by (inl h) = of_foot (some_of _ feet h)
+      by (inr h) = before f e holds w h clear

@@ -1,0 +1,13 @@
+-- For the proofs of this crate alone.
+mod Going
+mod Marking
+mod Paying
+mod Purses
+mod Sighting
+mod Footed
+mod HungOn
+mod Learnt
+mod Forested
+mod Leaving
+mod Coursing
+mod Led

@@ -1,0 +1,6 @@
+pub mod Marks
+pub mod Without
+-- For this crate's bodies alone.
+pub mod Stages
+pub mod Sights
+pub mod Courses

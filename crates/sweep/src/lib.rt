@@ -1,0 +1,37 @@
+//! Bulk tests before growth: many crosspoints, wires and tables are decided in one load.
+//!
+//! The search owes nothing. Each test is looked at before it is made, so each fact and each mark rests on the test's own condition, and a
+//! purse pays for it: a load for each pin of the machine in the field, and two for each crosspoint that was decided. What a sweep misses
+//! growth decides, and takes no load for what is decided.
+//!
+//! Promised of `sweep`, at every end, on every machine: what is known is so, and what is new is of the field (`known`, `grows`); marks are
+//! of the field and of the given tables, and where the faults are told stay true (`marks`, `right`); and loads are paid for (`pays`).
+#![tactic(auto)]
+
+mod bad;
+mod board;
+mod climbs;
+mod draws;
+mod footing;
+mod gear;
+mod groups;
+mod hanging;
+mod hangs;
+mod heights;
+mod laws;
+mod leading;
+mod learn;
+mod paths;
+mod purse;
+mod search;
+mod seen;
+mod trees;
+mod turns;
+mod walks;
+mod whole;
+mod without;
+
+pub use bad::Bad;
+pub use laws::{closed_without_bad, growth_after_a_sweep_is_paid};
+pub use whole::sweep;
+pub use without::without_bad;

@@ -1,0 +1,197 @@
+//! One load after the other.
+ghost use Rattle.std.specs.Prelude.{◌≡◌, [], Some, IsErrOf, length};
+ghost use Rattle.tm_outside.specs.Counts.{Rose};
+ghost use Rattle.hierarchy.specs.Shape.{crosses_of};
+ghost use Rattle.rig.specs.Rig.{shape_of};
+ghost use Rattle.evidence.specs.Kept.{Advances};
+ghost use Rattle.sweep.specs.Marks.{AreMarksFor};
+ghost use Rattle.sweep.specs.Stages.{Goes, IsHand, Settles, in_hand};
+
+use crate::bad::Bad;
+use crate::gear::Gear;
+use crate::hanging::{hang_load, pin_load};
+use crate::leading::lead_paths;
+use crate::learn::{learn_hangs, learn_pins};
+use crate::purse::Purse;
+use crate::search::Hung;
+use evidence::Proof;
+use known::{Field, Known};
+use rig::{Rig, RigFail};
+
+/// More loads than the wires of one height take.
+const MOST_LOADS: u32 = 1_000_000;
+
+/// The greatest height of a wire: the pins of tables of the deepest level.
+const MOST_HEIGHT: u32 = 8;
+
+/// How often all heights are gone through.
+const PASSES: u32 = 2;
+
+// Looks at the pins of the machine. Those that can be known are.
+fn pin_turn(
+    rig: &mut Box<dyn Rig>,
+    proof: &mut Proof,
+    known: &mut Known,
+    bad: &Bad,
+    field: &Field,
+    gear: &mut Gear,
+) -> Result<(), RigFail>
+    requires attached { shape_of (rig_state rig.old) ≡ Some proof.old.shape }
+    requires hand { IsHand field.now (in_hand proof.old known.old bad.now gear.old.purse (rig_state rig.old).loads) }
+    ensures goes { Goes (rig_state rig.old).machine.faults field.now []
+        (in_hand proof.old known.old bad.now gear.old.purse (rig_state rig.old).loads)
+        (in_hand proof.new known.new bad.now gear.new.purse (rig_state rig.new).loads) }
+    ensures advances { Advances (rig_state rig.old) (rig_state rig.new) proof.old proof.new }
+    ensures cause { IsErrOf result RigFail.Failed → Rose (rig_state rig.old).failures (rig_state rig.new).failures }
+{
+    pin_load(rig, proof, known, bad, field, gear)?;
+    let Ok(()) = learn_pins(known, proof, field) else {
+        return Err(RigFail::Memory);
+    };
+    gear.search.note_pins(known);
+    Ok(())
+}
+
+// Takes loads in for those crosspoints of hangs that were undecided and aren't any more.
+fn settle_hangs(purse: &mut Purse, proof: &Proof, bad: &Bad, hangs: &Vec<Hung>)
+    requires purse { length purse.old.unsettled ≡ crosses_of proof.now.shape }
+    requires marks { AreMarksFor proof.now.shape bad.now }
+    ensures { Settles proof.now bad.now purse.old purse.new }
+{
+    'hangs: for k in 0..hangs.len() {
+        purse.settle(proof, bad, hangs[k].first.cross);
+        purse.settle(proof, bad, hangs[k].second.cross);
+    }
+}
+
+// Tests some wires of a height in one load, if some are found and it can be paid. False where not.
+fn hang_turn(
+    rig: &mut Box<dyn Rig>,
+    proof: &mut Proof,
+    known: &mut Known,
+    bad: &mut Bad,
+    field: &Field,
+    gear: &mut Gear,
+) -> Result<bool, RigFail>
+    requires attached { shape_of (rig_state rig.old) ≡ Some proof.old.shape }
+    requires hand { IsHand field.now (in_hand proof.old known.old bad.old gear.old.purse (rig_state rig.old).loads) }
+    ensures goes { Goes (rig_state rig.old).machine.faults field.now []
+        (in_hand proof.old known.old bad.old gear.old.purse (rig_state rig.old).loads)
+        (in_hand proof.new known.new bad.new gear.new.purse (rig_state rig.new).loads) }
+    ensures advances { Advances (rig_state rig.old) (rig_state rig.new) proof.old proof.new }
+    ensures cause { IsErrOf result RigFail.Failed → Rose (rig_state rig.old).failures (rig_state rig.new).failures }
+{
+    let height = gear.height;
+    let Ok(()) = gear.search.choose_hangs(&bad.unfit, height) else {
+        return Err(RigFail::Memory);
+    };
+    if gear.search.hangs.is_empty() || !gear.purse.can_pay(rig, 3) {
+        return Ok(false);
+    }
+    hang_load(rig, proof, known, bad, field, gear)?;
+    settle_hangs(&mut gear.purse, proof, bad, &gear.search.hangs);
+    let Ok(()) = learn_hangs(known, proof, field, &gear.search.hangs) else {
+        return Err(RigFail::Memory);
+    };
+    gear.search.note_hangs(proof, known, &bad.stuck);
+    Ok(true)
+}
+
+// Tests wires of a height until none is found, or it can't be paid.
+fn hang_height(
+    rig: &mut Box<dyn Rig>,
+    proof: &mut Proof,
+    known: &mut Known,
+    bad: &mut Bad,
+    field: &Field,
+    gear: &mut Gear,
+) -> Result<(), RigFail>
+    requires attached { shape_of (rig_state rig.old) ≡ Some proof.old.shape }
+    requires hand { IsHand field.now (in_hand proof.old known.old bad.old gear.old.purse (rig_state rig.old).loads) }
+    ensures goes { Goes (rig_state rig.old).machine.faults field.now []
+        (in_hand proof.old known.old bad.old gear.old.purse (rig_state rig.old).loads)
+        (in_hand proof.new known.new bad.new gear.new.purse (rig_state rig.new).loads) }
+    ensures advances { Advances (rig_state rig.old) (rig_state rig.new) proof.old proof.new }
+    ensures cause { IsErrOf result RigFail.Failed → Rose (rig_state rig.old).failures (rig_state rig.new).failures }
+{
+    'loads: for _load in 0..MOST_LOADS {
+        if !hang_turn(rig, proof, known, bad, field, gear)? {
+            return Ok(());
+        }
+    }
+    Ok(())
+}
+
+// Tests the wires of a height, and then the crosspoints between known wires, if some wires came to be known in this pass.
+fn sweep_height(
+    rig: &mut Box<dyn Rig>,
+    proof: &mut Proof,
+    known: &mut Known,
+    bad: &mut Bad,
+    field: &Field,
+    gear: &mut Gear,
+) -> Result<(), RigFail>
+    requires attached { shape_of (rig_state rig.old) ≡ Some proof.old.shape }
+    requires hand { IsHand field.now (in_hand proof.old known.old bad.old gear.old.purse (rig_state rig.old).loads) }
+    ensures goes { Goes (rig_state rig.old).machine.faults field.now []
+        (in_hand proof.old known.old bad.old gear.old.purse (rig_state rig.old).loads)
+        (in_hand proof.new known.new bad.new gear.new.purse (rig_state rig.new).loads) }
+    ensures advances { Advances (rig_state rig.old) (rig_state rig.new) proof.old proof.new }
+    ensures cause { IsErrOf result RigFail.Failed → Rose (rig_state rig.old).failures (rig_state rig.new).failures }
+{
+    hang_height(rig, proof, known, bad, field, gear)?;
+    if known.len() <= gear.start {
+        return Ok(());
+    }
+    lead_paths(rig, proof, known, bad, field, gear)
+}
+
+// Tests the wires of each height once more.
+fn sweep_heights(
+    rig: &mut Box<dyn Rig>,
+    proof: &mut Proof,
+    known: &mut Known,
+    bad: &mut Bad,
+    field: &Field,
+    gear: &mut Gear,
+) -> Result<(), RigFail>
+    requires attached { shape_of (rig_state rig.old) ≡ Some proof.old.shape }
+    requires hand { IsHand field.now (in_hand proof.old known.old bad.old gear.old.purse (rig_state rig.old).loads) }
+    ensures goes { Goes (rig_state rig.old).machine.faults field.now []
+        (in_hand proof.old known.old bad.old gear.old.purse (rig_state rig.old).loads)
+        (in_hand proof.new known.new bad.new gear.new.purse (rig_state rig.new).loads) }
+    ensures advances { Advances (rig_state rig.old) (rig_state rig.new) proof.old proof.new }
+    ensures cause { IsErrOf result RigFail.Failed → Rose (rig_state rig.old).failures (rig_state rig.new).failures }
+{
+    'heights: for height in 1..=MOST_HEIGHT {
+        gear.height = height;
+        sweep_height(rig, proof, known, bad, field, gear)?;
+    }
+    Ok(())
+}
+
+/// Looks at the pins of the machine, and tests what is further and further from them.
+pub(crate) fn sweep_all(
+    rig: &mut Box<dyn Rig>,
+    proof: &mut Proof,
+    known: &mut Known,
+    bad: &mut Bad,
+    field: &Field,
+    gear: &mut Gear,
+) -> Result<(), RigFail>
+    requires attached { shape_of (rig_state rig.old) ≡ Some proof.old.shape }
+    requires hand { IsHand field.now (in_hand proof.old known.old bad.old gear.old.purse (rig_state rig.old).loads) }
+    ensures goes { Goes (rig_state rig.old).machine.faults field.now []
+        (in_hand proof.old known.old bad.old gear.old.purse (rig_state rig.old).loads)
+        (in_hand proof.new known.new bad.new gear.new.purse (rig_state rig.new).loads) }
+    ensures advances { Advances (rig_state rig.old) (rig_state rig.new) proof.old proof.new }
+    ensures cause { IsErrOf result RigFail.Failed → Rose (rig_state rig.old).failures (rig_state rig.new).failures }
+{
+    pin_turn(rig, proof, known, bad, field, gear)?;
+    'passes: for _pass in 0..PASSES {
+        gear.search.begin_pass();
+        sweep_heights(rig, proof, known, bad, field, gear)?;
+        gear.start = known.len();
+    }
+    Ok(())
+}
