@@ -18,10 +18,10 @@ plt.switch_backend("svg")
 plt.rcParams.update({"svg.hashsalt": "teramac", "legend.fontsize": 8, "legend.handlelength": 3.6, "axes.grid": True, "grid.alpha": 0.3})
 
 NUMBERS = "crosspoints rate seed faults thrown_wires thrown_crosses thrown_tables tables closed loads spare".split()
-# A run that was cut off or found no memory says nothing of room; it is counted apart.
-UNDECIDED = ("cut off", "6")
+UNDECIDED = ("cut off", "6")  # or no memory, which says nothing of room; counted apart
 DECIDED = ("0", "3", "wrong")
 LEVELS = ("root", "module", "chip", "hextant")
+SHARE = ["share", "low", "high", "runs", "undecided"]
 # How each list is drawn, named, and modelled.
 STYLES = {
     "exact": ("-", "o", "exact list", "every fault and nothing else is listed; compile, run"),
@@ -66,11 +66,7 @@ def share(rows, holds=lambda row: row["status"] == "0"):
     return [hits / len(decided) if decided else math.nan, *wilson(hits, len(decided)), len(decided), len(rows) - len(decided)]
 
 
-SHARE = ["share", "low", "high", "runs", "undecided"]
-
-
-# Student's quantiles for 1 to 8 degrees of freedom.
-STUDENT = (12.71, 4.303, 3.182, 2.776, 2.571, 2.447, 2.365, 2.306)
+STUDENT = (12.71, 4.303, 3.182, 2.776, 2.571, 2.447, 2.365, 2.306)  # quantiles for 1 to 8 degrees of freedom
 
 
 def mean(values):

@@ -13,15 +13,9 @@ import teramac_texts as texts
 
 HERE = os.path.dirname(os.path.abspath(__file__))
 DEFAULT = os.environ.get("TERAMAC", os.path.normpath(os.path.join(HERE, "../crates/teramac/out/teramac")))
-
-
-def beside(name):
-    """Another program: as the environment says (TERAMAC_MAP, ..), as it stands built here, or on the path; '' where it isn't there."""
-    found = os.environ.get(name.upper(), os.path.normpath(os.path.join(HERE, f"../crates/{name}/out/{name}")))
-    return found if os.path.exists(found) else shutil.which(name) or ""
-
-
-REPORT, MAPPER = map(beside, ("teramac_report", "teramac_map"))
+# Other programs: as the environment says (TERAMAC_MAP, ..), as they stand built here, or on the path; '' where one isn't there.
+OTHERS = {name: os.environ.get(name.upper(), f"{HERE}/../crates/{name}/out/{name}") for name in ("teramac_report", "teramac_map")}
+REPORT, MAPPER = (path if os.path.exists(path) else shutil.which(name) or "" for name, path in OTHERS.items())
 
 
 class Answer:
@@ -77,10 +71,6 @@ def checked_design(program, path):
 
 def add_program(parser):
     parser.add_argument("--program", default=DEFAULT, help="the built teramac (default: %(default)s, or $TERAMAC)")
-
-
-def add_mapper(parser):
-    parser.add_argument("--mapper", default=MAPPER, help="the built teramac_map (default: %(default)s)")
 
 
 def wilson(hits, tries, z=1.959964):

@@ -13,11 +13,9 @@ from pathlib import Path
 import designs
 import teramac_texts as texts
 from faults import amount
-from program import add_mapper, add_program, call, checked_design
+from program import MAPPER, add_program, call, checked_design
 
 TREES = [(m, c, h) for m in (1, 2, 4) for c in (1, 2, 4) for h in (1, 2, 4, 8)]
-# By how much ports and lines are pressed down at first, and after a text was found; and how often the mapper is asked.
-FIRST, NEXT, CALLS = 0.66, 0.85, 6
 
 
 def spared(count, spare):
@@ -45,19 +43,19 @@ def compiles(program, machine, defects, design):
     return call(program, "compile", machine.text.encode(), texts.defects_text(machine, defects).encode(), design)
 
 
-def remapped(mapper, machine, design, spare):
-    """The least machine found for a text of the mapper, on the tree of one that holds the design, and the text; else what was given."""
-    (*head, pins), share, text = machine.counts, FIRST, None
-    for _ in range(CALLS):
+def remapped(mapper, machine, design):
+    """The least machine found for a text of the mapper, on the tree of one that holds the design, with that text."""
+    # Of seven tries the first has two thirds of the ports and lines, and later ones somewhat fewer than the best one so far.
+    share, text = 0.66, Path(design).read_bytes()
+    for _ in range(7):
+        *head, pins = machine.counts
         tried = texts.Machine((*head[:4], *(max(1, int(count * share)) for count in head[4:]), pins))
         answer = call(mapper, tried.text.encode(), texts.defects_text(tried, texts.Defects()).encode(), design)
         if answer.status == 0:
             text, network = answer.written, designs.plain_network(texts.read_design(answer.written))
-            *head, pins = counts_for(network, head[:3], 0.0, head[3])
-        share = max(share, NEXT) if answer.status == 0 else (1 + share) / 2
-    if text is None:
-        return machine, Path(design).read_bytes()
-    return texts.Machine((*head[:4], *(spared(count, spare) for count in [*head[4:], pins]))), text
+            machine = texts.Machine(counts_for(network, head[:3], 0.0, head[3]))
+        share = max(share, 0.85) if answer.status == 0 else (1 + share) / 2
+    return machine, text
 
 
 def main():
@@ -68,7 +66,7 @@ def main():
     parser.add_argument("--spare", type=amount, default=0.0, metavar="SHARE", help="so much more, as 10%% or 0.1 (default: 0)")
     parser.add_argument("-o", "--output", default="-", help="the machine's new file (default: standard output)")
     parser.add_argument("--map", metavar="FILE", help="a new file for the text of teramac_map that this machine holds")
-    add_mapper(parser)
+    parser.add_argument("--mapper", default=MAPPER, help="the built teramac_map (default: %(default)s)")
     add_program(parser)
     args = parser.parse_args()
     given = args.modules, args.chips, args.hextants
@@ -76,10 +74,11 @@ def main():
     if min(count for count in given + (1,) if count is not None) < 1 or None in trees[0]:
         sys.exit("--modules, --chips, --hextants: give all three, each at least 1, beyond 4, 4 and 8")
     network, text = designs.plain_network(checked_design(args.program, args.design)), args.design
-    machine = given = best_machine(network, trees, args.spare)
+    machine = given = best_machine(network, trees, 0.0 if args.map else args.spare)
     if args.map:
-        machine, text = remapped(args.mapper, given, args.design, args.spare)
-        print(f"crosspoints: {given.sizes['cross']:,} as given, {machine.sizes['cross']:,} remapped", file=sys.stderr)
+        least, text = remapped(args.mapper, given, args.design)
+        print(f"crosspoints: {given.sizes['cross']:,} as given, {least.sizes['cross']:,} remapped", file=sys.stderr)
+        machine = texts.Machine((*least.counts[:4], *(spared(count, args.spare) for count in least.counts[4:])))
     answer = compiles(args.program, machine, texts.Defects(), text)
     if answer.status:
         sys.exit(f"compile of the design on this machine: {' '.join(answer.refusal)}")

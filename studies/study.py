@@ -91,10 +91,7 @@ class Study:
         return str(path)
 
     def sized(self, blif, name):
-        """For each share of spare parts a machine of the design, all on one tree: that of the settings, or the best without any.
-
-        `three` is what three copies with voters want, and a quarter more.
-        """
+        """For each share of spare parts (`three`: three copies with voters, and a quarter) a machine, on one tree, given or the best."""
         design = checked_design(self.program, blif)
         network, three = map(designs.plain_network, (design, designs.triplicated(design)))
         tree = self.settings.get("tree") or best_machine(network, TREES, 0.0).counts[:3]
@@ -124,7 +121,6 @@ class Study:
 
     def made_trials(self):
         get, first = self.settings.get, self.settings.get("first_seed", 1)
-        # Where there is no mapper, what it would give is left out.
         lists = [name for name in get("lists", ["exact", "diagnosed"]) if name != "mapped" or MAPPER]
         more = ["--lists", ",".join(lists), "--mapper", MAPPER, "--seconds", str(get("seconds", 600))]
         more += ["--clustered", str(get("clustered", 0)), "--shape", get("shape", "spots"), "--program", self.program, "--report", REPORT]

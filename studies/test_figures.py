@@ -1,6 +1,5 @@
 """Tests of studies and their figures: python3 -m unittest. Those of figures want matplotlib, some the built program."""
 
-import argparse
 import os
 import random
 import tempfile
@@ -37,9 +36,6 @@ def rows_of(**columns):
 
 @unittest.skipIf(figures is None, "matplotlib isn't there")
 class Figures(unittest.TestCase):
-    def tearDown(self):
-        figures.plt.close("all")
-
     def test_a_curve_for_each_machine_and_kind(self):
         rows = rows_of(machine=["m", "n"], kind=["open", "wires"], rate=[0.1, 0.2], seed=[1, 2])
         for row in rows:
@@ -74,7 +70,9 @@ class Figures(unittest.TestCase):
         self.assertGreater(figures.plt.rcParams["legend.handlelength"], 3)
         self.assertEqual(len({style[1] for style in figures.STYLES.values()}), len(trial.LISTS))
 
-    def test_means(self):
+    def test_means_and_shares(self):
+        for hits, tries, want in ((8, 10, (0.4902, 0.9433)), (0, 0, (0, 1))):
+            self.assertEqual(tuple(round(bound, 4) for bound in figures.wilson(hits, tries)), want)
         self.assertEqual(figures.mean([5.0, 5.0, 5.0]), [5, 5, 5, 3])
         self.assertAlmostEqual(figures.mean([1.0, 2.0, 3.0])[2], 2 + 4.303 / 3**0.5, 3)
 
@@ -142,7 +140,7 @@ class Kinds(unittest.TestCase):
         self.assertEqual(trial.mix("open"), ("open", {"open": 1.0}, None))
         self.assertEqual(trial.mix("x:open+wires*0.1 in rows of 24"), ("x", {"open": 1.0, "wires": 0.1}, (24.0, "rows")))
         for word in ("opens", "open*0", "open in lines of 3"):
-            self.assertRaises(argparse.ArgumentTypeError, trial.mix, word)
+            self.assertRaises(trial.argparse.ArgumentTypeError, trial.mix, word)
 
     def test_made_designs(self):
         for tables in (38, 77, 115):
@@ -250,7 +248,3 @@ class Runs(unittest.TestCase):
             (["compile", machine, defects, f"{EXAMPLES}/lfsr.blif"], "the plan in order wants 10"),
         ):
             self.assertIn(said, explain(" ".join(call(DEFAULT, *words).refusal), words))
-
-
-if __name__ == "__main__":
-    unittest.main()

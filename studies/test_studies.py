@@ -13,7 +13,7 @@ import designs
 import teramac_texts as texts
 from draw import FOUND, MARKS
 from faults import KINDS, make_faults
-from program import DEFAULT, HERE, call, wilson
+from program import DEFAULT, HERE, call
 from size import compiles, counts_for
 from trial import hextants_list, wires_list
 
@@ -176,7 +176,3 @@ class Studies(unittest.TestCase):
             for listed in (wires_list(machine, faults), hextants_list(machine, faults)):
                 self.assertEqual(texts.read_defects(machine, texts.defects_text(machine, listed).encode()), listed)
                 self.assertFalse(any(listed.is_free(machine, kind, at) for kind in texts.PARTS for at in exact[kind]))
-
-    def test_interval(self):
-        for hits, tries, want in ((8, 10, (0.4902, 0.9433)), (0, 0, (0, 1))):
-            self.assertEqual(tuple(round(bound, 4) for bound in wilson(hits, tries)), want)

@@ -16,7 +16,7 @@ from pathlib import Path
 import designs
 import teramac_texts as texts
 from faults import KINDS, SHAPES, add_clusters, amount, make_faults
-from program import REPORT, Answer, add_mapper, add_program, call
+from program import MAPPER, REPORT, add_program, call
 
 COLUMNS = (
     "machine crosspoints kind rate seed faults design list status refusal listed_wires listed_crosses listed_tables "
@@ -24,8 +24,7 @@ COLUMNS = (
 ).split()
 LISTS = ("exact", "diagnosed", "mapped", "wires", "hextants", "none", "triplicated")
 UNDIAGNOSED = ("none", "triplicated")
-# Answers that say nothing of room: wrong texts or words, a rig, a store or an output that failed.
-NO_RUN = (1, 2, 4, 5)
+NO_RUN = (1, 2, 4, 5)  # which say nothing of room: wrong texts or words, a rig, a store or an output that failed
 
 
 def mix(word):
@@ -125,17 +124,12 @@ class Trial:
         return answer
 
     def laid(self, listed, design, vectors, promised=True, given=None):
-        """compile and run on a list; the answer with the seconds of both, and the image's sizes where there is one.
-
-        `given` is the text that is laid in the design's place; of the mapper it is what it answers.
-        """
-        if isinstance(given, Answer) and given.status:
-            return given, {}
-        image = self.call("compile", self.args.machine, listed, getattr(given, "written", given) or design)
+        """compile and run on a list; the answer with the seconds of both, and the image's sizes where there is one."""
+        image = self.call("compile", self.args.machine, listed, given or design)
         if image.status:
             return image, {}
         ran = self.call("run", self.args.machine, self.fault_text, image.written, vectors)
-        ran.seconds += image.seconds + getattr(given, "seconds", 0.0)
+        ran.seconds += image.seconds
         return self.compared(ran, design, vectors, promised), self.shape_of(image.written)
 
     def loads(self):
@@ -156,9 +150,10 @@ class Trial:
                 given = design
                 if kind == "triplicated":
                     given = designs.blif_text(designs.triplicated(texts.read_text(texts.read_design, design))).encode()
-                if kind == "mapped":
-                    given = self.call(self.args.machine, listed, design, program=self.args.mapper)
-                answer, sizes = self.laid(listed, design, vectors, kind not in UNDIAGNOSED, given)
+                mapped = self.call(self.args.machine, listed, design, program=self.args.mapper) if kind == "mapped" else None
+                given = mapped.written if mapped else given
+                right, refused = kind not in UNDIAGNOSED, mapped and mapped.status
+                answer, sizes = (mapped, {}) if refused else self.laid(listed, design, vectors, right, given)
                 yield self.row(name, kind, None if kind in UNDIAGNOSED else listed, answer, **sizes)
 
     def diagnosed_rows(self):
@@ -196,14 +191,12 @@ def main():
     parser.add_argument("--name", help="the machine's name in the table (default: its file's)")
     parser.add_argument("--spare", type=float, help="what the machine has to spare, for the table")
     parser.add_argument("-o", "--output", default="-", help="a new file (default: standard output)")
-    add_mapper(parser)
+    parser.add_argument("--mapper", default=MAPPER, help="the built teramac_map, for mapped (default: %(default)s)")
     add_program(parser)
     args = parser.parse_args()
     args.lists = args.lists.split(",")
-    if not set(args.lists) <= set(LISTS):
-        sys.exit(f"--lists: some of {', '.join(LISTS)}")
-    if "mapped" in args.lists and not args.mapper:
-        sys.exit("--lists: mapped wants teramac_map, built or named by --mapper")
+    if not set(args.lists) <= set(LISTS if args.mapper else LISTS[:2] + LISTS[3:]):
+        sys.exit(f"--lists: some of {', '.join(LISTS)}; mapped wants teramac_map, built or named by --mapper")
     try:
         rows = list(Trial(args).rows())
     except ValueError as error:

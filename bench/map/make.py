@@ -1,6 +1,7 @@
 """Makes the designs as BLIF by yosys and ABC: python3 make.py FOLDER.
 
 Of each design yosys writes a text of gates (NAME.blif), and of every third one ABC besides one of tables of four inputs (NAME.four.blif).
+Texts that stand there are kept.
 """
 
 import subprocess
@@ -19,7 +20,7 @@ DESIGNS = {
         keccak_round W=8, trivium""",
 }
 SYNTH = """read_verilog -sv {file}; {parameters} synth -flatten -top {top}; async2sync; dfflegalize -cell $_DFF_P_ 01;
-    setundef -undriven -zero; opt; clean -purge; write_blif {out}"""
+    setundef -undriven -zero; opt_expr; opt_merge; clean -purge; write_blif {out}"""
 FOUR = "read_blif {out}; strash; if -K 4; write_blif {four}"
 
 
@@ -43,8 +44,9 @@ def main(folder):
     for k, (kind, name, file, top, parameters) in enumerate(designs()):
         out, four = (Path(folder, f"{kind}-{name}{end}") for end in (".blif", ".four.blif"))
         given = "".join(f"chparam -set {key} {value} {top};" for key, value in parameters)
-        run("yosys", "-q", "-p", SYNTH.format(file=file, parameters=given, top=top, out=out))
-        if k % 3 == 0:
+        if not out.exists():
+            run("yosys", "-q", "-p", SYNTH.format(file=file, parameters=given, top=top, out=out))
+        if k % 3 == 0 and not four.exists():
             run("berkeley-abc", "-q", FOUR.format(out=out, four=four))
         print(kind, name, flush=True)
 

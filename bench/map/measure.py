@@ -1,9 +1,9 @@
 """Measures the mapper: python3 measure.py FOLDER PROGRAM ROWS.csv [--room]. FOLDER is what make.py made, PROGRAM the built teramac_map.
 
 Of each design of 20 to 5,000 tables a row: tables of the plain network of its text, of what ABC makes of it by `if -K 6 -a` and by its
-longest script, and of the mapper's text, with the mapper's seconds of processor. With --room a row of each design of at most MOST tables
-that has 100 or more: crosspoints of the machine of one tree that has just what the text as given wants, and of the smallest one that was
-found for which the mapper writes a text. Rows that stand in ROWS.csv are kept; at the end comes a table of all by kind.
+longest script, and of the mapper's text, with the mapper's seconds of processor. With --room a row of each design of 100 to MOST tables:
+crosspoints of the least machine for the text as given, by studies/size.py, and of the least one found for a text of the mapper on the same
+tree. Rows that stand in ROWS.csv are kept; at the end comes a table of all by kind.
 """
 
 import csv
@@ -17,14 +17,13 @@ from pathlib import Path
 
 sys.path.append(str(Path(__file__).resolve().parents[2] / "studies"))
 import designs  # noqa: E402
+import size  # noqa: E402
 import teramac_texts as texts  # noqa: E402
 
 AREA = "read_blif {given}; strash; if -K 6 -a; write_blif {out}"
 THRICE = "read_blif {given}; " + "strash; ifraig; dch; if -K 6 -a; mfs2; " * 3 + "write_blif {out}"
 COLUMNS = "design kind given area thrice mapped latches seconds own".split()
-ROOM = "design kind given latches crosspoints least calls seconds longest".split()
-# Modules, chips, hextants and tables of the trees, each for designs of at most so many tables.
-TREES = {256: (2, 2, 4, 16), 1024: (4, 4, 4, 16), 2048: (4, 4, 8, 16)}
+ROOM = "design kind given latches crosspoints least seconds".split()
 LEAST, MOST = 100, int(os.environ.get("MOST", "700"))
 
 
@@ -40,64 +39,29 @@ def by_abc(script, given):
         return len(network_of(Path(out.name).read_bytes()).tables)
 
 
-def mapped(program, *words):
-    """What the mapper answers to these words, bytes standing for files: the status, the text, the seconds of processor."""
-    with tempfile.TemporaryDirectory() as folder:
-        paths = [Path(folder, str(k)) if isinstance(word, bytes) else word for k, word in enumerate(words)]
-        for path, word in zip(paths, words):
-            if path != word:
-                path.write_bytes(word)
-        before = resource.getrusage(resource.RUSAGE_CHILDREN)
-        ran = subprocess.run([program, *paths], capture_output=True, check=False)
-        after = resource.getrusage(resource.RUSAGE_CHILDREN)
-    return ran.returncode, ran.stdout, after.ru_utime + after.ru_stime - before.ru_utime - before.ru_stime
+def used():
+    """The seconds of processor that the programs called so far have taken."""
+    found = resource.getrusage(resource.RUSAGE_CHILDREN)
+    return found.ru_utime + found.ru_stime
 
 
 def measured(program, design, kind, given):
     """Tables of a design by all ways, of which one is the mapper's."""
-    status, text, seconds = mapped(program, design)
-    if status:
-        sys.exit(f"{design}: {text.decode()}")
-    latches, own = len(texts.read_design(given).latches), int(text == given)
+    before = used()
+    text = subprocess.run([program, design], capture_output=True, check=True).stdout
+    seconds, latches, own = used() - before, len(texts.read_design(given).latches), int(text == given)
     sizes = [len(network_of(given).tables), by_abc(AREA, design), by_abc(THRICE, design), len(network_of(text).tables)]
     return [design.stem, kind, *sizes, latches, round(seconds, 2), own]
 
 
-def counts_of(network, tree):
-    """The counts of a machine on this tree that has just what the plan in order wants."""
-    return (*tree, *(max(1, count) for count in designs.needs(network, *tree)), network.inputs + len(network.outputs))
-
-
-def crosspoints(counts):
-    return texts.sizes_of(counts)[2]
-
-
-def pressed(counts, share):
-    """The machine with so much of the ports and lines."""
-    return (*counts[:4], *(max(1, int(count * share)) for count in counts[4:11]), counts[11])
-
-
 def smallest(program, design, kind, given):
-    """Machines are pressed down as long as the mapper finds a text; the first one has two thirds of the ports and lines."""
-    network = network_of(given)
-    tree = next(tree for most, tree in TREES.items() if len(network.tables) <= most)
-    best = first = counts_of(network, tree)
-    share, taken = 0.66, []
-    while share < 0.95 and len(taken) < 7:
-        counts = pressed(best, share)
-        if not texts.are_within_limits(counts):
-            share *= 0.8
-            continue
-        machine = texts.Machine(counts)
-        status, text, seconds = mapped(program, machine.text.encode(), texts.defects_text(machine, texts.Defects()).encode(), design)
-        taken.append(seconds)
-        if status == 0:
-            best, share = counts_of(network_of(text), tree), max(share, 0.85)
-        else:
-            share = (1 + share) / 2
-    latches = len(texts.read_design(given).latches)
-    sizes = [len(network.tables), latches, crosspoints(first), crosspoints(best)]
-    return [design.stem, kind, *sizes, len(taken), round(sum(taken), 1), round(max(taken), 1)]
+    """Crosspoints of the least machine for the text as given, and of the least one that was found for a text of the mapper."""
+    drafted = texts.read_design(given)
+    network = designs.plain_network(drafted)
+    machine, before = size.best_machine(network, size.TREES, 0.0), used()
+    least, _ = size.remapped(program, machine, design)
+    sizes = [len(network.tables), len(drafted.latches), machine.sizes["cross"], least.sizes["cross"]]
+    return [design.stem, kind, *sizes, round(used() - before, 1)]
 
 
 def by_kind(rows):
@@ -108,7 +72,7 @@ def by_kind(rows):
 
 def tables_of(rows):
     """A table in Markdown of sums by kind."""
-    yield "| Kind | Designs | given | `if -a` | thrice | mapped | against `if -a` | against thrice | Seconds | own text |"
+    yield "| Kind | Texts | given | `if -a` | thrice | mapped | against `if -a` | against thrice | Seconds | own text |"
     yield "|---|---|---|---|---|---|---|---|---|---|"
     for kind, part in by_kind(rows).items():
         given, area, thrice, found, own = (sum(int(row[column]) for row in part) for column in ("given", "area", "thrice", "mapped", "own"))
@@ -119,17 +83,17 @@ def tables_of(rows):
 
 def rooms_of(rows):
     """A table in Markdown of geometric means by kind."""
-    yield "| Kind | Designs | least against given | of designs without latches | with | Seconds of a call, at most |"
+    yield "| Kind | Texts | least against given | without latches | less than a fifth latches | more |"
     yield "|---|---|---|---|---|---|"
 
     def mean(part):
         logs = [math.log(int(row["least"]) / int(row["crosspoints"])) for row in part]
-        return f"{math.exp(sum(logs) / len(logs)):.2f} ({len(logs)})" if logs else ""
+        return f"{math.exp(sum(logs) / len(logs)):.3f} ({len(logs)})" if logs else ""
 
     for kind, part in by_kind(rows).items():
-        plain, clocked = ([row for row in part if (int(row["latches"]) > 0) == has] for has in (False, True))
-        longest = max(float(row["longest"]) for row in part)
-        yield f"| {kind} | {len(part)} | {mean(part)} | {mean(plain)} | {mean(clocked)} | {longest:.1f} |"
+        shares = [int(row["latches"]) / int(row["given"]) for row in part]
+        parts = [[row for row, share in zip(part, shares) if low <= share < high] for low, high in ((0, 1e-9), (1e-9, 0.2), (0.2, 2))]
+        yield f"| {kind} | {len(part)} | {mean(part)} | " + " | ".join(map(mean, parts)) + " |"
 
 
 def main(folder, program, path, room):
