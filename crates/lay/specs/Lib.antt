@@ -6,3 +6,4 @@ pub mod Laying
 -- ---- of this crate's bodies
 
 pub mod Wants
+pub mod Smaller

@@ -11,15 +11,15 @@ ghost use Rattle.steps.specs.Took.{Took};
 ghost use Rattle.lay.specs.Laying.{lays, IsImageFor};
 
 use crate::room::plan_of;
+use crate::smaller::smaller_for;
 use config_image::Image;
 use crossbar_route::route_laid;
 use defect_db::Defects;
 use netlist::Netlist;
-use partition::improve_laid;
-use place::{PlaceFail, Placed, in_order_laid};
+use place::Placed;
 use std::alloc::{AllocError, Global};
 use steps::Stop;
-use table_map::{Network, merged_of, plain};
+use table_map::{Network, plain};
 
 // The image of a network that has a design's rows and no more tables than its plain network, on a plan that fits, with its layout.
 fn drawn(
@@ -45,8 +45,8 @@ fn drawn(
     Ok(image)
 }
 
-// An image of a design by its plain network with fewer tables, if their in-order plan fits. What it is short of is no refusal.
-fn drawn_merged(
+// An image of a design by a network with fewer tables, if one of them has a plan that fits.
+fn drawn_smaller(
     alloc: Global,
     netlist: &Netlist,
     whole: &Network,
@@ -57,14 +57,10 @@ fn drawn_merged(
     requires rows { HasRowsOf whole.now netlist.now }
     ensures { IfOk result (λ o. IfSome o (IsImageFor defects.now netlist.now)) }
 {
-    let smaller = merged_of(alloc, whole)?;
-    let placed = match in_order_laid(alloc, &smaller, defects) {
-        Ok(placed) => placed,
-        Err(PlaceFail::Short(_)) => return Ok(None),
-        Err(PlaceFail::Memory) => return Err(AllocError),
+    let Some(smaller) = smaller_for(alloc, netlist, whole, defects)? else {
+        return Ok(None);
     };
-    let better = improve_laid(alloc, &smaller, placed, defects)?;
-    let image = drawn(alloc, netlist, &smaller, &better, defects)?;
+    let image = drawn(alloc, netlist, &smaller.network, &smaller.placed, defects)?;
     Ok(Some(image))
 }
 
@@ -75,15 +71,15 @@ fn image_for(alloc: Global, netlist: &Netlist, defects: &Defects) -> Result<Imag
 {
     let network = plain(alloc, netlist)?;
     let placed = plan_of(alloc, &network, defects)?;
-    if let Some(image) = drawn_merged(alloc, netlist, &network, defects)? {
+    if let Some(image) = drawn_smaller(alloc, netlist, &network, defects)? {
         return Ok(image);
     }
     let image = drawn(alloc, netlist, &network, &placed, defects)?;
     Ok(image)
 }
 
-/// An image of a design on what the list leaves free, where there is room for its plain network in order. It is that of the
-/// network with fewer tables, on a plan with fewer crossings, where these fit. No table of it is on and no crosspoint closed that
+/// An image of a design on what the list leaves free, where there is room for its plain network in order. It is that of a
+/// network with fewer tables, on a plan with fewer crossings, where such a plan fits. No table of it is on and no crosspoint closed that
 /// the network doesn't need.
 ///
 /// # Errors

@@ -1,7 +1,9 @@
 //! Designs on machines: an image of a design that uses nothing that a list of defects names, or what there is no room for.
 //!
-//! The in-order plan of the plain network alone decides whether there is room. Where there is, a network with fewer tables and
-//! a plan with fewer crossings are tried too; nothing rests on them, since any image that is routed is right for the design.
+//! The in-order plan of the plain network alone decides whether there is room. Where there is, networks with fewer tables
+//! and plans with fewer crossings are tried too: tables put into their one reader, and into all their readers, where that leaves
+//! fewer; of the plans that fit the one with fewer crossings is taken. Nothing rests on them, since any image that is routed is
+//! right for the design.
 //!
 //! Promised (`lay`): an image of a design on what a list leaves free, right for it under all faults that the list covers, exactly
 //! where the in-order plan of its plain network fits the list. `no_place` makes the refusal of what a network is short of.
@@ -9,6 +11,7 @@
 
 mod laying;
 mod room;
+mod smaller;
 
 pub use laying::lay;
 pub use room::no_place;

@@ -11,3 +11,5 @@ mod Forested
 mod Leaving
 mod Coursing
 mod Led
+mod Sheeted
+mod Tabled

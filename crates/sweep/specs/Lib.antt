@@ -4,3 +4,4 @@ pub mod Without
 pub mod Stages
 pub mod Sights
 pub mod Courses
+pub mod Sheets

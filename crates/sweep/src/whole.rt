@@ -8,10 +8,10 @@ ghost use Rattle.known.specs.Known.{IsKnown};
 ghost use Rattle.sweep.specs.Marks.{AreMarksFor, MarksIn, Pays, TrueIf};
 
 use crate::bad::Bad;
-use crate::gear::Gear;
+use crate::gear::{Gear, Sheet};
 use crate::purse::Purse;
 use crate::search::Search;
-use crate::turns::sweep_all;
+use crate::tabling::sweep_sheet;
 use evidence::Proof;
 use hierarchy::Table;
 use known::{Field, Known};
@@ -52,11 +52,14 @@ pub fn sweep(
     let Ok(search) = Search::new(known.alloc(), proof, known, bad, field) else {
         return Err(RigFail::Memory);
     };
-    let mut gear = Gear {
+    let Ok(tables) = Vec::from_slice(known.alloc(), tables) else {
+        return Err(RigFail::Memory);
+    };
+    let gear = Gear {
         purse,
         search,
         height: 0,
         start: 0,
     };
-    sweep_all(rig, proof, known, bad, field, &mut gear)
+    sweep_sheet(rig, proof, known, bad, field, &mut Sheet { gear, tables })
 }

@@ -1,0 +1,12 @@
+use Rattle.std.proofs.Common.{subst}
+use Rattle.std.specs.Prelude.{Option, MatchOption}
+use Rattle.table_map.specs.declared.network.Network.{Network}
+use Rattle.network_eval.specs.Placing.{IsStandIn}
+use Rattle.network_eval.specs.States.{IsOrdered}
+use Rattle.network_eval.proofs.RunLemmas.{first_of}
+use Rattle.network_eval.proofs.eval.NetworkEval.start.Goals as goal
+
+pub returns : goal.returns
+returns c =
+    let n = c.args.network.now in
+    first_of n c.in-Some.ordered _ (subst (λ (o : Option Network). MatchOption o (IsOrdered n → ⊥) (IsStandIn n)) c.in-Some.is (c.in_ok-ordered.ensures {u = tt})) c.in_ok-plan.ensures.network c.in_ok-state.ensures.values

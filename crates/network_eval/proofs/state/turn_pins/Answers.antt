@@ -1,0 +1,25 @@
+use Rattle.std.proofs.Common.{arith}
+use Rattle.network_eval.proofs.TurnLemmas.{turn_none, table_low, low_next, turn_next, mark_more}
+use Rattle.network_eval.proofs.state.turn_pins.Goals as goal
+
+pub bounds-addresses-table : goal.bounds-addresses-table
+bounds-addresses-table c = let l = table_low c.args.pins.now c.pins.k _ c.requires.pins c.pins-test.true in let e = c.pins.invariant.turned.len in omega arith
+
+pub bounds-addresses-table-in-pins : goal.bounds-addresses-table-in-pins
+bounds-addresses-table-in-pins c = let l = table_low c.args.pins.now c.pins.k _ c.requires.pins c.pins-test.true in let e = c.pins.invariant.turned.len in omega arith
+
+pub bounds-masks-table : goal.bounds-masks-table
+bounds-masks-table c = let l = table_low c.args.pins.now c.pins.k _ c.requires.pins c.pins-test.true in let e = c.requires.masks in omega arith
+
+pub cell-requires : goal.cell-requires
+cell-requires c = low_next c.args.pins.now c.pins.k c.args.addresses.now c.pins.addresses c.turned-address.result c.requires.pins c.requires.apart c.pins-test.true c.pins.invariant.turned c.turned-address.ensures.low c.turned-address.ensures.this c.turned-address.ensures.others
+
+pub mark_if-requires-clause-within : goal.mark_if-requires-clause-within
+mark_if-requires-clause-within c = let l = table_low c.args.pins.now c.pins.k _ c.requires.pins c.pins-test.true in let e = c.requires.marks in let f = c.pins.invariant.len in omega arith
+
+pub pins-preserved : goal.pins-preserved
+pins-preserved c = record {
+  turned = turn_next c.args.pins.now c.pins.k c.args.addresses.now c.pins.addresses c.turned-address.result c.requires.pins c.requires.apart c.pins-test.true c.pins.invariant.turned c.turned-address.ensures.low c.turned-address.ensures.this c.turned-address.ensures.others;
+  len = (let e = c.mark_if.ensures.len in let f = c.pins.invariant.len in omega arith);
+  marked = λ m. mark_more _ _ _ _ _ _ _ _ (let l = table_low c.args.pins.now c.pins.k _ c.requires.pins c.pins-test.true in let e = c.pins.invariant.turned.len in omega arith) (c.pins.invariant.marked m) c.cell.ensures c.mark_if.ensures.this c.mark_if.ensures.others;
+}
