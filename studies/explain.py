@@ -1,8 +1,7 @@
 #!/usr/bin/env python3
 """Says of the last line of a command what it means in the files at hand: which word, how many columns, which limit.
 
-After the line stand the words of the command, as in: explain.py 'refused vectors 1 width' eval lfsr.blif lfsr.vec
-or files alone, which are then known by their endings.
+After the line stand the words of the command, as in: explain.py 'refused vectors 1 width' eval lfsr.blif lfsr.vec; or files alone.
 """
 
 import argparse
@@ -20,9 +19,6 @@ ENDINGS = {".machine": "machine", ".faults": "rig", ".defects": "defects", ".ima
 # What isn't said by the kind's own word, or by a look into the files.
 KINDS = {
     "byte": "a byte that may not stand in a text; of a file that was saved as UTF-16 every second one",
-    "doubled": "this stands there already: a second time, or a signal that two lines drive",
-    "cyclic": "covers that read each other in a circle without a latch, from this line's cover on",
-    "undriven": "no .inputs, .names or .latch gives a value to the signal that is named",
     "latchtype": "only latches of type re are known; let yosys run dfflegalize and dffunmap (docs/BLIF.md)",
     "leftout": "a BLIF line that isn't read; let yosys map to .names and .latch (docs/BLIF.md)",
     "nomodel": "the first line isn't .model: is this a BLIF file?",

@@ -22,8 +22,7 @@ UNDECIDED = ("cut off", "6")  # or no memory, which says nothing of room; counte
 DECIDED = ("0", "3", "wrong")
 LEVELS = ("root", "module", "chip", "hextant")
 SHARE = ["share", "low", "high", "runs", "undecided"]
-# How each list is drawn, named, and modelled.
-STYLES = {
+STYLES = {  # how each list is drawn, named, and modelled
     "exact": ("-", "o", "exact list", "every fault and nothing else is listed; compile, run"),
     "diagnosed": ((0, (5, 2)), "s", "own diagnosis", "the list of diagnose; compile, run"),
     "mapped": ((0, (4, 1)), "*", "exact list, design remapped", "teramac_map writes a text for this machine and list; compile, run"),
@@ -202,7 +201,6 @@ def loads(rows, per_second):
     if not rows:
         return nothing("no loads were told: build crates/teramac_report (rt run there) or name it by TERAMAC_REPORT"), columns, []
     sizes = sorted({row["crosspoints"] for row in rows})
-    # Where one machine is drawn, against the rate.
     series, along = (("kind", "rate"), "crosspoints") if len(sizes) > 1 else (("machine", "kind"), "rate")
     picture, axes = plt.subplots(figsize=(7.2, 4.4), layout="constrained")
     table = []

@@ -43,18 +43,26 @@ def compiles(program, machine, defects, design):
     return call(program, "compile", machine.text.encode(), texts.defects_text(machine, defects).encode(), design)
 
 
-def remapped(mapper, machine, design):
-    """The least machine found for a text of the mapper, on the tree of one that holds the design, with that text."""
-    # Of seven tries the first has two thirds of the ports and lines, and later ones somewhat fewer than the best one so far.
-    share, text = 0.66, Path(design).read_bytes()
-    for _ in range(7):
-        *head, pins = machine.counts
-        tried = texts.Machine((*head[:4], *(max(1, int(count * share)) for count in head[4:]), pins))
-        answer = call(mapper, tried.text.encode(), texts.defects_text(tried, texts.Defects()).encode(), design)
-        if answer.status == 0:
-            text, network = answer.written, designs.plain_network(texts.read_design(answer.written))
-            machine = texts.Machine(counts_for(network, head[:3], 0.0, head[3]))
-        share = max(share, 0.85) if answer.status == 0 else (1 + share) / 2
+def pressed(counts, share, levels, tables):
+    """The counts with so much of these levels' ports and lines, but at least the pins' where all of a design's tables lie in one node."""
+    shares = [share if level in levels else 1 for level in (1, 2, 3, 0, 1, 2, 3)]
+    least = [counts[11] if level == 0 or tables <= math.prod(counts[level:4]) else 1 for level in (1, 2, 3, 0, 1, 2, 3)]
+    most = [max(min(count, bound), int(count * much)) for count, bound, much in zip(counts[4:11], least, shares)]
+    return (*counts[:4], *most, counts[11])
+
+
+def remapped(mapper, design, machine, text):
+    """The least machine found for a text of the mapper, from one that holds a text on, on its tree; with the text that it holds."""
+    tables = len(designs.plain_network(texts.read_design(text)).tables)
+    for levels in (range(4), [3], [2], [0, 1]):
+        share = 0.7
+        while share < 0.9:
+            tried = texts.Machine(pressed(machine.counts, share, levels, tables))
+            answer = call(mapper, tried.text.encode(), texts.defects_text(tried, texts.Defects()).encode(), design)
+            share = (1 + share) / 2 if answer.status or tried.counts == machine.counts else 0.85
+            if answer.status == 0:
+                text, network = answer.written, designs.plain_network(texts.read_design(answer.written))
+                machine = texts.Machine(counts_for(network, tried.counts[:3], 0.0, tried.counts[3]))
     return machine, text
 
 
@@ -76,7 +84,9 @@ def main():
     network, text = designs.plain_network(checked_design(args.program, args.design)), args.design
     machine = given = best_machine(network, trees, 0.0 if args.map else args.spare)
     if args.map:
-        least, text = remapped(args.mapper, given, args.design)
+        text = call(args.mapper, args.design).written
+        held = (given, Path(args.design).read_bytes()), (best_machine(designs.plain_network(texts.read_design(text)), trees, 0.0), text)
+        least, text = min((remapped(args.mapper, args.design, *pair) for pair in held), key=lambda pair: pair[0].sizes["cross"])
         print(f"crosspoints: {given.sizes['cross']:,} as given, {least.sizes['cross']:,} remapped", file=sys.stderr)
         machine = texts.Machine((*least.counts[:4], *(spared(count, args.spare) for count in least.counts[4:])))
     answer = compiles(args.program, machine, texts.Defects(), text)

@@ -71,8 +71,7 @@ class Figures(unittest.TestCase):
         self.assertEqual(len({style[1] for style in figures.STYLES.values()}), len(trial.LISTS))
 
     def test_means_and_shares(self):
-        for hits, tries, want in ((8, 10, (0.4902, 0.9433)), (0, 0, (0, 1))):
-            self.assertEqual(tuple(round(bound, 4) for bound in figures.wilson(hits, tries)), want)
+        self.assertEqual(([round(bound, 4) for bound in figures.wilson(8, 10)], figures.wilson(0, 0)), ([0.4902, 0.9433], (0, 1)))
         self.assertEqual(figures.mean([5.0, 5.0, 5.0]), [5, 5, 5, 3])
         self.assertAlmostEqual(figures.mean([1.0, 2.0, 3.0])[2], 2 + 4.303 / 3**0.5, 3)
 
@@ -189,8 +188,7 @@ class Runs(unittest.TestCase):
         self.assertNotEqual(ran.returncode, 0)
 
     @unittest.skipUnless(MAPPER, "teramac_map isn't there")
-    def test_remapped(self):
-        """A smaller machine holds the mapper's text, with the same rows, and not the design as given."""
+    def test_a_smaller_machine_holds_a_remapped_text(self):
         machine, text = str(self.folder / "m.machine"), str(self.folder / "t.blif")
         ran = run("size.py", "uart.blif", "--map", text, "-o", machine)
         given, least = (int(word.replace(",", "")) for word in ran.stderr.split() if word[0].isdigit())

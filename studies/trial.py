@@ -1,9 +1,8 @@
 #!/usr/bin/env python3
 """One machine with one set of faults; on each of some lists every design. Writes rows of CSV (README.md says what of each list).
 
-By the tool's own diagnosis a design goes through diagnose (once for all designs), compile and run, which is what go does; by other
-lists through compile and run. Every run's rows are compared with eval's. An answer of status 1, 2, 4 or 5 was never a run, and ends
-the script with status 1, as do rows that differ where a list was made.
+Every run's rows are compared with eval's. An answer of status 1, 2, 4 or 5 was never a run, and ends the script with status 1, as do
+rows that differ where a list was made.
 """
 
 import argparse
@@ -150,10 +149,9 @@ class Trial:
                 given = design
                 if kind == "triplicated":
                     given = designs.blif_text(designs.triplicated(texts.read_text(texts.read_design, design))).encode()
-                mapped = self.call(self.args.machine, listed, design, program=self.args.mapper) if kind == "mapped" else None
-                given = mapped.written if mapped else given
-                right, refused = kind not in UNDIAGNOSED, mapped and mapped.status
-                answer, sizes = (mapped, {}) if refused else self.laid(listed, design, vectors, right, given)
+                said = self.call(self.args.machine, listed, design, program=self.args.mapper) if kind == "mapped" else None
+                given = said.written if said else given
+                answer, sizes = (said, {}) if said and said.status else self.laid(listed, design, vectors, kind not in UNDIAGNOSED, given)
                 yield self.row(name, kind, None if kind in UNDIAGNOSED else listed, answer, **sizes)
 
     def diagnosed_rows(self):

@@ -2,8 +2,8 @@
 
 Of each design of 20 to 5,000 tables a row: tables of the plain network of its text, of what ABC makes of it by `if -K 6 -a` and by its
 longest script, and of the mapper's text, with the mapper's seconds of processor. With --room a row of each design of 100 to MOST tables:
-crosspoints of the least machine for the text as given, by studies/size.py, and of the least one found for a text of the mapper on the same
-tree. Rows that stand in ROWS.csv are kept; at the end comes a table of all by kind.
+crosspoints of the least machine of a tree for the text as given, and of the least one that studies/size.py finds for a text of the mapper.
+Rows that stand in ROWS.csv are kept; at the end comes a table of all by kind.
 """
 
 import csv
@@ -24,6 +24,8 @@ AREA = "read_blif {given}; strash; if -K 6 -a; write_blif {out}"
 THRICE = "read_blif {given}; " + "strash; ifraig; dch; if -K 6 -a; mfs2; " * 3 + "write_blif {out}"
 COLUMNS = "design kind given area thrice mapped latches seconds own".split()
 ROOM = "design kind given latches crosspoints least seconds".split()
+# The trees, each for designs of at most so many tables, with 16 tables in a hextant.
+TREES = {256: (2, 2, 4), 1024: (4, 4, 4), 2048: (4, 4, 8)}
 LEAST, MOST = 100, int(os.environ.get("MOST", "700"))
 
 
@@ -56,10 +58,11 @@ def measured(program, design, kind, given):
 
 def smallest(program, design, kind, given):
     """Crosspoints of the least machine for the text as given, and of the least one that was found for a text of the mapper."""
-    drafted = texts.read_design(given)
+    drafted, before = texts.read_design(given), used()
     network = designs.plain_network(drafted)
-    machine, before = size.best_machine(network, size.TREES, 0.0), used()
-    least, _ = size.remapped(program, machine, design)
+    tree = next(tree for most, tree in TREES.items() if len(network.tables) <= most)
+    machine = texts.Machine(size.counts_for(network, tree, 0.0, 16))
+    least, _ = size.remapped(program, design, machine, given)
     sizes = [len(network.tables), len(drafted.latches), machine.sizes["cross"], least.sizes["cross"]]
     return [design.stem, kind, *sizes, round(used() - before, 1)]
 
