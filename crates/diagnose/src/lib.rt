@@ -18,4 +18,4 @@ mod choose;
 mod list;
 mod whole;
 
-pub use whole::diagnose;
+pub use whole::{Parts, diagnose, diagnose_in_parts};

@@ -24,6 +24,31 @@ use std::alloc::{AllocError, Global};
 use sweep::{Bad, closed_without_bad, growth_after_a_sweep_is_paid, sweep, without_bad};
 use tm_bits::BitSet;
 
+/// The loads of a diagnosis by part: those of its sweeps, of growth and the choice between shorted wires, and of the tests of tables
+/// behind them.
+#[derive(Clone, Copy, Debug)]
+pub struct Parts {
+    pub sweep: u64,
+    pub growth: u64,
+    pub tables: u64,
+}
+
+impl Parts {
+    /// No loads.
+    pub fn none() -> Parts {
+        Parts {
+            sweep: 0,
+            growth: 0,
+            tables: 0,
+        }
+    }
+}
+
+// How many loads the rig made since it had made so many.
+fn loads_since(rig: &Box<dyn Rig>, before: u64) -> u64 {
+    rig.loads().saturating_sub(before)
+}
+
 // All tables of a machine.
 fn all_tables(alloc: Global, shape: &Shape) -> Result<Vec<Table>, AllocError> {
     let mut tables = Vec::new(alloc);
@@ -40,6 +65,7 @@ fn know_whole(
     proof: &mut Proof,
     known: &mut Known,
     bad: &mut Bad,
+    parts: &mut Parts,
 ) -> Result<(), RigFail>
     requires attached { shape_of (rig_state rig.old) ≡ Some proof.old.shape }
     requires known { IsKnown proof.old known.old }
@@ -65,7 +91,9 @@ fn know_whole(
     let Ok(tables) = all_tables(alloc, &proof.shape()) else {
         return Err(RigFail::Memory);
     };
+    let before = loads_since(rig, 0);
     sweep(rig, proof, known, bad, &field, &tables)?;
+    parts.sweep = parts.sweep.saturating_add(loads_since(rig, before));
     let Ok(rest) = without_bad(alloc, bad, &field) else {
         return Err(RigFail::Memory);
     };
@@ -78,6 +106,7 @@ fn known_wires(
     rig: &mut Box<dyn Rig>,
     proof: &mut Proof,
     bad: &mut Bad,
+    parts: &mut Parts,
 ) -> Result<Known, RigFail>
     requires attached { shape_of (rig_state rig.old) ≡ Some proof.old.shape }
     requires marks { AreMarksFor proof.old.shape bad.old }
@@ -96,12 +125,12 @@ fn known_wires(
     let Ok(mut known) = Known::new(alloc, &proof.shape()) else {
         return Err(RigFail::Memory);
     };
-    know_whole(alloc, rig, proof, &mut known, bad)?;
+    know_whole(alloc, rig, proof, &mut known, bad, parts)?;
     let changed = prefer_pins(alloc, rig, proof, &mut known)?;
     if changed {
         // An unfit wire may have been shorted to one that gave way.
         bad.unfit.clear();
-        know_whole(alloc, rig, proof, &mut known, bad)?;
+        know_whole(alloc, rig, proof, &mut known, bad, parts)?;
     }
     Ok(known)
 }
@@ -153,6 +182,7 @@ fn diagnose_with(
     alloc: Global,
     rig: &mut Box<dyn Rig>,
     proof: &mut Proof,
+    parts: &mut Parts,
 ) -> Result<Defects, RigFail>
     requires attached { shape_of (rig_state rig.old) ≡ Some proof.old.shape }
     requires nothing { KeepsNothing proof.old }
@@ -169,11 +199,45 @@ fn diagnose_with(
     let Ok(mut bad) = Bad::none(alloc, &proof.shape()) else {
         return Err(RigFail::Memory);
     };
-    let known = known_wires(alloc, rig, proof, &mut bad)?;
+    let before = loads_since(rig, 0);
+    let known = known_wires(alloc, rig, proof, &mut bad, parts)?;
+    parts.growth = loads_since(rig, before).saturating_sub(parts.sweep);
+    let before = loads_since(rig, 0);
     test_all(alloc, rig, proof, &known, &bad)?;
+    parts.tables = loads_since(rig, before);
     match list_of(alloc, proof, &known) {
         Ok(list) => Ok(list),
         Err(_) => Err(RigFail::Memory),
+    }
+}
+
+/// The diagnosis of `diagnose`, which says besides how many loads its parts took, where it ends with a list.
+///
+/// # Errors
+///
+/// `Failed` where a call of the rig failed, `Memory` where memory was wanting.
+pub fn diagnose_in_parts(
+    alloc: Global,
+    rig: &mut Box<dyn Rig>,
+    shape: &Shape,
+    parts: &mut Parts,
+) -> Result<Defects, RigFail>
+    requires attached { shape_of (rig_state rig.old) ≡ Some shape.now }
+
+    ensures shape { IfOk result (λ d. d.shape ≡ shape.now) }
+    ensures right { IfOk result (λ d. IsDiagnosis (rig_state rig.old).machine.faults shape.now d.list) }
+    ensures machine { (rig_state rig.new).machine ≡ (rig_state rig.old).machine }
+    ensures later { (rig_state rig.old).failures ≤ (rig_state rig.new).failures }
+    ensures counted { (rig_state rig.old).loads ≤ (rig_state rig.new).loads }
+    ensures loads { TakesFewLoads (rig_state rig.old).machine.faults shape.now (rig_state rig.old).loads (rig_state rig.new).loads }
+    ensures cause { IsErrOf result RigFail.Failed → Rose (rig_state rig.old).failures (rig_state rig.new).failures }
+{
+    let Ok(mut proof) = Proof::new(alloc, *shape) else {
+        return Err(RigFail::Memory);
+    };
+    match diagnose_with(alloc, rig, &mut proof, parts) {
+        Ok(list) => Ok(list),
+        Err(fail) => Err(fail),
     }
 }
 
@@ -197,11 +261,6 @@ pub fn diagnose(alloc: Global, rig: &mut Box<dyn Rig>, shape: &Shape) -> Result<
     ensures loads { TakesFewLoads (rig_state rig.old).machine.faults shape.now (rig_state rig.old).loads (rig_state rig.new).loads }
     ensures cause { IsErrOf result RigFail.Failed → Rose (rig_state rig.old).failures (rig_state rig.new).failures }
 {
-    let Ok(mut proof) = Proof::new(alloc, *shape) else {
-        return Err(RigFail::Memory);
-    };
-    match diagnose_with(alloc, rig, &mut proof) {
-        Ok(list) => Ok(list),
-        Err(fail) => Err(fail),
-    }
+    let mut parts = Parts::none();
+    diagnose_in_parts(alloc, rig, shape, &mut parts)
 }

@@ -6,20 +6,21 @@ use crate::line::put_line;
 use crate::listed::{listed_crosses, listed_tables, listed_wires};
 use crate::plans::put_plans;
 use defect_db::Defects;
-use listing::list_machine;
+use diagnose::{Parts, diagnose_in_parts};
 use rig::Rig;
 use std::alloc::{AllocError, Global};
-use steps::{DesignFile, Refusal, Stop, finish, read_design, write};
+use steps::{DesignFile, Refusal, Stop, attach, finish, read_design, read_shape, write};
 use tm_outside::{Sink, Store};
 
 /// The names of the levels, from the root down.
 const LEVELS: [&str; 4] = ["root", "module", "chip", "hextant"];
 
-/// The defects of a machine, and how many loads it took to list them.
+/// The defects of a machine, and how many loads it took to list them, in all and by part.
 #[derive(Drop)]
 struct Diagnosis {
     list: Defects,
     loads: u64,
+    parts: Parts,
 }
 
 // Adds the lines of the levels.
@@ -45,7 +46,10 @@ fn put_list(text: &mut Vec<u8>, diagnosis: &Diagnosis) -> Result<(), AllocError>
     ];
     put_line(text, "listed", &listed)?;
     put_line(text, "free", &free)?;
-    put_line(text, "diagnosis", &[("loads", diagnosis.loads)])
+    put_line(text, "diagnosis", &[("loads", diagnosis.loads)])?;
+    put_line(text, "part sweep", &[("loads", diagnosis.parts.sweep)])?;
+    put_line(text, "part growth", &[("loads", diagnosis.parts.growth)])?;
+    put_line(text, "part tables", &[("loads", diagnosis.parts.tables)])
 }
 
 // The text of the report on a machine.
@@ -69,10 +73,13 @@ fn diagnosed<S: Store>(
     store: &mut S,
     rig: &mut Box<dyn Rig>,
 ) -> Result<Diagnosis, Stop> {
+    let shape = read_shape(alloc, store, machine)?;
+    attach(rig, &shape, name)?;
     let before = loads_of(rig);
-    let list = list_machine(alloc, machine, name, store, rig)?;
+    let mut parts = Parts::none();
+    let list = diagnose_in_parts(alloc, rig, &shape, &mut parts)?;
     let loads = loads_of(rig).saturating_sub(before);
-    Ok(Diagnosis { list, loads })
+    Ok(Diagnosis { list, loads, parts })
 }
 
 // The report on a machine alone.
