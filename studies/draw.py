@@ -89,11 +89,6 @@ def layout(nodes, top):
     return places
 
 
-def short_name(machine, wire):
-    """A wire's name within its node."""
-    return " ".join(machine.names[wire].rsplit(".", 2 if ".t" in machine.names[wire] else 1)[1:])
-
-
 def draw_node(picture, node, x, y):
     """A crossbar: rows of taps with the names of their nets, columns of lines, marks, and the closed crosspoints of the nets."""
     machine, left, top = picture.machine, x + LABEL, y + GAP
@@ -105,7 +100,8 @@ def draw_node(picture, node, x, y):
         picture.wire(wire, left, middle, left + width, middle)
         net = picture.net_of.get(wire)
         named, colour = picture.names.get(net), "#8a8f98" if net is None else picture.colour(net)
-        words = (named if len(named) < 13 else named[:5] + ".." + named[-5:]) if named else short_name(machine, wire)
+        short = " ".join(machine.names[wire].rsplit(".", 2 if ".t" in machine.names[wire] else 1)[1:])
+        words = (named if len(named) < 13 else named[:5] + ".." + named[-5:]) if named else short
         picture.text(left - 3, middle + 2.5, words, f' text-anchor="end" font-size="6.5" fill="{colour}"')
     for k, wire in enumerate(node.lines):
         middle = left + CELL * k + CELL / 2

@@ -1,8 +1,7 @@
 #!/usr/bin/env python3
 """Says of the last line of a command what it means in the files at hand: which word, how many columns, which limit.
 
-After the line stand the words of the command, as in: explain.py 'refused vectors 1 width' eval lfsr.blif lfsr.vec
-or files alone, which are then known by their endings.
+After the line stand the words of the command, as in: explain.py 'refused vectors 1 width' eval lfsr.blif lfsr.vec; or files alone.
 """
 
 import argparse
@@ -20,10 +19,6 @@ ENDINGS = {".machine": "machine", ".faults": "rig", ".defects": "defects", ".ima
 # What isn't said by the kind's own word, or by a look into the files.
 KINDS = {
     "byte": "a byte that may not stand in a text; of a file that was saved as UTF-16 every second one",
-    "doubled": "this stands there already: a second time, or a signal that two lines drive",
-    "against": "an earlier line says the other value of the same part",
-    "cyclic": "covers that read each other in a circle without a latch, from this line's cover on",
-    "undriven": "no .inputs, .names or .latch gives a value to the signal that is named",
     "latchtype": "only latches of type re are known; let yosys run dfflegalize and dffunmap (docs/BLIF.md)",
     "leftout": "a BLIF line that isn't read; let yosys map to .names and .latch (docs/BLIF.md)",
     "nomodel": "the first line isn't .model: is this a BLIF file?",
@@ -58,13 +53,6 @@ def file_wrong(role, path):
     if os.path.isdir(path):
         return f"{path}, the {role} file, is a directory"
     return None if os.access(path, os.R_OK) else f"{path}, the {role} file, may not be read"
-
-
-def rig_wrong(name):
-    if re.fullmatch("@0[0-9]+", name):
-        return f"{name} is a file's name, since a number has no leading zeros"
-    wrong = None if re.fullmatch("@[0-9]+|", name) else file_wrong("fault", name)
-    return wrong or "no fault file is missing here, so the rig itself failed"
 
 
 def machine_limit(data):
@@ -132,10 +120,13 @@ def explain(line, words):
             found = filter(None, (file_wrong(role, path) for role, path in roles.items() if role not in ("rig", "number")))
             return next(found, "every file can be read, so the output failed: is the disk full, or the pipe closed?")
         case ["refused", "rig"]:
-            return rig_wrong(roles.get("rig", ""))
+            if re.fullmatch("@0[0-9]+", name := roles.get("rig", "")):
+                return f"{name} is a file's name, since a number has no leading zeros"
+            wrong = None if re.fullmatch("@[0-9]+|", name) else file_wrong("fault", name)
+            return wrong or "no fault file is missing here, so the rig itself failed"
         case ["refused", "noroom", resource, node, need, have, *_]:
             where = "the machine" if node == "r" else f"node {node}"
-            return f"{where} has {have} {resource} that serve, the plan in order wants {need}; studies/size.py gives a machine with room"
+            return f"{where} has {have} {resource} that serve, the plan in order wants {need}: teramac_map may find a text that fits"
         case ["refused", "memory"]:
             return "memory was wanting: close what else runs, or take a smaller machine"
         case ["refused", file, number, kind, *_] if number.isdigit():

@@ -20,14 +20,8 @@ KINDS = {
     "bridges": ("wire", "pairs of wires joined for good, by the wires of the machine"),
     "neighbours": ("wire", "likewise, of neighbours: two lines, or two taps, side by side in a crossbar"),
 }
-# How many places of each part a fault of a kind may have.
-PLACES = {"cells": 64, "broken": 2}
-SHAPES = {
-    "spots": "near a place",
-    "rows": "crosspoints of one tap, else spots",
-    "columns": "crosspoints of one line, else spots",
-    "hextants": "anywhere in one hextant",
-}
+PLACES = {"cells": 64, "broken": 2}  # of each part that a fault of the kind may have
+SHAPES = {"spots": "near a place", "rows": "on one tap, else spots", "columns": "on one line, else spots", "hextants": "in one hextant"}
 TRIES = 12_800
 
 

@@ -16,21 +16,16 @@ from program import wilson
 
 plt.switch_backend("svg")
 plt.rcParams.update({"svg.hashsalt": "teramac", "legend.fontsize": 8, "legend.handlelength": 3.6, "axes.grid": True, "grid.alpha": 0.3})
-
-# Who made which loads of a diagnosis.
 LOADS = {"all loads": "loads", "of growth": "loads_growth", "of the sweep": "loads_sweep", "of tests of tables": "loads_tables"}
 NUMBERS = [*"crosspoints rate seed faults thrown_wires thrown_crosses thrown_tables tables closed spare".split(), *LOADS.values()]
-# A run that was cut off or found no memory says nothing of room; it is counted apart.
-UNDECIDED = ("cut off", "6")
+UNDECIDED = ("cut off", "6")  # or no memory, which says nothing of room; counted apart
 DECIDED = ("0", "3", "wrong")
 LEVELS = ("root", "module", "chip", "hextant")
 SHARE = ["share", "low", "high", "runs", "undecided"]
-# Student's quantiles for 1 to 8 degrees of freedom.
-STUDENT = (12.71, 4.303, 3.182, 2.776, 2.571, 2.447, 2.365, 2.306)
-# How each list is drawn, named, and modelled.
-STYLES = {
+STYLES = {  # how each list is drawn, named, and modelled
     "exact": ("-", "o", "exact list", "every fault and nothing else is listed; compile, run"),
     "diagnosed": ((0, (5, 2)), "s", "own diagnosis", "the list of diagnose; compile, run"),
+    "mapped": ((0, (4, 1)), "*", "exact list, design remapped", "teramac_map writes a text for this machine and list; compile, run"),
     "wires": ((0, (1, 1.5)), "^", "spare rows and columns", "of a faulty crosspoint its tap or line is given up, of a table its output"),
     "hextants": ("-.", "D", "whole hextants dropped", "a hextant with a fault is given up, above the exact list"),
     "none": ((0, (8, 2, 1, 2)), "x", "no list", "the design as it is, undiagnosed; right where its rows are"),
@@ -68,6 +63,9 @@ def share(rows, holds=lambda row: row["status"] == "0"):
     decided = [row for row in rows if row["status"] not in UNDECIDED]
     hits = sum(map(holds, decided))
     return [hits / len(decided) if decided else math.nan, *wilson(hits, len(decided)), len(decided), len(rows) - len(decided)]
+
+
+STUDENT = (12.71, 4.303, 3.182, 2.776, 2.571, 2.447, 2.365, 2.306)  # quantiles for 1 to 8 degrees of freedom
 
 
 def mean(values):

@@ -2,6 +2,7 @@
 
 import math
 import os
+import shutil
 import subprocess
 import sys
 import tempfile
@@ -12,8 +13,9 @@ import teramac_texts as texts
 
 HERE = os.path.dirname(os.path.abspath(__file__))
 DEFAULT = os.environ.get("TERAMAC", os.path.normpath(os.path.join(HERE, "../crates/teramac/out/teramac")))
-REPORT = os.environ.get("TERAMAC_REPORT", os.path.normpath(os.path.join(HERE, "../crates/teramac_report/out/teramac_report")))
-REPORT = REPORT if os.path.exists(REPORT) else ""
+# Other programs: as the environment says (TERAMAC_MAP, ..), as they stand built here, or on the path; '' where one isn't there.
+OTHERS = {name: os.environ.get(name.upper(), f"{HERE}/../crates/{name}/out/{name}") for name in ("teramac_report", "teramac_map")}
+REPORT, MAPPER = (path if os.path.exists(path) else shutil.which(name) or "" for name, path in OTHERS.items())
 
 
 class Answer:

@@ -1,17 +1,19 @@
 #!/usr/bin/env python3
 """The least machine on which a design fits: its tables, ports, lines and pins by the plan in order, checked by one compile.
 
-How much must be spare at which rate of faults is the study `redundancy`.
+How much must be spare at which rate of faults is the study `redundancy`. With --map the machine is one for a text of `teramac_map`
+with the same rows: ports and lines are pressed down while the mapper finds a text that fits.
 """
 
 import argparse
 import math
 import sys
+from pathlib import Path
 
 import designs
 import teramac_texts as texts
 from faults import amount
-from program import add_program, call, checked_design
+from program import MAPPER, add_program, call, checked_design
 
 TREES = [(m, c, h) for m in (1, 2, 4) for c in (1, 2, 4) for h in (1, 2, 4, 8)]
 
@@ -20,9 +22,9 @@ def spared(count, spare):
     return max(1, math.ceil(count * (1 + spare) - 1e-9))
 
 
-def counts_for(network, tree, spare):
-    """The counts of a machine on this tree with what the plan wants and so much to spare."""
-    tables = -(-spared(len(network.tables), spare) // math.prod(tree))
+def counts_for(network, tree, spare, tables=0):
+    """The counts of a machine on this tree with what the plan wants and so much to spare; with so many tables in a hextant, or enough."""
+    tables = tables or -(-spared(len(network.tables), spare) // math.prod(tree))
     wanted = [*designs.needs(network, *tree, tables), network.inputs + len(network.outputs)]
     return (*tree, tables, *(spared(count, spare) for count in wanted))
 
@@ -41,6 +43,29 @@ def compiles(program, machine, defects, design):
     return call(program, "compile", machine.text.encode(), texts.defects_text(machine, defects).encode(), design)
 
 
+def pressed(counts, share, levels, tables):
+    """The counts with so much of these levels' ports and lines, but at least the pins' where all of a design's tables lie in one node."""
+    shares = [share if level in levels else 1 for level in (1, 2, 3, 0, 1, 2, 3)]
+    least = [counts[11] if level == 0 or tables <= math.prod(counts[level:4]) else 1 for level in (1, 2, 3, 0, 1, 2, 3)]
+    most = [max(min(count, bound), int(count * much)) for count, bound, much in zip(counts[4:11], least, shares)]
+    return (*counts[:4], *most, counts[11])
+
+
+def remapped(mapper, design, machine, text):
+    """The least machine found for a text of the mapper, from one that holds a text on, on its tree; with the text that it holds."""
+    tables = len(designs.plain_network(texts.read_design(text)).tables)
+    for levels in (range(4), [3], [2], [0, 1]):
+        share = 0.7
+        while share < 0.9:
+            tried = texts.Machine(pressed(machine.counts, share, levels, tables))
+            answer = call(mapper, tried.text.encode(), texts.defects_text(tried, texts.Defects()).encode(), design)
+            share = (1 + share) / 2 if answer.status or tried.counts == machine.counts else 0.85
+            if answer.status == 0:
+                text, network = answer.written, designs.plain_network(texts.read_design(answer.written))
+                machine = texts.Machine(counts_for(network, tried.counts[:3], 0.0, tried.counts[3]))
+    return machine, text
+
+
 def main():
     parser = argparse.ArgumentParser(description=__doc__, formatter_class=argparse.RawDescriptionHelpFormatter)
     parser.add_argument("design", help="the design's BLIF file")
@@ -48,17 +73,27 @@ def main():
         parser.add_argument(f"--{name}", type=int, metavar="N", help=f"how many {name} in each node above (default: the cheapest)")
     parser.add_argument("--spare", type=amount, default=0.0, metavar="SHARE", help="so much more, as 10%% or 0.1 (default: 0)")
     parser.add_argument("-o", "--output", default="-", help="the machine's new file (default: standard output)")
+    parser.add_argument("--map", metavar="FILE", help="a new file for the text of teramac_map that this machine holds")
+    parser.add_argument("--mapper", default=MAPPER, help="the built teramac_map (default: %(default)s)")
     add_program(parser)
     args = parser.parse_args()
     given = args.modules, args.chips, args.hextants
     trees = [tree for tree in TREES if all(want in (None, have) for want, have in zip(given, tree))] or [given]
     if min(count for count in given + (1,) if count is not None) < 1 or None in trees[0]:
         sys.exit("--modules, --chips, --hextants: give all three, each at least 1, beyond 4, 4 and 8")
-    network = designs.plain_network(checked_design(args.program, args.design))
-    machine = best_machine(network, trees, args.spare)
-    answer = compiles(args.program, machine, texts.Defects(), args.design)
+    network, text = designs.plain_network(checked_design(args.program, args.design)), args.design
+    machine = given = best_machine(network, trees, 0.0 if args.map else args.spare)
+    if args.map:
+        text = call(args.mapper, args.design).written
+        held = (given, Path(args.design).read_bytes()), (best_machine(designs.plain_network(texts.read_design(text)), trees, 0.0), text)
+        least, text = min((remapped(args.mapper, args.design, *pair) for pair in held), key=lambda pair: pair[0].sizes["cross"])
+        print(f"crosspoints: {given.sizes['cross']:,} as given, {least.sizes['cross']:,} remapped", file=sys.stderr)
+        machine = texts.Machine((*least.counts[:4], *(spared(count, args.spare) for count in least.counts[4:])))
+    answer = compiles(args.program, machine, texts.Defects(), text)
     if answer.status:
         sys.exit(f"compile of the design on this machine: {' '.join(answer.refusal)}")
+    if args.map:
+        texts.write_new(args.map, text)
     texts.write_new(args.output, machine.text)
 
 

@@ -20,7 +20,7 @@ import yaml
 
 import designs
 import teramac_texts as texts
-from program import DEFAULT, HERE, REPORT, add_program, checked_design
+from program import DEFAULT, HERE, MAPPER, REPORT, add_program, checked_design
 from size import TREES, best_machine, counts_for
 
 KNOWN = set("folder machines designs fill spares tree kinds rates seeds first_seed lists clustered shape seconds".split())
@@ -91,7 +91,7 @@ class Study:
         return str(path)
 
     def sized(self, blif, name):
-        """For each share to spare a machine, all on one tree; `three` is what three copies with voters want, and a quarter more."""
+        """For each share of spare parts (`three`: three copies with voters, and a quarter) a machine, on one tree, given or the best."""
         design = checked_design(self.program, blif)
         network, three = map(designs.plain_network, (design, designs.triplicated(design)))
         tree = self.settings.get("tree") or best_machine(network, TREES, 0.0).counts[:3]
@@ -121,14 +121,16 @@ class Study:
 
     def made_trials(self):
         get, first = self.settings.get, self.settings.get("first_seed", 1)
-        more = ["--lists", ",".join(get("lists", ["exact", "diagnosed"])), "--seconds", str(get("seconds", 600))]
+        lists = [name for name in get("lists", ["exact", "diagnosed"]) if name != "mapped" or MAPPER]
+        more = ["--lists", ",".join(lists), "--mapper", MAPPER, "--seconds", str(get("seconds", 600))]
         more += ["--clustered", str(get("clustered", 0)), "--shape", get("shape", "spots"), "--program", self.program, "--report", REPORT]
         places = list(self.on_machines())
         # Seed by seed, so that one can see early how a study comes out.
         for seed in range(first, first + self.settings["seeds"]):
             for (name, machine, spare, listed), kind, rate in product(places, self.settings["kinds"], self.settings["rates"]):
                 pairs = [f"{design}={blif}:{vectors}" for design, (blif, vectors) in listed.items()]
-                inputs = [self.program, machine, *(file for pair in listed.values() for file in pair), *([REPORT] if REPORT else [])]
+                others = filter(None, (REPORT, "mapped" in lists and MAPPER))
+                inputs = [self.program, machine, *(file for pair in listed.values() for file in pair), *others]
                 spared = [] if spare is None else ["--spare", str(spare)]
                 words = [machine, *pairs, "--name", name, *spared, "--kind", kind, "--rate", str(rate), "--seed", str(seed), *more]
                 yield f"{name}-{re.sub('[^a-z0-9.]+', '_', kind)}-{rate}-{seed}", Trial(words, inputs)

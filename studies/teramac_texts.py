@@ -8,8 +8,8 @@ import re
 import sys
 from bisect import bisect
 from collections import namedtuple
-from dataclasses import dataclass
 from itertools import islice
+from types import SimpleNamespace as Node
 
 FILE_LIMIT = 16_777_216
 LIMITS = 4_096, 16_384, 4_194_304  # tables, wires, crosspoints
@@ -48,19 +48,6 @@ def read_lines(data, file, take):
             raise Refused(file, number, wrong)
 
 
-@dataclass
-class Node:
-    """A node of the tree with its crossbar; ports, lines, taps and tables by their numbers, `first` its first crosspoint."""
-
-    level: int
-    name: str
-    ports: range
-    lines: range
-    taps: list
-    tables: range
-    first: int = 0
-
-
 class Machine:
     """Twelve counts, in the order of the line `shape`, and the numbers and names that follow from them, for each kind of parts."""
 
@@ -92,7 +79,8 @@ class Machine:
         at = len(wires)
         own, first = range(at, at + ports), len(self.table_pins)
         mine, taps = range(own.stop, own.stop + lines), list(own or self.pins)
-        node = Node(level, name, own, mine, taps, range(first, first + tables))
+        # A node of the tree with its crossbar; ports, lines, taps and tables by their numbers, later `first`, its first crosspoint.
+        node = Node(level=level, name=name, ports=own, lines=mine, taps=taps, tables=range(first, first + tables))
         self.nodes.append(node)
         wires += [f"{name}.o{k}" for k in range(ports)] + [f"{name}.l{k}" for k in range(lines)]
         self.table_pins += [range(w, w + 7) for w in range(len(wires), len(wires) + 7 * tables, 7)]

@@ -1,6 +1,5 @@
 """Tests of studies and their figures: python3 -m unittest. Those of figures want matplotlib, some the built program."""
 
-import argparse
 import os
 import random
 import tempfile
@@ -13,7 +12,7 @@ import teramac_texts as texts
 import trial
 from explain import explain
 from faults import Places, largest_rate, make_faults
-from program import DEFAULT, HERE, call
+from program import DEFAULT, HERE, MAPPER, call
 from study import KNOWN, Study, names_of
 from test_studies import EXAMPLES, run
 
@@ -36,9 +35,6 @@ def rows_of(**columns):
 
 @unittest.skipIf(figures is None, "matplotlib isn't there")
 class Figures(unittest.TestCase):
-    def tearDown(self):
-        figures.plt.close("all")
-
     def test_a_curve_for_each_machine_and_kind(self):
         rows = rows_of(machine=["m", "n"], kind=["open", "wires"], rate=[0.1, 0.2], seed=[1, 2])
         for row in rows:
@@ -62,27 +58,23 @@ class Figures(unittest.TestCase):
                 figures.read_rows(path)
 
     def test_loads(self):
-        """What wasn't told is said; each part that was is drawn by itself, of one machine against the rate, with seconds beside."""
         picture, _, _ = figures.loads(rows_of(list=["diagnosed"], loads=[None]), 1000)
         self.assertIn("teramac_report", picture.axes[0].texts[0].get_text())
         for machines, swept, label in (("m", 4.0, "rate of faults"), ("mn", None, "crosspoints of the machine")):
             rows = rows_of(list=["diagnosed"], machine=machines, rate=[0.1], loads=[6.0], loads_sweep=[swept], loads_growth=[2.0])
             picture, columns, table = figures.loads([{**row, "crosspoints": ord(row["machine"])} for row in rows], 100)
             found = {row["part"]: [row["mean"], row["seconds"]] for row in (dict(zip(columns, line)) for line in table)}
-            told = {"of the sweep": [4, 0.04]} if swept else {}
-            self.assertEqual(found, {"all loads": [6, 0.06], "of growth": [2, 0.02], "of tests of tables": [1, 0.01], **told})
+            self.assertEqual((found.get("of the sweep"), found["all loads"]), (swept and [4, 0.04], [6, 0.06]))
             self.assertEqual((picture.axes[0].get_xlabel(), len(picture.axes)), (label, 2 * len(found)))
 
     def test_ticks_and_legends(self):
-        """Ticks are plain, and curves differ in the legend."""
         picture, _, _ = figures.thrown(rows_of(list=["diagnosed"], rate=[0.1, 0.2], thrown_wires=[2000.0]), 0)
         self.assertEqual([tick.get_text() for tick in picture.axes[0].get_yticklabels()], ["0", "1", "10", "100", "1,000", "10,000"])
         self.assertGreater(figures.plt.rcParams["legend.handlelength"], 3)
         self.assertEqual(len({style[1] for style in figures.STYLES.values()}), len(trial.LISTS))
 
-    def test_means_and_intervals(self):
-        for hits, tries, want in ((8, 10, (0.4902, 0.9433)), (0, 0, (0, 1))):
-            self.assertEqual(tuple(round(bound, 4) for bound in figures.wilson(hits, tries)), want)
+    def test_means_and_shares(self):
+        self.assertEqual(([round(bound, 4) for bound in figures.wilson(8, 10)], figures.wilson(0, 0)), ([0.4902, 0.9433], (0, 1)))
         self.assertEqual(figures.mean([5.0, 5.0, 5.0]), [5, 5, 5, 3])
         self.assertAlmostEqual(figures.mean([1.0, 2.0, 3.0])[2], 2 + 4.303 / 3**0.5, 3)
 
@@ -150,7 +142,7 @@ class Kinds(unittest.TestCase):
         self.assertEqual(trial.mix("open"), ("open", {"open": 1.0}, None))
         self.assertEqual(trial.mix("x:open+wires*0.1 in rows of 24"), ("x", {"open": 1.0, "wires": 0.1}, (24.0, "rows")))
         for word in ("opens", "open*0", "open in lines of 3"):
-            self.assertRaises(argparse.ArgumentTypeError, trial.mix, word)
+            self.assertRaises(trial.argparse.ArgumentTypeError, trial.mix, word)
 
     def test_made_designs(self):
         for tables in (38, 77, 115):
@@ -197,6 +189,16 @@ class Runs(unittest.TestCase):
         ran = self.study()
         self.assertIn("refused design 2 undriven y; no run", ran.stderr)
         self.assertNotEqual(ran.returncode, 0)
+
+    @unittest.skipUnless(MAPPER, "teramac_map isn't there")
+    def test_a_smaller_machine_holds_a_remapped_text(self):
+        machine, text = str(self.folder / "m.machine"), str(self.folder / "t.blif")
+        ran = run("size.py", "uart.blif", "--map", text, "-o", machine)
+        given, least = (int(word.replace(",", "")) for word in ran.stderr.split() if word[0].isdigit())
+        self.assertLess(least, given)
+        self.assertEqual(*(call(DEFAULT, "eval", design, f"{EXAMPLES}/uart.vec").rows for design in (text, f"{EXAMPLES}/uart.blif")))
+        ran = run("trial.py", machine, f"{EXAMPLES}/uart.blif:{EXAMPLES}/uart.vec", "--rate", "0.0", "--lists", "exact,mapped")
+        self.assertEqual([line.split(",")[7:9] for line in ran.stdout.splitlines()[1:]], [["exact", "3"], ["mapped", "0"]])
 
     def test_machines_of_one_name(self):
         self.assertEqual([*names_of(["a/x.machine", "b/x.machine"]), *names_of(["a/x.machine", "b/y.machine"])], ["a-x", "b-x", "x", "y"])
@@ -247,7 +249,3 @@ class Runs(unittest.TestCase):
             (["compile", machine, defects, f"{EXAMPLES}/lfsr.blif"], "the plan in order wants 10"),
         ):
             self.assertIn(said, explain(" ".join(call(DEFAULT, *words).refusal), words))
-
-
-if __name__ == "__main__":
-    unittest.main()

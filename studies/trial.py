@@ -1,9 +1,8 @@
 #!/usr/bin/env python3
 """One machine with one set of faults; on each of some lists every design. Writes rows of CSV (README.md says what of each list).
 
-By the tool's own diagnosis a design goes through diagnose (once for all designs), compile and run, which is what go does; by other
-lists through compile and run. Every run's rows are compared with eval's. An answer of status 1, 2, 4 or 5 was never a run, and ends
-the script with status 1, as do rows that differ where a list was made.
+Every run's rows are compared with eval's. An answer of status 1, 2, 4 or 5 was never a run, and ends the script with status 1, as do
+rows that differ where a list was made.
 """
 
 import argparse
@@ -16,16 +15,15 @@ from pathlib import Path
 import designs
 import teramac_texts as texts
 from faults import KINDS, SHAPES, add_clusters, amount, make_faults
-from program import REPORT, add_program, call
+from program import MAPPER, REPORT, add_program, call
 
 COLUMNS = (
     "machine crosspoints kind rate seed faults design list status refusal listed_wires listed_crosses listed_tables thrown_wires "
     "thrown_crosses thrown_tables tables nets crossings closed seconds diagnose_seconds loads loads_sweep loads_growth loads_tables spare"
 ).split()
-LISTS = ("exact", "diagnosed", "wires", "hextants", "none", "triplicated")
+LISTS = ("exact", "diagnosed", "mapped", "wires", "hextants", "none", "triplicated")
 UNDIAGNOSED = ("none", "triplicated")
-# Answers that say nothing of room: wrong texts or words, a rig, a store or an output that failed.
-NO_RUN = (1, 2, 4, 5)
+NO_RUN = (1, 2, 4, 5)  # which say nothing of room: wrong texts or words, a rig, a store or an output that failed
 
 
 def mix(word):
@@ -70,7 +68,7 @@ def hextants_list(machine, faults):
     return found
 
 
-BY_FAULTS = {"exact": texts.exact_list, "wires": wires_list, "hextants": hextants_list}
+BY_FAULTS = {"exact": texts.exact_list, "mapped": texts.exact_list, "wires": wires_list, "hextants": hextants_list}
 
 
 class Trial:
@@ -88,8 +86,8 @@ class Trial:
         given = (args.name or Path(args.machine).stem, self.machine.sizes["cross"], name, args.rate, args.seed, self.faults.count)
         self.head = dict(zip(COLUMNS, given)) | {"spare": args.spare}
 
-    def call(self, *words):
-        answer = call(self.args.program, *words, seconds=self.args.seconds)
+    def call(self, *words, program=None):
+        answer = call(program or self.args.program, *words, seconds=self.args.seconds)
         if answer.status in NO_RUN:
             said = " ".join(answer.refusal) or f"status {answer.status}"
             sys.exit(f"{words[0]} on {self.head['machine']}, {self.head['kind']} {self.args.rate}, seed {self.args.seed}: {said}; no run")
@@ -151,7 +149,9 @@ class Trial:
                 given = design
                 if kind == "triplicated":
                     given = designs.blif_text(designs.triplicated(texts.read_text(texts.read_design, design))).encode()
-                answer, sizes = self.laid(listed, design, vectors, kind not in UNDIAGNOSED, given)
+                said = self.call(self.args.machine, listed, design, program=self.args.mapper) if kind == "mapped" else None
+                given = said.written if said else given
+                answer, sizes = (said, {}) if said and said.status else self.laid(listed, design, vectors, kind not in UNDIAGNOSED, given)
                 yield self.row(name, kind, None if kind in UNDIAGNOSED else listed, answer, **sizes)
 
     def diagnosed_rows(self):
@@ -189,11 +189,12 @@ def main():
     parser.add_argument("--name", help="the machine's name in the table (default: its file's)")
     parser.add_argument("--spare", type=float, help="what the machine has to spare, for the table")
     parser.add_argument("-o", "--output", default="-", help="a new file (default: standard output)")
+    parser.add_argument("--mapper", default=MAPPER, help="the built teramac_map, for mapped (default: %(default)s)")
     add_program(parser)
     args = parser.parse_args()
     args.lists = args.lists.split(",")
-    if not set(args.lists) <= set(LISTS):
-        sys.exit(f"--lists: some of {', '.join(LISTS)}")
+    if not set(args.lists) <= set(LISTS if args.mapper else LISTS[:2] + LISTS[3:]):
+        sys.exit(f"--lists: some of {', '.join(LISTS)}; mapped wants teramac_map, built or named by --mapper")
     try:
         rows = list(Trial(args).rows())
     except ValueError as error:

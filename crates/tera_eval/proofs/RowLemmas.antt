@@ -4,8 +4,7 @@ use Rattle.std.specs.Prelude.{Result, Ok, Err}
 use Rattle.tm_outside.specs.Store.{StoreState}
 use Rattle.tm_outside.specs.Sink.{SinkState}
 use Rattle.netlist.specs.declared.draft.Draft.{Draft}
-use Rattle.netlist.specs.Rows.{RowsFrom, AreRows, first_state, next_state}
-use Rattle.netlist_eval.specs.Evals.{EvalState, IsStep}
+use Rattle.netlist.specs.Rows.{AreRows}
 use Rattle.rig.specs.Rig.{RigState}
 use Rattle.vector_text.specs.declared.vectors.VectorsFail.{VectorsFail}
 use Rattle.vector_text.specs.declared.vectors.VectorsFail.TheVariants.{Text, Failed}
@@ -21,13 +20,21 @@ use Rattle.steps.specs.declared.refusal.Refusal.TheVariants as refused
 use Rattle.steps.specs.declared.refusal.Stop.{Stop}
 use Rattle.steps.specs.declared.refusal.Stop.TheVariants.{Refused, Sink}
 use Rattle.steps.proofs.WrittenRows.{AreWritten, none-written, put-out, after-put, read-after, was-read, added, not-added, some-lines, stays-same, row-later, waits-more, vectors-follow, end-follows, held-follows}
+use Rattle.tera_eval.specs.declared.design_eval.Run.{Run}
+use Rattle.tera_eval.specs.declared.design_eval.Run.TheVariants.{Netlist, Network}
 use Rattle.tera_eval.specs.declared.evaluation.Evaluation.{Evaluation}
+use Rattle.tera_eval.specs.Runs.{DesignState, RowsLeft, IsRowStep}
 use Rattle.tera_eval.specs.Eval.{eval_rows}
 use Rattle.tera_eval.specs.Evaluations.{IsSized, IsReady, TakesRow, RowGives, at_rows}
 
--- rows that are made on from this state follow on those that were made
-abbrev RowsGoOn : Draft → (taken made : List (List Bool)) → (state : List Bool) → Type 0
-RowsGoOn draft taken made state = (vs rs : List (List Bool)) → RowsFrom draft state vs rs → RowsFrom draft (first_state draft) (taken ++ vs) (made ++ rs)
+-- rows that go on from here follow on those that were made
+abbrev RowsGoOn : Draft → (taken made : List (List Bool)) → Run → Type 0
+RowsGoOn draft taken made run = (vs rs : List (List Bool)) → RowsLeft run vs rs → AreRows draft (taken ++ vs) (made ++ rs)
+
+-- no row is left for no vectors
+none-left : (run : Run) → RowsLeft run [] []
+none-left (Netlist e) = tt
+none-left (Network e) = tt
 
 -- vectors were taken and their rows made, whatever the rig is: some were written, and the rest wait
 pub record IsRunning (draft : Draft) (before : StoreState) (old : SinkState) (rows : Evaluation) (store : StoreState) (sink : SinkState) : Type 0 where
@@ -36,30 +43,26 @@ pub record IsRunning (draft : Draft) (before : StoreState) (old : SinkState) (ro
   pub taken : List (List Bool)
   pub made : List (List Bool)
   pub written : (rig : RigState) → AreWritten (length draft.inputs) (outside before rig old) rows.vectors rows.block.text (outside store rig sink) taken made
-  pub go_on : RowsGoOn draft taken made rows.eval.state
+  pub go_on : RowsGoOn draft taken made rows.eval.run
 
 pub running-start : (draft : Draft) (rows : Evaluation) (store : StoreState) (sink : SinkState) → IsReady draft rows → IsBegun store → IsRunning draft store sink rows store sink
 running-start draft rows store sink ready begun = record {
-  netlist = rw ready.eval refl;
+  netlist = ready.eval.netlist;
   sized = ready.sized;
   taken = [];
   made = [];
   written = λ rig. rw (ready.vectors, ready.none) (none-written (length draft.inputs) (outside store rig sink) begun);
-  go_on = λ vs rs h. rw ready.eval at h;
+  go_on = ready.eval.rows;
 }
 
 -- the rows so far are those of the vectors so far
-rows-of : (draft : Draft) (taken made : List (List Bool)) (state : List Bool) → RowsGoOn draft taken made state → AreRows draft taken made
-rows-of draft taken made state go_on = rw (append-nil taken, append-nil made) at (go_on [] [] tt)
+rows-of : (draft : Draft) (taken made : List (List Bool)) (run : Run) → RowsGoOn draft taken made run → AreRows draft taken made
+rows-of draft taken made run go_on = rw (append-nil taken, append-nil made) at (go_on [] [] (none-left run))
 
 -- one more vector and its row
-go-on-more : (draft : Draft) (taken made : List (List Bool)) (eval eval' : EvalState) (vector row : List Bool) → eval.netlist ≡ draft → IsStep eval vector row eval' → RowsGoOn draft taken made eval.state → RowsGoOn draft (taken ++ vector ∷ []) (made ++ row ∷ []) eval'.state
-go-on-more draft taken made eval eval' vector row netlist step go_on vs rs h =
-    let right = rw netlist at step.right in
-    let outputs = rw netlist at step.outputs in
-    let state : eval'.state ≡ next_state draft step.given = rw (step.next, netlist) refl in
-    let rest : RowsFrom draft (next_state draft step.given) vs rs = subst (λ s. RowsFrom draft s vs rs) state h in
-    rw (append_assoc taken, append_assoc made) (go_on (vector ∷ vs) (row ∷ rs) (step.given, right, outputs, rest))
+go-on-more : (draft : Draft) (taken made : List (List Bool)) (eval eval' : DesignState) (vector row : List Bool) → IsRowStep eval vector row eval' → RowsGoOn draft taken made eval.run → RowsGoOn draft (taken ++ vector ∷ []) (made ++ row ∷ []) eval'.run
+go-on-more draft taken made eval eval' vector row step go_on vs rs h =
+    rw (append_assoc taken, append_assoc made) (go_on (vector ∷ vs) (row ∷ rs) (step.rows vs rs h))
 
 module _ (draft : Draft) (before : StoreState) (old : SinkState) (rows rows' : Evaluation) (store store' : StoreState) (sink sink' : SinkState) (so_far : IsRunning draft before old rows store sink) (stays : StaysOpen store store') where
   abbrev work : RowWork
@@ -69,7 +72,7 @@ module _ (draft : Draft) (before : StoreState) (old : SinkState) (rows rows' : E
   Ends result rig last = Follows ⊥ [] (Unit {0}) (all_rows work) result (outside before rig old) (outside store' rig last)
 
   are-rows : AreRows draft so_far.taken so_far.made
-  are-rows = rows-of draft so_far.taken so_far.made rows.eval.state so_far.go_on
+  are-rows = rows-of draft so_far.taken so_far.made rows.eval.run so_far.go_on
 
   onward : (rig : RigState) (from to : SinkState) → to.can_lack ≡ from.can_lack → from.failures ≤ to.failures → IsLater (outside store rig from) (outside store' rig to)
   onward rig from to kind later = row-later store store' rig rig from to stays refl (omega arith) kind later
@@ -102,8 +105,8 @@ module _ (draft : Draft) (before : StoreState) (old : SinkState) (rows rows' : E
   -- ---- one more vector and its row
 
   module _ (takes : TakesRow rows rows' (at_rows rows store sink) (at_rows rows' store' sink')) where
-    more-on : RowsGoOn draft (so_far.taken ++ rows'.vector.items ∷ []) (so_far.made ++ rows'.row.items ∷ []) rows'.eval.state
-    more-on = go-on-more draft so_far.taken so_far.made rows.eval rows'.eval rows'.vector.items rows'.row.items so_far.netlist takes.step so_far.go_on
+    more-on : RowsGoOn draft (so_far.taken ++ rows'.vector.items ∷ []) (so_far.made ++ rows'.row.items ∷ []) rows'.eval.run
+    more-on = go-on-more draft so_far.taken so_far.made rows.eval rows'.eval rows'.vector.items rows'.row.items takes.step so_far.go_on
 
     -- the rows before it, and whether the store was read for it
     before-it : (rig : RigState) → AreWritten (length draft.inputs) (outside before rig old) rows.vectors rows'.block.text (outside store rig sink') so_far.taken so_far.made
@@ -118,12 +121,12 @@ module _ (draft : Draft) (before : StoreState) (old : SinkState) (rows rows' : E
     row-stops rig stop left last waits =
         let held = not-added _ left stop store' sink' last (some-lines rows'.block.text rows'.row.items) waits in
         held-follows work _ (outside store' rig sink') (outside store' rig last) _ _ _ _ (with-it rig)
-        (row-later store' store' rig rig sink' last (stays-same store') refl (omega arith) held.kind held.later) refl refl refl (Unit {0}) tt (rows-of draft _ _ rows'.eval.state more-on) (inl tt) refl stop held
+        (row-later store' store' rig rig sink' last (stays-same store') refl (omega arith) held.kind held.later) refl refl refl (Unit {0}) tt (rows-of draft _ _ rows'.eval.run more-on) (inl tt) refl stop held
 
     -- or they are, or wait
     pub running-more : (last_rows : Evaluation) (last : SinkState) → last_rows.eval ≡ rows'.eval → last_rows.vectors ≡ rows'.vectors → IsSized last_rows → WaitsOrPuts (rows'.block.text ++ row_line rows'.row.items) last_rows.block.text (Ok tt) sink' last → IsRunning draft before old last_rows store' last
     running-more last_rows last eval vectors sized waits = record {
-      netlist = ap (λ (e : EvalState). e.netlist) eval ∙ rw takes.step.next so_far.netlist;
+      netlist = ap (λ (e : DesignState). e.netlist) eval ∙ takes.step.netlist ∙ so_far.netlist;
       sized = sized;
       taken = so_far.taken ++ rows'.vector.items ∷ [];
       made = so_far.made ++ rows'.row.items ∷ [];

@@ -3,7 +3,7 @@ use Rattle.std.specs.Prelude.{◌≡◌, Bool, true, false, [], length}
 use Rattle.tm_outside.specs.Store.{StoreState}
 use Rattle.tm_outside.specs.Sink.{SinkState}
 use Rattle.netlist.specs.declared.draft.Draft.{Draft}
-use Rattle.netlist_eval.specs.Evals.{first_eval, IsStep}
+use Rattle.tera_eval.specs.Runs.{IsFirstOf, IsRowStep}
 use Rattle.vector_text.specs.Readings.{new_reading}
 use Rattle.tera_eval.specs.declared.evaluation.Evaluation.{Evaluation}
 use Rattle.steps.specs.Files.{most_vector_bytes}
@@ -19,7 +19,7 @@ pub record IsSized (rows : Evaluation) : Type 0 where
 
 -- nothing was read yet
 pub record IsReady (draft : Draft) (rows : Evaluation) : Type 0 where
-  pub eval : rows.eval ≡ first_eval draft
+  pub eval : IsFirstOf draft rows.eval
   pub vectors : rows.vectors ≡ new_reading (length draft.inputs) most_vector_bytes
   pub none : rows.block.text ≡ []
   pub sized : IsSized rows
@@ -31,7 +31,7 @@ at_rows rows store sink = rows_at rows.vectors rows.block store sink
 -- a vector was read, and its row made
 pub record TakesRow (old new : Evaluation) (from to : RowsAt) : Type 0 where
   pub next : NextOf true new.vector.items from to
-  pub step : IsStep old.eval new.vector.items new.row.items new.eval
+  pub step : IsRowStep old.eval new.vector.items new.row.items new.eval
 
 abbrev pub RowGives : Bool → Evaluation → Evaluation → RowsAt → RowsAt → Type 0
 RowGives true old new from to = TakesRow old new from to

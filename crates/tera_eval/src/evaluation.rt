@@ -12,8 +12,8 @@ ghost use Rattle.steps.specs.Jobs.{Does, IsLawful};
 ghost use Rattle.tera_eval.specs.Eval.{eval_rows, design_evaluated, eval_job};
 ghost use Rattle.tera_eval.specs.Evaluations.{IsReady, IsSized, RowGives, at_rows};
 
+use crate::design_eval::DesignEval;
 use netlist::Netlist;
-use netlist_eval::Eval;
 use std::alloc::{AllocError, Global};
 use steps::{DesignFile, RowBlock, Stop, next_vector, open_vectors, read_design, write};
 use tm_outside::{Sink, Store};
@@ -22,7 +22,7 @@ use vector_text::VectorText;
 // All that the rows need: no memory is taken after this.
 #[derive(Drop)]
 struct Evaluation<'a> {
-    eval: Eval<'a>,
+    eval: DesignEval<'a>,
     vectors: VectorText,
     vector: Vec<bool>,
     row: Vec<bool>,
@@ -35,7 +35,7 @@ fn prepare(alloc: Global, netlist: &Netlist) -> Result<Evaluation<'_>, AllocErro
 {
     let inputs = netlist.parts().inputs.as_slice().len();
     let outputs = netlist.parts().outputs.as_slice().len();
-    let eval = Eval::start(alloc, netlist)?;
+    let eval = DesignEval::start(alloc, netlist)?;
     let vectors = VectorText::new(alloc, inputs as u32)?;
     let vector = vec![in alloc; false; inputs]?;
     let row = vec![in alloc; false; outputs]?;

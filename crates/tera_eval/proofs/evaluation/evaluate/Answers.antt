@@ -44,4 +44,4 @@ returns g c =
     let told = ap (λ contents. contents c.args.vectors.now) same in
     let took = opened.took rig a in
     let file = begun-file s1 begun.contents c.args.vectors.now (took.later.contents ∙ same) opened.begun in
-    rows-then _ _ files begun _ _ _ told stands _ took _ _ _ _ _ _ c.in_ok-write.ensures.puts (rw (c.in_ok-rows.ensures.eval, file) at (c.write_rows.ensures rig)) tt
+    rows-then _ _ files begun _ _ _ told stands _ took _ _ _ _ _ _ c.in_ok-write.ensures.puts (rw (c.in_ok-rows.ensures.eval.netlist, file) at (c.write_rows.ensures rig)) tt
