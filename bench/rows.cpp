@@ -1,9 +1,13 @@
-// Runs Verilator's model of bench/processor.v or bench/multiplier.v on a file of vectors, and prints the rows that `teramac eval` prints.
+// Runs Verilator's model of bench/processor.v, core.v or multiplier.v on a file of vectors, and prints the rows that `teramac eval`
+// prints.
 #include <cstdio>
 #include <string>
 #ifdef PROCESSOR
 #include "Vprocessor.h"
 using Model = Vprocessor;
+#elif defined CORE
+#include "Vcore.h"
+using Model = Vcore;
 #else
 #include "Vmultiplier.h"
 using Model = Vmultiplier;
@@ -33,6 +37,15 @@ int main(int, char **words) {
         model.eval();
         put(row, model.result, 32);
         put(row, model.place, 5);
+        puts(row.c_str());
+        model.clock = 1;
+        model.eval();
+#elif defined CORE
+        model.clock = 0;
+        model.port = bits(line + 1, 16);
+        model.eval();
+        put(row, model.result, 32);
+        put(row, model.place, 4);
         puts(row.c_str());
         model.clock = 1;
         model.eval();
