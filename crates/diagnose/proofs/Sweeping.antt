@@ -93,6 +93,30 @@ marks_again {told} {k} {l} {ss} {ts} b unfit n more none t = record { at = λ f 
       wrong = old.wrong;
     }
 
+no_number : (n w : ℕ) → has_number (replicate n false) w ≡ false
+no_number n w = by (dec_lt w n)
+  where
+    by : Dec (w < n) → has_number (replicate n false) w ≡ false
+    by (yes h) = get_or-replicate n w false false h
+    by (no h) = get_or_past (replicate n false) w false (rw length-replicate (omega arith))
+
+pub none_is : (unfit : List Bool) (n : ℕ) → unfit ≡ replicate n false → (w : ℕ) → has_number unfit w ≡ false
+none_is unfit n is w = ap (λ (s : List Bool). has_number s w) is ∙ no_number n w
+
+-- The marks of unfit wires are dropped behind a sweep before which there were none.
+pub marks_dropped : {a : Field} {tables : List Table} {b : Bad} (c : Bad) (unfit : List Bool) (n : ℕ) → n ≡ length c.unfit → unfit ≡ replicate n false → ((w : ℕ) → has_number b.unfit w ≡ false) → MarksIn a tables b c →
+    MarksIn a tables b (record c { unfit = unfit })
+marks_dropped c unfit n same is none in_ = record {
+  stuck = in_.stuck;
+  unfit = record {
+    len = ap length is ∙ length-replicate n false ∙ same ∙ in_.unfit.len;
+    stays = λ w on. absurd (false≢true (sym (none w) ∙ on));
+    within = λ w on. absurd (false≢true (sym (none_is unfit n is w) ∙ on));
+  };
+  unclear = in_.unclear;
+  wrong = in_.wrong;
+}
+
 -- Nothing is marked.
 pub marks_of_none : {told : Option Faults} {k : Kept} (ss : List Step) {b : Bad} → ((x : ℕ) → has_number b.stuck x ≡ false) → ((x : ℕ) → has_number b.unfit x ≡ false) → ((x : ℕ) → has_number b.unclear x ≡ false) →
     ((x : ℕ) → has_number b.wrong x ≡ false) → TrueIf told k ss b

@@ -1,5 +1,5 @@
 //! The whole machine: from tests to a list of defects.
-ghost use Rattle.std.specs.Prelude.{◌≡◌, ◌⊎◌, ◌≤◌, ◌<◌, ◌+◌, ◌*◌, ℕ, true, All, List, Some, IfOk, OnOk, IsErrOf, length};
+ghost use Rattle.std.specs.Prelude.{◌≡◌, ◌⊎◌, ◌≤◌, ◌<◌, ◌+◌, ◌*◌, ℕ, true, false, All, List, Some, IfOk, OnOk, IsErrOf, length};
 ghost use Rattle.tm_bits.specs.Numbers.{has_number};
 ghost use Rattle.tm_outside.specs.Counts.{Rose};
 ghost use Rattle.hierarchy.specs.Shape.{tables_of};
@@ -71,6 +71,7 @@ fn know_whole(
     requires known { IsKnown proof.old known.old }
     requires marks { AreMarksFor proof.old.shape bad.old }
     requires right { TrueIf (rig_state rig.old).machine.faults proof.old known.old.steps bad.old }
+    requires fit { (w : ℕ) → has_number bad.old.unfit w ≡ false }
     ensures known { IsKnown proof.new known.new }
     ensures marks { AreMarksFor proof.old.shape bad.new }
     ensures right { TrueIf (rig_state rig.old).machine.faults proof.new known.new.steps bad.new }
@@ -94,6 +95,8 @@ fn know_whole(
     let before = loads_since(rig, 0);
     sweep(rig, proof, known, bad, &field, &tables)?;
     parts.sweep = parts.sweep.saturating_add(loads_since(rig, before));
+    // A pin of a table that is shorted to a line has to be known well enough to take its place.
+    bad.unfit.clear();
     let Ok(rest) = without_bad(alloc, bad, &field) else {
         return Err(RigFail::Memory);
     };
@@ -111,6 +114,7 @@ fn known_wires(
     requires attached { shape_of (rig_state rig.old) ≡ Some proof.old.shape }
     requires marks { AreMarksFor proof.old.shape bad.old }
     requires right { (ss : List Step) → TrueIf (rig_state rig.old).machine.faults proof.old ss bad.old }
+    requires fit { (w : ℕ) → has_number bad.old.unfit w ≡ false }
     ensures known { IfOk result (IsKnown proof.new) }
     ensures marks { AreMarksFor proof.old.shape bad.new }
     ensures right { IfOk result (λ known. TrueIf (rig_state rig.old).machine.faults proof.new known.steps bad.new) }

@@ -1,5 +1,5 @@
 -- Latched tables that take what they read.
-use Rattle.std.proofs.Common.{◌≡◌, ◌⊎◌, Bool, ℕ, zero, suc, ◌+◌, ◌*◌, ◌/◌, ◌%◌, ◌-◌, ◌<◌, ◌≤◌, ◌==◌, ◌&&◌, List, true, false, length, get_or, set, refl, sym, ap, subst, ◌∙◌, inl, inr, arith, bit_and, nat_eq}
+use Rattle.std.proofs.Common.{◌≡◌, ◌⊎◌, Bool, ℕ, zero, suc, ◌+◌, ◌*◌, ◌/◌, ◌%◌, ◌-◌, ◌<◌, ◌≤◌, ◌==◌, ◌&&◌, ◌||◌, List, true, false, length, get_or, set, refl, sym, ap, subst, ◌∙◌, inl, inr, arith, bit_and, bit_or, nat_eq}
 use Rattle.std.specs.Prelude.{not}
 use Rattle.std.specs.Int.{bit_at}
 use Rattle.std.proofs.lemmas.Nat.Bits.{bit_at-lt}
@@ -9,13 +9,13 @@ use Rattle.table_map.specs.declared.network.Network.{Network}
 use Rattle.table_map.specs.Networks.{table_at, IsCombinational, IsLatched}
 use Rattle.table_map.specs.Rows.{cell_at}
 use Rattle.table_map.specs.Plain.{flip}
-use Rattle.table_map.proofs.CellLemmas.{cell_and, cell_not, cell_zero}
+use Rattle.table_map.proofs.CellLemmas.{cell_and, cell_or, cell_not, cell_zero}
 use Rattle.network_eval.specs.declared.plan.Plan.{Plan}
 use Rattle.network_eval.specs.declared.state.State.{State}
-use Rattle.network_eval.specs.Marks.{number_at, is_marked}
-use Rattle.network_eval.specs.States.{value_in, IsPlan, IsKept}
+use Rattle.network_eval.specs.Marks.{number_at, is_marked, differs}
+use Rattle.network_eval.specs.States.{value_in, HavePins, HaveMasks, IsPlan, IsKept}
 use Rattle.network_eval.specs.Changes.{differs_in, IsTurnedAt}
-use Rattle.network_eval.specs.Latching.{IsKeptIfDue, AreDueIn, AreDue, AreTurnedBy, HaveTaken}
+use Rattle.network_eval.specs.Latching.{IsKeptIfDue, AreDueIn, AreDue, AreOthersSame, AreTurnedBy, HaveTaken}
 
 -- of the bits at the start, those that aren't left were looked at: they are due where their tables differ
 pub record IsLooked (plan : Plan) (state : State) (word start left due : ℕ) : Type 0 where
@@ -280,4 +280,74 @@ taken_all plan old new word due is all are taken = record {
       let lw : t / 64 < length plan.gates.items = omega arith in
       let e : 64 * (t / 64) + t % 64 ≡ t = omega arith in
       taken.done t (omega arith) ∙ ap (λ b. flip b (value_in old.values.items t)) ((are (t / 64) lw).latched (t % 64) (omega arith) (subst (IsLatched plan.network) (sym e) l) ∙ ap (differs_in old) e));
+}
+
+-- ---- marks that go
+
+pub others_same : (s : State) → AreOthersSame s s
+others_same s = record { inputs = refl; values = refl; masks = refl; addresses = refl }
+
+pub others_then : (a b c : State) → AreOthersSame a b → AreOthersSame b c → AreOthersSame a c
+others_then a b c p q = record { inputs = q.inputs ∙ p.inputs; values = q.values ∙ p.values; masks = q.masks ∙ p.masks; addresses = q.addresses ∙ p.addresses }
+
+same_differs : (old new : State) → AreOthersSame old new → (t : ℕ) → differs_in new t ≡ differs_in old t
+same_differs old new same t = ap (λ ms. differs ms new.addresses.items t) same.masks ∙ ap (λ xs. differs old.masks.items xs t) same.addresses
+
+pub due_as : (plan : Plan) (old new : State) (word due : ℕ) → AreOthersSame old new → AreDueIn plan old word due → AreDueIn plan new word due
+due_as plan old new word due same is = record {
+  latched = λ bit lb l. is.latched bit lb l ∙ sym (same_differs old new same (64 * word + bit));
+  within = is.within;
+}
+
+pub all_due_as : (plan : Plan) (old new : State) (m : ℕ) (due : List ℕ) → AreOthersSame old new → AreDue plan old m due → AreDue plan new m due
+all_due_as plan old new m due same is word l = due_as plan old new word (number_at due word) same (is word l)
+
+module _ (plan : Plan) (old new : State) (word due mark gate : ℕ) (is : IsPlan plan) (kept : IsKept plan old) (lw : word < length plan.gates.items) (are : AreDueIn plan old word due) (mark_is : mark ≡ number_at old.marks.items word) (gate_is : gate ≡ number_at plan.gates.items word) (same : AreOthersSame old new) (marks : new.marks.items ≡ set old.marks.items word (bit_or (bit_and mark gate) due)) where
+  in_row : (t : ℕ) → t / 64 ≡ word → is_marked new.marks.items t ≡ ((is_marked old.marks.items t && is_marked plan.gates.items t) || cell_at due (t % 64))
+  in_row t e =
+      ap (λ ms. is_marked ms t) marks
+      ∙ ap (λ r. cell_at (number_at (set old.marks.items word (bit_or (bit_and mark gate) due)) r) (t % 64)) e
+      ∙ ap (λ w. cell_at w (t % 64)) (get_or-set_same old.marks.items word (bit_or (bit_and mark gate) due) 0 (let l = kept.sized.marks in omega arith))
+      ∙ cell_or (bit_and mark gate) due (t % 64)
+      ∙ ap (λ b. b || cell_at due (t % 64)) (cell_and mark gate (t % 64)
+      ∙ ap (λ m. cell_at m (t % 64) && cell_at gate (t % 64)) (mark_is ∙ ap (number_at old.marks.items) (sym e))
+      ∙ ap (λ g. is_marked old.marks.items t && cell_at g (t % 64)) (gate_is ∙ ap (number_at plan.gates.items) (sym e)))
+
+  off_row : (t : ℕ) → (t / 64 ≡ word → ⊥) → is_marked new.marks.items t ≡ is_marked old.marks.items t
+  off_row t d = ap (λ ms. is_marked ms t) marks ∙ ap (λ w. cell_at w (t % 64)) (get_or-set_other old.marks.items word (t / 64) (bit_or (bit_and mark gate) due) 0 d)
+
+  no_or : (a b : Bool) → (a || b) ≡ false → (a ≡ false) × (b ≡ false)
+  no_or true b e = absurd (no_both e)
+  no_or false b e = (refl, e)
+
+  no_and : (a b : Bool) → (a && b) ≡ false → b ≡ true → a ≡ false
+  no_and true b e f = absurd (no_both (sym f ∙ e))
+  no_and false b e f = refl
+
+  here : (t : ℕ) → t < length plan.network.tables → t / 64 ≡ word → ((is_marked old.marks.items t && is_marked plan.gates.items t) ≡ false) × (cell_at due (t % 64) ≡ false) → ((table_at plan.network t).latched ≡ true) ⊎ ((table_at plan.network t).latched ≡ false) → differs_in old t ≡ false
+  here t lt e h (inl l) =
+      let f : 64 * word + t % 64 ≡ t = omega (arith, e) in
+      sym (are.latched (t % 64) (omega arith) (subst (IsLatched plan.network) (sym f) (record { within = lt; latched = l })) ∙ ap (differs_in old) f) ∙ h.1
+  here t lt e h (inr c) = kept.marked t lt (no_and (is_marked old.marks.items t) (is_marked plan.gates.items t) h.0 (is.gates.all t lt (record { within = lt; latched = c })))
+
+  pub dropped_kept : IsKept plan new
+  dropped_kept = record {
+    sized = record {
+      inputs = ap length same.inputs ∙ kept.sized.inputs;
+      values = ap length same.values ∙ kept.sized.values;
+      marks = ap length marks ∙ length-set old.marks.items word (bit_or (bit_and mark gate) due) ∙ kept.sized.marks;
+      pins = subst (HavePins plan.network new.inputs.items new.values.items) (sym same.addresses) (subst (λ vs. HavePins plan.network new.inputs.items vs old.addresses.items) (sym same.values) (subst (λ is. HavePins plan.network is old.values.items old.addresses.items) (sym same.inputs) kept.sized.pins));
+      masks = subst (HaveMasks plan.network new.values.items) (sym same.masks) (subst (λ vs. HaveMasks plan.network vs old.masks.items) (sym same.values) kept.sized.masks);
+    };
+    marked = λ t lt un. same_differs old new same t ∙ elim (cases_eq (t / 64) word) [
+      | inl e ↦ here t lt e (no_or (is_marked old.marks.items t && is_marked plan.gates.items t) (cell_at due (t % 64)) (sym (in_row t e) ∙ un)) (bool_or (table_at plan.network t).latched)
+      | inr d ↦ kept.marked t lt (sym (off_row t d) ∙ un)
+    ];
+  }
+
+-- what was taken from the state with fewer marks was taken from the one before
+pub taken_as : (n : Network) (old mid new : State) → AreOthersSame old mid → HaveTaken n mid new → HaveTaken n old new
+taken_as n old mid new same h = record {
+  inputs = h.inputs ∙ same.inputs;
+  latched = λ t l. h.latched t l ∙ ap (λ b. flip b (value_in mid.values.items t)) (same_differs old mid same t) ∙ ap (λ vs. flip (differs_in old t) (value_in vs t)) same.values;
 }

@@ -26,6 +26,13 @@ pub record AreDueIn (plan : Plan) (state : State) (word due : ℕ) : Type 0 wher
 abbrev pub AreDue : Plan → State → ℕ → List ℕ → Type 0
 AreDue plan state m due = (word : ℕ) → word < m → AreDueIn plan state word (number_at due word)
 
+-- all is as it was but marks
+pub record AreOthersSame (old new : State) : Type 0 where
+  pub inputs : new.inputs.items ≡ old.inputs.items
+  pub values : new.values.items ≡ old.values.items
+  pub masks : new.masks.items ≡ old.masks.items
+  pub addresses : new.addresses.items ≡ old.addresses.items
+
 -- what the tables of a word give is turned where the bits say so, and nothing else
 pub record AreTurnedBy (word due : ℕ) (old new : State) : Type 0 where
   pub inputs : new.inputs.items ≡ old.inputs.items

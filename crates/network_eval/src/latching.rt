@@ -3,7 +3,7 @@
 ghost use Rattle.std.specs.Prelude.{◌≡◌, ◌<◌, ◌≤◌, ◌+◌, ◌*◌, ℕ, false, true, length};
 ghost use Rattle.table_map.specs.Networks.{IsLatched};
 ghost use Rattle.table_map.specs.Rows.{cell_at};
-ghost use Rattle.network_eval.specs.Latching.{IsKeptIfDue, AreDueIn, AreDue, AreTurnedBy, HaveTaken};
+ghost use Rattle.network_eval.specs.Latching.{IsKeptIfDue, AreDueIn, AreDue, AreOthersSame, AreTurnedBy, HaveTaken};
 ghost use Rattle.network_eval.specs.States.{IsPlan, IsKept};
 
 use crate::plan::Plan;
@@ -57,6 +57,32 @@ fn find_due(plan: &Plan, state: &State, due: &mut [u64])
     }
 }
 
+// Takes the marks of latched tables of a word away that aren't due.
+fn drop_marks_in(plan: &Plan, state: &mut State, word: usize, due: u64)
+    requires plan { IsPlan plan.now }
+    requires kept { IsKept plan.now state.old }
+    requires word { word < length plan.now.gates.items }
+    requires due { AreDueIn plan.now state.old word due }
+    ensures kept { IsKept plan.now state.new }
+    ensures others { AreOthersSame state.old state.new }
+{
+    state.marks[word] = (state.marks[word] & plan.gates[word]) | due;
+}
+
+// Takes the marks of latched tables away that aren't due: else they would be looked at in each cycle.
+fn drop_marks(plan: &Plan, state: &mut State, due: &[u64])
+    requires plan { IsPlan plan.now }
+    requires kept { IsKept plan.now state.old }
+    requires len { length due.now ≡ length plan.now.gates.items }
+    requires due { AreDue plan.now state.old (length due.now) due.now }
+    ensures kept { IsKept plan.now state.new }
+    ensures others { AreOthersSame state.old state.new }
+{
+    'words: for word in 0..due.len() {
+        drop_marks_in(plan, state, word, due[word]);
+    }
+}
+
 // Turns what the tables of a word give.
 fn turn_word(plan: &Plan, state: &mut State, word: usize, due: u64)
     requires plan { IsPlan plan.now }
@@ -82,6 +108,7 @@ pub fn take(plan: &Plan, state: &mut State, due: &mut [u64])
     ensures taken { HaveTaken plan.now.network state.old state.new }
 {
     find_due(plan, state, due);
+    drop_marks(plan, state, due);
     'words: for word in 0..due.len() {
         turn_word(plan, state, word, due[word]);
     }

@@ -1,7 +1,7 @@
 use Rattle.std.proofs.Common.{ap, ◌∙◌}
 use Rattle.evidence.proofs.Keeping.{advances_then}
 use Rattle.diagnose.proofs.Stepping.{reached_then, reached_told}
-use Rattle.diagnose.proofs.Sweeping.{known_by, marks_again, marks_by, marks_told}
+use Rattle.diagnose.proofs.Sweeping.{known_by, marks_again, marks_by, marks_told, none_is}
 use Rattle.diagnose.proofs.whole.known_wires.Goals as goal
 use Rattle.diagnose.proofs.whole.known_wires.Goals.{then-changed+in_ok-know_whole-2, else-changed}
 
@@ -9,6 +9,9 @@ pub know_whole-requires-then-changed-clause-right : goal.know_whole-requires-the
 know_whole-requires-then-changed-clause-right g c =
     marks_told (ap (λ m. m.faults) (c.in_ok-changed.ensures.advances.machine ∙ c.in_ok-know_whole.ensures.advances.machine))
     (marks_again c.know_whole.new.bad c.clear.new.self _ c.in_ok-changed.ensures.advances.more c.clear.ensures c.in_ok-know_whole.ensures.right)
+
+pub know_whole-requires-then-changed-clause-fit : goal.know_whole-requires-then-changed-clause-fit
+know_whole-requires-then-changed-clause-fit g c = none_is c.clear.new.self _ c.clear.ensures
 
 pub returns-clause-known : goal.returns-clause-known
 returns-clause-known g c =
