@@ -28,10 +28,6 @@ pub record ReachedIf (told : Option Faults) (k : Kept) (ss : List Step) : Type 0
 pub record IfFaultless (told : Option Faults) (k : Kept) (P : Type 0) : Type 0 where
   pub at : (f : Faults) → told ≡ Some f → IsFaultless f → HoldsFor k f → P
 
--- .. and all is known that can be reached
-pub record IfReached (told : Option Faults) (k : Kept) (ss : List Step) (P : Type 0) : Type 0 where
-  pub at : (f : Faults) → told ≡ Some f → IsFaultless f → IsReached k f (HasWire ss) → P
-
 -- the loads of so much for each crosspoint and so much for each wire
 abbrev pub loads_for : Kept → (crosses wires : ℕ) → ℕ
 loads_for k crosses wires = crosses * crosses_of k.shape + wires * wires_of k.shape
@@ -46,3 +42,8 @@ pub record HasTable (tables : List Table) (t : ℕ) : Type 0 where
   pub table : Table
   pub here : slice_get tables place ≡ Some table
   pub is : table.0 ≡ t
+
+-- the whole machine is looked at
+pub record IsWhole (m : Shape) (a : Field) : Type 0 where
+  pub wires : (w : ℕ) → w < wires_of m → has_number a.wires w ≡ true
+  pub crosses : (x : ℕ) → x < crosses_of m → has_number a.crosses x ≡ true

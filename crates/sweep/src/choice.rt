@@ -214,6 +214,9 @@ pub fn choose(
     ensures advances { Advances (rig_state rig.old) (rig_state rig.new) proof.old proof.new }
     ensures cause { IsErrOf result RigFail.Failed → Rose (rig_state rig.old).failures (rig_state rig.new).failures }
 {
+    if choices.left == 0 {
+        return Ok(false);
+    }
     let Ok(()) = choices.open_purse(rig, proof, known, bad, field) else {
         return Err(RigFail::Memory);
     };

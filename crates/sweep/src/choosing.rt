@@ -10,6 +10,9 @@ use known::Known;
 use std::alloc::{AllocError, Global};
 use tm_bits::BitSet;
 
+/// The height of the wires that are hung before all others in a sweep after a choice.
+pub(crate) const FIRST_HEIGHT: u32 = 9;
+
 /// What looks are taken for.
 #[derive(Clone, Copy, PartialEq, Eq)]
 pub(crate) enum Aim {

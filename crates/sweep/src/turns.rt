@@ -8,7 +8,7 @@ ghost use Rattle.sweep.specs.Marks.{AreMarksFor};
 ghost use Rattle.sweep.specs.Stages.{Goes, IsHand, Settles, in_hand};
 
 use crate::bad::Bad;
-use crate::choosing::Aim;
+use crate::choosing::{Aim, FIRST_HEIGHT};
 use crate::gear::Gear;
 use crate::hanging::{hang_load, pin_load};
 use crate::leading::lead_paths;
@@ -26,8 +26,6 @@ const MOST_LOADS: u32 = 1_000_000;
 /// The greatest height of a wire: the pins of tables of the deepest level.
 const MOST_HEIGHT: u32 = 8;
 
-/// The height of those wires that are tested before all others, behind a choice.
-const FIRST: u32 = MOST_HEIGHT + 1;
 
 // Looks at the pins of the machine. Those that can be known are.
 fn pin_turn(
@@ -295,7 +293,7 @@ fn first_turns(
         return Err(RigFail::Memory);
     };
     pins_left(rig, proof, known, bad, field, gear)?;
-    gear.height = FIRST;
+    gear.height = FIRST_HEIGHT;
     hang_height(rig, proof, known, bad, field, gear)
 }
 

@@ -2,7 +2,7 @@ use Rattle.std.proofs.Common.{subst}
 use Rattle.std.specs.Prelude.{IfSome}
 use Rattle.hierarchy.specs.declared.Wire.{Wire}
 use Rattle.diagnose.specs.Choice.{IsKnownFoot}
-use Rattle.diagnose.proofs.choose.has_feet.Goals as goal
+use Rattle.diagnose.proofs.lost.has_feet.Goals as goal
 
 pub returns-then-other-line : goal.returns-then-other-line
 returns-then-other-line c =
