@@ -10,6 +10,10 @@
 
 mod bad;
 mod board;
+mod choosing;
+mod choosing_looks;
+mod choosing_reads;
+mod choosing_tables;
 mod climbs;
 mod draws;
 mod fits;
