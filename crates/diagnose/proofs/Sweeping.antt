@@ -88,6 +88,9 @@ marks_on {b = b} more marks = subst (λ (m : Shape). AreMarksFor m b) (sym more.
 pub marks_back : {k l : Kept} {b : Bad} → IsMore k l → AreMarksFor l.shape b → AreMarksFor k.shape b
 marks_back {b = b} more marks = subst (λ (m : Shape). AreMarksFor m b) more.shape marks
 
+pub at_once : {x y : ℕ} → x ≡ y → x ≤ y
+at_once e = omega (arith, e)
+
 pub at_most : {x y z : ℕ} → x ≤ y → y ≤ z → x ≤ z
 at_most a b = omega (arith, a, b)
 

@@ -49,7 +49,7 @@ impl Choices {
     ) -> Result<Choices, AllocError>
         ensures left { IfOk result (λ choices. choices.left ≡ 0) }
         ensures len { IfOk result (λ choices. length choices.paid ≡ wires_of proof.now.shape) }
-        ensures none { IfOk result (λ choices. (w : ℕ) → has_number choices.paid w ≡ false) }
+        ensures none { IfOk result (λ choices. size_of choices.paid ≡ 0) }
         ensures tables { IfOk result (λ choices. choices.sheet.tables.items ≡ tables.now) }
     {
         let alloc = known.alloc();
@@ -147,9 +147,13 @@ fn known_among(known: &Known, wires: &BitSet) -> Result<BitSet, AllocError>
     let mut set = BitSet::new(known.alloc(), known.shape().wires())?;
     'places: for place in 0..known.len() {
         let wire = known.wire_at(place);
-        if wire.0 < wires.len() && wires.has(wire.0) {
-            set.insert(wire.0);
+        if wire.0 >= wires.len() {
+            continue;
         }
+        if !wires.has(wire.0) {
+            continue;
+        }
+        set.insert(wire.0);
     }
     Ok(set)
 }

@@ -11,11 +11,6 @@ use hierarchy::Wire;
 use known::{Field, Foot, Known, Stand, Step};
 use std::alloc::AllocError;
 
-/// Whether a wire is one of the machine, and known.
-pub(crate) fn knows(known: &Known, w: Wire) -> bool {
-    w.0 < known.shape().wires() && known.has(w)
-}
-
 // Whether a wire is kept, and kept apart from each known one.
 fn is_good(proof: &Proof, known: &Known, w: Wire) -> bool
     requires known { IsKnown proof.now known.now }

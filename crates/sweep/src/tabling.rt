@@ -181,6 +181,7 @@ pub(crate) fn sweep_again(
     ensures goes { Goes (rig_state rig.old).machine.faults field.now sheet.old.tables.items
         (in_hand proof.old known.old bad.old sheet.old.gear.purse (rig_state rig.old).loads)
         (in_hand proof.new known.new bad.new sheet.new.gear.purse (rig_state rig.new).loads) }
+    ensures tables { sheet.new.tables ≡ sheet.old.tables }
     ensures advances { Advances (rig_state rig.old) (rig_state rig.new) proof.old proof.new }
     ensures cause { IsErrOf result RigFail.Failed → Rose (rig_state rig.old).failures (rig_state rig.new).failures }
 {

@@ -11,10 +11,9 @@ ghost use Rattle.sweep.specs.Stages.{Goes, IsHand, in_hand};
 ghost use Rattle.sweep.specs.Views.{CanTell};
 
 use crate::bad::Bad;
-use crate::choosing::{Chooser, Link, Told};
+use crate::choosing::{Chooser, Link, Told, knows};
 use crate::footing::{foot_at, pins_over};
 use crate::gear::Gear;
-use crate::learn::knows;
 use crate::search::Search;
 use crate::seen::see_all;
 use crate::trees::{is_known, lay, lay_climbs, plant};

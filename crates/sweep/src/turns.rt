@@ -8,11 +8,11 @@ ghost use Rattle.sweep.specs.Marks.{AreMarksFor};
 ghost use Rattle.sweep.specs.Stages.{Goes, IsHand, Settles, in_hand};
 
 use crate::bad::Bad;
-use crate::choosing::{Aim, FIRST_HEIGHT};
+use crate::choosing::{Aim, FIRST_HEIGHT, knows};
 use crate::gear::Gear;
 use crate::hanging::{hang_load, pin_load};
 use crate::leading::lead_paths;
-use crate::learn::{knows, learn_hangs, learn_pins};
+use crate::learn::{learn_hangs, learn_pins};
 use crate::purse::Purse;
 use crate::search::Hung;
 use crate::telling::tell_all;
