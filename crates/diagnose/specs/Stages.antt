@@ -1,5 +1,7 @@
 -- The stages of a diagnosis.
 use Rattle.std.specs.Prelude.{◌≡◌, ℕ, ◌+◌, ◌*◌, ◌<◌, true, Option, Some, None, List, slice_get}
+use Rattle.tm_bits.specs.Numbers.{has_number}
+use Rattle.hierarchy.specs.declared.Shape.{Shape}
 use Rattle.hierarchy.specs.declared.Table.{Table}
 use Rattle.hierarchy.specs.Shape.{pins_of, pin_wire, wires_of, crosses_of, tables_of, ends_of}
 use Rattle.hierarchy.specs.Faults.{Faults, IsFaultless, stuck_cross}
@@ -8,6 +10,7 @@ use Rattle.hierarchy.specs.Tight.{IsAlone, HasFeet}
 use Rattle.evidence.specs.Kept.{Kept, HoldsFor, keeps_cross}
 use Rattle.known.specs.Known.{HasWire}
 use Rattle.seats.specs.Tables.{SeatedIsKept}
+use Rattle.known.specs.declared.field.Field.{Field}
 use Rattle.known.specs.declared.step.Step.{Step}
 
 -- All is known that can be reached: each wire that is clear and shorted to no known one, and is a pin of the machine or has feet;
