@@ -94,6 +94,9 @@ pub(crate) struct Chooser {
     pub dead: Vec<bool>,
     // The tables that would be free if all of their pins were known.
     pub lacks: Vec<Lack>,
+    // How many tables the choice may free, and whether one was made before.
+    pub gains: usize,
+    pub has_chosen: bool,
     // The wires that are hung before all others in the next sweep, and those to be marked again then.
     pub first: Vec<Wire>,
     pub again: Vec<Wire>,
@@ -149,6 +152,8 @@ impl Chooser {
             given: Vec::new(alloc),
             dead: Vec::new(alloc),
             lacks: Vec::new(alloc),
+            gains: 0,
+            has_chosen: false,
             first: Vec::new(alloc),
             again: Vec::new(alloc),
         };

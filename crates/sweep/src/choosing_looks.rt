@@ -17,7 +17,7 @@ const MOST_CLIMBS: usize = 4;
 const MOST_TRIES: u32 = 8;
 
 /// Of how many pins of the machine one has a wire that isn't known.
-const PINS_A_WIRE: u32 = 3;
+const PINS_A_WIRE: u32 = 4;
 
 /// How many links of a known wire are looked at, to hang it over the best.
 const MOST_DRAWS: u32 = 6;

@@ -12,6 +12,9 @@ use tm_bits::BitSet;
 /// How many pins a table has.
 const PINS: u32 = 7;
 
+/// How many wires at most are marked again for each table that a further choice may free.
+const WIRES_A_TABLE: usize = 400;
+
 // What a wire is.
 fn meaning_of(shape: &Shape, w: Wire) -> Option<Meaning> {
     if w.0 < shape.wires() {
@@ -262,10 +265,26 @@ impl Chooser {
         Ok(())
     }
 
+    // Whether to each of these a known wire was found to which it is shorted.
+    fn have_partners(&self, pins: &Vec<Wire>) -> bool {
+        'pins: for pin in pins {
+            if wire_of(&self.partner, *pin).is_none() {
+                return false;
+            }
+        }
+        true
+    }
+
     // What the pins of a table are shorted to gives way, if it may. Else pins of the table may give way for others.
     fn try_give(&mut self, shape: &Shape, lack: &Lack) -> Result<(), AllocError> {
+        if !self.have_partners(&lack.pins) {
+            return Ok(());
+        }
         match self.partners_of(shape, &lack.pins)? {
-            Some(partners) => self.give(&partners, &lack.pins),
+            Some(partners) => {
+                self.gains = self.gains.saturating_add(1);
+                self.give(&partners, &lack.pins)
+            }
             None => {
                 set_flag(&mut self.dead, lack.table.0, true);
                 Ok(())
@@ -336,6 +355,11 @@ impl Chooser {
         Ok(())
     }
 
+    // Whether a choice is worth its loads: the first is, and a further one, if few wires are marked again for each table that it frees.
+    fn is_worth_it(&self) -> bool {
+        !self.has_chosen || self.again.len() <= self.gains.saturating_mul(WIRES_A_TABLE)
+    }
+
     /// The known wires that stay, once others give way for pins of tables. None where none does.
     pub(crate) fn give_up(
         &mut self,
@@ -348,13 +372,15 @@ impl Chooser {
         self.forget_given();
         self.note_partners();
         self.note_dead(proof);
+        self.gains = 0;
         self.give_all(&shape)?;
-        if self.first.is_empty() {
+        self.note_again(bad)?;
+        if self.first.is_empty() || !self.is_worth_it() {
             return Ok(None);
         }
         let stay = self.staying(&shape, known)?;
-        self.note_again(bad)?;
         self.forget_suspects();
+        self.has_chosen = true;
         Ok(Some(stay))
     }
 }
