@@ -22,8 +22,10 @@ use growth::{Field, Known, grow, test_tables};
 use hierarchy::{Shape, Table, the_numbering_is_sound, tight_lists_are_fair};
 use rig::{Rig, RigFail};
 use std::alloc::{AllocError, Global};
-use sweep::{Bad, Choices, choose, sweep, sweep_with, without_bad};
-use sweep::{closed_without_bad, growth_without_bad_is_paid};
+use sweep::{
+    Bad, Choices, choose, closed_without_bad, growth_without_bad_is_paid, sweep, sweep_with,
+    without_bad,
+};
 use tm_bits::BitSet;
 
 /// How often it is chosen before growth which of shorted wires stays.

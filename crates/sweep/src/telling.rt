@@ -174,7 +174,14 @@ fn tell_turn(
     if !gear.purse.can_pay(rig, 1) {
         return Ok(false);
     }
-    let Ok(found) = next_view(&mut gear.chooser, &mut gear.search, proof, known, bad, field) else {
+    let Ok(found) = next_view(
+        &mut gear.chooser,
+        &mut gear.search,
+        proof,
+        known,
+        bad,
+        field,
+    ) else {
         return Err(RigFail::Memory);
     };
     let Some(mut view) = found else {

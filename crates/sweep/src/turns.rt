@@ -26,7 +26,6 @@ const MOST_LOADS: u32 = 1_000_000;
 /// The greatest height of a wire: the pins of tables of the deepest level.
 const MOST_HEIGHT: u32 = 8;
 
-
 // Looks at the pins of the machine. Those that can be known are.
 fn pin_turn(
     rig: &mut Box<dyn Rig>,

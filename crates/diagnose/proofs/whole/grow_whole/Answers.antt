@@ -14,7 +14,7 @@ pub returns-clause-right : goal.returns-clause-right
 returns-clause-right g c = marks_later c.grow.ensures.advances.more c.grow.ensures.grows.stays c.requires.right
 
 pub returns-clause-reached : goal.returns-clause-reached
-returns-clause-reached g c = 
+returns-clause-reached g c =
     on_ok_weaker c.grow.result (λ closed. reached_if (sym c.grow.ensures.advances.more.shape) (c.the_numbering_is_sound.ensures.numbered _) c.requires.whole.wires c.requires.whole.crosses
     (c.closed_without_bad.ensures _ c.grow.new.proof c.grow.new.known.steps c.args.bad.now c.args.field.now c.in-Ok.rest c.in-Ok.ensures (marks_later c.grow.ensures.advances.more c.grow.ensures.grows.stays c.requires.right) closed))
     c.grow.ensures.closed
