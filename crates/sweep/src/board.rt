@@ -154,6 +154,11 @@ impl Board {
         }
     }
 
+    /// Whether a pin of the machine isn't known.
+    pub(crate) fn wants_pins(&self) -> bool {
+        self.known_pins < self.pins
+    }
+
     /// Whether a wire is known.
     pub(crate) fn has(&self, w: Wire) -> bool {
         self.known.get(w.0 as usize).copied().unwrap_or(false)
@@ -162,6 +167,14 @@ impl Board {
     /// Whether a wire is of the field.
     pub(crate) fn may_know(&self, w: Wire) -> bool {
         self.field.get(w.0 as usize).copied().unwrap_or(false)
+    }
+
+    /// A wire can't come to be known.
+    pub(crate) fn forbid(&mut self, w: Wire) {
+        let at = w.0 as usize;
+        if at < self.field.len() {
+            self.field[at] = false;
+        }
     }
 
     /// A wire is known.
