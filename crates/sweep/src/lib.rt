@@ -38,6 +38,7 @@ mod trees;
 mod turns;
 mod walks;
 mod whole;
+mod wire_bits;
 mod without;
 
 pub use bad::Bad;
