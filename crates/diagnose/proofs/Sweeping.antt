@@ -1,6 +1,6 @@
 -- A sweep of the whole machine, and growth behind it.
 use Rattle.std.proofs.Common.{◌≡◌, ◌⊎◌, ◌≤◌, ◌<◌, ◌+◌, ◌*◌, ℕ, Bool, true, false, Option, Some, List, [], ◌∷◌, ◌++◌, length, replicate, length-append, refl, sym, ap, ◌∙◌, subst, inl, inr, arith}
-use Rattle.std.specs.Prelude.{Result, OnOk, All, not}
+use Rattle.std.specs.Prelude.{Result, OnOk, All, not, slice_set}
 use Rattle.std.proofs.lemmas.Bool.{false≢true}
 use Rattle.std.proofs.lemmas.Result.{on_ok_weaker}
 use Rattle.std.proofs.lemmas.List.{get_or-replicate, get_or_past, length-replicate}
@@ -16,6 +16,7 @@ use Rattle.evidence.specs.Kept.{Kept, HoldsFor, IsMore}
 use Rattle.evidence.proofs.Keeping.{holds_earlier}
 use Rattle.known.specs.Field.{ClosedIf, IsFieldOf}
 use Rattle.known.specs.Known.{HasWire, KnownWires}
+use Rattle.known.proofs.Counting.{none_has, set_only}
 use Rattle.known.specs.declared.field.Field.{Field}
 use Rattle.known.specs.declared.step.Step.{Step}
 use Rattle.seats.specs.Tables.{SeatedIsKept, SeatedAreKept, fresh_tables, keeps_table}
@@ -94,13 +95,25 @@ at_once e = omega (arith, e)
 pub at_most : {x y z : ℕ} → x ≤ y → y ≤ z → x ≤ z
 at_most a b = omega (arith, a, b)
 
--- Without faults no wire is marked unfit.
-pub none_unfit : {told : Option Faults} {k : Kept} {ss : List Step} {b : Bad} (f : Faults) → told ≡ Some f → IsFaultless f → HoldsFor k f → TrueIf told k ss b → (w : ℕ) → has_number b.unfit w ≡ false
-none_unfit {b = b} f e none holds marks w = by (has_number b.unfit w) refl
+-- Without faults no wire is marked unfit that isn't known.
+pub none_unfit : {told : Option Faults} {k : Kept} {ss : List Step} {b : Bad} (set : List Bool) (f : Faults) → told ≡ Some f → IsFaultless f → HoldsFor k f → TrueIf told k ss b →
+    ((w : ℕ) → has_number set w ≡ true → (has_number b.unfit w ≡ true) × (¬ HasWire ss w)) → (w : ℕ) → has_number set w ≡ false
+none_unfit {ss = ss} {b = b} set f e none holds marks each w = by (has_number set w) refl
   where
-    by : (x : Bool) → has_number b.unfit w ≡ x → x ≡ false
+    by : (x : Bool) → has_number set w ≡ x → x ≡ false
     by false is = refl
-    by true is = absurd ((marks.at f e holds).unfit w is (λ u s. none.wires u) (λ u has s. (all_sound none w).alone u s))
+    by true is = let both = each w is in absurd ((marks.at f e holds).unfit w both.0 (λ u s. none.wires u) (λ u has s. both.1 (subst (HasWire ss) ((all_sound none w).alone u s) has)))
+
+-- numbers that are marked one by one
+pub marked_none : (set : List Bool) (n : ℕ) → set ≡ replicate n false → (w : ℕ) → has_number set w ≡ true → ⊥
+marked_none set n is w on = none_has n w (subst (λ (s : List Bool). has_number s w ≡ true) is on)
+
+pub marked_next : (P : ℕ → Type 0) (old new : List Bool) (u : ℕ) → ((w : ℕ) → has_number old w ≡ true → P w) → P u → new ≡ slice_set old u true → (w : ℕ) → has_number new w ≡ true → P w
+marked_next P old new u all has is w on = by (set_only old u w (subst (λ (s : List Bool). has_number s w ≡ true) is on))
+  where
+    by : (has_number old w ≡ true) ⊎ (u ≡ w) → P w
+    by (inl before) = all w before
+    by (inr same) = subst P same has
 
 -- One table more is among those that are left, or it is marked.
 module _ (wrong : List Bool) (old : List Table) (n : ℕ) where

@@ -1,16 +1,19 @@
-//! Pins of tables that growth has lost.
+//! Wires that are lost: unfit ones, and pins of tables that growth has lost.
 //!
 //! Of wires that are shorted to one another, growth knows the one that came first, mostly a line; a pin that is shorted to it is lost, and
 //! with it a table, though it is kept and stands on known lines.
-ghost use Rattle.std.specs.Prelude.{◌≡◌, ◌<◌, false, IfOk, IfSome, IsTrue};
+ghost use Rattle.std.specs.Prelude.{◌≡◌, ◌<◌, ℕ, true, false, IfOk, IfSome, IsTrue, length};
+ghost use Rattle.tm_bits.specs.Numbers.{has_number};
 ghost use Rattle.hierarchy.specs.Shape.{nodes_of, wires_of};
 ghost use Rattle.hierarchy.specs.Sound.{HasTwo};
+ghost use Rattle.known.specs.Known.{HasWire};
 ghost use Rattle.diagnose.specs.Choice.{AreLeftOut, IsKnownFoot, IsLeftOut};
 
 use evidence::Proof;
 use growth::Known;
 use hierarchy::{Meaning, Node, Shape, Wire};
 use std::alloc::{AllocError, Global};
+use sweep::Bad;
 use tm_bits::BitSet;
 
 // The hextant of a pin of a table.
@@ -81,6 +84,25 @@ fn is_left_out(proof: &Proof, known: &Known, wire: Wire) -> bool
         return false;
     };
     has_feet(proof, known, wire, hextant)
+}
+
+/// The wires that are unfit and aren't known.
+pub(crate) fn unfit_wires(alloc: Global, known: &Known, bad: &Bad) -> Result<BitSet, AllocError>
+    requires { length bad.now.unfit ≡ wires_of known.now.shape }
+    ensures { IfOk result (λ set. (w : ℕ) → has_number set w ≡ true → (has_number bad.now.unfit w ≡ true) × (¬ HasWire known.now.steps w)) }
+{
+    let wires = known.shape().wires();
+    let mut set = BitSet::new(alloc, wires)?;
+    'wires: for w in 0..wires {
+        if !bad.unfit.has(w) {
+            continue;
+        }
+        if known.has(Wire(w)) {
+            continue;
+        }
+        set.insert(w);
+    }
+    Ok(set)
 }
 
 /// The pins of tables that are left out. None where there are none.

@@ -14,7 +14,7 @@ ghost use Rattle.diagnose.specs.Diagnosis.{IsDiagnosis, TakesFewLoads};
 ghost use Rattle.diagnose.specs.Stages.{HasTable, IfFaultless, IsWhole, ReachedIf, TablesIf, loads_for};
 
 use crate::list::list_of;
-use crate::lost::lost_pins;
+use crate::lost::{lost_pins, unfit_wires};
 use defect_db::Defects;
 use evidence::Proof;
 use evidence::laws::{kept_facts_are_sound, tests_add_up};
@@ -182,7 +182,10 @@ fn sweep_whole(
         return Err(RigFail::Memory);
     };
     sweep(rig, proof, known, bad, &course.field, &tables)?;
-    course.choices.pay_for(&bad.unfit);
+    let Ok(unfit) = unfit_wires(known.alloc(), known, bad) else {
+        return Err(RigFail::Memory);
+    };
+    course.choices.pay_for(&unfit);
     choose_all(rig, proof, known, bad, course)
 }
 

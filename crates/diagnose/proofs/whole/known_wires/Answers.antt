@@ -38,79 +38,79 @@ pub know_lost-requires-clause-right : goal.know_lost-requires-clause-right
 know_lost-requires-clause-right g c = marks_told (ap (λ m. m.faults) c.grow_whole.ensures.advances.machine) c.grow_whole.ensures.right
 
 pub know_lost-requires-clause-reached : goal.know_lost-requires-clause-reached
-know_lost-requires-clause-reached g c = ?
+know_lost-requires-clause-reached g c = reached_told (sym (ap (λ m. m.faults) c.grow_whole.ensures.advances.machine)) c.in_ok-grow_whole.ensures.reached
 
 pub returns-in_err-sweep_whole-clause-loads : goal.returns-in_err-sweep_whole-clause-loads
-returns-in_err-sweep_whole-clause-loads g c = swept_most c.sweep_whole.ensures.pays c.in-Ok-course_of.ensures.left c.in-Ok-course_of.ensures.none
+returns-in_err-sweep_whole-clause-loads g c = swept_most _ _ _ _ _ _ _ _ _ _ _ _ _ c.sweep_whole.ensures.pays c.in-Ok-course_of.ensures.left c.in-Ok-course_of.ensures.none
     (c.growth_without_bad_is_paid.ensures.all c.in-Ok-course_of.course.field c.args.proof.now c.args.bad.now c.in-Ok-course_of.ensures.field)
-    (at_most (c.growth_without_bad_is_paid.ensures.all c.sweep_whole.new.course.field c.sweep_whole.new.proof c.sweep_whole.new.bad c.grow_whole.requires.field) (at_once (ap crosses_of c.sweep_whole.ensures.advances.more.shape)))
-    (c.growth_without_bad_is_paid.ensures.pins c.sweep_whole.new.course.field c.sweep_whole.new.proof c.grow_whole.requires.field)
+    (at_most (c.growth_without_bad_is_paid.ensures.all c.sweep_whole.new.course.field c.sweep_whole.new.proof c.sweep_whole.new.bad (subst (λ (a : Field). IsFieldOf c.sweep_whole.new.proof.shape a) (sym c.sweep_whole.ensures.field) (field_later c.sweep_whole.ensures.advances.more c.in-Ok-course_of.ensures.field))) (at_once (ap crosses_of c.sweep_whole.ensures.advances.more.shape)))
+    (c.growth_without_bad_is_paid.ensures.pins c.sweep_whole.new.course.field c.sweep_whole.new.proof (subst (λ (a : Field). IsFieldOf c.sweep_whole.new.proof.shape a) (sym c.sweep_whole.ensures.field) (field_later c.sweep_whole.ensures.advances.more c.in-Ok-course_of.ensures.field)))
     (pins_same c.sweep_whole.ensures.advances.more.shape c.sweep_whole.ensures.field)
     (wires_most c.in-Ok-course_of.ensures.field c.sweep_whole.ensures.field)
     (size_most c.sweep_whole.new.course.choices.paid (wires_of c.args.proof.now.shape) (c.sweep_whole.ensures.paid ∙ c.in-Ok-course_of.ensures.paid))
 
 pub returns-in_err-sweep_whole-clause-few : goal.returns-in_err-sweep_whole-clause-few
-returns-in_err-sweep_whole-clause-few g c = few_when (λ f told none holds. swept_few c.sweep_whole.ensures.pays c.in-Ok-course_of.ensures.left c.in-Ok-course_of.ensures.none
+returns-in_err-sweep_whole-clause-few g c = few_when (λ f told none holds. swept_few _ _ _ _ _ _ _ _ _ _ _ _ _ c.sweep_whole.ensures.pays c.in-Ok-course_of.ensures.left c.in-Ok-course_of.ensures.none
     (c.growth_without_bad_is_paid.ensures.all c.in-Ok-course_of.course.field c.args.proof.now c.args.bad.now c.in-Ok-course_of.ensures.field)
-    (at_most (c.growth_without_bad_is_paid.ensures.all c.sweep_whole.new.course.field c.sweep_whole.new.proof c.sweep_whole.new.bad c.grow_whole.requires.field) (at_once (ap crosses_of c.sweep_whole.ensures.advances.more.shape)))
-    (c.growth_without_bad_is_paid.ensures.pins c.sweep_whole.new.course.field c.sweep_whole.new.proof c.grow_whole.requires.field)
+    (at_most (c.growth_without_bad_is_paid.ensures.all c.sweep_whole.new.course.field c.sweep_whole.new.proof c.sweep_whole.new.bad (subst (λ (a : Field). IsFieldOf c.sweep_whole.new.proof.shape a) (sym c.sweep_whole.ensures.field) (field_later c.sweep_whole.ensures.advances.more c.in-Ok-course_of.ensures.field))) (at_once (ap crosses_of c.sweep_whole.ensures.advances.more.shape)))
+    (c.growth_without_bad_is_paid.ensures.pins c.sweep_whole.new.course.field c.sweep_whole.new.proof (subst (λ (a : Field). IsFieldOf c.sweep_whole.new.proof.shape a) (sym c.sweep_whole.ensures.field) (field_later c.sweep_whole.ensures.advances.more c.in-Ok-course_of.ensures.field)))
     (pins_same c.sweep_whole.ensures.advances.more.shape c.sweep_whole.ensures.field)
     (wires_most c.in-Ok-course_of.ensures.field c.sweep_whole.ensures.field)
     (size_most c.sweep_whole.new.course.choices.paid (wires_of c.args.proof.now.shape) (c.sweep_whole.ensures.paid ∙ c.in-Ok-course_of.ensures.paid)) (ap size_of (c.sweep_whole.ensures.few.at f told none holds)))
 
 pub returns-in_err-grow_whole-clause-loads : goal.returns-in_err-grow_whole-clause-loads
-returns-in_err-grow_whole-clause-loads g c = grown_most c.sweep_whole.ensures.pays c.in-Ok-course_of.ensures.left c.in-Ok-course_of.ensures.none
+returns-in_err-grow_whole-clause-loads g c = grown_most _ _ _ _ _ _ _ _ _ _ _ _ _ c.sweep_whole.ensures.pays c.in-Ok-course_of.ensures.left c.in-Ok-course_of.ensures.none
     (c.growth_without_bad_is_paid.ensures.all c.in-Ok-course_of.course.field c.args.proof.now c.args.bad.now c.in-Ok-course_of.ensures.field)
-    (at_most (c.growth_without_bad_is_paid.ensures.all c.sweep_whole.new.course.field c.sweep_whole.new.proof c.sweep_whole.new.bad c.grow_whole.requires.field) (at_once (ap crosses_of c.sweep_whole.ensures.advances.more.shape)))
-    (c.growth_without_bad_is_paid.ensures.pins c.sweep_whole.new.course.field c.sweep_whole.new.proof c.grow_whole.requires.field)
+    (at_most (c.growth_without_bad_is_paid.ensures.all c.sweep_whole.new.course.field c.sweep_whole.new.proof c.sweep_whole.new.bad (subst (λ (a : Field). IsFieldOf c.sweep_whole.new.proof.shape a) (sym c.sweep_whole.ensures.field) (field_later c.sweep_whole.ensures.advances.more c.in-Ok-course_of.ensures.field))) (at_once (ap crosses_of c.sweep_whole.ensures.advances.more.shape)))
+    (c.growth_without_bad_is_paid.ensures.pins c.sweep_whole.new.course.field c.sweep_whole.new.proof (subst (λ (a : Field). IsFieldOf c.sweep_whole.new.proof.shape a) (sym c.sweep_whole.ensures.field) (field_later c.sweep_whole.ensures.advances.more c.in-Ok-course_of.ensures.field)))
     (pins_same c.sweep_whole.ensures.advances.more.shape c.sweep_whole.ensures.field)
     (wires_most c.in-Ok-course_of.ensures.field c.sweep_whole.ensures.field)
-    (size_most c.sweep_whole.new.course.choices.paid (wires_of c.args.proof.now.shape) (c.sweep_whole.ensures.paid ∙ c.in-Ok-course_of.ensures.paid)) c.grow_whole.ensures.loads
+    (size_most c.sweep_whole.new.course.choices.paid (wires_of c.args.proof.now.shape) (c.sweep_whole.ensures.paid ∙ c.in-Ok-course_of.ensures.paid)) _ c.grow_whole.ensures.loads
 
 pub returns-in_err-grow_whole-clause-few : goal.returns-in_err-grow_whole-clause-few
-returns-in_err-grow_whole-clause-few g c = few_when (λ f told none holds. grown_few c.sweep_whole.ensures.pays c.in-Ok-course_of.ensures.left c.in-Ok-course_of.ensures.none
+returns-in_err-grow_whole-clause-few g c = few_when (λ f told none holds. grown_few _ _ _ _ _ _ _ _ _ _ _ _ _ c.sweep_whole.ensures.pays c.in-Ok-course_of.ensures.left c.in-Ok-course_of.ensures.none
     (c.growth_without_bad_is_paid.ensures.all c.in-Ok-course_of.course.field c.args.proof.now c.args.bad.now c.in-Ok-course_of.ensures.field)
-    (at_most (c.growth_without_bad_is_paid.ensures.all c.sweep_whole.new.course.field c.sweep_whole.new.proof c.sweep_whole.new.bad c.grow_whole.requires.field) (at_once (ap crosses_of c.sweep_whole.ensures.advances.more.shape)))
-    (c.growth_without_bad_is_paid.ensures.pins c.sweep_whole.new.course.field c.sweep_whole.new.proof c.grow_whole.requires.field)
+    (at_most (c.growth_without_bad_is_paid.ensures.all c.sweep_whole.new.course.field c.sweep_whole.new.proof c.sweep_whole.new.bad (subst (λ (a : Field). IsFieldOf c.sweep_whole.new.proof.shape a) (sym c.sweep_whole.ensures.field) (field_later c.sweep_whole.ensures.advances.more c.in-Ok-course_of.ensures.field))) (at_once (ap crosses_of c.sweep_whole.ensures.advances.more.shape)))
+    (c.growth_without_bad_is_paid.ensures.pins c.sweep_whole.new.course.field c.sweep_whole.new.proof (subst (λ (a : Field). IsFieldOf c.sweep_whole.new.proof.shape a) (sym c.sweep_whole.ensures.field) (field_later c.sweep_whole.ensures.advances.more c.in-Ok-course_of.ensures.field)))
     (pins_same c.sweep_whole.ensures.advances.more.shape c.sweep_whole.ensures.field)
     (wires_most c.in-Ok-course_of.ensures.field c.sweep_whole.ensures.field)
-    (size_most c.sweep_whole.new.course.choices.paid (wires_of c.args.proof.now.shape) (c.sweep_whole.ensures.paid ∙ c.in-Ok-course_of.ensures.paid)) (ap size_of (c.sweep_whole.ensures.few.at f told none holds)) (c.grow_whole.ensures.few.at f ((ap (λ m. m.faults) c.sweep_whole.ensures.advances.machine) ∙ told) none (c.sweep_whole.ensures.advances.holds f told holds)))
+    (size_most c.sweep_whole.new.course.choices.paid (wires_of c.args.proof.now.shape) (c.sweep_whole.ensures.paid ∙ c.in-Ok-course_of.ensures.paid)) (ap size_of (c.sweep_whole.ensures.few.at f told none holds)) _ (c.grow_whole.ensures.few.at f ((ap (λ m. m.faults) c.sweep_whole.ensures.advances.machine) ∙ told) none (c.sweep_whole.ensures.advances.holds f told holds)))
 
 pub returns-in_err-know_lost-clause-loads : goal.returns-in_err-know_lost-clause-loads
-returns-in_err-know_lost-clause-loads g c = known_most c.sweep_whole.ensures.pays c.in-Ok-course_of.ensures.left c.in-Ok-course_of.ensures.none
+returns-in_err-know_lost-clause-loads g c = known_most _ _ _ _ _ _ _ _ _ _ _ _ _ c.sweep_whole.ensures.pays c.in-Ok-course_of.ensures.left c.in-Ok-course_of.ensures.none
     (c.growth_without_bad_is_paid.ensures.all c.in-Ok-course_of.course.field c.args.proof.now c.args.bad.now c.in-Ok-course_of.ensures.field)
-    (at_most (c.growth_without_bad_is_paid.ensures.all c.sweep_whole.new.course.field c.sweep_whole.new.proof c.sweep_whole.new.bad c.grow_whole.requires.field) (at_once (ap crosses_of c.sweep_whole.ensures.advances.more.shape)))
-    (c.growth_without_bad_is_paid.ensures.pins c.sweep_whole.new.course.field c.sweep_whole.new.proof c.grow_whole.requires.field)
+    (at_most (c.growth_without_bad_is_paid.ensures.all c.sweep_whole.new.course.field c.sweep_whole.new.proof c.sweep_whole.new.bad (subst (λ (a : Field). IsFieldOf c.sweep_whole.new.proof.shape a) (sym c.sweep_whole.ensures.field) (field_later c.sweep_whole.ensures.advances.more c.in-Ok-course_of.ensures.field))) (at_once (ap crosses_of c.sweep_whole.ensures.advances.more.shape)))
+    (c.growth_without_bad_is_paid.ensures.pins c.sweep_whole.new.course.field c.sweep_whole.new.proof (subst (λ (a : Field). IsFieldOf c.sweep_whole.new.proof.shape a) (sym c.sweep_whole.ensures.field) (field_later c.sweep_whole.ensures.advances.more c.in-Ok-course_of.ensures.field)))
     (pins_same c.sweep_whole.ensures.advances.more.shape c.sweep_whole.ensures.field)
     (wires_most c.in-Ok-course_of.ensures.field c.sweep_whole.ensures.field)
-    (size_most c.sweep_whole.new.course.choices.paid (wires_of c.args.proof.now.shape) (c.sweep_whole.ensures.paid ∙ c.in-Ok-course_of.ensures.paid)) c.grow_whole.ensures.loads (ap crosses_of (advances_then c.sweep_whole.ensures.advances c.grow_whole.ensures.advances).more.shape) (ap wires_of (advances_then c.sweep_whole.ensures.advances c.grow_whole.ensures.advances).more.shape) c.know_lost.ensures.loads
+    (size_most c.sweep_whole.new.course.choices.paid (wires_of c.args.proof.now.shape) (c.sweep_whole.ensures.paid ∙ c.in-Ok-course_of.ensures.paid)) _ _ _ _ c.grow_whole.ensures.loads (ap crosses_of (advances_then c.sweep_whole.ensures.advances c.grow_whole.ensures.advances).more.shape) (ap wires_of (advances_then c.sweep_whole.ensures.advances c.grow_whole.ensures.advances).more.shape) c.know_lost.ensures.loads
 
 pub returns-clause-loads : goal.returns-clause-loads
-returns-clause-loads g c = known_most c.sweep_whole.ensures.pays c.in-Ok-course_of.ensures.left c.in-Ok-course_of.ensures.none
+returns-clause-loads g c = known_most _ _ _ _ _ _ _ _ _ _ _ _ _ c.sweep_whole.ensures.pays c.in-Ok-course_of.ensures.left c.in-Ok-course_of.ensures.none
     (c.growth_without_bad_is_paid.ensures.all c.in-Ok-course_of.course.field c.args.proof.now c.args.bad.now c.in-Ok-course_of.ensures.field)
-    (at_most (c.growth_without_bad_is_paid.ensures.all c.sweep_whole.new.course.field c.sweep_whole.new.proof c.sweep_whole.new.bad c.grow_whole.requires.field) (at_once (ap crosses_of c.sweep_whole.ensures.advances.more.shape)))
-    (c.growth_without_bad_is_paid.ensures.pins c.sweep_whole.new.course.field c.sweep_whole.new.proof c.grow_whole.requires.field)
+    (at_most (c.growth_without_bad_is_paid.ensures.all c.sweep_whole.new.course.field c.sweep_whole.new.proof c.sweep_whole.new.bad (subst (λ (a : Field). IsFieldOf c.sweep_whole.new.proof.shape a) (sym c.sweep_whole.ensures.field) (field_later c.sweep_whole.ensures.advances.more c.in-Ok-course_of.ensures.field))) (at_once (ap crosses_of c.sweep_whole.ensures.advances.more.shape)))
+    (c.growth_without_bad_is_paid.ensures.pins c.sweep_whole.new.course.field c.sweep_whole.new.proof (subst (λ (a : Field). IsFieldOf c.sweep_whole.new.proof.shape a) (sym c.sweep_whole.ensures.field) (field_later c.sweep_whole.ensures.advances.more c.in-Ok-course_of.ensures.field)))
     (pins_same c.sweep_whole.ensures.advances.more.shape c.sweep_whole.ensures.field)
     (wires_most c.in-Ok-course_of.ensures.field c.sweep_whole.ensures.field)
-    (size_most c.sweep_whole.new.course.choices.paid (wires_of c.args.proof.now.shape) (c.sweep_whole.ensures.paid ∙ c.in-Ok-course_of.ensures.paid)) c.grow_whole.ensures.loads (ap crosses_of (advances_then c.sweep_whole.ensures.advances c.grow_whole.ensures.advances).more.shape) (ap wires_of (advances_then c.sweep_whole.ensures.advances c.grow_whole.ensures.advances).more.shape) c.know_lost.ensures.loads
+    (size_most c.sweep_whole.new.course.choices.paid (wires_of c.args.proof.now.shape) (c.sweep_whole.ensures.paid ∙ c.in-Ok-course_of.ensures.paid)) _ _ _ _ c.grow_whole.ensures.loads (ap crosses_of (advances_then c.sweep_whole.ensures.advances c.grow_whole.ensures.advances).more.shape) (ap wires_of (advances_then c.sweep_whole.ensures.advances c.grow_whole.ensures.advances).more.shape) c.know_lost.ensures.loads
 
 pub returns-in_err-know_lost-clause-few : goal.returns-in_err-know_lost-clause-few
-returns-in_err-know_lost-clause-few g c = few_when (λ f told none holds. known_few c.sweep_whole.ensures.pays c.in-Ok-course_of.ensures.left c.in-Ok-course_of.ensures.none
+returns-in_err-know_lost-clause-few g c = few_when (λ f told none holds. known_few _ _ _ _ _ _ _ _ _ _ _ _ _ c.sweep_whole.ensures.pays c.in-Ok-course_of.ensures.left c.in-Ok-course_of.ensures.none
     (c.growth_without_bad_is_paid.ensures.all c.in-Ok-course_of.course.field c.args.proof.now c.args.bad.now c.in-Ok-course_of.ensures.field)
-    (at_most (c.growth_without_bad_is_paid.ensures.all c.sweep_whole.new.course.field c.sweep_whole.new.proof c.sweep_whole.new.bad c.grow_whole.requires.field) (at_once (ap crosses_of c.sweep_whole.ensures.advances.more.shape)))
-    (c.growth_without_bad_is_paid.ensures.pins c.sweep_whole.new.course.field c.sweep_whole.new.proof c.grow_whole.requires.field)
+    (at_most (c.growth_without_bad_is_paid.ensures.all c.sweep_whole.new.course.field c.sweep_whole.new.proof c.sweep_whole.new.bad (subst (λ (a : Field). IsFieldOf c.sweep_whole.new.proof.shape a) (sym c.sweep_whole.ensures.field) (field_later c.sweep_whole.ensures.advances.more c.in-Ok-course_of.ensures.field))) (at_once (ap crosses_of c.sweep_whole.ensures.advances.more.shape)))
+    (c.growth_without_bad_is_paid.ensures.pins c.sweep_whole.new.course.field c.sweep_whole.new.proof (subst (λ (a : Field). IsFieldOf c.sweep_whole.new.proof.shape a) (sym c.sweep_whole.ensures.field) (field_later c.sweep_whole.ensures.advances.more c.in-Ok-course_of.ensures.field)))
     (pins_same c.sweep_whole.ensures.advances.more.shape c.sweep_whole.ensures.field)
     (wires_most c.in-Ok-course_of.ensures.field c.sweep_whole.ensures.field)
-    (size_most c.sweep_whole.new.course.choices.paid (wires_of c.args.proof.now.shape) (c.sweep_whole.ensures.paid ∙ c.in-Ok-course_of.ensures.paid)) (ap size_of (c.sweep_whole.ensures.few.at f told none holds)) (c.grow_whole.ensures.few.at f ((ap (λ m. m.faults) c.sweep_whole.ensures.advances.machine) ∙ told) none (c.sweep_whole.ensures.advances.holds f told holds)) (c.know_lost.ensures.few.at f ((ap (λ m. m.faults) (c.grow_whole.ensures.advances.machine ∙ c.sweep_whole.ensures.advances.machine)) ∙ told) none (c.grow_whole.ensures.advances.holds f ((ap (λ m. m.faults) c.sweep_whole.ensures.advances.machine) ∙ told) (c.sweep_whole.ensures.advances.holds f told holds))))
+    (size_most c.sweep_whole.new.course.choices.paid (wires_of c.args.proof.now.shape) (c.sweep_whole.ensures.paid ∙ c.in-Ok-course_of.ensures.paid)) (ap size_of (c.sweep_whole.ensures.few.at f told none holds)) _ _ (c.grow_whole.ensures.few.at f ((ap (λ m. m.faults) c.sweep_whole.ensures.advances.machine) ∙ told) none (c.sweep_whole.ensures.advances.holds f told holds)) (c.know_lost.ensures.few.at f ((ap (λ m. m.faults) (c.grow_whole.ensures.advances.machine ∙ c.sweep_whole.ensures.advances.machine)) ∙ told) none (c.grow_whole.ensures.advances.holds f ((ap (λ m. m.faults) c.sweep_whole.ensures.advances.machine) ∙ told) (c.sweep_whole.ensures.advances.holds f told holds))))
 
 pub returns-clause-few : goal.returns-clause-few
-returns-clause-few g c = few_when (λ f told none holds. known_few c.sweep_whole.ensures.pays c.in-Ok-course_of.ensures.left c.in-Ok-course_of.ensures.none
+returns-clause-few g c = few_when (λ f told none holds. known_few _ _ _ _ _ _ _ _ _ _ _ _ _ c.sweep_whole.ensures.pays c.in-Ok-course_of.ensures.left c.in-Ok-course_of.ensures.none
     (c.growth_without_bad_is_paid.ensures.all c.in-Ok-course_of.course.field c.args.proof.now c.args.bad.now c.in-Ok-course_of.ensures.field)
-    (at_most (c.growth_without_bad_is_paid.ensures.all c.sweep_whole.new.course.field c.sweep_whole.new.proof c.sweep_whole.new.bad c.grow_whole.requires.field) (at_once (ap crosses_of c.sweep_whole.ensures.advances.more.shape)))
-    (c.growth_without_bad_is_paid.ensures.pins c.sweep_whole.new.course.field c.sweep_whole.new.proof c.grow_whole.requires.field)
+    (at_most (c.growth_without_bad_is_paid.ensures.all c.sweep_whole.new.course.field c.sweep_whole.new.proof c.sweep_whole.new.bad (subst (λ (a : Field). IsFieldOf c.sweep_whole.new.proof.shape a) (sym c.sweep_whole.ensures.field) (field_later c.sweep_whole.ensures.advances.more c.in-Ok-course_of.ensures.field))) (at_once (ap crosses_of c.sweep_whole.ensures.advances.more.shape)))
+    (c.growth_without_bad_is_paid.ensures.pins c.sweep_whole.new.course.field c.sweep_whole.new.proof (subst (λ (a : Field). IsFieldOf c.sweep_whole.new.proof.shape a) (sym c.sweep_whole.ensures.field) (field_later c.sweep_whole.ensures.advances.more c.in-Ok-course_of.ensures.field)))
     (pins_same c.sweep_whole.ensures.advances.more.shape c.sweep_whole.ensures.field)
     (wires_most c.in-Ok-course_of.ensures.field c.sweep_whole.ensures.field)
-    (size_most c.sweep_whole.new.course.choices.paid (wires_of c.args.proof.now.shape) (c.sweep_whole.ensures.paid ∙ c.in-Ok-course_of.ensures.paid)) (ap size_of (c.sweep_whole.ensures.few.at f told none holds)) (c.grow_whole.ensures.few.at f ((ap (λ m. m.faults) c.sweep_whole.ensures.advances.machine) ∙ told) none (c.sweep_whole.ensures.advances.holds f told holds)) (c.know_lost.ensures.few.at f ((ap (λ m. m.faults) (c.grow_whole.ensures.advances.machine ∙ c.sweep_whole.ensures.advances.machine)) ∙ told) none (c.grow_whole.ensures.advances.holds f ((ap (λ m. m.faults) c.sweep_whole.ensures.advances.machine) ∙ told) (c.sweep_whole.ensures.advances.holds f told holds))))
+    (size_most c.sweep_whole.new.course.choices.paid (wires_of c.args.proof.now.shape) (c.sweep_whole.ensures.paid ∙ c.in-Ok-course_of.ensures.paid)) (ap size_of (c.sweep_whole.ensures.few.at f told none holds)) _ _ (c.grow_whole.ensures.few.at f ((ap (λ m. m.faults) c.sweep_whole.ensures.advances.machine) ∙ told) none (c.sweep_whole.ensures.advances.holds f told holds)) (c.know_lost.ensures.few.at f ((ap (λ m. m.faults) (c.grow_whole.ensures.advances.machine ∙ c.sweep_whole.ensures.advances.machine)) ∙ told) none (c.grow_whole.ensures.advances.holds f ((ap (λ m. m.faults) c.sweep_whole.ensures.advances.machine) ∙ told) (c.sweep_whole.ensures.advances.holds f told holds))))
 
 pub returns-in_err-know_lost-clause-marks : goal.returns-in_err-know_lost-clause-marks
 returns-in_err-know_lost-clause-marks g c = marks_back (advances_then c.sweep_whole.ensures.advances c.grow_whole.ensures.advances).more c.know_lost.ensures.marks

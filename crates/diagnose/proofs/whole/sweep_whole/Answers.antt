@@ -35,7 +35,19 @@ pub returns-clause-pays : goal.returns-clause-pays
 returns-clause-pays g c = let pays = c.sweep.ensures.pays in let put = c.pay_for.ensures.pays in let chosen = c.choose_all.ensures.pays in let same = ap size_of c.choose_all.ensures.paid in omega (arith, pays, put, chosen, same)
 
 pub returns-clause-few : goal.returns-clause-few
-returns-clause-few g c = few_when (λ f told none holds. c.choose_all.ensures.paid ∙ ap (λ x. x.paid) (c.pay_for.ensures.none (none_unfit f told none (c.sweep.ensures.advances.holds f told holds) (c.sweep.ensures.right c.requires.right))))
+returns-clause-few g c = few_when (λ f told none holds. c.choose_all.ensures.paid ∙ ap (λ x. x.paid) (c.pay_for.ensures.none (none_unfit c.in-Ok-unfit_wires.unfit f told none (c.sweep.ensures.advances.holds f told holds) (c.sweep.ensures.right c.requires.right) c.in-Ok-unfit_wires.ensures)))
 
 pub returns-clause-paid : goal.returns-clause-paid
 returns-clause-paid g c = ap length c.choose_all.ensures.paid ∙ c.pay_for.ensures.len
+
+pub returns-in_default-unfit_wires-clause-marks : goal.returns-in_default-unfit_wires-clause-marks
+returns-in_default-unfit_wires-clause-marks g c = marks_of c.requires.marks (rw c.deref.ensures.value at c.sweep.ensures.marks)
+
+pub returns-in_default-unfit_wires-clause-right : goal.returns-in_default-unfit_wires-clause-right
+returns-in_default-unfit_wires-clause-right g c = c.sweep.ensures.right c.requires.right
+
+pub returns-in_default-unfit_wires-clause-pays : goal.returns-in_default-unfit_wires-clause-pays
+returns-in_default-unfit_wires-clause-pays g c = let pays = c.sweep.ensures.pays in omega (arith, pays)
+
+pub returns-in_default-unfit_wires-clause-few : goal.returns-in_default-unfit_wires-clause-few
+returns-in_default-unfit_wires-clause-few g c = always refl
