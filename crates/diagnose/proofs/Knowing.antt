@@ -1,14 +1,13 @@
 -- What is known of known wires.
-use Rattle.std.proofs.Common.{◌≡◌, ◌≢◌, ℕ, ◌<◌, List, Some, true, sym, ap, ◌∙◌, subst, arith}
+use Rattle.std.proofs.Common.{◌≡◌, ◌≢◌, ℕ, ◌<◌, Some, true, sym, ap, ◌∙◌, subst, arith}
 use Rattle.std.specs.Prelude.{slice_get}
 use native.Mathlib.Decide.{dec_lt}
 use Rattle.hierarchy.specs.Laws.{IsNumbered}
 use Rattle.hierarchy.specs.Shape.{wires_of}
 use Rattle.hierarchy.proofs.JoinedLemmas.{Ends-swap}
-use Rattle.evidence.specs.Kept.{Kept, IsMore, keeps_wire, keeps_pair}
+use Rattle.evidence.specs.Kept.{Kept, keeps_wire, keeps_pair}
 use Rattle.evidence.proofs.Keeping.{pair_turned}
-use Rattle.known.specs.Known.{KnownWires, HasWire, IsFoot, IsKnown, Stands, on_pin, on_feet}
-use Rattle.known.specs.declared.step.Foot.{Foot}
+use Rattle.known.specs.Known.{KnownWires, HasWire, IsKnown, Stands, on_pin, on_feet}
 use Rattle.known.specs.declared.step.Stand.{Stand}
 use Rattle.known.specs.declared.step.Step.{Step}
 
@@ -45,17 +44,3 @@ module _ {k : Kept} {known : KnownWires} (is : IsKnown k known) where
 
     pub known_within : (w : ℕ) → HasWire known.steps w → w < wires_of k.shape
     known_within w h = let s = is.steps h.place h.at.step h.at.here in subst (λ v. v < wires_of k.shape) h.at.wire (stands_within h.place h.at.step.wire.0 h.at.step.stand s.stands)
-
--- What is known stays known when more is kept.
-stands_later : {k l : Kept} {ss : List Step} {i w : ℕ} {s : Stand} → IsMore k l → Stands k ss i w s → Stands l ss i w s
-stands_later more (on_pin within e) = on_pin (rw more.shape within) (rw more.shape e)
-stands_later {k} {l} {ss} more (on_feet a b differ) = on_feet (foot a) (foot b) differ
-  where
-    foot : {i w : ℕ} {a : Foot} → IsFoot k ss i w a → IsFoot l ss i w a
-    foot h = record { within = rw more.shape h.within; kept = more.crosses _ h.kept; at = rw more.shape h.at; before = h.before }
-
-pub known_later : {k l : Kept} {known : KnownWires} → IsMore k l → IsKnown k known → IsKnown l known
-known_later {k} {l} {known} more is = record {
-  shape = is.shape ∙ sym more.shape;
-  steps = λ i s here. let o = is.steps i s here in record { kept = more.wires _ o.kept; apart = λ u b. more.pairs _ _ (o.apart u b); stands = stands_later more o.stands };
-}

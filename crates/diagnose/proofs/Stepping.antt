@@ -1,10 +1,8 @@
 -- The steps of a diagnosis, together.
-use Rattle.std.proofs.Common.{◌≡◌, ◌≤◌, ◌<◌, ◌+◌, ◌*◌, ℕ, zero, suc, Bool, true, Some, Option, List, [], ◌∷◌, ◌++◌, length, length-append, refl, sym, ap, ◌∙◌, subst, arith}
-use Rattle.std.specs.Prelude.{All, not, slice_get}
-use native.Mathlib.Decide.{dec_lt}
+use Rattle.std.proofs.Common.{◌≡◌, ◌<◌, ◌+◌, ℕ, zero, suc, true, Some, Option, List, [], ◌∷◌, ◌++◌, length, refl, sym, ap, ◌∙◌, subst}
+use Rattle.std.specs.Prelude.{All, slice_get}
 use Rattle.std.proofs.lemmas.List.Elements.{All-push}
-use Rattle.std.proofs.lemmas.List.Sums.{count_by-le-length}
-use Rattle.tm_bits.specs.Numbers.{has_number, size_of}
+use Rattle.tm_bits.specs.Numbers.{has_number}
 use Rattle.hierarchy.specs.declared.Shape.{Shape}
 use Rattle.hierarchy.specs.declared.Table.{Table}
 use Rattle.hierarchy.specs.Laws.{IsNumbered}
@@ -15,16 +13,14 @@ use Rattle.hierarchy.specs.Tight.{HasFeet, two, IsTight}
 use Rattle.rig.specs.Rig.{RigState}
 use Rattle.evidence.specs.Kept.{Kept, HoldsFor, IsMore, Advances}
 use Rattle.evidence.proofs.Keeping.{holds_earlier}
-use Rattle.known.specs.Field.{IsFieldOf, ClosedIf, TakesFew, fresh, pins_in}
+use Rattle.known.specs.Field.{ClosedIf}
 use Rattle.known.specs.Known.{KnownWires, HasWire, IsKnown}
-use Rattle.known.proofs.Taking.{few_wide, takes_wide}
-use Rattle.seats.specs.Tables.{SeatedIsKept, SeatedAreKept, fresh_tables, keeps_table}
 use Rattle.known.specs.declared.field.Field.{Field}
 use Rattle.known.specs.declared.step.Step.{Step}
 use Rattle.table_test.specs.Seats.{AddsOnlyTableFacts}
 use Rattle.diagnose.specs.Diagnosis.{IsDiagnosis}
 use Rattle.diagnose.specs.Listing.{IsListOf}
-use Rattle.diagnose.specs.Stages.{HasTable, IfFaultless, IsReached, ReachedIf, TablesIf, loads_for}
+use Rattle.diagnose.specs.Stages.{HasTable, IsReached, ReachedIf, TablesIf}
 use Rattle.diagnose.proofs.Covering.{covers, tight}
 use Rattle.diagnose.proofs.Losing.{reached_later}
 

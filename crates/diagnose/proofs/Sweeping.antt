@@ -1,21 +1,19 @@
 -- A sweep of the whole machine, and growth behind it.
 use Rattle.std.proofs.Common.{◌≡◌, ◌⊎◌, ◌≤◌, ◌<◌, ◌+◌, ◌*◌, ℕ, Bool, true, false, Option, Some, List, [], ◌∷◌, ◌++◌, length, replicate, length-append, refl, sym, ap, ◌∙◌, subst, inl, inr, arith}
-use Rattle.std.specs.Prelude.{Result, OnOk, All, not, slice_set}
+use Rattle.std.specs.Prelude.{All, not, slice_set}
 use Rattle.std.proofs.lemmas.Bool.{false≢true}
-use Rattle.std.proofs.lemmas.Result.{on_ok_weaker}
-use Rattle.std.proofs.lemmas.List.{get_or-replicate, get_or_past, length-replicate}
 use Rattle.std.proofs.lemmas.List.Sums.{count_by-le-length}
-use native.Mathlib.Decide.{dec_lt, ℕ_discrete}
+use native.Mathlib.Decide.{dec_lt}
 use Rattle.tm_bits.specs.Numbers.{has_number}
 use Rattle.hierarchy.specs.declared.Shape.{Shape}
 use Rattle.hierarchy.specs.declared.Table.{Table}
-use Rattle.hierarchy.specs.Shape.{wires_of, crosses_of, tables_of}
+use Rattle.hierarchy.specs.Shape.{tables_of}
 use Rattle.hierarchy.specs.Faults.{Faults, IsFaultless}
 use Rattle.hierarchy.proofs.Faultless.{all_sound}
 use Rattle.evidence.specs.Kept.{Kept, HoldsFor, IsMore}
 use Rattle.evidence.proofs.Keeping.{holds_earlier}
 use Rattle.known.specs.Field.{ClosedIf, IsFieldOf}
-use Rattle.known.specs.Known.{HasWire, KnownWires}
+use Rattle.known.specs.Known.{HasWire}
 use Rattle.known.proofs.Counting.{none_has, set_only}
 use Rattle.known.specs.declared.field.Field.{Field}
 use Rattle.known.specs.declared.step.Step.{Step}
@@ -51,9 +49,6 @@ marks_told e t = record { at = λ f told holds. t.at f (sym e ∙ told) holds }
 
 pub marks_by : {told now : Option Faults} {k : Kept} {ss : List Step} {b : Bad} → now ≡ told → TrueIf now k ss b → TrueIf told k ss b
 marks_by e t = record { at = λ f told holds. t.at f (e ∙ told) holds }
-
-pub known_by : {told : Option Faults} {k l : Kept} {a b : KnownWires} {m : Bad} → IsMore k l → b ≡ a → TrueIf told k a.steps m → TrueIf told l b.steps m
-known_by {told} {k} {l} {a} {b} {m} more e t = subst (λ (n : KnownWires). TrueIf told l n.steps m) (sym e) (marks_later more (λ w has. has) t)
 
 -- Nothing is marked.
 pub marks_of_none : {told : Option Faults} {k : Kept} (ss : List Step) {b : Bad} → ((x : ℕ) → has_number b.stuck x ≡ false) → ((x : ℕ) → has_number b.unfit x ≡ false) → ((x : ℕ) → has_number b.unclear x ≡ false) →

@@ -1,5 +1,4 @@
 use Rattle.std.proofs.Common.{◌≡◌, true, length}
-use Rattle.hierarchy.specs.Shape.{wires_of}
 use Rattle.diagnose.specs.Choice.{AreLeftOut}
 use Rattle.diagnose.proofs.lost.lost_pins.Given as goal
 

@@ -1,6 +1,5 @@
 use Rattle.std.proofs.Common.{◌≡◌, ℕ, true, length}
 use Rattle.tm_bits.specs.Numbers.{has_number}
-use Rattle.hierarchy.specs.Shape.{wires_of}
 use Rattle.known.specs.Known.{HasWire}
 use Rattle.diagnose.proofs.lost.unfit_wires.Given as goal
 
