@@ -15,8 +15,8 @@ use Rattle.network_eval.specs.declared.plan.Plan.{Plan}
 use Rattle.network_eval.specs.declared.state.State.{State}
 use Rattle.network_eval.specs.Pins.{signal_of, source_at, AreInRange}
 use Rattle.network_eval.specs.Marks.{number_at}
-use Rattle.network_eval.specs.States.{value_in, pin_bit, IsLower, IsOrdered, IsPlan}
-use Rattle.network_eval.specs.Wires.{wire_at, one_of, ArePushed, AreWires, bits_at, HaveInputs, AreTrueTo, AreLatchedSame, AreTablesIn, HaveTakenTo}
+use Rattle.network_eval.specs.States.{value_in, pin_bit, IsLower, IsOrdered, IsPlan, IsKept}
+use Rattle.network_eval.specs.Wires.{wire_at, one_of, ArePushed, AreWires, bits_at, HaveInputs, AreTrueTo, AreLatchedSame, AreTablesIn, HaveTakenTo, IsShaped}
 use Rattle.network_eval.proofs.PinLemmas.{signal_low}
 use Rattle.network_eval.proofs.RunLemmas.{same_rows}
 use Rattle.network_eval.proofs.SettleLemmas.{both_kinds}
@@ -158,11 +158,28 @@ taken_skip n inputs bits values t c old = record {
 
 -- ---- loading
 
-pub loaded : (n : Network) (before one two : List Bool) (vector : List Bool) → length two ≡ one_of n + 1 → length vector ≡ n.inputs → value_in before (one_of n) ≡ true → ((s : ℕ) → length n.tables ≤ s → value_in one s ≡ value_in before s) → ((k : ℕ) → k < length vector → value_in two (length n.tables + k) ≡ value_in vector k) → ((s : ℕ) → length n.tables + length vector ≤ s → value_in two s ≡ value_in one s) → HaveInputs n vector two
-loaded n before one two vector len inputs is rest put behind = record {
-  len = len;
-  given = λ k lk. put k (omega (arith, inputs)) ∙ get_or_default vector k false true (omega (arith, inputs));
-  one = behind (one_of n) (omega (arith, inputs)) ∙ rest (one_of n) (omega arith) ∙ is;
+-- bits of tables, and then the vector's
+module _ (n : Network) (values before one two vector : List Bool) (e : length values ≡ length n.tables) where
+  pub loaded : length two ≡ length one → length one ≡ length before → length before ≡ one_of n + 1 → length vector ≡ n.inputs → value_in before (one_of n) ≡ true → ((s : ℕ) → length values ≤ s → value_in one s ≡ value_in before s) → ((k : ℕ) → k < length vector → value_in two (length values + k) ≡ value_in vector k) → ((s : ℕ) → length values + length vector ≤ s → value_in two s ≡ value_in one s) → HaveInputs n vector two
+  loaded l2 l1 l0 inputs is rest put behind = record {
+    len = l2 ∙ l1 ∙ l0;
+    given = λ k lk. ap (λ (m : ℕ). value_in two (m + k)) (sym e) ∙ put k (omega (arith, inputs)) ∙ get_or_default vector k false true (omega (arith, inputs));
+    one = behind (one_of n) (omega (arith, inputs, e)) ∙ rest (one_of n) (omega (arith, e)) ∙ is;
+  }
+
+  pub latched_loaded : (three : List Bool) → AreTablesIn (length values) values one → ((s : ℕ) → s < length values → value_in two s ≡ value_in one s) → AreLatchedSame n two three → AreLatchedSame n values three
+  latched_loaded three at before same t l = (
+      let w = l.within in
+      let lt : t < length values = omega (arith, w, e) in
+      same t l ∙ before t lt ∙ at t lt)
+
+pub kept_shaped : (plan : Plan) (state : State) → IsKept plan state → IsShaped plan state
+kept_shaped plan state kept = record {
+  inputs = kept.sized.inputs;
+  values = kept.sized.values;
+  masks = kept.sized.masks.len;
+  addresses = kept.sized.pins.len;
+  marks = kept.sized.marks;
 }
 
 -- ---- a cycle

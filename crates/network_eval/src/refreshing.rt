@@ -37,7 +37,8 @@ fn refresh_addresses(network: &Network, addresses: &mut [u8], inputs: &[bool], v
 
 // Marks all tables.
 fn mark_all(marks: &mut [u64])
-    ensures { (t : ℕ) → t < 64 * length marks.old → is_marked marks.new t ≡ true }
+    ensures len { length marks.new ≡ length marks.old }
+    ensures marked { (t : ℕ) → t < 64 * length marks.old → is_marked marks.new t ≡ true }
 {
     'words: for k in 0..marks.len() {
         marks[k] = u64::MAX;

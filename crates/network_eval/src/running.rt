@@ -138,6 +138,38 @@ fn plan_streak(unmarked: &mut u32, streak: &mut u32, busy: bool) {
     *streak = CYCLES_WITHOUT_MARKS.min(streak.saturating_mul(2).saturating_add(1));
 }
 
+// A cycle in which all tables are evaluated.
+fn run_unmarked(run: &mut Running, vector: &[bool], row: &mut [bool])
+    requires run { IsRunning run.old }
+    requires inputs { length vector.now ≡ run.old.plan.network.inputs }
+    requires outputs { length row.old ≡ length run.old.plan.network.outputs }
+    ensures run { IsRunning run.new }
+    ensures network { run.new.plan.network ≡ run.old.plan.network }
+    ensures rows { (vectors rows : List (List Bool)) → RowsFrom run.old.plan.network (value_in run.new.state.values.items) vectors rows →
+        RowsFrom run.old.plan.network (value_in run.old.state.values.items) (vector.now ∷ vectors) (row.new ∷ rows) }
+{
+    run.unmarked = run.unmarked.saturating_sub(1);
+    run.stale = true;
+    run_all(&run.plan, &mut run.busy, &mut run.state, vector, row);
+}
+
+// A cycle in which marked tables are evaluated.
+fn run_changes(run: &mut Running, vector: &[bool], row: &mut [bool])
+    requires run { IsRunning run.old }
+    requires inputs { length vector.now ≡ run.old.plan.network.inputs }
+    requires outputs { length row.old ≡ length run.old.plan.network.outputs }
+    ensures run { IsRunning run.new }
+    ensures network { run.new.plan.network ≡ run.old.plan.network }
+    ensures rows { (vectors rows : List (List Bool)) → RowsFrom run.old.plan.network (value_in run.new.state.values.items) vectors rows →
+        RowsFrom run.old.plan.network (value_in run.old.state.values.items) (vector.now ∷ vectors) (row.new ∷ rows) }
+{
+    freshen(&run.plan, &mut run.state, run.stale);
+    run.stale = false;
+    let changes = run_marked(&run.plan, &mut run.state, &mut run.due, vector, row);
+    let busy = changes > run.plan.network.tables.as_slice().len() / 8;
+    plan_streak(&mut run.unmarked, &mut run.streak, busy);
+}
+
 /// Gives the row of a vector, and lets latched tables take what they read.
 pub fn run_cycle(run: &mut Running, vector: &[bool], row: &mut [bool])
     requires run { IsRunning run.old }
@@ -149,14 +181,8 @@ pub fn run_cycle(run: &mut Running, vector: &[bool], row: &mut [bool])
         RowsFrom run.old.plan.network (value_in run.old.state.values.items) (vector.now ∷ vectors) (row.new ∷ rows) }
 {
     if run.unmarked > 0 {
-        run.unmarked -= 1;
-        run.stale = true;
-        run_all(&run.plan, &mut run.busy, &mut run.state, vector, row);
+        run_unmarked(run, vector, row);
         return;
     }
-    freshen(&run.plan, &mut run.state, run.stale);
-    run.stale = false;
-    let changes = run_marked(&run.plan, &mut run.state, &mut run.due, vector, row);
-    let busy = changes > run.plan.network.tables.as_slice().len() / 8;
-    plan_streak(&mut run.unmarked, &mut run.streak, busy);
+    run_changes(run, vector, row);
 }
