@@ -92,13 +92,7 @@ fn settle_bits(plan: &Plan, wires: &[usize], bits: &mut [bool])
 }
 
 // Gives inputs the vector's bits, and then all combinational tables the cells of their addresses.
-fn settle_vector(
-    plan: &Plan,
-    wires: &[usize],
-    bits: &mut [bool],
-    values: &[bool],
-    vector: &[bool],
-)
+fn settle_vector(plan: &Plan, wires: &[usize], bits: &mut [bool], values: &[bool], vector: &[bool])
     requires plan { IsPlan plan.now }
     requires wires { AreWires plan.now.network (length plan.now.network.tables) wires.now }
     requires len { length bits.old ≡ one_of plan.now.network + 1 }

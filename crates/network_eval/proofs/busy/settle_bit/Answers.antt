@@ -13,7 +13,7 @@ returns-clause-settled c = λ inputs have old. (
     let w = c.requires.table in
     let b = c.requires.len in
     let e = ap length c.as_slice.ensures in
-    let at = get_or_default c.as_slice.result.now t c.index-as_slice-table.result no_table (omega arith) ∙ ap (λ (ts : List NetTable). get_or ts t no_table) c.as_slice.ensures in
+    let at = c.index-as_slice-table.is ∙ get_or_default c.as_slice.result.now t c.index-as_slice-table.result no_table (omega arith) ∙ ap (λ (ts : List NetTable). get_or ts t no_table) c.as_slice.ensures in
     let one : IsCombinational n t = record { within = w; latched = ap (λ (x : NetTable). x.latched) (sym at) ∙ c.if-one.false } in
     true_more n bits t c.gives.result w one inputs c.requires.plan.ordered (omega arith)
     (gives_truth_of n c.args.wires.now c.requires.plan.range c.requires.wires inputs bits have t _ c.gives.result w (ap (λ (x : NetTable). x.cells) at) c.gives.ensures) old)
