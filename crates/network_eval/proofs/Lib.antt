@@ -8,3 +8,4 @@ mod RunLemmas
 mod SettleLemmas
 mod StartLemmas
 mod PlaceLemmas
+mod BusyLemmas

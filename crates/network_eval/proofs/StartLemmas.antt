@@ -17,7 +17,7 @@ use Rattle.network_eval.specs.declared.state.State.{State}
 use Rattle.network_eval.specs.Pins.{AreInRange}
 use Rattle.network_eval.specs.Marks.{number_at, is_marked, AreMarked}
 use Rattle.network_eval.specs.States.{value_in, pin_bit, HavePins, HaveMasks, IsPlan, IsSized, IsKept}
-use Rattle.network_eval.specs.Starting.{first_values, AreFirstMasks, IsAddress, AreFirstAddresses}
+use Rattle.network_eval.specs.Starting.{AreFirstMasks, IsAddress, AreFirstAddresses, HaveMasksTo, HaveAddressesTo}
 
 -- a row that is made bit by bit
 pub show_more : (f : Source → Bool) (outputs : List Source) (row : List Bool) (k : ℕ) (x : Bool) → k < length row → x ≡ f (get_or outputs k (Input 0)) → ((j : ℕ) → j < k → get_or row j true ≡ f (get_or outputs j (Input 0))) → (j : ℕ) → j < k + 1 → get_or (set row k x) j true ≡ f (get_or outputs j (Input 0))
@@ -115,14 +115,51 @@ all_ones words count e t lt =
 no_both : true ≡ false → ⊥
 no_both e = cc
 
-pub first_kept : (plan : Plan) (state : State) → IsPlan plan → length state.inputs.items ≡ plan.network.inputs → state.values.items ≡ first_values plan.network.tables → AreFirstMasks plan.network.tables state.values.items (length plan.network.tables) state.masks.items → AreFirstAddresses plan.network state.inputs.items state.values.items (length plan.network.tables) state.addresses.items → state.marks.items ≡ replicate (length plan.gates.items) 18446744073709551615 → IsKept plan state
+pub first_kept : (plan : Plan) (state : State) → IsPlan plan → length state.inputs.items ≡ plan.network.inputs → length state.values.items ≡ length plan.network.tables → AreFirstMasks plan.network.tables state.values.items (length plan.network.tables) state.masks.items → AreFirstAddresses plan.network state.inputs.items state.values.items (length plan.network.tables) state.addresses.items → state.marks.items ≡ replicate (length plan.gates.items) 18446744073709551615 → IsKept plan state
 first_kept plan state is inputs values masks addresses marks = record {
   sized = record {
     inputs = inputs;
-    values = ap length values ∙ length-map plan.network.tables (λ (t : NetTable). t.init);
+    values = values;
     marks = ap length marks ∙ length-replicate (length plan.gates.items) 18446744073709551615;
     pins = first_pins plan.network state.inputs.items state.values.items state.addresses.items addresses;
     masks = first_masks plan.network state.values.items state.masks.items masks;
   };
   marked = λ t lt un. absurd (no_both (sym (all_ones state.marks.items (length plan.gates.items) marks t (let s = is.gates.size in omega arith)) ∙ un));
+}
+
+-- the same of lists that are written anew
+pub masks_set : (tables : List NetTable) (values : List Bool) (m mask cells : ℕ) (value : Bool) (old : List ℕ) → m < length tables → cells ≡ (get_or tables m no_table).cells → value ≡ value_in values m → ((a : ℕ) → a < 64 → cell_at mask a ≡ flip value (cell_at cells a)) → HaveMasksTo tables values m old → HaveMasksTo tables values (m + 1) (set old m mask)
+masks_set tables values m mask cells value old lm ec ev is are = record {
+  len = length-set old m mask ∙ are.len;
+  cells = λ t a lt la. elim (cases_eq t m) [
+    | inl e ↦ ap (λ x. cell_at (number_at (set old m mask) x) a) e ∙ ap (λ x. cell_at x a) (get_or-set_same old m mask 0 (omega (arith, are.len))) ∙ is a la ∙ ap (λ v. flip v (cell_at cells a)) ev ∙ ap (λ c. flip (value_in values m) (cell_at c a)) ec ∙ ap (λ x. flip (value_in values x) (cell_at (get_or tables x no_table).cells a)) (sym e)
+    | inr d ↦ ap (λ x. cell_at x a) (get_or-set_other old m t mask 0 d) ∙ are.cells t a (omega (arith, d)) la
+  ];
+}
+
+pub addresses_set : (n : Network) (inputs values : List Bool) (m address : ℕ) (ins : List Source) (old : List ℕ) → m < length n.tables → ins ≡ (table_at n m).ins → IsAddress ins inputs values (length ins) address → HaveAddressesTo n inputs values m old → HaveAddressesTo n inputs values (m + 1) (set old m address)
+addresses_set n inputs values m address ins old lm e is are = record {
+  len = length-set old m address ∙ are.len;
+  each = λ t lt. elim (cases_eq t m) [
+    | inl s ↦ subst (λ x. IsAddress (table_at n x).ins inputs values (length (table_at n x).ins) (number_at (set old m address) x)) (sym s) (subst (IsAddress (table_at n m).ins inputs values (length (table_at n m).ins)) (sym (get_or-set_same old m address 0 (omega (arith, are.len)))) (subst (λ xs. IsAddress xs inputs values (length xs) address) e is))
+    | inr d ↦ subst (IsAddress (table_at n t).ins inputs values (length (table_at n t).ins)) (sym (get_or-set_other old m t address 0 d)) (are.each t (omega (arith, d)))
+  ];
+}
+
+pub marks_set : (old : List ℕ) (k : ℕ) → k < length old → ((t : ℕ) → t < 64 * k → is_marked old t ≡ true) → (t : ℕ) → t < 64 * (k + 1) → is_marked (set old k 18446744073709551615) t ≡ true
+marks_set old k lk h t lt = elim (cases_eq (t / 64) k) [
+  | inl e ↦ ap (λ r. cell_at (number_at (set old k 18446744073709551615) r) (t % 64)) e ∙ ap (λ w. cell_at w (t % 64)) (get_or-set_same old k 18446744073709551615 0 lk) ∙ cell_ones (t % 64) (omega arith)
+  | inr d ↦ ap (λ w. cell_at w (t % 64)) (get_or-set_other old k (t / 64) 18446744073709551615 0 d) ∙ h t (omega (arith, d))
+]
+
+pub fresh_kept : (plan : Plan) (state : State) → IsPlan plan → length state.inputs.items ≡ plan.network.inputs → length state.values.items ≡ length plan.network.tables → HaveMasksTo plan.network.tables state.values.items (length plan.network.tables) state.masks.items → HaveAddressesTo plan.network state.inputs.items state.values.items (length plan.network.tables) state.addresses.items → length state.marks.items ≡ length plan.gates.items → ((t : ℕ) → t < 64 * length plan.gates.items → is_marked state.marks.items t ≡ true) → IsKept plan state
+fresh_kept plan state is inputs values masks addresses len marks = record {
+  sized = record {
+    inputs = inputs;
+    values = values;
+    marks = len;
+    pins = first_pins plan.network state.inputs.items state.values.items state.addresses.items (record { len = addresses.len; each = addresses.each });
+    masks = first_masks plan.network state.values.items state.masks.items (record { len = masks.len; cells = masks.cells });
+  };
+  marked = λ t lt un. absurd (no_both (sym (marks t (let s = is.gates.size in omega arith)) ∙ un));
 }

@@ -12,3 +12,5 @@ pub mod Settling
 pub mod Latching
 pub mod Placing
 pub mod Starting
+pub mod Wires
+pub mod Runnings

@@ -1,22 +1,17 @@
 //! The rows of a network.
 
-ghost use Rattle.std.specs.Prelude.{◌≡◌, ◌<◌, ◌∷◌, List, Bool, length, slice_set, IfOk, MatchOption};
+ghost use Rattle.std.specs.Prelude.{◌≡◌, ◌∷◌, List, Bool, length, IfOk, MatchOption};
 ghost use Rattle.table_map.specs.Networks.{IsNetwork};
-ghost use Rattle.table_map.specs.Rows.{bit_of, outputs_in};
 ghost use Rattle.network_eval.specs.Evals.{IsFirst, IsNotInOrder, RowsOn};
 ghost use Rattle.network_eval.specs.Placing.{IsStandIn};
-ghost use Rattle.network_eval.specs.States.{value_in, IsOrdered, IsPlan, IsKept};
+ghost use Rattle.network_eval.specs.States.{IsOrdered};
 
-use crate::latching::take;
 use crate::ordering::by_levels;
 use crate::placing::{is_ordered, ordered_by};
-use crate::plan::{Plan, plan_of};
-use crate::settling::settle;
-use crate::starting::first_state;
-use crate::state::{State, turn_input};
+use crate::running::{Running, run_cycle, running_for};
 use std::alloc::{AllocError, Global};
 use std::marker::Model;
-use table_map::{Network, Source, copied_network};
+use table_map::{Network, copied_network};
 
 /// The most tables of a network that is run.
 const MOST_TABLES: usize = 65_000;
@@ -24,22 +19,18 @@ const MOST_TABLES: usize = 65_000;
 /// A network that is run, vector by vector. Contracts see a network with the same rows, and what its latched tables give next.
 #[derive(Drop)]
 pub struct NetworkEval {
-    plan: Plan,
-    state: State,
-    /// Room for the latched tables that take another bit.
-    due: Vec<u64>,
+    run: Running,
 }
 
 impl Model for NetworkEval {
-    ghost use Rattle.std.specs.Prelude.{◌≡◌, length};
     ghost use Rattle.network_eval.specs.Evals.{NetworkState};
-    ghost use Rattle.network_eval.specs.States.{IsPlan, IsKept};
+    ghost use Rattle.network_eval.specs.Runnings.{IsRunning};
 
     ghost Value = { NetworkState };
 
-    ghost view = { λ e. record { network = e.plan.network; given = e.state.values.items } };
+    ghost view = { λ e. record { network = e.run.plan.network; given = e.run.state.values.items } };
 
-    ghost invariant = { λ e. IsPlan e.plan × IsKept e.plan e.state × (length e.due.items ≡ length e.plan.gates.items) };
+    ghost invariant = { λ e. IsRunning e.run };
 }
 
 impl NetworkEval {
@@ -59,10 +50,8 @@ impl NetworkEval {
         let Some(ordered) = in_order(alloc, network)? else {
             return Ok(None);
         };
-        let plan = plan_of(alloc, ordered)?;
-        let state = first_state(alloc, &plan)?;
-        let due = vec![in alloc; 0; plan.gates.len()]?;
-        Ok(Some(NetworkEval { plan, state, due }))
+        let run = running_for(alloc, ordered)?;
+        Ok(Some(NetworkEval { run }))
     }
 
     /// Gives the row of a vector, which has one bit for each input; the row has one for each output. Then latched tables take
@@ -75,10 +64,7 @@ impl NetworkEval {
         // Rows that go on from here are rows from before, behind this one.
         ensures rows { (vectors rows : List (List Bool)) → RowsOn self.new vectors rows → RowsOn self.old (vector.now ∷ vectors) (row.new ∷ rows) }
     {
-        put_inputs(&self.plan, &mut self.state, vector);
-        settle(&self.plan, &mut self.state);
-        show(&self.plan, &self.state, row);
-        take(&self.plan, &mut self.state, &mut self.due);
+        run_cycle(&mut self.run, vector, row);
     }
 }
 
@@ -96,64 +82,4 @@ fn in_order(alloc: Global, network: &Network) -> Result<Option<Network>, AllocEr
     }
     let copy = copied_network(alloc, network)?;
     Ok(Some(copy))
-}
-
-// Gives an input this bit.
-fn put_input(plan: &Plan, state: &mut State, input: usize, bit: bool)
-    requires plan { IsPlan plan.now }
-    requires kept { IsKept plan.now state.old }
-    requires within { input < plan.now.network.inputs }
-    ensures kept { IsKept plan.now state.new }
-    ensures values { state.new.values.items ≡ state.old.values.items }
-    ensures inputs { state.new.inputs.items ≡ slice_set state.old.inputs.items input bit }
-{
-    if state.inputs[input] == bit {
-        return;
-    }
-    turn_input(plan, state, input);
-}
-
-// Gives the inputs these bits.
-fn put_inputs(plan: &Plan, state: &mut State, vector: &[bool])
-    requires plan { IsPlan plan.now }
-    requires kept { IsKept plan.now state.old }
-    requires inputs { length vector.now ≡ plan.now.network.inputs }
-    ensures kept { IsKept plan.now state.new }
-    ensures values { state.new.values.items ≡ state.old.values.items }
-    ensures inputs { state.new.inputs.items ≡ vector.now }
-{
-    'inputs: for input in 0..vector.len() {
-        put_input(plan, state, input, vector[input]);
-    }
-}
-
-/// What a source gives. One beyond the inputs counts as 1, and one beyond the tables as 0.
-pub fn bit_of(inputs: &[bool], values: &[bool], source: Source) -> bool
-    ensures { result ≡ bit_of inputs.now (value_in values.now) source }
-{
-    match source {
-        Source::Input(input) => {
-            if input as usize >= inputs.len() {
-                return true;
-            }
-            inputs[input as usize]
-        }
-        Source::Table(table) => {
-            if table as usize >= values.len() {
-                return false;
-            }
-            values[table as usize]
-        }
-    }
-}
-
-// Makes the row what the outputs show.
-fn show(plan: &Plan, state: &State, row: &mut [bool])
-    requires { length row.old ≡ length plan.now.network.outputs }
-    ensures { row.new ≡ outputs_in plan.now.network state.now.inputs.items (value_in state.now.values.items) }
-{
-    let outputs = plan.network.outputs.as_slice();
-    'outputs: for k in 0..outputs.len() {
-        row[k] = bit_of(&state.inputs, &state.values, outputs[k]);
-    }
 }

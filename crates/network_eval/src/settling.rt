@@ -11,20 +11,22 @@ use crate::state::{State, evaluate};
 use crate::words::{WORD, lowest};
 
 // Evaluates the marked tables of a word, the lowest first, until none is marked. What a table reads is lower, so each comes
-// once.
-fn settle_word(plan: &Plan, state: &mut State, word: usize)
+// once. Says how many changed.
+fn settle_word(plan: &Plan, state: &mut State, word: usize) -> usize
     requires plan { IsPlan plan.now }
     requires kept { IsKept plan.now state.old }
     requires word { word < length plan.now.gates.items }
     ensures kept { IsKept plan.now state.new }
     ensures before { AreGivenBefore plan.now.network state.old state.new }
 {
+    let mut changes = 0usize;
     'bits: for _ in 0..WORD {
         match lowest(state.marks[word] & plan.gates[word]) {
-            Some(bit) => evaluate(plan, state, WORD * word + bit),
-            None => return,
+            Some(bit) => changes = changes.saturating_add(evaluate(plan, state, WORD * word + bit)),
+            None => return changes,
         }
     }
+    changes
 }
 
 // Whether a combinational table is marked. A loop without a way out is quicker here.
@@ -68,28 +70,32 @@ fn settle_all(plan: &Plan, state: &mut State)
     }
 }
 
-// Evaluates the marked tables, word by word.
-fn sweep(plan: &Plan, state: &mut State)
+// Evaluates the marked tables, word by word, and says how many changed.
+fn sweep(plan: &Plan, state: &mut State) -> usize
     requires plan { IsPlan plan.now }
     requires kept { IsKept plan.now state.old }
     ensures kept { IsKept plan.now state.new }
     ensures before { AreGivenBefore plan.now.network state.old state.new }
 {
+    let mut changes = 0usize;
     'words: for word in 0..plan.gates.len() {
-        settle_word(plan, state, word);
+        changes = changes.saturating_add(settle_word(plan, state, word));
     }
+    changes
 }
 
-/// Gives each combinational table the cell of its address. If a mark is left after a sweep, all are evaluated.
-pub fn settle(plan: &Plan, state: &mut State)
+/// Gives each combinational table the cell of its address, and says how many changed. If a mark is left after a sweep, all are
+/// evaluated.
+pub fn settle(plan: &Plan, state: &mut State) -> usize
     requires plan { IsPlan plan.now }
     requires kept { IsKept plan.now state.old }
     ensures kept { IsKept plan.now state.new }
     ensures before { AreGivenBefore plan.now.network state.old state.new }
     ensures settled { AreSettled plan.now.network state.new }
 {
-    sweep(plan, state);
+    let changes = sweep(plan, state);
     if is_any_marked(plan, &state.marks) {
         settle_all(plan, state);
     }
+    changes
 }

@@ -7,8 +7,8 @@ ghost use Rattle.network_eval.specs.Pins.{AreInRange};
 ghost use Rattle.network_eval.specs.Starting.{AreFirstAddresses, AreFirstMasks, IsAddress, first_values};
 ghost use Rattle.network_eval.specs.States.{IsPlan, IsKept};
 
-use crate::eval::bit_of;
 use crate::plan::Plan;
+use crate::showing::bit_of;
 use crate::state::{State, turned};
 use std::alloc::{AllocError, Global};
 use table_map::{NetTable, Network, Source};
@@ -27,7 +27,8 @@ fn first_values(alloc: Global, tables: &[NetTable]) -> Result<Vec<bool>, AllocEr
     Ok(values)
 }
 
-fn mask_of(cells: u64, value: bool) -> u64
+/// The mask of a table with these cells that gives this bit.
+pub fn mask_of(cells: u64, value: bool) -> u64
     ensures { (a : ℕ) → a < 64 → cell_at result a ≡ flip value (cell_at cells a) }
 {
     if value { !cells } else { cells }
@@ -60,8 +61,8 @@ fn with_pin(address: u8, pin: usize, bit: bool) -> u8
     turned(address, 1 << pin)
 }
 
-// The address that these sources make. A pin without one reads 1.
-fn address_of(ins: &[Source], inputs: &[bool], values: &[bool]) -> u8
+/// The address that these sources make. A pin without one reads 1.
+pub fn address_of(ins: &[Source], inputs: &[bool], values: &[bool]) -> u8
     requires { length ins.now ≤ 6 }
     ensures { IsAddress ins.now inputs.now values.now (length ins.now) result }
 {

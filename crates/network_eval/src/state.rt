@@ -94,8 +94,8 @@ pub fn turn_table(plan: &Plan, state: &mut State, table: usize)
     );
 }
 
-/// Gives a table the cell of its address.
-pub fn evaluate(plan: &Plan, state: &mut State, table: usize)
+/// Gives a table the cell of its address, and says how many tables changed: it or none.
+pub fn evaluate(plan: &Plan, state: &mut State, table: usize) -> usize
     requires plan { IsPlan plan.now }
     requires within { table < length plan.now.network.tables }
     requires kept { IsKept plan.now state.old }
@@ -105,5 +105,7 @@ pub fn evaluate(plan: &Plan, state: &mut State, table: usize)
     unmark(&mut state.marks, table);
     if cell(state.masks[table], state.addresses[table]) == 1 {
         turn_table(plan, state, table);
+        return 1;
     }
+    0
 }

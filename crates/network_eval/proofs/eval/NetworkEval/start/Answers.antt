@@ -9,4 +9,5 @@ use Rattle.network_eval.proofs.eval.NetworkEval.start.Goals as goal
 pub returns : goal.returns
 returns c =
     let n = c.args.network.now in
-    first_of n c.in-Some.ordered _ (subst (λ (o : Option Network). MatchOption o (IsOrdered n → ⊥) (IsStandIn n)) c.in-Some.is (c.in_ok-ordered.ensures {u = tt})) c.in_ok-plan.ensures.network c.in_ok-state.ensures.values
+    let first = c.in_ok-run.ensures {u = tt} in
+    first_of n c.in-Some.ordered _ (subst (λ (o : Option Network). MatchOption o (IsOrdered n → ⊥) (IsStandIn n)) c.in-Some.is (c.in_ok-ordered.ensures {u = tt})) first.network first.values

@@ -2,7 +2,7 @@ use Rattle.std.proofs.Common.{◌≡◌, ◌<◌, ℕ, true, length, get_or}
 use Rattle.table_map.specs.declared.source.Source.TheVariants.{Input}
 use Rattle.table_map.specs.Rows.{bit_of}
 use Rattle.network_eval.specs.States.{value_in}
-use Rattle.network_eval.proofs.eval.show.Given as goal
+use Rattle.network_eval.proofs.showing.show.Given as goal
 
 abbrev pub invariant-outputs : goal.invariant-outputs
 invariant-outputs l = record {

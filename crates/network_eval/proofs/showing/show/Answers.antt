@@ -2,7 +2,7 @@ use Rattle.std.proofs.Common.{◌∙◌, ap, length, arith}
 use Rattle.table_map.specs.Rows.{bit_of}
 use Rattle.network_eval.specs.States.{value_in}
 use Rattle.network_eval.proofs.StartLemmas.{show_all}
-use Rattle.network_eval.proofs.eval.show.Goals as goal
+use Rattle.network_eval.proofs.showing.show.Goals as goal
 
 pub returns : goal.returns
 returns c =

@@ -1,6 +1,6 @@
 use Rattle.std.proofs.Common.{◌∙◌, sym, arith}
 use Rattle.network_eval.proofs.StartLemmas.{put_all}
-use Rattle.network_eval.proofs.eval.put_inputs.Goals as goal
+use Rattle.network_eval.proofs.running.put_inputs.Goals as goal
 
 pub returns-clause-inputs : goal.returns-clause-inputs
 returns-clause-inputs c =

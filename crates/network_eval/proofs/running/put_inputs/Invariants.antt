@@ -1,6 +1,6 @@
 use Rattle.std.proofs.Common.{◌≡◌, ◌<◌, ℕ, false, get_or}
 use Rattle.network_eval.specs.States.{IsKept}
-use Rattle.network_eval.proofs.eval.put_inputs.Given as goal
+use Rattle.network_eval.proofs.running.put_inputs.Given as goal
 
 abbrev pub invariant-inputs : goal.invariant-inputs
 invariant-inputs l = record {

@@ -1,0 +1,23 @@
+use Rattle.std.proofs.Common.{◌∙◌, List, Bool, sym, ap, length, arith}
+use Rattle.network_eval.specs.States.{value_in}
+use Rattle.network_eval.proofs.StateLemmas.{whole_items}
+use Rattle.network_eval.proofs.busy.store.Goals as goal
+
+pub returns-clause-shaped : goal.returns-clause-shaped
+returns-clause-shaped c = (
+    let same = c.store_values.ensures.len ∙ ap length c.deref_mut.ensures.value in
+    record {
+      inputs = ap length c.copy_from_slice.ensures.items ∙ c.requires.inputs;
+      values = ap length (whole_items c.args.state.now.values c.store_values.new.values same) ∙ same ∙ c.requires.shaped.values;
+      masks = c.requires.shaped.masks;
+      addresses = c.requires.shaped.addresses;
+      marks = c.requires.shaped.marks;
+    })
+
+pub returns-clause-stored : goal.returns-clause-stored
+returns-clause-stored c = λ t lt. (
+    let same = c.store_values.ensures.len ∙ ap length c.deref_mut.ensures.value in
+    let e = ap length c.deref_mut.ensures.value in
+    let v = c.requires.shaped.values in
+    sym (ap (λ (bits : List Bool). value_in bits t) c.deref.ensures.value) ∙ c.store_values.ensures.stored t (omega (arith, lt))
+    ∙ sym (ap (λ (values : List Bool). value_in values t) (whole_items c.args.state.now.values c.store_values.new.values same)))
