@@ -2,7 +2,7 @@
 
 use crate::grow::grown;
 use crate::luck::Luck;
-use crate::need::{Need, Worth, is_better, need_of, worth_of};
+use crate::need::{Need, Worth, is_better, need_of, prices_of, worth_of};
 use crate::nets::Nets;
 use crate::search::{HOT, PRESSED, Trial, WARM, trial_of};
 use crate::tree::{Tree, over, small};
@@ -61,11 +61,6 @@ fn keep(alloc: Global, best: &mut Best, trial: &Trial<'_>) -> Result<Need, Alloc
     Ok(need)
 }
 
-// A limit below what is needed.
-fn pressed(ports: usize) -> f64 {
-    small(ports) as f64 * 0.92 - 1.0
-}
-
 // Presses the limits down in turns.
 fn tighten(
     alloc: Global,
@@ -76,8 +71,8 @@ fn tighten(
 ) -> Result<(), AllocError> {
     let mut need = keep(alloc, best, trial)?;
     'turns: for _ in 0..TURNS {
-        let [low, middle, high] = need.ports;
-        trial.build(alloc, [pressed(low), pressed(middle), pressed(high)])?;
+        let prices = prices_of(&need, trial.tree, trial.nets.pins);
+        trial.build(alloc, &prices)?;
         trial.anneal(luck, PRESSED, steps);
         need = keep(alloc, best, trial)?;
     }
@@ -115,7 +110,8 @@ fn search_room(
             plain_seats(alloc, nets, room)?
         };
         let mut luck = Luck::new();
-        let mut trial = trial_of(alloc, nets, tree, seats, room)?;
+        let prices = prices_of(&needs(alloc, nets, tree, &seats)?, tree, nets.pins);
+        let mut trial = trial_of(alloc, nets, tree, seats, room, &prices)?;
         trial.anneal(&mut luck, if anew { WARM } else { HOT }, steps);
         tighten(alloc, best, &mut trial, &mut luck, steps / 3)?;
     }
