@@ -22,15 +22,6 @@ const EACH: f64 = 0.05;
 /// A count that is so many times the greatest costs what a greater one does.
 const MOST_PART: f64 = 16.0;
 
-/// The prices of crossings and visits at all levels and of a visit at the root, and what one more net costs in the fullest hextant.
-#[derive(Clone, Copy, Debug)]
-pub struct Prices {
-    pub crossings: [Price; 3],
-    pub visits: [Price; 3],
-    pub root: i64,
-    pub unit: f64,
-}
-
 /// Counts of nets at the nodes of a level, and what each count costs.
 #[derive(Drop)]
 struct Gauge {

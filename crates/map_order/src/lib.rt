@@ -13,6 +13,7 @@ mod luck;
 mod need;
 mod nets;
 mod order;
+mod prices;
 mod rooms;
 mod search;
 mod tree;

@@ -1,7 +1,6 @@
 //! What the plan of an order needs of a machine.
 
 use crate::count::{Strands, count_level, root_strands};
-use crate::levels::{Price, Prices};
 use crate::nets::Nets;
 use crate::tree::{Tier, Tree, small};
 use std::alloc::{AllocError, Global};
@@ -116,8 +115,8 @@ fn crossbars(nodes: usize, taps: usize, lines: usize) -> u64 {
     (taps as u64).saturating_mul(lines)
 }
 
-// How many crosspoints the machine has that has just what is needed.
-fn crosspoints(need: &Need, tree: &Tree, pins: usize) -> u64 {
+/// How many crosspoints the machine has that has just what is needed.
+pub fn crosspoints(need: &Need, tree: &Tree, pins: usize) -> u64 {
     let [hextants, chips, modules] = &tree.tiers;
     let taps = [
         hextants
@@ -161,70 +160,4 @@ pub fn worth_of(need: &Need, tree: &Tree, pins: usize) -> Worth {
 /// Whether the first is better.
 pub fn is_better(a: Worth, b: Worth) -> bool {
     a.beyond < b.beyond || a.beyond == b.beyond && a.crosspoints < b.crosspoints
-}
-
-// The price of a count of which one more of the greatest adds so many crosspoints.
-fn price(adds: usize, all: u64, greatest: usize, limit: usize) -> Price {
-    let all = (all.max(1)).min(4_294_967_295) as u32;
-    Price {
-        share: small(adds) as f64 * 1_000_000.0 / all as f64,
-        greatest: small(greatest) as f64,
-        limit: small(limit) as f64,
-    }
-}
-
-// So many crosspoints one more port adds, and one more line.
-fn adds_at(nodes: usize, need: &Need, level: usize, below: usize) -> (usize, usize) {
-    let port = need.ports.get(level).copied().unwrap_or(0);
-    let line = need.lines.get(level).copied().unwrap_or(0);
-    let above = need
-        .lines
-        .get(level.saturating_add(1))
-        .copied()
-        .unwrap_or(0);
-    (
-        nodes.saturating_mul(line.saturating_add(above)),
-        nodes.saturating_mul(port.saturating_add(below)),
-    )
-}
-
-/// What crossings and visits cost where an order needs so much.
-pub fn prices_of(need: &Need, tree: &Tree, pins: usize) -> Prices {
-    let [hextants, chips, modules] = &tree.tiers;
-    let all = crosspoints(need, tree, pins);
-    let (low_port, low_line) = adds_at(hextants.nodes, need, 0, hextants.span.saturating_mul(7));
-    let (middle_port, middle_line) = adds_at(
-        chips.nodes,
-        need,
-        1,
-        chips.children.saturating_mul(need.ports[0]),
-    );
-    let (high_port, high_line) = adds_at(
-        modules.nodes,
-        need,
-        2,
-        modules.children.saturating_mul(need.ports[1]),
-    );
-    let root = price(
-        pins.saturating_add(modules.nodes.saturating_mul(need.ports[2])),
-        all,
-        1,
-        1,
-    );
-    let low = price(low_port, all, need.ports[0], hextants.ports);
-    let lines = price(low_line, all, need.lines[0], hextants.lines);
-    Prices {
-        crossings: [
-            low,
-            price(middle_port, all, need.ports[1], chips.ports),
-            price(high_port, all, need.ports[2], modules.ports),
-        ],
-        visits: [
-            lines,
-            price(middle_line, all, need.lines[1], chips.lines),
-            price(high_line, all, need.lines[2], modules.lines),
-        ],
-        root: std::num::saturating_f64_to_i64(root.share),
-        unit: (low.share + lines.share),
-    }
 }

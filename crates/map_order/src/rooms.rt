@@ -2,8 +2,9 @@
 
 use crate::grow::grown;
 use crate::luck::Luck;
-use crate::need::{Need, Worth, is_better, need_of, prices_of, worth_of};
+use crate::need::{Need, Worth, is_better, need_of, worth_of};
 use crate::nets::Nets;
+use crate::prices::prices_of;
 use crate::search::{HOT, PRESSED, Trial, WARM, trial_of};
 use crate::tree::{Tree, over, small};
 use std::alloc::{AllocError, Global};

@@ -1,8 +1,9 @@
 //! The search for seats by exchanges.
 
-use crate::levels::{Crosses, Level, Move, Prices, level_of};
+use crate::levels::{Crosses, Level, Move, level_of};
 use crate::luck::Luck;
 use crate::nets::{NOTHING, Nets, is_pinned, nets_at, tables_at};
+use crate::prices::Prices;
 use crate::tree::{Tree, over, small};
 use std::alloc::{AllocError, Global};
 
