@@ -9,11 +9,11 @@ use crate::search::{HOT, PRESSED, Trial, WARM, trial_of};
 use crate::tree::{Tree, over, small};
 use std::alloc::{AllocError, Global};
 
-/// How often limits are pressed down.
+/// How often prices are set anew.
 const TURNS: usize = 6;
 
 /// How many exchanges are tried in all, at most so many for each table in a search, and at least so many.
-const MOST_TRIES: usize = 3_000_000;
+const MOST_TRIES: usize = 2_500_000;
 
 const MOST_EFFORT: usize = 480;
 
@@ -62,7 +62,7 @@ fn keep(alloc: Global, best: &mut Best, trial: &Trial<'_>) -> Result<Need, Alloc
     Ok(need)
 }
 
-// Presses the limits down in turns.
+// Sets the prices in turns by what the seats need, so that the greatest counts fall.
 fn tighten(
     alloc: Global,
     best: &mut Best,
