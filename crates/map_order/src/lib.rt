@@ -1,7 +1,8 @@
 //! Orders of a design's covers for a machine.
 //!
 //! In the plan in order tables sit on the free tables of the machine as their covers stand in the text. `ordered` exchanges
-//! seats by chance, so that fewer nets cross nodes, above all where more cross than the machine has ports; empty covers leave
+//! seats by chance: nets that cross and visit nodes cost what they add to the crosspoints of the smallest machine, those of a
+//! node the more the fuller it is beside others, and most where the machine has no more ports or lines; empty covers leave
 //! seats free. Nothing is proved of it but that it returns: whether the plan fits is asked of the text.
 #![tactic(auto)]
 
@@ -13,6 +14,7 @@ mod luck;
 mod need;
 mod nets;
 mod order;
+mod prices;
 mod rooms;
 mod search;
 mod tree;

@@ -115,8 +115,8 @@ fn crossbars(nodes: usize, taps: usize, lines: usize) -> u64 {
     (taps as u64).saturating_mul(lines)
 }
 
-// How many crosspoints the machine has that has just what is needed.
-fn crosspoints(need: &Need, tree: &Tree, pins: usize) -> u64 {
+/// How many crosspoints the machine has that has just what is needed.
+pub fn crosspoints(need: &Need, tree: &Tree, pins: usize) -> u64 {
     let [hextants, chips, modules] = &tree.tiers;
     let taps = [
         hextants

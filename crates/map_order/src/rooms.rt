@@ -4,15 +4,16 @@ use crate::grow::grown;
 use crate::luck::Luck;
 use crate::need::{Need, Worth, is_better, need_of, worth_of};
 use crate::nets::Nets;
+use crate::prices::prices_of;
 use crate::search::{HOT, PRESSED, Trial, WARM, trial_of};
 use crate::tree::{Tree, over, small};
 use std::alloc::{AllocError, Global};
 
-/// How often limits are pressed down.
+/// How often prices are set anew.
 const TURNS: usize = 6;
 
 /// How many exchanges are tried in all, at most so many for each table in a search, and at least so many.
-const MOST_TRIES: usize = 3_000_000;
+const MOST_TRIES: usize = 2_500_000;
 
 const MOST_EFFORT: usize = 480;
 
@@ -61,12 +62,7 @@ fn keep(alloc: Global, best: &mut Best, trial: &Trial<'_>) -> Result<Need, Alloc
     Ok(need)
 }
 
-// A limit below what is needed.
-fn pressed(ports: usize) -> f64 {
-    small(ports) as f64 * 0.92 - 1.0
-}
-
-// Presses the limits down in turns.
+// Sets the prices in turns by what the seats need, so that the greatest counts fall.
 fn tighten(
     alloc: Global,
     best: &mut Best,
@@ -76,8 +72,8 @@ fn tighten(
 ) -> Result<(), AllocError> {
     let mut need = keep(alloc, best, trial)?;
     'turns: for _ in 0..TURNS {
-        let [low, middle, high] = need.ports;
-        trial.build(alloc, [pressed(low), pressed(middle), pressed(high)])?;
+        let prices = prices_of(&need, trial.tree, trial.nets.pins);
+        trial.build(alloc, &prices)?;
         trial.anneal(luck, PRESSED, steps);
         need = keep(alloc, best, trial)?;
     }
@@ -115,7 +111,8 @@ fn search_room(
             plain_seats(alloc, nets, room)?
         };
         let mut luck = Luck::new();
-        let mut trial = trial_of(alloc, nets, tree, seats, room)?;
+        let prices = prices_of(&needs(alloc, nets, tree, &seats)?, tree, nets.pins);
+        let mut trial = trial_of(alloc, nets, tree, seats, room, &prices)?;
         trial.anneal(&mut luck, if anew { WARM } else { HOT }, steps);
         tighten(alloc, best, &mut trial, &mut luck, steps / 3)?;
     }

@@ -1,13 +1,20 @@
 //! The search for seats by exchanges.
 
-use crate::levels::{Level, NO_LIMIT, UNIT, level_of};
+use crate::levels::{Crosses, Level, Move, level_of};
 use crate::luck::Luck;
 use crate::nets::{NOTHING, Nets, is_pinned, nets_at, tables_at};
+use crate::prices::Prices;
 use crate::tree::{Tree, over, small};
 use std::alloc::{AllocError, Global};
 
 /// In how many rounds the heat falls.
 pub const ROUNDS: usize = 32;
+
+/// A net crosses the tables in a hextant.
+const ALWAYS: Crosses = Crosses {
+    before: true,
+    after: true,
+};
 
 /// How hot a search begins, and by how much the heat falls in each round.
 #[derive(Clone, Copy, Debug)]
@@ -47,6 +54,8 @@ pub struct Trial<'a> {
     /// The seat at each table of the machine.
     seat_at: Vec<u32>,
     levels: Levels,
+    root: i64,
+    unit: f64,
     cost: i64,
 }
 
@@ -75,14 +84,20 @@ fn levels_of(
     alloc: Global,
     nets: &Nets,
     tree: &Tree,
-    limits: [f64; 3],
+    prices: &Prices,
 ) -> Result<Levels, AllocError> {
     let count = nets.nets.len();
     let [hextants, chips, modules] = &tree.tiers;
     Ok(Levels {
-        hextants: level_of(alloc, hextants, count, limits[0])?,
-        chips: level_of(alloc, chips, count, limits[1])?,
-        modules: level_of(alloc, modules, count, limits[2])?,
+        hextants: level_of(
+            alloc,
+            hextants,
+            count,
+            prices.crossings[0],
+            prices.visits[0],
+        )?,
+        chips: level_of(alloc, chips, count, prices.crossings[1], prices.visits[1])?,
+        modules: level_of(alloc, modules, count, prices.crossings[2], prices.visits[2])?,
     })
 }
 
@@ -93,6 +108,7 @@ pub fn trial_of<'a>(
     tree: &'a Tree,
     seats: Vec<u32>,
     room: usize,
+    prices: &Prices,
 ) -> Result<Trial<'a>, AllocError> {
     let latches = nets.of.len().saturating_sub(nets.split);
     let mut trial = Trial {
@@ -103,10 +119,12 @@ pub fn trial_of<'a>(
         end: room.saturating_add(latches),
         holders: Vec::new(alloc),
         seat_at: seats_by_table(alloc, tree)?,
-        levels: levels_of(alloc, nets, tree, [NO_LIMIT; 3])?,
+        levels: levels_of(alloc, nets, tree, prices)?,
+        root: prices.root,
+        unit: prices.unit,
         cost: 0,
     };
-    trial.build(alloc, [NO_LIMIT; 3])?;
+    trial.build(alloc, prices)?;
     Ok(trial)
 }
 
@@ -131,15 +149,22 @@ impl<'a> Trial<'a> {
 
     // A table of a net comes to a table of the machine or goes from there.
     fn change(&mut self, net: usize, place: usize, comes: bool) {
-        let pinned = is_pinned(self.nets, net);
-        let low = self.levels.hextants.change(net, place, pinned, comes);
-        let middle = self.levels.chips.change(net, place, pinned, comes);
-        let high = self.levels.modules.change(net, place, pinned, comes);
+        let step = Move {
+            net,
+            place,
+            pinned: is_pinned(self.nets, net),
+            comes,
+        };
+        let low = self.levels.hextants.change(step, ALWAYS);
+        let middle = self.levels.chips.change(step, low.crosses);
+        let high = self.levels.modules.change(step, middle.crosses);
+        let root = (high.crosses.after as i64).wrapping_sub(high.crosses.before as i64);
         self.cost = self
             .cost
-            .wrapping_add(low)
-            .wrapping_add(middle)
-            .wrapping_add(high);
+            .wrapping_add(low.cost)
+            .wrapping_add(middle.cost)
+            .wrapping_add(high.cost)
+            .wrapping_add(root.wrapping_mul(self.root));
     }
 
     // Counts a table at its seat.
@@ -154,10 +179,12 @@ impl<'a> Trial<'a> {
         }
     }
 
-    /// Counts all anew, with these limits of crossings.
-    pub fn build(&mut self, alloc: Global, limits: [f64; 3]) -> Result<(), AllocError> {
+    /// Counts all anew, with these prices.
+    pub fn build(&mut self, alloc: Global, prices: &Prices) -> Result<(), AllocError> {
         self.holders = vec![in alloc; NOTHING; self.tree.seats.len()]?;
-        self.levels = levels_of(alloc, self.nets, self.tree, limits)?;
+        self.levels = levels_of(alloc, self.nets, self.tree, prices)?;
+        self.root = prices.root;
+        self.unit = prices.unit;
         self.cost = 0;
         'tables: for table in 0..self.seats.len() {
             self.settle(table);
@@ -290,7 +317,7 @@ impl<'a> Trial<'a> {
 
     /// Tries so many exchanges while the heat falls.
     pub fn anneal(&mut self, luck: &mut Luck, heat: Heat, steps: usize) {
-        let mut now = heat.first * UNIT;
+        let mut now = heat.first * self.unit;
         'rounds: for _ in 0..ROUNDS {
             self.round(luck, over(steps, ROUNDS), now);
             now = now * heat.fall;
