@@ -10,7 +10,7 @@ use std::alloc::{AllocError, Global};
 
 /// What the pins read at last, a digit a pin, and how many loads were made again.
 #[derive(Drop)]
-pub struct Lost {
+pub struct Outcome {
     pub reading: String,
     pub again: u32,
 }
@@ -51,7 +51,7 @@ fn loaded(rig: &mut Box<dyn Rig>, config: &Config) -> Result<bool, RigFail>
 }
 
 // Makes a cycle in which the first pin and the third are driven 0, and spells what all read.
-fn reading(alloc: Global, rig: &mut Box<dyn Rig>, config: &Config) -> Result<String, RigFail>
+fn read_pins(alloc: Global, rig: &mut Box<dyn Rig>, config: &Config) -> Result<String, RigFail>
     requires { config_of (rig_state rig.old) ≡ Some config.now.config }
 {
     let mut drive = PinBits::new(alloc, config.shape().pins())?;
@@ -74,7 +74,7 @@ fn reading(alloc: Global, rig: &mut Box<dyn Rig>, config: &Config) -> Result<Str
 /// # Errors
 ///
 /// What a second load, or the cycle, fails with.
-pub fn lost(alloc: Global, rig: &mut Box<dyn Rig>, shape: &Shape) -> Result<Lost, RigFail>
+pub fn load_twice(alloc: Global, rig: &mut Box<dyn Rig>, shape: &Shape) -> Result<Outcome, RigFail>
     requires { shape_of (rig_state rig.old) ≡ Some shape.now }
 {
     let mut config = Config::with_room(alloc, *shape, 0)?;
@@ -86,8 +86,8 @@ pub fn lost(alloc: Global, rig: &mut Box<dyn Rig>, shape: &Shape) -> Result<Lost
     close(&mut config, 9)?;
     close(&mut config, 13)?;
     let second = loaded(rig, &config)?;
-    let reading = reading(alloc, rig, &config)?;
-    Ok(Lost {
+    let reading = read_pins(alloc, rig, &config)?;
+    Ok(Outcome {
         reading,
         again: first as u32 + second as u32,
     })

@@ -8,7 +8,7 @@ mod lost;
 
 ghost use Rattle.std.specs.Prelude.{◌≡◌, None, IfOk};
 
-use crate::lost::lost;
+use crate::lost::load_twice;
 use board_rig::BoardRig;
 use cycle_sim::SimRig;
 use doubled_rig::{RepeatRig, TwinRig};
@@ -125,7 +125,7 @@ fn try_lost(rt: &HostRuntime, name: &str) -> io::Result<bool> {
     if rig.attach(&shape, name).is_err() {
         return Ok(false);
     }
-    match lost(alloc, &mut rig, &shape) {
+    match load_twice(alloc, &mut rig, &shape) {
         Ok(found) => {
             let reading = found.reading;
             let again = found.again;
