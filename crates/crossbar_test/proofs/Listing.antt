@@ -103,6 +103,22 @@ at_pushed at n ws {vs} {w} is list e = subst (λ (us : List Wire). IsListOf (IsA
 pub at_end : (at : ℕ → ℕ) (n i : ℕ) (ws : List ℕ) → n ≡ i → IsListOf (IsAtOneOf at i) ws → IsListOf (IsAtOneOf at n) ws
 at_end at n i ws e list = subst (λ j. IsListOf (IsAtOneOf at j) ws) (sym e) list
 
+-- .. and they are so many, and of the machine
+pub record AreFirstOf (at : ℕ → ℕ) (m n : ℕ) (ws : List Wire) : Type 0 where
+  pub list : IsListOf (IsAtOneOf at n) (wire_numbers ws)
+  pub count : length ws ≡ n
+  pub within : All (λ (w : Wire). w.0 < m) ws
+
+pub first_none : (at : ℕ → ℕ) (m : ℕ) {ws : List Wire} → ws ≡ [] → AreFirstOf at m 0 ws
+first_none at m none = rw none (record { list = at_none at; count = refl; within = none_within m })
+
+pub first_pushed : {at : ℕ → ℕ} {m n : ℕ} (ws : List Wire) {vs : List Wire} {w : Wire} → vs ≡ ws ++ w ∷ [] → AreFirstOf at m n ws → w.0 ≡ at n → w.0 < m → AreFirstOf at m (n + 1) vs
+first_pushed {at} {m} {n} ws {vs} {w} is old here within = record {
+  list = at_pushed at n ws is old.list here;
+  count = pushed_count ws w is old.count;
+  within = pushed_within m ws is old.within within;
+}
+
 -- .. of those of the first of a list that have one more property
 abbrev pub IsSome : (ℕ → Type 0) → List ℕ → ℕ → Type 0
 IsSome R ws v = (among ws v ≡ true) × R v

@@ -250,6 +250,10 @@ again f la lb x e =
     (ap (λ a. cond x.setting.latched (cond x.setting.latched x.output (cell_by f x (address_by la x.ins))) (cell_by f x a)) e
     ∙ cond_twice x.setting.latched x.output (cell_by f x (address_by la x.ins)))
 
+-- once those that are listed are put, all are what a tick makes of them
+pub put_all : {q : Queue} (f : Faults) (level : ℕ → Bool) (old new : List Gate) (flips : List Flip) (n : ℕ) → IsQueue q → AreAlike old new → ArePut f level old flips n new → HaveFlips f level old q.due.items q.count flips n → AreStill f level old q.marks.items → new ≡ map (ticked f level) old
+put_all {q} f level old new flips n is alike put have still = put_is_map f level old new flips n q.count q.due.items q.marks.items alike.len put have is.listed still
+
 pub still_after : (f : Faults) (knots : List Knot) (pins low end : List Bool) (old new : List Gate) (marks : List Bool) → new ≡ map (ticked f (level_at knots pins low)) old → InputsKept old marks (level_at knots pins low) (level_at knots pins end) → AreStill f (level_at knots pins end) new marks
 still_after f knots pins low end old new marks e kept k d h none =
     subst (IsStill f lb) (sym (ap (λ zs. get_or zs k d) e ∙ get_or-map (ticked f la) old k d d l))
@@ -285,6 +289,10 @@ pub all_still : (f : Faults) (level : ℕ → Bool) (gates : List Gate) (marks :
 all_still f level gates marks still none =
     same_lists gates (map (ticked f level) gates) (sym (length-map gates (ticked f level)))
     (λ k d h. sym (get_or-map (ticked f level) gates k d d h ∙ still k d h (none k)))
+
+pub tick_at_rest : {q : Queue} {r : Readers} {pulls : List ℕ} (f : Faults) (knots : List Knot) (pins low : List Bool) (now : List Gate) → IsSound now r q pulls low → AreStill f (level_at knots pins low) now q.marks.items → q.count ≡ 0 → IsTick f knots pins now now
+tick_at_rest {q = q} {pulls = pulls} f knots pins low now sound still none =
+    tick_by_counts f knots pins low pulls now now sound.counted sound.outs (all_still f (level_at knots pins low) now q.marks.items still (none_marked q sound.queue none))
 
 -- where all are listed it doesn't matter what they give
 pub all_marked : (f : Faults) (level : ℕ → Bool) (gates : List Gate) (marks : List Bool) → length marks ≡ length gates → ((k : ℕ) → k < length marks → is_marked marks k ≡ true) → AreStill f level gates marks

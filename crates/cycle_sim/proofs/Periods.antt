@@ -13,7 +13,7 @@ use Rattle.cycle_sim.specs.Events.{AreAlike}
 use Rattle.cycle_sim.specs.Pasts.{given_by, AreGiven, HasCome, HasComeIfKept, KeepsPast, SkipsTicks}
 use Rattle.cycle_sim.proofs.Eventing.{alike_same, alike_on, alike_map}
 use Rattle.cycle_sim.proofs.Levels.{no_gate}
-use Rattle.cycle_sim.proofs.Twins.{twin_is}
+use Rattle.cycle_sim.proofs.Twins.{all_further, twin_is}
 
 module _ {f : Faults} {knots : List Knot} {low : List Bool} where
   -- ticks are those of the same tables
@@ -131,3 +131,24 @@ given_all n gates outputs are all = same_lists outputs (map given_by gates) (are
     each k b h =
         let l : k < length gates = (let e = are.len in omega (arith, h, e)) in
         are.each k b no_gate (omega (arith, l, all)) ∙ sym (get_or-map given_by gates k no_gate b l)
+
+-- a tick more, and what is left of them
+module _ {f : Faults} {knots : List Knot} {low : List Bool} {first : List Gate} {made : ℕ} {now : List Gate} (led : HaveTicked f knots low first made now) where
+  -- where a tick changes nothing, neither do those that are left
+  pub ticked_at_rest : {ticks : ℕ} → made < ticks → IsTick f knots low now now → HaveTicked f knots low first ticks now
+  ticked_at_rest {ticks} less still =
+      subst (λ n. HaveTicked f knots low first n now) (let all : ticks - made + made ≡ ticks = omega (arith, less) in all) (all_further (ticks - made) led still)
+
+  module _ {next : List Gate} (t : IsTick f knots low now next) where
+    pub ticked_more : HaveTicked f knots low first (made + 1) next
+    ticked_more = subst (λ n. HaveTicked f knots low first n next) (sym (add-one made)) (once_more led t)
+
+    pub ticked_when_same : {ticks : ℕ} → made < ticks → next ≡ now → HaveTicked f knots low first ticks next
+    ticked_when_same {ticks} less same = subst (HaveTicked f knots low first ticks) (sym same) (ticked_at_rest less (subst (IsTick f knots low now) same t))
+
+    module _ (p : Past) (past : HasComeIfKept f knots low first p made now) where
+      pub past_kept : (q : Past) → KeepsPast p q (made + 1) next → HasComeIfKept f knots low first q (made + 1) next
+      past_kept q keeps = keeps f knots low first ticked_more (past_on f knots low first now next p made past t)
+
+      pub ticked_by_skip : {ticks left : ℕ} {end : List Gate} → SkipsTicks p (made + 1) ticks left next → HaveTicked f knots low next left end → HaveTicked f knots low first ticks end
+      ticked_by_skip {end = end} skip rest = skip f knots low first end ticked_more (past_on f knots low first now next p made past t) rest

@@ -1,6 +1,7 @@
 mod Listed
 mod Knowing
 mod Covering
-mod Preferring
+mod Losing
 mod Stepping
 mod Sweeping
+mod Counted

@@ -26,7 +26,7 @@ use Rattle.diagnose.specs.Diagnosis.{IsDiagnosis}
 use Rattle.diagnose.specs.Listing.{IsListOf}
 use Rattle.diagnose.specs.Stages.{HasTable, IfFaultless, IsReached, ReachedIf, TablesIf, loads_for}
 use Rattle.diagnose.proofs.Covering.{covers, tight}
-use Rattle.diagnose.proofs.Preferring.{reached_later}
+use Rattle.diagnose.proofs.Losing.{reached_later}
 
 -- What is closed in the whole machine is all that can be reached.
 pub reached_if : {told : Option Faults} {m : Shape} {l : Kept} {a : Field} {ss : List Step} → m ≡ l.shape → IsNumbered l.shape → ((w : ℕ) → w < wires_of m → has_number a.wires w ≡ true) →

@@ -1,48 +1,29 @@
 -- A sweep of the whole machine, and growth behind it.
 use Rattle.std.proofs.Common.{◌≡◌, ◌⊎◌, ◌≤◌, ◌<◌, ◌+◌, ◌*◌, ℕ, Bool, true, false, Option, Some, List, [], ◌∷◌, ◌++◌, length, replicate, length-append, refl, sym, ap, ◌∙◌, subst, inl, inr, arith}
-use Rattle.std.specs.Prelude.{Result, OnOk, All, not}
+use Rattle.std.specs.Prelude.{Result, OnOk, All, not, slice_set}
 use Rattle.std.proofs.lemmas.Bool.{false≢true}
 use Rattle.std.proofs.lemmas.Result.{on_ok_weaker}
 use Rattle.std.proofs.lemmas.List.{get_or-replicate, get_or_past, length-replicate}
 use Rattle.std.proofs.lemmas.List.Sums.{count_by-le-length}
 use native.Mathlib.Decide.{dec_lt, ℕ_discrete}
-use Rattle.tm_bits.specs.Numbers.{has_number, size_of}
+use Rattle.tm_bits.specs.Numbers.{has_number}
 use Rattle.hierarchy.specs.declared.Shape.{Shape}
 use Rattle.hierarchy.specs.declared.Table.{Table}
 use Rattle.hierarchy.specs.Shape.{wires_of, crosses_of, tables_of}
 use Rattle.hierarchy.specs.Faults.{Faults, IsFaultless}
+use Rattle.hierarchy.proofs.Faultless.{all_sound}
 use Rattle.evidence.specs.Kept.{Kept, HoldsFor, IsMore}
 use Rattle.evidence.proofs.Keeping.{holds_earlier}
-use Rattle.known.specs.Field.{ClosedIf, IsFieldOf, how_many}
+use Rattle.known.specs.Field.{ClosedIf, IsFieldOf}
 use Rattle.known.specs.Known.{HasWire, KnownWires}
+use Rattle.known.proofs.Counting.{none_has, set_only}
 use Rattle.known.specs.declared.field.Field.{Field}
 use Rattle.known.specs.declared.step.Step.{Step}
-use Rattle.known.proofs.Counting.{many_all}
 use Rattle.seats.specs.Tables.{SeatedIsKept, SeatedAreKept, fresh_tables, keeps_table}
-use Rattle.sweep.specs.Marks.{AreMarksFor, AreTrueMarks, MarksIn, TrueIf, undecided}
+use Rattle.sweep.specs.Marks.{AreMarksFor, AreTrueMarks, MarksIn, TrueIf}
 use Rattle.sweep.specs.declared.bad.Bad.{Bad}
-use Rattle.diagnose.specs.Stages.{HasTable, IfFaultless, TablesIf, loads_for}
+use Rattle.diagnose.specs.Stages.{HasTable, IfFaultless, IsWhole, TablesIf}
 use Rattle.diagnose.proofs.Stepping.{has_before, has_last}
-
--- A field has no more than the machine.
-module _ {m : Shape} (k : Kept) (a : Field) (b : Bad) (same : m ≡ k.shape) (field : IsFieldOf m a) where
-  undecided_most : undecided k b a ≤ crosses_of k.shape
-  undecided_most = subst (λ (n : ℕ). undecided k b a ≤ n) (field.crosses ∙ ap crosses_of same) (many_all _ (length a.crosses))
-
-  wires_most : size_of a.wires ≤ wires_of k.shape
-  wires_most = subst (λ (n : ℕ). size_of a.wires ≤ n) (field.wires ∙ ap wires_of same) (count_by-le-length (λ b. b) a.wires)
-
-  pub swept_most : (before : ℕ) {after : ℕ} → after ≤ before + (2 * undecided k b a + size_of a.wires) → after ≤ before + loads_for k 8 3
-  swept_most before took = let x = undecided_most in let w = wires_most in omega (arith, took, x, w)
-
-  pub swept_few : (before : ℕ) {after : ℕ} → after ≤ before + (2 * undecided k b a + size_of a.wires) → after ≤ before + loads_for k 2 3
-  swept_few before took = let x = undecided_most in let w = wires_most in omega (arith, took, x, w)
-
-  pub grown_most : (before : ℕ) {after : ℕ} → after ≤ before + (8 * undecided k b a + 3 * size_of a.wires) → after ≤ before + loads_for k 8 3
-  grown_most before took = let x = undecided_most in let w = wires_most in omega (arith, took, x, w)
-
-  pub grown_few : (before : ℕ) {after : ℕ} → after ≤ before + (2 * undecided k b a + 3 * size_of a.wires) → after ≤ before + loads_for k 2 3
-  grown_few before took = let x = undecided_most in let w = wires_most in omega (arith, took, x, w)
 
 pub always : {told : Option Faults} {k : Kept} {P : Type 0} → P → IfFaultless told k P
 always p = record { at = λ f e none holds. p }
@@ -74,49 +55,6 @@ marks_by e t = record { at = λ f told holds. t.at f (e ∙ told) holds }
 pub known_by : {told : Option Faults} {k l : Kept} {a b : KnownWires} {m : Bad} → IsMore k l → b ≡ a → TrueIf told k a.steps m → TrueIf told l b.steps m
 known_by {told} {k} {l} {a} {b} {m} more e t = subst (λ (n : KnownWires). TrueIf told l n.steps m) (sym e) (marks_later more (λ w has. has) t)
 
--- Without the marks of unfit wires they are true of whatever is known.
-pub marks_again : {told : Option Faults} {k l : Kept} {ss ts : List Step} (b : Bad) (unfit : List Bool) (n : ℕ) → IsMore k l → unfit ≡ replicate n false → TrueIf told k ss b → TrueIf told l ts (record b { unfit = unfit })
-marks_again {told} {k} {l} {ss} {ts} b unfit n more none t = record { at = λ f e h. subst (λ (m : Shape). AreTrueMarks m f (HasWire ts) (record b { unfit = unfit })) (sym more.shape) (at f (t.at f e (holds_earlier more h))) }
-  where
-    off : (w : ℕ) → has_number (replicate n false) w ≡ true → ⊥
-    off w on = by (dec_lt w n)
-      where
-        by : Dec (w < n) → ⊥
-        by (yes h) = false≢true (sym (get_or-replicate n w false false h) ∙ on)
-        by (no h) = false≢true (sym (get_or_past (replicate n false) w false (rw length-replicate (omega arith))) ∙ on)
-
-    at : (f : Faults) → AreTrueMarks k.shape f (HasWire ss) b → AreTrueMarks k.shape f (HasWire ts) (record b { unfit = unfit })
-    at f old = record {
-      stuck = old.stuck;
-      unfit = λ w on clear alone. off w (subst (λ (s : List Bool). has_number s w ≡ true) none on);
-      unclear = old.unclear;
-      wrong = old.wrong;
-    }
-
-no_number : (n w : ℕ) → has_number (replicate n false) w ≡ false
-no_number n w = by (dec_lt w n)
-  where
-    by : Dec (w < n) → has_number (replicate n false) w ≡ false
-    by (yes h) = get_or-replicate n w false false h
-    by (no h) = get_or_past (replicate n false) w false (rw length-replicate (omega arith))
-
-pub none_is : (unfit : List Bool) (n : ℕ) → unfit ≡ replicate n false → (w : ℕ) → has_number unfit w ≡ false
-none_is unfit n is w = ap (λ (s : List Bool). has_number s w) is ∙ no_number n w
-
--- The marks of unfit wires are dropped behind a sweep before which there were none.
-pub marks_dropped : {a : Field} {tables : List Table} {b : Bad} (c : Bad) (unfit : List Bool) (n : ℕ) → n ≡ length c.unfit → unfit ≡ replicate n false → ((w : ℕ) → has_number b.unfit w ≡ false) → MarksIn a tables b c →
-    MarksIn a tables b (record c { unfit = unfit })
-marks_dropped c unfit n same is none in_ = record {
-  stuck = in_.stuck;
-  unfit = record {
-    len = ap length is ∙ length-replicate n false ∙ same ∙ in_.unfit.len;
-    stays = λ w on. absurd (false≢true (sym (none w) ∙ on));
-    within = λ w on. absurd (false≢true (sym (none_is unfit n is w) ∙ on));
-  };
-  unclear = in_.unclear;
-  wrong = in_.wrong;
-}
-
 -- Nothing is marked.
 pub marks_of_none : {told : Option Faults} {k : Kept} (ss : List Step) {b : Bad} → ((x : ℕ) → has_number b.stuck x ≡ false) → ((x : ℕ) → has_number b.unfit x ≡ false) → ((x : ℕ) → has_number b.unclear x ≡ false) →
     ((x : ℕ) → has_number b.wrong x ≡ false) → TrueIf told k ss b
@@ -137,6 +75,45 @@ marks_of are in_ = record {
   unclear = in_.unclear.len ∙ are.unclear;
   wrong = in_.wrong.len ∙ are.wrong;
 }
+
+-- What a field and marks are said of stays the machine.
+pub field_later : {k l : Kept} {a : Field} → IsMore k l → IsFieldOf k.shape a → IsFieldOf l.shape a
+field_later {a = a} more field = subst (λ (m : Shape). IsFieldOf m a) (sym more.shape) field
+
+pub whole_later : {k l : Kept} {a : Field} → IsMore k l → IsWhole k.shape a → IsWhole l.shape a
+whole_later {a = a} more whole = subst (λ (m : Shape). IsWhole m a) (sym more.shape) whole
+
+pub marks_on : {k l : Kept} {b : Bad} → IsMore k l → AreMarksFor k.shape b → AreMarksFor l.shape b
+marks_on {b = b} more marks = subst (λ (m : Shape). AreMarksFor m b) (sym more.shape) marks
+
+pub marks_back : {k l : Kept} {b : Bad} → IsMore k l → AreMarksFor l.shape b → AreMarksFor k.shape b
+marks_back {b = b} more marks = subst (λ (m : Shape). AreMarksFor m b) more.shape marks
+
+pub at_once : {x y : ℕ} → x ≡ y → x ≤ y
+at_once e = omega (arith, e)
+
+pub at_most : {x y z : ℕ} → x ≤ y → y ≤ z → x ≤ z
+at_most a b = omega (arith, a, b)
+
+-- Without faults no wire is marked unfit that isn't known.
+pub none_unfit : {told : Option Faults} {k : Kept} {ss : List Step} {b : Bad} (set : List Bool) (f : Faults) → told ≡ Some f → IsFaultless f → HoldsFor k f → TrueIf told k ss b →
+    ((w : ℕ) → has_number set w ≡ true → (has_number b.unfit w ≡ true) × (¬ HasWire ss w)) → (w : ℕ) → has_number set w ≡ false
+none_unfit {ss = ss} {b = b} set f e none holds marks each w = by (has_number set w) refl
+  where
+    by : (x : Bool) → has_number set w ≡ x → x ≡ false
+    by false is = refl
+    by true is = let both = each w is in absurd ((marks.at f e holds).unfit w both.0 (λ u s. none.wires u) (λ u has s. both.1 (subst (HasWire ss) ((all_sound none w).alone u s) has)))
+
+-- numbers that are marked one by one
+pub marked_none : (set : List Bool) (n : ℕ) → set ≡ replicate n false → (w : ℕ) → has_number set w ≡ true → ⊥
+marked_none set n is w on = none_has n w (subst (λ (s : List Bool). has_number s w ≡ true) is on)
+
+pub marked_next : (P : ℕ → Type 0) (old new : List Bool) (u : ℕ) → ((w : ℕ) → has_number old w ≡ true → P w) → P u → new ≡ slice_set old u true → (w : ℕ) → has_number new w ≡ true → P w
+marked_next P old new u all has is w on = by (set_only old u w (subst (λ (s : List Bool). has_number s w ≡ true) is on))
+  where
+    by : (has_number old w ≡ true) ⊎ (u ≡ w) → P w
+    by (inl before) = all w before
+    by (inr same) = subst P same has
 
 -- One table more is among those that are left, or it is marked.
 module _ (wrong : List Bool) (old : List Table) (n : ℕ) where

@@ -1,5 +1,7 @@
 -- The stages of a diagnosis.
 use Rattle.std.specs.Prelude.{◌≡◌, ℕ, ◌+◌, ◌*◌, ◌<◌, true, Option, Some, None, List, slice_get}
+use Rattle.tm_bits.specs.Numbers.{has_number}
+use Rattle.hierarchy.specs.declared.Shape.{Shape}
 use Rattle.hierarchy.specs.declared.Table.{Table}
 use Rattle.hierarchy.specs.Shape.{pins_of, pin_wire, wires_of, crosses_of, tables_of, ends_of}
 use Rattle.hierarchy.specs.Faults.{Faults, IsFaultless, stuck_cross}
@@ -8,6 +10,7 @@ use Rattle.hierarchy.specs.Tight.{IsAlone, HasFeet}
 use Rattle.evidence.specs.Kept.{Kept, HoldsFor, keeps_cross}
 use Rattle.known.specs.Known.{HasWire}
 use Rattle.seats.specs.Tables.{SeatedIsKept}
+use Rattle.known.specs.declared.field.Field.{Field}
 use Rattle.known.specs.declared.step.Step.{Step}
 
 -- All is known that can be reached: each wire that is clear and shorted to no known one, and is a pin of the machine or has feet;
@@ -28,10 +31,6 @@ pub record ReachedIf (told : Option Faults) (k : Kept) (ss : List Step) : Type 0
 pub record IfFaultless (told : Option Faults) (k : Kept) (P : Type 0) : Type 0 where
   pub at : (f : Faults) → told ≡ Some f → IsFaultless f → HoldsFor k f → P
 
--- .. and all is known that can be reached
-pub record IfReached (told : Option Faults) (k : Kept) (ss : List Step) (P : Type 0) : Type 0 where
-  pub at : (f : Faults) → told ≡ Some f → IsFaultless f → IsReached k f (HasWire ss) → P
-
 -- the loads of so much for each crosspoint and so much for each wire
 abbrev pub loads_for : Kept → (crosses wires : ℕ) → ℕ
 loads_for k crosses wires = crosses * crosses_of k.shape + wires * wires_of k.shape
@@ -46,3 +45,8 @@ pub record HasTable (tables : List Table) (t : ℕ) : Type 0 where
   pub table : Table
   pub here : slice_get tables place ≡ Some table
   pub is : table.0 ≡ t
+
+-- the whole machine is looked at
+pub record IsWhole (m : Shape) (a : Field) : Type 0 where
+  pub wires : (w : ℕ) → w < wires_of m → has_number a.wires w ≡ true
+  pub crosses : (x : ℕ) → x < crosses_of m → has_number a.crosses x ≡ true

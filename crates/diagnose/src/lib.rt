@@ -1,9 +1,9 @@
 //! The whole machine: from tests to a list of defects.
 //!
-//! A sweep decides many crosspoints, wires and tables in each load. Then known wires grow from the pins of the machine as far as
-//! two routes reach, without what the sweep has marked. Of wires that are shorted to one another only one can be known: pins of
-//! tables take the place of lines and ports, and both are made again. Then the tables that aren't marked are tested over known
-//! wires. What isn't known or kept in the end is listed.
+//! A sweep decides many crosspoints, wires and tables in each load. Of wires that are shorted to one another only one can be known:
+//! looks tell which lines and ports stand in the way of pins of tables, these give way, and the sweep is made again. Then known wires
+//! grow from the pins of the machine as far as two routes reach, without what is marked; where growth loses further pins, it is chosen
+//! and made once more. Then the tables that aren't marked are tested over known wires. What isn't known or kept in the end is listed.
 //!
 //! Promised, where the rig tells its faults: the list covers them, is tight to them and so is fair, whatever they are (`right`).
 //! It covers: no free crosspoint is stuck, no free table has a wrong cell or a stuck register, no free wire is shorted to a stuck
@@ -14,8 +14,8 @@
 //! falls (`counted`).
 #![tactic(auto)]
 
-mod choose;
 mod list;
+mod lost;
 mod whole;
 
 pub use whole::{Parts, diagnose, diagnose_in_parts};

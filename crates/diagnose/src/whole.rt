@@ -1,19 +1,20 @@
 //! The whole machine: from tests to a list of defects.
 ghost use Rattle.std.specs.Prelude.{◌≡◌, ◌⊎◌, ◌≤◌, ◌<◌, ◌+◌, ◌*◌, ℕ, true, false, All, List, Some, IfOk, OnOk, IsErrOf, length};
-ghost use Rattle.tm_bits.specs.Numbers.{has_number};
+ghost use Rattle.tm_bits.specs.Numbers.{has_number, size_of};
 ghost use Rattle.tm_outside.specs.Counts.{Rose};
-ghost use Rattle.hierarchy.specs.Shape.{tables_of};
+ghost use Rattle.hierarchy.specs.Shape.{tables_of, wires_of};
 ghost use Rattle.rig.specs.Rig.{shape_of};
 ghost use Rattle.evidence.specs.Kept.{Advances, KeepsNothing};
+ghost use Rattle.known.specs.Field.{IsFieldOf, pins_in};
 ghost use Rattle.known.specs.Known.{IsKnown};
 ghost use Rattle.known.specs.declared.step.Step.{Step};
 ghost use Rattle.table_test.specs.Seats.{AddsOnlyTableFacts};
-ghost use Rattle.sweep.specs.Marks.{AreMarksFor, TrueIf};
+ghost use Rattle.sweep.specs.Marks.{AreMarksFor, TrueIf, undecided, worth};
 ghost use Rattle.diagnose.specs.Diagnosis.{IsDiagnosis, TakesFewLoads};
-ghost use Rattle.diagnose.specs.Stages.{HasTable, IfFaultless, ReachedIf, TablesIf, loads_for};
+ghost use Rattle.diagnose.specs.Stages.{HasTable, IfFaultless, IsWhole, ReachedIf, TablesIf, loads_for};
 
-use crate::choose::prefer_pins;
 use crate::list::list_of;
+use crate::lost::{lost_pins, unfit_wires};
 use defect_db::Defects;
 use evidence::Proof;
 use evidence::laws::{kept_facts_are_sound, tests_add_up};
@@ -21,10 +22,16 @@ use growth::{Field, Known, grow, test_tables};
 use hierarchy::{Shape, Table, the_numbering_is_sound, tight_lists_are_fair};
 use rig::{Rig, RigFail};
 use std::alloc::{AllocError, Global};
-use sweep::{Bad, closed_without_bad, growth_after_a_sweep_is_paid, sweep, without_bad};
+use sweep::{
+    Bad, Choices, choose, closed_without_bad, growth_without_bad_is_paid, sweep, sweep_with,
+    without_bad,
+};
 use tm_bits::BitSet;
 
-/// The loads of a diagnosis by part: those of its sweeps, of growth and the choice between shorted wires, and of the tests of tables
+/// How often it is chosen before growth which of shorted wires stays.
+const MOST_CHOICES: u32 = 3;
+
+/// The loads of a diagnosis by part: those of its sweeps and of the choices between shorted wires, of growth, and of the tests of tables
 /// behind them.
 #[derive(Clone, Copy, Debug)]
 pub struct Parts {
@@ -58,52 +65,207 @@ fn all_tables(alloc: Global, shape: &Shape) -> Result<Vec<Table>, AllocError> {
     Ok(tables)
 }
 
-// The whole machine is swept, and what is known grows in what isn't marked bad.
-fn know_whole(
-    alloc: Global,
+// What a diagnosis has at hand: the whole machine, what choices have, and how many loads sweeps and choices have taken.
+#[derive(Drop)]
+struct Course {
+    field: Field,
+    choices: Choices,
+    swept: u64,
+}
+
+// What a diagnosis has at hand at first.
+fn course_of(alloc: Global, proof: &Proof, known: &Known, bad: &Bad) -> Result<Course, AllocError>
+    ensures field { IfOk result (λ course. IsFieldOf proof.now.shape course.field) }
+    ensures whole { IfOk result (λ course. IsWhole proof.now.shape course.field) }
+    ensures left { IfOk result (λ course. course.choices.left ≡ 0) }
+    ensures paid { IfOk result (λ course. length course.choices.paid ≡ wires_of proof.now.shape) }
+    ensures none { IfOk result (λ course. size_of course.choices.paid ≡ 0) }
+{
+    let field = Field::whole(alloc, &proof.shape())?;
+    let tables = all_tables(alloc, &proof.shape())?;
+    Ok(Course {
+        choices: Choices::new(proof, known, bad, &field, &tables)?,
+        field,
+        swept: 0,
+    })
+}
+
+// Chooses which of shorted wires stays known, and sweeps anew if some give way. Says whether they did.
+fn choose_once(
     rig: &mut Box<dyn Rig>,
     proof: &mut Proof,
     known: &mut Known,
     bad: &mut Bad,
-    parts: &mut Parts,
+    course: &mut Course,
+) -> Result<bool, RigFail>
+    requires attached { shape_of (rig_state rig.old) ≡ Some proof.old.shape }
+    requires known { IsKnown proof.old known.old }
+    requires field { IsFieldOf proof.old.shape course.old.field }
+    requires marks { AreMarksFor proof.old.shape bad.old }
+    requires right { TrueIf (rig_state rig.old).machine.faults proof.old known.old.steps bad.old }
+    ensures known { IsKnown proof.new known.new }
+    ensures field { course.new.field ≡ course.old.field }
+    ensures marks { AreMarksFor proof.old.shape bad.new }
+    ensures right { TrueIf (rig_state rig.old).machine.faults proof.new known.new.steps bad.new }
+    ensures same { IfOk result (λ chosen. chosen ≡ false → known.new ≡ known.old) }
+    ensures pays { worth course.new.field proof.new bad.new (rig_state rig.new).loads course.new.choices.left
+        ≤ worth course.old.field proof.old bad.old (rig_state rig.old).loads course.old.choices.left }
+    ensures paid { course.new.choices.paid ≡ course.old.choices.paid }
+    ensures advances { Advances (rig_state rig.old) (rig_state rig.new) proof.old proof.new }
+    ensures cause { IsErrOf result RigFail.Failed → Rose (rig_state rig.old).failures (rig_state rig.new).failures }
+{
+    let choices = &mut course.choices;
+    if !choose(rig, proof, known, bad, &course.field, choices)? {
+        return Ok(false);
+    }
+    sweep_with(rig, proof, known, bad, &course.field, &mut course.choices)?;
+    Ok(true)
+}
+
+// The same as long as some give way, a few times.
+fn choose_all(
+    rig: &mut Box<dyn Rig>,
+    proof: &mut Proof,
+    known: &mut Known,
+    bad: &mut Bad,
+    course: &mut Course,
 ) -> Result<(), RigFail>
     requires attached { shape_of (rig_state rig.old) ≡ Some proof.old.shape }
     requires known { IsKnown proof.old known.old }
+    requires field { IsFieldOf proof.old.shape course.old.field }
     requires marks { AreMarksFor proof.old.shape bad.old }
     requires right { TrueIf (rig_state rig.old).machine.faults proof.old known.old.steps bad.old }
-    requires fit { (w : ℕ) → has_number bad.old.unfit w ≡ false }
     ensures known { IsKnown proof.new known.new }
+    ensures field { course.new.field ≡ course.old.field }
     ensures marks { AreMarksFor proof.old.shape bad.new }
     ensures right { TrueIf (rig_state rig.old).machine.faults proof.new known.new.steps bad.new }
-    ensures reached { OnOk result (ReachedIf (rig_state rig.old).machine.faults proof.new known.new.steps) }
+    ensures pays { worth course.new.field proof.new bad.new (rig_state rig.new).loads course.new.choices.left
+        ≤ worth course.old.field proof.old bad.old (rig_state rig.old).loads course.old.choices.left }
+    ensures paid { course.new.choices.paid ≡ course.old.choices.paid }
     ensures advances { Advances (rig_state rig.old) (rig_state rig.new) proof.old proof.new }
-    ensures loads { (rig_state rig.new).loads ≤ (rig_state rig.old).loads + loads_for proof.old 8 3 }
-    ensures few { IfFaultless (rig_state rig.old).machine.faults proof.old
-        ((rig_state rig.new).loads ≤ (rig_state rig.old).loads + loads_for proof.old 2 3) }
+    ensures cause { IsErrOf result RigFail.Failed → Rose (rig_state rig.old).failures (rig_state rig.new).failures }
+{
+    'choices: for _choice in 0..MOST_CHOICES {
+        if !choose_once(rig, proof, known, bad, course)? {
+            return Ok(());
+        }
+    }
+    Ok(())
+}
+
+// The whole machine is swept, once and behind choices.
+fn sweep_whole(
+    rig: &mut Box<dyn Rig>,
+    proof: &mut Proof,
+    known: &mut Known,
+    bad: &mut Bad,
+    course: &mut Course,
+) -> Result<(), RigFail>
+    requires attached { shape_of (rig_state rig.old) ≡ Some proof.old.shape }
+    requires known { IsKnown proof.old known.old }
+    requires field { IsFieldOf proof.old.shape course.old.field }
+    requires marks { AreMarksFor proof.old.shape bad.old }
+    requires right { TrueIf (rig_state rig.old).machine.faults proof.old known.old.steps bad.old }
+    requires paid { length course.old.choices.paid ≡ wires_of proof.old.shape }
+    ensures known { IsKnown proof.new known.new }
+    ensures field { course.new.field ≡ course.old.field }
+    ensures marks { AreMarksFor proof.old.shape bad.new }
+    ensures right { TrueIf (rig_state rig.old).machine.faults proof.new known.new.steps bad.new }
+    ensures pays { worth course.new.field proof.new bad.new (rig_state rig.new).loads course.new.choices.left + 14 * size_of course.old.choices.paid
+        ≤ worth course.old.field proof.old bad.old (rig_state rig.old).loads course.old.choices.left + (pins_in proof.old.shape course.old.field + 14 * size_of course.new.choices.paid) }
+    ensures few { IfFaultless (rig_state rig.old).machine.faults proof.old (course.new.choices.paid ≡ course.old.choices.paid) }
+    ensures paid { length course.new.choices.paid ≡ length course.old.choices.paid }
+    ensures advances { Advances (rig_state rig.old) (rig_state rig.new) proof.old proof.new }
+    ensures cause { IsErrOf result RigFail.Failed → Rose (rig_state rig.old).failures (rig_state rig.new).failures }
+{
+    let Ok(tables) = all_tables(known.alloc(), &proof.shape()) else {
+        return Err(RigFail::Memory);
+    };
+    sweep(rig, proof, known, bad, &course.field, &tables)?;
+    let Ok(unfit) = unfit_wires(known.alloc(), known, bad) else {
+        return Err(RigFail::Memory);
+    };
+    course.choices.pay_for(&unfit);
+    choose_all(rig, proof, known, bad, course)
+}
+
+// What is known grows in what isn't marked bad.
+fn grow_whole(
+    rig: &mut Box<dyn Rig>,
+    proof: &mut Proof,
+    known: &mut Known,
+    bad: &Bad,
+    field: &Field,
+) -> Result<(), RigFail>
+    requires attached { shape_of (rig_state rig.old) ≡ Some proof.old.shape }
+    requires known { IsKnown proof.old known.old }
+    requires field { IsFieldOf proof.old.shape field.now }
+    requires whole { IsWhole proof.old.shape field.now }
+    requires marks { AreMarksFor proof.old.shape bad.now }
+    requires right { TrueIf (rig_state rig.old).machine.faults proof.old known.old.steps bad.now }
+    ensures known { IsKnown proof.new known.new }
+    ensures right { TrueIf (rig_state rig.old).machine.faults proof.new known.new.steps bad.now }
+    ensures reached { OnOk result (ReachedIf (rig_state rig.old).machine.faults proof.new known.new.steps) }
+    ensures loads { (rig_state rig.new).loads + pins_in proof.old.shape field.now
+        ≤ (rig_state rig.old).loads + (8 * undecided proof.old bad.now field.now + 3 * size_of field.now.wires) }
+    ensures few { IfFaultless (rig_state rig.old).machine.faults proof.old ((rig_state rig.new).loads + pins_in proof.old.shape field.now
+        ≤ (rig_state rig.old).loads + (2 * undecided proof.old bad.now field.now + 3 * size_of field.now.wires)) }
+    ensures advances { Advances (rig_state rig.old) (rig_state rig.new) proof.old proof.new }
     ensures cause { IsErrOf result RigFail.Failed → Rose (rig_state rig.old).failures (rig_state rig.new).failures }
 {
     the_numbering_is_sound();
     closed_without_bad();
-    growth_after_a_sweep_is_paid();
-    tests_add_up();
-    let Ok(field) = Field::whole(alloc, &proof.shape()) else {
-        return Err(RigFail::Memory);
-    };
-    let Ok(tables) = all_tables(alloc, &proof.shape()) else {
-        return Err(RigFail::Memory);
-    };
-    let before = loads_since(rig, 0);
-    sweep(rig, proof, known, bad, &field, &tables)?;
-    parts.sweep = parts.sweep.saturating_add(loads_since(rig, before));
-    // A pin of a table that is shorted to a line has to be known well enough to take its place.
-    bad.unfit.clear();
-    let Ok(rest) = without_bad(alloc, bad, &field) else {
+    growth_without_bad_is_paid();
+    let Ok(rest) = without_bad(known.alloc(), bad, field) else {
         return Err(RigFail::Memory);
     };
     grow(rig, proof, known, &rest)
 }
 
-// The known wires of the machine. Where wires are shorted, pins of tables are known first, as far as that can be.
+// Where growth has lost pins of tables, and some wires give way for them, the machine is swept and what is known grows once more.
+fn know_lost(
+    rig: &mut Box<dyn Rig>,
+    proof: &mut Proof,
+    known: &mut Known,
+    bad: &mut Bad,
+    course: &mut Course,
+) -> Result<(), RigFail>
+    requires attached { shape_of (rig_state rig.old) ≡ Some proof.old.shape }
+    requires known { IsKnown proof.old known.old }
+    requires field { IsFieldOf proof.old.shape course.old.field }
+    requires marks { AreMarksFor proof.old.shape bad.old }
+    requires right { TrueIf (rig_state rig.old).machine.faults proof.old known.old.steps bad.old }
+    requires whole { IsWhole proof.old.shape course.old.field }
+    requires paid { length course.old.choices.paid ≡ wires_of proof.old.shape }
+    requires reached { ReachedIf (rig_state rig.old).machine.faults proof.old known.old.steps }
+    ensures known { IsKnown proof.new known.new }
+    ensures marks { AreMarksFor proof.old.shape bad.new }
+    ensures right { TrueIf (rig_state rig.old).machine.faults proof.new known.new.steps bad.new }
+    ensures reached { OnOk result (ReachedIf (rig_state rig.old).machine.faults proof.new known.new.steps) }
+    ensures loads { (rig_state rig.new).loads + 14 * size_of course.old.choices.paid
+        ≤ (rig_state rig.old).loads + (course.old.choices.left + (loads_for proof.old 8 3 + 14 * wires_of proof.old.shape)) }
+    ensures few { IfFaultless (rig_state rig.old).machine.faults proof.old ((rig_state rig.new).loads ≤ (rig_state rig.old).loads) }
+    ensures advances { Advances (rig_state rig.old) (rig_state rig.new) proof.old proof.new }
+    ensures cause { IsErrOf result RigFail.Failed → Rose (rig_state rig.old).failures (rig_state rig.new).failures }
+{
+    growth_without_bad_is_paid();
+    let Ok(found) = lost_pins(known.alloc(), proof, known) else {
+        return Err(RigFail::Memory);
+    };
+    let Some(lost) = found else {
+        return Ok(());
+    };
+    course.choices.pay_for(&lost);
+    let before = loads_since(rig, 0);
+    if !choose_once(rig, proof, known, bad, course)? {
+        course.swept = course.swept.saturating_add(loads_since(rig, before));
+        return Ok(());
+    }
+    course.swept = course.swept.saturating_add(loads_since(rig, before));
+    grow_whole(rig, proof, known, bad, &course.field)
+}
+
+// The known wires of the machine. Where wires are shorted, those stay that pins of tables need, as far as that is found.
 fn known_wires(
     alloc: Global,
     rig: &mut Box<dyn Rig>,
@@ -114,7 +276,6 @@ fn known_wires(
     requires attached { shape_of (rig_state rig.old) ≡ Some proof.old.shape }
     requires marks { AreMarksFor proof.old.shape bad.old }
     requires right { (ss : List Step) → TrueIf (rig_state rig.old).machine.faults proof.old ss bad.old }
-    requires fit { (w : ℕ) → has_number bad.old.unfit w ≡ false }
     ensures known { IfOk result (IsKnown proof.new) }
     ensures marks { AreMarksFor proof.old.shape bad.new }
     ensures right { IfOk result (λ known. TrueIf (rig_state rig.old).machine.faults proof.new known.steps bad.new) }
@@ -126,16 +287,19 @@ fn known_wires(
     ensures cause { IsErrOf result RigFail.Failed → Rose (rig_state rig.old).failures (rig_state rig.new).failures }
 {
     tests_add_up();
+    growth_without_bad_is_paid();
     let Ok(mut known) = Known::new(alloc, &proof.shape()) else {
         return Err(RigFail::Memory);
     };
-    know_whole(alloc, rig, proof, &mut known, bad, parts)?;
-    let changed = prefer_pins(alloc, rig, proof, &mut known)?;
-    if changed {
-        // An unfit wire may have been shorted to one that gave way.
-        bad.unfit.clear();
-        know_whole(alloc, rig, proof, &mut known, bad, parts)?;
-    }
+    let Ok(mut course) = course_of(alloc, proof, &known, bad) else {
+        return Err(RigFail::Memory);
+    };
+    let before = loads_since(rig, 0);
+    sweep_whole(rig, proof, &mut known, bad, &mut course)?;
+    course.swept = loads_since(rig, before);
+    grow_whole(rig, proof, &mut known, bad, &course.field)?;
+    know_lost(rig, proof, &mut known, bad, &mut course)?;
+    parts.sweep = course.swept;
     Ok(known)
 }
 

@@ -10,3 +10,4 @@ mod Listing
 mod Circling
 mod Learning
 mod Halved
+mod SoFar

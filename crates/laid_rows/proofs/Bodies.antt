@@ -9,14 +9,13 @@ use Rattle.netlist.specs.declared.draft.Draft.{Draft}
 use Rattle.rig.specs.Rig.{RigState}
 use Rattle.steps.specs.Outside.{Around, Outside, outside, around}
 use Rattle.steps.specs.Courses.{Course, after}
+use Rattle.steps.specs.Beginnings.{Unloaded, machine_attached}
 use Rattle.steps.specs.Took.{Took, Follows}
 use Rattle.steps.specs.Texts.{reads_machine, reads_design, attaches, MayAsk}
 use Rattle.steps.specs.declared.design_file.DesignFile.{DesignFile}
 use Rattle.steps.specs.declared.refusal.Stop.{Stop}
 use Rattle.steps.proofs.Machines.{named, AsksNamed, machine-stops, attach-stops, attached-gives}
 use Rattle.steps.proofs.Reading.{HasRead, none-read, more-read, read-stops, read-gives}
-use Rattle.listing.specs.Lists.{Unloaded}
-use Rattle.laid_rows.specs.Runs.{machine_attached}
 
 -- these files were read, and no load was made. The rig's count of failures didn't fall
 pub record HasOnlyRead (files : List (List ℕ)) (old : Around) (now : Outside) : Type 0 where

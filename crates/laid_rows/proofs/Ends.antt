@@ -6,7 +6,7 @@ use Rattle.machine_file.specs.Machine.{IsMachine}
 use Rattle.defect_db.specs.Lists.{DefectList}
 use Rattle.defect_db.specs.Text.{text_of}
 use Rattle.config_image.specs.Images.{ImageValue}
-use Rattle.steps.specs.Files.{says_at, vectors_at}
+use Rattle.steps.specs.Files.{AreRightVectors, says_at, vectors_at}
 use Rattle.steps.specs.Outside.{Around}
 use Rattle.steps.specs.Courses.{Next, RowWork, refuses}
 use Rattle.steps.specs.Stops.{status_of}
@@ -28,9 +28,7 @@ use Rattle.laid_rows.proofs.Scripts.{AreLaidOn, Words, IsRight, begin-at, run-co
 module _ (w : Words) (old new : Around) where
   -- the vectors have no fault, and where such a list stands written nothing is refused but what is excused
   pub record Fits (front : List ℕ) (m : Shape) (x : Laid) : Type 0 where
-    pub file : List ℕ
-    pub is_told : old.store.contents w.vectors ≡ holds file
-    pub no_fault : (says_at x.width file).fault ≡ None
+    pub vectors : AreRightVectors (old.store.contents w.vectors) x.width
     pub room : (l : Listed) → IsListed m old.rig.loads new.rig l → front ≡ text_of l.list
         → (refusal : Refusal) → (x.lays l.list).stops refusal → IsExcused refusal old new
 
@@ -63,9 +61,9 @@ module _ (w : Words) (old new : Around) where
     listed-well text next is (inr (l, list, inr (more, eq, inl h))) =
         step-leads (x.lays l.list) (EndsWell old new) ((is (text_of l.list) more eq).room l list refl) next h.1
     listed-well text next is (inr (l, list, inr (more, eq, inr (i, gives, at)))) =
-        let f = is (text_of l.list) more eq in
-        let no_fault = subst (λ (k : ℕ). (says_at k f.file).fault ≡ None) (sym (on l.list i gives).inputs) f.no_fault in
-        image-well (rows-of i) (rows-begin l i) old new f.file f.is_told no_fault more next tt at
+        let f = (is (text_of l.list) more eq).vectors in
+        let no_fault = subst (λ (k : ℕ). (says_at k f.bytes).fault ≡ None) (sym (on l.list i gives).inputs) f.no_fault in
+        image-well (rows-of i) (rows-begin l i) old new f.bytes f.is_told no_fault more next tt at
 
     -- ---- there is no room
 
@@ -118,9 +116,9 @@ module _ (w : Words) (old new : Around) where
       → run-course w old new text (refuses refused.Memory) → ⊥
   run-few named right text begun =
       let h = right.machine in
-      let one = one-machine (old.store.contents w.machine) h.file h.shape in
+      let one = one-machine (old.store.contents w.machine) h.text.bytes h.shape in
       run-leads w old new text (refuses refused.Memory) ⊥
       (λ refusal empty eq none why. never-empty (text_of begun.list) begun.more text begun.text_is empty)
-      (λ m files x on c. let same = one m h.is_told h.is c.machine_is in
-      never-lacks m files x on named h.file (subst (λ (s : Shape). IsMachine h.file s.counts) same h.is) (c.right HasFew right) text begun
-      (sym (one begun.list.shape h.is_told h.is begun.shape) ∙ same))
+      (λ m files x on c. let same = one m h.text.is_told h.text.says c.machine_is in
+      never-lacks m files x on named h.text.bytes (subst (λ (s : Shape). IsMachine h.text.bytes s.counts) same h.text.says) (c.right HasFew right) text begun
+      (sym (one begun.list.shape h.text.is_told h.text.says begun.shape) ∙ same))

@@ -1,6 +1,6 @@
 -- What such a command reads behind its machine, and where its course stands.
-use Rattle.std.proofs.Common.{◌≡◌, ℕ, ◌≤◌, List, [], ◌∷◌, length, Some, subst, inl, inr}
-use Rattle.tm_outside.specs.Told.{Told, holds}
+use Rattle.std.proofs.Common.{◌≡◌, ℕ, List, [], ◌∷◌, Some, subst, inl, inr}
+use Rattle.tm_outside.specs.Told.{Told}
 use Rattle.hierarchy.specs.declared.Shape.{Shape}
 use Rattle.machine_file.specs.Machine.{IsMachine}
 use Rattle.defect_db.specs.Lists.{DefectList}
@@ -8,19 +8,18 @@ use Rattle.netlist.specs.declared.draft.Draft.{Draft}
 use Rattle.blif_read.specs.Designs.{IsDesign}
 use Rattle.config_image.specs.Images.{ImageValue}
 use Rattle.rig.specs.Rig.{Asked}
-use Rattle.tm_text.specs.Size.{most_bytes}
 use Rattle.steps.specs.Outside.{Around}
 use Rattle.steps.specs.Courses.{Course, Next, after, refuses}
-use Rattle.steps.specs.Texts.{reads_machine, reads_design, attaches, NoMachine, NoDesign}
+use Rattle.steps.specs.Beginnings.{Unloaded, machine_attached}
+use Rattle.steps.specs.Texts.{IsRightFile, reads_machine, reads_design, attaches, NoMachine, NoDesign}
 use Rattle.steps.specs.Jobs.{IsExcused}
 use Rattle.steps.specs.declared.design_file.DesignFile.{DesignFile}
 use Rattle.steps.specs.declared.refusal.Refusal.{Refusal}
 use Rattle.steps.proofs.Leading.{stopped}
 use Rattle.steps.proofs.Excused.{machine-excused, design-excused, attach-excused}
 use Rattle.steps.proofs.ShapeLemmas.{one-machine, one-design}
-use Rattle.listing.specs.Lists.{Unloaded}
 use Rattle.laid_rows.specs.Laid.{Laid, IsLaidOn}
-use Rattle.laid_rows.specs.Runs.{RunBegin, machine_attached, machine_listed}
+use Rattle.laid_rows.specs.Runs.{RunBegin, machine_listed}
 
 -- each image of it is right
 abbrev pub AreLaidOn : Laid → Type 0
@@ -58,18 +57,12 @@ module _ (w : Words) (old new : Around) where
 -- the file of a machine is told and right
 pub record HasMachine (told : Told) : Type 0 where
   pub shape : Shape
-  pub file : List ℕ
-  pub is_told : told ≡ holds file
-  pub is : IsMachine file shape.counts
-  pub within : length file ≤ most_bytes
+  pub text : IsRightFile told (λ bytes. IsMachine bytes shape.counts)
 
 -- and so is that of a design
 pub record HasDesign (told : Told) : Type 0 where
   pub draft : Draft
-  pub file : List ℕ
-  pub is_told : told ≡ holds file
-  pub is : IsDesign file draft
-  pub within : length file ≤ most_bytes
+  pub text : IsRightFile told (λ bytes. IsDesign bytes draft)
 
 -- so are those of all designs, and P is so of what is laid
 abbrev pub AreRight : (contents : List ℕ → Told) → Script → (Laid → Type 0) → Type 0
@@ -110,10 +103,10 @@ module _ (w : Words) (old new : Around) (text : List ℕ) (next : Next) (X : Typ
       let told = old.store.contents name in
       let s = stopped (reads_design file told) next h.1 in
       stops s.0 h.0 s.1 h.2.1 (λ P is. let d = (c.right P is).0 in
-      design-excused old new file d.file d.draft d.is d.within s.0 (subst (λ (t : Told). NoDesign file t s.0) d.is_told s.2))
+      design-excused old new file d.text.bytes d.draft d.text.says d.text.within s.0 (subst (λ (t : Told). NoDesign file t s.0) d.text.is_told s.2))
   script-leads m (reads file name rest) files c (inr (draft, gives, at)) =
       let same : (d : HasDesign (old.store.contents name)) → d.draft ≡ draft = λ d.
-      one-design file (old.store.contents name) d.file d.draft draft d.is_told d.is gives in
+      one-design file (old.store.contents name) d.text.bytes d.draft draft d.text.is_told d.text.says gives in
       script-leads m (rest draft) (name ∷ files) (record {
         machine_is = c.machine_is;
         attached = c.attached;
@@ -127,14 +120,14 @@ module _ (w : Words) (old new : Around) (text : List ℕ) (next : Next) (X : Typ
       let told = old.store.contents w.machine in
       let s = stopped (reads_machine told) next h.1 in
       stops s.0 h.0 s.1 h.2.1 (λ P is. let r = is.machine in
-      machine-excused old new r.file r.shape.counts r.is r.within s.0 (subst (λ (t : Told). NoMachine t s.0) r.is_told s.2))
+      machine-excused old new r.text.bytes r.shape.counts r.text.says r.text.within s.0 (subst (λ (t : Told). NoMachine t s.0) r.text.is_told s.2))
   run-leads (inr (m, read, inl h)) =
       let asked : Asked = record { shape = m; name = w.name } in
       let s = stopped (attaches asked old.rig new.rig) next h.1 in
       stops s.0 h.0 s.1 h.2.1 (λ _ _. attach-excused old new asked s.0 s.2)
   run-leads (inr (m, read, inr (u, attached, at))) =
       let same : (r : HasMachine (old.store.contents w.machine)) → r.shape ≡ m = λ r.
-      one-machine (old.store.contents w.machine) r.file r.shape m r.is_told r.is read in
+      one-machine (old.store.contents w.machine) r.text.bytes r.shape m r.text.is_told r.text.says read in
       script-leads m w.script (w.machine ∷ []) (record {
         machine_is = read;
         attached = attached;

@@ -1,5 +1,5 @@
 -- The defects of a machine are listed and the list is written; something is laid on what it leaves free, and its rows are written.
-use Rattle.std.specs.Prelude.{◌≡◌, ℕ, List, [], ◌∷◌, ◌++◌}
+use Rattle.std.specs.Prelude.{◌≡◌, ℕ, List, ◌++◌}
 use Rattle.tm_outside.specs.Store.{StoreState}
 use Rattle.hierarchy.specs.declared.Shape.{Shape}
 use Rattle.defect_db.specs.Lists.{DefectList, IsDefectList}
@@ -8,8 +8,7 @@ use Rattle.config_image.specs.Images.{ImageValue}
 use Rattle.steps.specs.Lines.{outputs_line}
 use Rattle.steps.specs.Outside.{Around, StandsIn}
 use Rattle.steps.specs.Courses.{Course, after, write}
-use Rattle.steps.specs.Texts.{reads_machine, attaches}
-use Rattle.listing.specs.Lists.{Listed, Unloaded, lists}
+use Rattle.listing.specs.Lists.{Listed, lists}
 use Rattle.image_rows.specs.Rows.{image_course}
 use Rattle.laid_rows.specs.Laid.{Laid, rows_work}
 
@@ -42,14 +41,6 @@ list_written w b new l = write (text_of l.list) (HasStayed b l new) (laid_run w 
 -- The defects of the machine are listed, whose rig counted so many loads before, and the list is written
 abbrev pub machine_listed : Laid → Shape → (before : ℕ) → RunBegin → (new : Around) → Course
 machine_listed w m before b new = after (lists m before new.rig) (StandsIn b.files b.begun new.store) (list_written w b new)
-
--- ---- before that
-
--- A machine is read and attached under a name, and no load is made. What follows is of its shape
-abbrev pub machine_attached : (machine name : List ℕ) → (old new : Around) → (rest : Shape → Course) → Course
-machine_attached machine name old new rest =
-    after (reads_machine (old.store.contents machine)) (Unloaded (machine ∷ []) old new) (λ m.
-    after (attaches (record { shape = m; name = name }) old.rig new.rig) (Unloaded (machine ∷ []) old new) (λ _. rest m))
 
 -- ---- what stands written
 

@@ -7,7 +7,7 @@ use Rattle.defect_db.specs.Text.{text_of}
 use Rattle.rig.specs.Rig.{RigState}
 use Rattle.diagnose.specs.Diagnosis.{IsDiagnosis, TakesFewLoads}
 use Rattle.steps.specs.Courses.{Step}
-use Rattle.steps.specs.Outside.{Around, Outside, StandsIn, outside}
+use Rattle.steps.specs.Outside.{Around, Outside, outside}
 use Rattle.steps.specs.Texts.{FailsOnRig, IsMachineText, NoMachine, NotAttached}
 use Rattle.steps.specs.Took.{Took, Puts}
 use Rattle.steps.specs.declared.refusal.Refusal.{Refusal}
@@ -70,10 +70,6 @@ WritesList m (Err stop) old new = Took [] (lists_now m old.rig new.rig) (Err sto
     ⊎ ((d : DefectList) × Makes m d old new × Puts {T = Unit {0}} (text_of d) (Err stop) old.sink new.sink)
 
 -- ---- the loads of a command, whatever its end
-
--- before the list is made: where the store stands, and no load was made
-abbrev pub Unloaded : List (List ℕ) → Around → Around → Type 0
-Unloaded files old new = StandsIn files old.store new.store × (new.rig.loads ≡ old.rig.loads)
 
 -- No load was made; or the machine of the text is attached under the name, few loads were made to list its defects, and behind
 -- these no more than `more` says

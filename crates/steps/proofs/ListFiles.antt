@@ -9,9 +9,10 @@ use Rattle.hierarchy.specs.declared.Shape.{Shape}
 use Rattle.defect_db.specs.Lists.{DefectList}
 use Rattle.rig.specs.Rig.{RigState}
 use Rattle.steps.specs.Outside.{StandsIn, outside}
-use Rattle.steps.specs.Courses.{Course, Step, after}
+use Rattle.steps.specs.Courses.{Course, Step}
 use Rattle.steps.specs.Took.{Took, Follows}
 use Rattle.steps.specs.Texts.{reads_machine, reads_defects}
+use Rattle.steps.specs.Beginnings.{behind_list, behind_machine, listed_course}
 use Rattle.steps.specs.declared.refusal.Stop.{Stop}
 use Rattle.steps.proofs.Reading.{HasRead, none-read, more-read, file-stops, file-gives}
 
@@ -21,42 +22,34 @@ Reads rig a step name old new result = Took (name ∷ []) (step (old.contents na
 
 module _ {T : Type 0} (third : Told → Shape → Step T)
     (rest : (files : List (List ℕ)) → (begun ended : StoreState) → DefectList → T → Course) (machine defects file : List ℕ) where
-  -- the course
-  abbrev behind_list : (begun ended : StoreState) → Shape → DefectList → Course
-  behind_list begun ended m d =
-      after (third (begun.contents file) m) (StandsIn (file ∷ defects ∷ machine ∷ []) begun ended)
-      (rest (file ∷ defects ∷ machine ∷ []) begun ended d)
+  abbrev after_list : (begun ended : StoreState) → Shape → DefectList → Course
+  after_list = behind_list third rest machine defects file
 
-  abbrev behind_machine : (begun ended : StoreState) → Shape → Course
-  behind_machine begun ended m =
-      after (reads_defects (begun.contents defects) m) (StandsIn (defects ∷ machine ∷ []) begun ended) (behind_list begun ended m)
-
-  abbrev listed_course : (begun ended : StoreState) → Course
-  listed_course begun ended =
-      after (reads_machine (begun.contents machine)) (StandsIn (machine ∷ []) begun ended) (behind_machine begun ended)
+  abbrev after_machine : (begun ended : StoreState) → Shape → Course
+  after_machine = behind_machine third rest machine defects file
 
   abbrev EndsAt : {U : Type 0} → StoreState → RigState → SinkState → Result U Stop → StoreState → SinkState → Type 0
   EndsAt s0 rig a result s b =
-      Follows ⊥ (machine ∷ defects ∷ file ∷ []) (rig ≡ rig) (listed_course s0 s) result (outside s0 rig a) (outside s rig b)
+      Follows ⊥ (machine ∷ defects ∷ file ∷ []) (rig ≡ rig) (listed_course third rest machine defects file s0 s) result (outside s0 rig a) (outside s rig b)
 
   module _ {s0 : StoreState} {rig : RigState} {a : SinkState} where
     pub no-machine : {U : Type 0} {s1 : StoreState} {stop : Stop} → Reads rig a reads_machine machine s0 s1 (Err stop) →
         EndsAt {U = U} s0 rig a (Err stop) s1 a
-    no-machine {s1 = s1} took = file-stops reads_machine machine [] s0 (behind_machine s0 s1) _ _ _ _ _ _ refl (none-read s0) took refl
+    no-machine {s1 = s1} took = file-stops reads_machine machine [] s0 (after_machine s0 s1) _ _ _ _ _ _ refl (none-read s0) took refl
 
     module _ {s1 : StoreState} {m : Shape} (took1 : Reads rig a reads_machine machine s0 s1 (Ok m)) where
       read1 : HasRead (machine ∷ []) s0 s1
       read1 = more-read reads_machine machine [] s0 m _ _ (none-read s0) took1
 
       machine-read : {U : Type 0} {result : Result U Stop} {s : StoreState} {b : SinkState} →
-          Follows ⊥ (defects ∷ file ∷ []) (Unit {0}) (behind_machine s0 s m) result (outside s1 rig a) (outside s rig b) →
+          Follows ⊥ (defects ∷ file ∷ []) (Unit {0}) (after_machine s0 s m) result (outside s1 rig a) (outside s rig b) →
           EndsAt s0 rig a result s b
-      machine-read {s = s} is = file-gives reads_machine machine [] s0 (behind_machine s0 s) s _ _ _ m _ _ _ _ (none-read s0) took1 is refl
+      machine-read {s = s} is = file-gives reads_machine machine [] s0 (after_machine s0 s) s _ _ _ m _ _ _ _ (none-read s0) took1 is refl
 
       pub no-list : {U : Type 0} {s2 : StoreState} {stop : Stop} →
           Reads rig a (λ told. reads_defects told m) defects s1 s2 (Err stop) → EndsAt {U = U} s0 rig a (Err stop) s2 a
       no-list {s2 = s2} took =
-          machine-read (file-stops (λ told. reads_defects told m) defects (machine ∷ []) s0 (behind_list s0 s2 m) _ _ _ _ _ _
+          machine-read (file-stops (λ told. reads_defects told m) defects (machine ∷ []) s0 (after_list s0 s2 m) _ _ _ _ _ _
           refl read1 took tt)
 
       module _ {s2 : StoreState} {d : DefectList} (took2 : Reads rig a (λ told. reads_defects told m) defects s1 s2 (Ok d)) where
@@ -64,9 +57,9 @@ module _ {T : Type 0} (third : Told → Shape → Step T)
         read2 = more-read (λ told. reads_defects told m) defects (machine ∷ []) s0 d _ _ read1 took2
 
         list-read : {U : Type 0} {result : Result U Stop} {s : StoreState} {b : SinkState} →
-            Follows ⊥ (file ∷ []) (Unit {0}) (behind_list s0 s m d) result (outside s2 rig a) (outside s rig b) → EndsAt s0 rig a result s b
+            Follows ⊥ (file ∷ []) (Unit {0}) (after_list s0 s m d) result (outside s2 rig a) (outside s rig b) → EndsAt s0 rig a result s b
         list-read {s = s} is =
-            machine-read (file-gives (λ told. reads_defects told m) defects (machine ∷ []) s0 (behind_list s0 s m) s _ _ _ d _ _ _ _
+            machine-read (file-gives (λ told. reads_defects told m) defects (machine ∷ []) s0 (after_list s0 s m) s _ _ _ d _ _ _ _
             read1 took2 is tt)
 
         pub no-third : {U : Type 0} {s3 : StoreState} {stop : Stop} → Reads rig a (λ told. third told m) file s2 s3 (Err stop) →

@@ -1,7 +1,7 @@
 -- What the files of vectors say, and how far they are read.
 use Rattle.std.specs.Prelude.{◌≡◌, ℕ, ◌+◌, ◌<◌, ◌≤◌, Bool, List, map, length, take, slice_get}
 use Rattle.std.specs.Prelude.{Option, None, Some, IfSome, option_map, unwrap_or}
-use Rattle.tm_outside.specs.Told.{Told, untold, IfTold, IsPresent}
+use Rattle.tm_outside.specs.Told.{Told, untold, holds, IfTold, IsPresent}
 use Rattle.tm_outside.specs.Store.{StorePlace, StoreState}
 use Rattle.vector_text.specs.Vectors.{SaidVectors, VectorLine, file_says}
 use Rattle.vector_text.specs.declared.vectors.VectorKind.{VectorKind}
@@ -21,6 +21,12 @@ says_at width bytes = file_says width most_vector_bytes bytes
 -- its vectors, up to the first fault
 abbrev pub vectors_at : ℕ → List ℕ → List (List Bool)
 vectors_at width bytes = map (λ (v : VectorLine). v.bits) (says_at width bytes).vectors
+
+-- The file of vectors is told, and has no fault at this width
+pub record AreRightVectors (told : Told) (width : ℕ) : Type 0 where
+  pub bytes : List ℕ
+  pub is_told : told ≡ holds bytes
+  pub no_fault : (says_at width bytes).fault ≡ None
 
 -- where the line of the vector at a place ends: the end of the file where there is none
 abbrev pub end_at : ℕ → List ℕ → ℕ → ℕ

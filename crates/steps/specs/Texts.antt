@@ -1,7 +1,7 @@
 -- The steps that read a file into a value, and those that attach a machine and open the vectors.
 use Rattle.std.specs.Prelude.{◌≡◌, ◌⊎◌, ℕ, ◌≤◌, List, ◌∷◌, [], ◌++◌, length, Some}
 use Rattle.tm_outside.specs.Counts.{next_count}
-use Rattle.tm_outside.specs.Told.{Told, IfTold, IsPresent}
+use Rattle.tm_outside.specs.Told.{Told, IfTold, IsPresent, holds}
 use Rattle.hierarchy.specs.declared.Counts.{Counts}
 use Rattle.hierarchy.specs.declared.Shape.{Shape}
 use Rattle.machine_file.specs.Machine.{IsMachine}
@@ -22,6 +22,13 @@ use Rattle.steps.specs.declared.refusal.Refusal.{Refusal}
 use Rattle.steps.specs.declared.refusal.Refusal.TheVariants as refused
 use Rattle.steps.specs.declared.refusal.Stop.{Stop}
 use Rattle.steps.specs.declared.refusal.Stop.TheVariants.{Refused}
+
+-- The file is told, is no longer than a text may be, and says this
+pub record IsRightFile (told : Told) (Says : List ℕ → Type 0) : Type 0 where
+  pub bytes : List ℕ
+  pub is_told : told ≡ holds bytes
+  pub says : Says bytes
+  pub within : length bytes ≤ most_bytes
 
 -- ---- machines
 
@@ -97,6 +104,12 @@ abbrev pub reads_text : DesignFile → Told → Step DesignText
 reads_text file told = record { stops = NoDesign file told; gives = IsTextRead told }
 
 -- ---- images of a machine
+
+-- the bytes are the one spelling of this image, which is one of the machine
+pub record IsImageText (m : Shape) (bytes : List ℕ) (i : ImageValue) : Type 0 where
+  pub image : IsImage i
+  pub shape : i.config.shape ≡ m
+  pub text : image_bytes i ≡ bytes
 
 -- the bytes are those of no image of the machine
 abbrev pub IsNoImage : Shape → List ℕ → Type 0

@@ -30,7 +30,7 @@ use Rattle.sweep.proofs.Paying.{funded_test}
 abbrev pub is_step : List Step → ℕ → Bool
 is_step ss w = list_any (λ (s : Step). s.wire.0 == w) ss
 
-equal : {a b : ℕ} → (a == b) ≡ true → a ≡ b
+pub equal : {a b : ℕ} → (a == b) ≡ true → a ≡ b
 equal e = grind (arith, nat_tests, e)
 
 pub has_step : (ss : List Step) (w : ℕ) → is_step ss w ≡ true → HasWire ss w
@@ -90,7 +90,7 @@ wire_of_field a q w (h ∷ hs) all on =
     by more (inr is) = more is
 
 -- each new mark is of the field
-abbrev IsNewOf : Field → List Bool → List Bool → Type 0
+abbrev pub IsNewOf : Field → List Bool → List Bool → Type 0
 IsNewOf a was is = (w : ℕ) → has_number is w ≡ true → (has_number was w ≡ true) ⊎ (has_number a.wires w ≡ true)
 
 new_then : (a : Field) (x y z : List Bool) → IsNewOf a x y → IsNewOf a y z → IsNewOf a x z
@@ -100,7 +100,7 @@ new_then a x y z p q w on = by (q w on)
     by (inl old) = p w old
     by (inr is) = inr is
 
-new_same : (a : Field) (was is : List Bool) → is ≡ was → IsNewOf a was is
+pub new_same : (a : Field) (was is : List Bool) → is ≡ was → IsNewOf a was is
 new_same a was is same w on = inl (subst (λ bits. has_number bits w ≡ true) same on)
 
 -- one look's marks
@@ -137,11 +137,11 @@ unclear_marks a told trees hs k l was is were are (Ok v) of len stay tried same 
 unclear_marks a told trees hs k l was is were are (Err e) of len stay tried same = record { len = len; stays = stay; within = new_same a were are same }
 
 -- a test that marks wires, and was paid for
-pub hang_goes : {told : Option Faults} {a : Field} {tables : List Table} {k l : Kept} {known : KnownWires} {bad : Bad} {unfit unclear : List Bool} {purse : Purse} {before after : ℕ} → IsHand a (in_hand k known bad purse before) → before + 3 ≤ purse.most → after ≤ before + 3 → IsMore k l →
+pub hang_goes : {told : Option Faults} {a : Field} {tables : List Table} {k l : Kept} {known : KnownWires} {bad : Bad} {unfit unclear : List Bool} {purse : Purse} {before after : ℕ} (n : ℕ) → IsHand a (in_hand k known bad purse before) → before + n ≤ purse.most → after ≤ before + n → IsMore k l →
     MarksSome (λ w. has_number a.wires w ≡ true) bad.unfit unfit → MarksSome (λ w. has_number a.wires w ≡ true) bad.unclear unclear →
     (UnfitIf told k (is_step known.steps) bad.unfit → UnfitIf told l (is_step known.steps) unfit) → (UnclearIf told k bad.unclear → UnclearIf told l unclear) →
     Goes told a tables (in_hand k known bad purse before) (in_hand l known (record bad { unfit = unfit; unclear = unclear }) purse after)
-hang_goes {told} {a} {tables} {k} {l} {known} {bad} {unfit} {unclear} {purse} {before} {after} hand can took more marks also fit clear = record {
+hang_goes {told} {a} {tables} {k} {l} {known} {bad} {unfit} {unclear} {purse} {before} {after} n hand can took more marks also fit clear = record {
   hand = record {
     known = known_later more hand.known;
     field = subst (λ m. IsFieldOf m a) (sym more.shape) hand.field;
@@ -151,7 +151,7 @@ hang_goes {told} {a} {tables} {k} {l} {known} {bad} {unfit} {unclear} {purse} {b
   grows = grows_itself a known.steps;
   marks = marked;
   holds = holds;
-  funded = funded_test 3 can took more (λ x on. on);
+  funded = funded_test n can took more (λ x on. on);
 }
   where
     marked : MarksIn a tables bad (record bad { unfit = unfit; unclear = unclear })

@@ -7,7 +7,7 @@ use native.Mathlib.Decide.{dec_lt, ℕ_discrete}
 use Rattle.tm_bits.specs.Numbers.{has_number, size_of}
 use Rattle.hierarchy.specs.declared.Shape.{Shape}
 use Rattle.hierarchy.specs.Laws.{IsNumbered}
-use Rattle.hierarchy.specs.Shape.{Ends, ends_of, pin_wire, pins_of, wires_of}
+use Rattle.hierarchy.specs.Shape.{Ends, crosses_of, ends_of, pin_wire, pins_of, wires_of}
 use Rattle.hierarchy.specs.Faults.{Faults, stuck_cross}
 use Rattle.hierarchy.specs.Defects.{IsClear}
 use Rattle.hierarchy.specs.Tight.{IsAlone, HasFeet, two}
@@ -206,6 +206,22 @@ module _ (a rest : Field) (k l : Kept) (b c : Bad) (same : l.shape ≡ k.shape) 
       size_rest : how_many (has_number rest.wires) (length a.wires) ≡ size_of rest.wires
       size_rest = subst (λ (n : ℕ). how_many (has_number rest.wires) n ≡ size_of rest.wires) without.len (many_size rest.wires)
 
+  pub grown_most : IsNumbered k.shape → (before after : ℕ) → after + pins_in l.shape rest ≤ before + (8 * fresh l rest + 3 * size_of rest.wires) →
+      after + pins_in k.shape a ≤ before + (8 * undecided l c a + 3 * size_of a.wires)
+  grown_most numbered before after took =
+      sums (fresh l rest) (undecided l c a) (pins_in k.shape a) (pins_in l.shape rest) (size_of rest.wires) (size_of a.wires) fresh_undecided (pins_lack numbered) size_less took
+    where
+      sums : (f v p q w x : ℕ) → f ≤ v → p + w ≤ q + x → w ≤ x → after + q ≤ before + (8 * f + 3 * w) → after + p ≤ before + (8 * v + 3 * x)
+      sums f v p q w x less lack few grow = omega (arith, less, lack, few, grow)
+
+  pub grown_few : IsNumbered k.shape → (before after : ℕ) → after + pins_in l.shape rest ≤ before + (2 * fresh l rest + 3 * size_of rest.wires) →
+      after + pins_in k.shape a ≤ before + (2 * undecided l c a + 3 * size_of a.wires)
+  grown_few numbered before after took =
+      sums (fresh l rest) (undecided l c a) (pins_in k.shape a) (pins_in l.shape rest) (size_of rest.wires) (size_of a.wires) fresh_undecided (pins_lack numbered) size_less took
+    where
+      sums : (f v p q w x : ℕ) → f ≤ v → p + w ≤ q + x → w ≤ x → after + q ≤ before + (2 * f + 3 * w) → after + p ≤ before + (2 * v + 3 * x)
+      sums f v p q w x less lack few grow = omega (arith, less, lack, few, grow)
+
   module _ {tables : List Table} (more : IsMore k l) (marks : MarksIn a tables b c) where
     undecided_less : undecided l c a ≤ undecided k b a
     undecided_less = many_more _ _ (length a.crosses) (λ x less on. by x (has_number a.crosses x) on)
@@ -238,12 +254,16 @@ more_below p m (suc n) less = by (ℕ_discrete m (suc n)) (λ low. more_below p 
     by (yes e) below = rw e (omega arith)
     by (no other) below = let rest = below (omega (arith, less, other)) in omega (arith, rest)
 
+pub pins_size : (a : Field) (k : Kept) → IsNumbered k.shape → IsFieldOf k.shape a → pins_in k.shape a ≤ size_of a.wires
+unfolding pin_wire
+pins_size a k numbered field = subst (λ (n : ℕ). pins_in k.shape a ≤ n) (many_size a.wires) (more_below (has_number a.wires) (pins_of k.shape) (length a.wires) (rw field.wires (pins_few k.shape numbered)))
+
+pub undecided_all : (a : Field) (k : Kept) (b : Bad) → IsFieldOf k.shape a → undecided k b a ≤ crosses_of k.shape
+undecided_all a k b field = subst (λ (n : ℕ). undecided k b a ≤ n) field.crosses (many_all _ (length a.crosses))
+
 pub paid_alone : (a : Field) (k l : Kept) (b c : Bad) (before after : ℕ) → IsNumbered k.shape → IsFieldOf k.shape a → Pays a k b before l c after → after ≤ before + (2 * undecided k b a + size_of a.wires)
 unfolding pin_wire
-paid_alone a k l b c before after numbered field pays = sums (undecided l c a) (undecided k b a) (pins_in k.shape a) (size_of a.wires) pins pays
+paid_alone a k l b c before after numbered field pays = sums (undecided l c a) (undecided k b a) (pins_in k.shape a) (size_of a.wires) (pins_size a k numbered field) pays
   where
-    pins : pins_in k.shape a ≤ size_of a.wires
-    pins = subst (λ (n : ℕ). pins_in k.shape a ≤ n) (many_size a.wires) (more_below (has_number a.wires) (pins_of k.shape) (length a.wires) (rw field.wires (pins_few k.shape numbered)))
-
     sums : (v u p x : ℕ) → p ≤ x → after + 2 * v ≤ before + (p + 2 * u) → after ≤ before + (2 * u + x)
     sums v u p x few pay = omega (arith, few, pay)

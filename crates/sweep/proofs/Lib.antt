@@ -13,3 +13,5 @@ mod Coursing
 mod Led
 mod Sheeted
 mod Tabled
+mod Viewing
+mod Chosen

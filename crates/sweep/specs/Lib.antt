@@ -5,3 +5,4 @@ pub mod Stages
 pub mod Sights
 pub mod Courses
 pub mod Sheets
+pub mod Views

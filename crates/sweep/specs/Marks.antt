@@ -61,6 +61,10 @@ is_undecided k b x = not (keeps_cross k x) && not (has_number b.stuck x)
 abbrev pub undecided : Kept → Bad → Field → ℕ
 undecided k b a = how_many (λ x. has_number a.crosses x && is_undecided k b x) (length a.crosses)
 
+-- the loads so far, those that are left, and two for each crosspoint of the field that is undecided
+abbrev pub worth : Field → Kept → Bad → (loads left : ℕ) → ℕ
+worth a k b loads left = loads + (left + 2 * undecided k b a)
+
 -- at most a load for each pin of the machine in the field, and two for each crosspoint of the field that was undecided and isn't any more
 abbrev pub Pays : Field → Kept → Bad → ℕ → Kept → Bad → ℕ → Type 0
 Pays a k b before l c after = after + 2 * undecided l c a ≤ before + (pins_in k.shape a + 2 * undecided k b a)

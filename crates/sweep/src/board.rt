@@ -1,6 +1,7 @@
 //! What the search remembers of crosspoints and wires while it lays a load.
 
 use crate::heights::Heights;
+use crate::wire_bits::WireBits;
 use evidence::Proof;
 use hierarchy::{Cross, Wire};
 use known::{Field, Known};
@@ -24,12 +25,11 @@ pub(crate) enum Mark {
 #[derive(Drop)]
 pub(crate) struct Board {
     marks: Vec<Mark>,
-    known: Vec<bool>,
+    known: WireBits,
     // The wires of the field.
     field: Vec<bool>,
-    // The load for which a wire was last used.
-    used: Vec<u32>,
-    load: u32,
+    // The known wires that this load doesn't use.
+    idle: WireBits,
     // How many pins of the machine there are, how many are known, and how many of these aren't used.
     pins: u32,
     known_pins: u32,
@@ -112,24 +112,21 @@ impl Board {
         field: &Field,
     ) -> Result<Board, AllocError> {
         let shape = proof.shape();
-        let wires = shape.wires() as usize;
+        let wires = shape.wires();
         let mut board = Board {
             marks: Vec::with_capacity(alloc, shape.crosses() as usize)?,
-            known: Vec::new(alloc),
+            known: WireBits::new(alloc, wires)?,
             field: Vec::new(alloc),
-            used: Vec::new(alloc),
-            load: 0,
+            idle: WireBits::new(alloc, wires)?,
             pins: shape.pins(),
             known_pins: 0,
             free_pins: 0,
             left: Vec::new(alloc),
             todo: Vec::new(alloc),
         };
-        board.known.resize(wires, false)?;
-        board.used.resize(wires, 0)?;
-        board.left.resize(wires, 0)?;
+        board.left.resize(wires as usize, 0)?;
         board.todo.resize(shape.nodes() as usize, 0)?;
-        'wires: for w in 0..shape.wires() {
+        'wires: for w in 0..wires {
             board.field.push(in_set(&field.wires, w))?;
         }
         'crosses: for c in 0..shape.crosses() {
@@ -154,9 +151,14 @@ impl Board {
         }
     }
 
+    /// Whether a pin of the machine isn't known.
+    pub(crate) fn wants_pins(&self) -> bool {
+        self.known_pins < self.pins
+    }
+
     /// Whether a wire is known.
     pub(crate) fn has(&self, w: Wire) -> bool {
-        self.known.get(w.0 as usize).copied().unwrap_or(false)
+        self.known.has(w)
     }
 
     /// Whether a wire is of the field.
@@ -164,14 +166,23 @@ impl Board {
         self.field.get(w.0 as usize).copied().unwrap_or(false)
     }
 
+    /// A wire can't come to be known.
+    pub(crate) fn forbid(&mut self, w: Wire) {
+        let at = w.0 as usize;
+        if at < self.field.len() {
+            self.field[at] = false;
+        }
+    }
+
     /// A wire is known.
     pub(crate) fn learn(&mut self, w: Wire) {
-        let at = w.0 as usize;
-        if at < self.known.len() && !self.known[at] {
-            self.known[at] = true;
-            if w.0 < self.pins {
-                self.known_pins = self.known_pins.saturating_add(1);
-            }
+        if self.has(w) {
+            return;
+        }
+        self.known.insert(w);
+        self.idle.insert(w);
+        if w.0 < self.pins {
+            self.known_pins = self.known_pins.saturating_add(1);
         }
     }
 
@@ -184,34 +195,39 @@ impl Board {
 
     /// Whether a wire is known and not used by this load.
     pub(crate) fn is_idle(&self, w: Wire) -> bool {
-        self.has(w) && count_at(&self.used, w.0 as usize) != self.load
+        self.idle.has(w)
+    }
+
+    /// The first known wire, from a number on and before another, that this load doesn't use.
+    pub(crate) fn first_idle(&self, from: u32, end: u32) -> Option<u32> {
+        self.idle.first(from, end)
     }
 
     /// A new load, for which no wire is used.
     pub(crate) fn begin(&mut self) {
-        self.load = self.load.wrapping_add(1);
+        self.idle.copy(&self.known);
         self.free_pins = self.known_pins;
     }
 
     /// A wire is used.
     pub(crate) fn take(&mut self, w: Wire) {
-        let at = w.0 as usize;
-        if at < self.used.len() && self.used[at] != self.load {
-            self.used[at] = self.load;
-            if w.0 < self.pins {
-                self.free_pins = self.free_pins.saturating_sub(1);
-            }
+        if !self.is_idle(w) {
+            return;
+        }
+        self.idle.remove(w);
+        if w.0 < self.pins {
+            self.free_pins = self.free_pins.saturating_sub(1);
         }
     }
 
     /// A wire isn't used any more.
     pub(crate) fn release(&mut self, w: Wire) {
-        let at = w.0 as usize;
-        if at < self.used.len() && self.used[at] == self.load {
-            self.used[at] = self.load.wrapping_sub(1);
-            if w.0 < self.pins {
-                self.free_pins = self.free_pins.saturating_add(1);
-            }
+        if !self.has(w) || self.is_idle(w) {
+            return;
+        }
+        self.idle.insert(w);
+        if w.0 < self.pins {
+            self.free_pins = self.free_pins.saturating_add(1);
         }
     }
 

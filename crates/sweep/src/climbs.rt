@@ -166,19 +166,36 @@ impl Ladder {
     }
 }
 
+// The next link of a rung whose wire isn't used: how many links of the rung come before it. The wires of these links follow each other.
+fn next_idle(heights: &Heights, board: &Board, rung: Rung, tried: u32) -> Option<u32> {
+    let first = heights.first_up(rung.wire);
+    let begin = first.saturating_add(rung.begin);
+    let end = first.saturating_add(heights.ups(rung.wire));
+    let ahead = end.saturating_sub(begin);
+    if let Some(next) = board.first_idle(begin.saturating_add(tried), end) {
+        return Some(next.saturating_sub(begin));
+    }
+    let from = first.saturating_add(tried.saturating_sub(ahead));
+    let next = board.first_idle(from, begin)?;
+    Some(next.saturating_sub(first).saturating_add(ahead))
+}
+
 // The next link of a rung that can be climbed, and how many were tried then.
 fn next_link(heights: &Heights, board: &Board, rung: Rung) -> Option<(u32, Foot)> {
     let count = heights.ups(rung.wire);
-    'links: for tried in rung.tried..count {
-        let place = rung.begin.wrapping_add(tried);
+    let mut tried = rung.tried;
+    'links: for _link in 0..count {
+        let before = next_idle(heights, board, rung, tried)?;
+        let place = rung.begin.wrapping_add(before);
         let j = if place >= count {
             place.wrapping_sub(count)
         } else {
             place
         };
         let link = heights.link(rung.wire, j)?;
-        if board.mark(link.cross) == Mark::Kept && board.is_idle(link.wire) {
-            return Some((tried.saturating_add(1), link));
+        tried = before.saturating_add(1);
+        if board.mark(link.cross) == Mark::Kept {
+            return Some((tried, link));
         }
     }
     None

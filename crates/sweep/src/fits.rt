@@ -24,7 +24,7 @@ pub(crate) fn table_forest(
     ensures { IfOk result (KeepsForest proof.now) }
 {
     let mut forest = Forest::new(alloc, &proof.shape())?;
-    lay_climbs(&mut forest, proof, search)?;
+    lay_climbs(&mut forest, proof, &search.climbs)?;
     'taps: for tap in &search.taps {
         lay(&mut forest, proof, tap.foot.cross, tap.foot.wire, tap.pin)?;
     }

@@ -107,16 +107,16 @@ fn pin_over(forest: &Forest, foot: (Wire, Cross)) -> Option<u32>
     forest.pin_of(end)
 }
 
-// A foot at a place.
-fn foot_at(feet: &Vec<(Wire, Cross)>, place: usize) -> (Wire, Cross)
+/// A foot at a place.
+pub(crate) fn foot_at(feet: &Vec<(Wire, Cross)>, place: usize) -> (Wire, Cross)
     requires { place < length feet.now.items }
     ensures { slice_get feet.now.items place ≡ Some result }
 {
     feet[place]
 }
 
-// The pins on which wires would hang over some crosspoints. None where one may not be hung.
-fn pins_over(
+/// The pins on which wires would hang over some crosspoints. None where one may not be hung.
+pub(crate) fn pins_over(
     alloc: Global,
     forest: &Forest,
     feet: &Vec<(Wire, Cross)>,

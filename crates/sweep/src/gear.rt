@@ -1,5 +1,6 @@
-//! What a sweep has at hand: the purse, and the search, with where it stands; and for tables those that may be tested.
+//! What a sweep has at hand: the purse, the search and the choice, with where they stand; and for tables those that may be tested.
 
+use crate::choosing::{Aim, Chooser};
 use crate::purse::Purse;
 use crate::search::Search;
 use hierarchy::Table;
@@ -9,6 +10,9 @@ use hierarchy::Table;
 pub(crate) struct Gear {
     pub purse: Purse,
     pub search: Search,
+    pub chooser: Chooser,
+    // What looks are taken for.
+    pub aim: Aim,
     // The height of the wires that are tested, and how many wires were known as the pass began.
     pub height: u32,
     pub start: usize,

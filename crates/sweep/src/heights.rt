@@ -246,6 +246,22 @@ impl Heights {
         }
     }
 
+    /// How many links a wire has.
+    pub(crate) fn links(&self, w: Wire) -> u32 {
+        match self.links.get(w.0 as usize) {
+            Some(links) => links.low.count.saturating_add(links.high.count),
+            None => 0,
+        }
+    }
+
+    /// The first of the lower wires that a wire has links to. The others follow it.
+    pub(crate) fn first_up(&self, w: Wire) -> u32 {
+        match self.link(w, 0) {
+            Some(link) => link.wire.0,
+            None => 0,
+        }
+    }
+
     /// A link of a wire.
     pub(crate) fn link(&self, w: Wire, j: u32) -> Option<Foot> {
         let links = self.links.get(w.0 as usize)?;

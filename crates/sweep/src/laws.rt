@@ -2,6 +2,7 @@
 ghost use Rattle.std.specs.Prelude.{◌≡◌, ◌≤◌, ◌+◌, ◌*◌, ℕ, List, Option, length};
 ghost use Rattle.tm_bits.specs.Numbers.{size_of};
 ghost use Rattle.hierarchy.specs.Faults.{Faults};
+ghost use Rattle.hierarchy.specs.Shape.{crosses_of};
 ghost use Rattle.hierarchy.specs.declared.Table.{Table};
 ghost use Rattle.evidence.specs.Kept.{Kept, IsMore};
 ghost use Rattle.known.specs.Field.{ClosedIf, IsFieldOf, fresh, pins_in};
@@ -33,6 +34,23 @@ pub fn growth_after_a_sweep_is_paid()
     ensures alone { (a : Field) (k l : Kept) (b c : Bad) (before after : ℕ) →
         IsFieldOf k.shape a → Pays a k b before l c after →
         after ≤ before + (2 * undecided k b a + size_of a.wires) }
+{
+    the_numbering_is_sound();
+}
+
+/// A growth in a field without what is marked takes no more loads than one in the whole field with each undecided crosspoint may, less one
+/// for each pin of the machine in that.
+pub fn growth_without_bad_is_paid()
+    ensures most { (a rest : Field) (k : Kept) (b : Bad) (before after : ℕ) →
+        IsFieldOf k.shape a → IsWithout b a rest →
+        after + pins_in k.shape rest ≤ before + (8 * fresh k rest + 3 * size_of rest.wires) →
+        after + pins_in k.shape a ≤ before + (8 * undecided k b a + 3 * size_of a.wires) }
+    ensures few { (a rest : Field) (k : Kept) (b : Bad) (before after : ℕ) →
+        IsFieldOf k.shape a → IsWithout b a rest →
+        after + pins_in k.shape rest ≤ before + (2 * fresh k rest + 3 * size_of rest.wires) →
+        after + pins_in k.shape a ≤ before + (2 * undecided k b a + 3 * size_of a.wires) }
+    ensures pins { (a : Field) (k : Kept) → IsFieldOf k.shape a → pins_in k.shape a ≤ size_of a.wires }
+    ensures all { (a : Field) (k : Kept) (b : Bad) → IsFieldOf k.shape a → undecided k b a ≤ crosses_of k.shape }
 {
     the_numbering_is_sound();
 }

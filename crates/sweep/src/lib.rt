@@ -10,6 +10,11 @@
 
 mod bad;
 mod board;
+mod choice;
+mod choosing;
+mod choosing_looks;
+mod choosing_reads;
+mod choosing_tables;
 mod climbs;
 mod draws;
 mod fits;
@@ -28,13 +33,16 @@ mod search;
 mod seen;
 mod tables;
 mod tabling;
+mod telling;
 mod trees;
 mod turns;
 mod walks;
 mod whole;
+mod wire_bits;
 mod without;
 
 pub use bad::Bad;
-pub use laws::{closed_without_bad, growth_after_a_sweep_is_paid};
+pub use choice::{Choices, choose, sweep_with};
+pub use laws::{closed_without_bad, growth_after_a_sweep_is_paid, growth_without_bad_is_paid};
 pub use whole::sweep;
 pub use without::without_bad;

@@ -4,7 +4,7 @@ ghost use Rattle.tm_bits.specs.Numbers.{has_number, size_of};
 ghost use Rattle.hierarchy.specs.Shape.{crosses_of};
 ghost use Rattle.known.specs.Known.{KnownWires};
 ghost use Rattle.known.specs.Field.{IsFieldOf, pins_in};
-ghost use Rattle.sweep.specs.Marks.{AreMarksFor, is_undecided, undecided};
+ghost use Rattle.sweep.specs.Marks.{AreMarksFor, is_undecided, undecided, worth};
 ghost use Rattle.sweep.specs.Stages.{IsFunded, Settles, in_hand};
 
 use crate::bad::Bad;
@@ -85,8 +85,8 @@ fn pins_of_field(shape: &Shape, field: &Field) -> u32
     count
 }
 
-// How many loads there were.
-fn loads_of(rig: &Box<dyn Rig>) -> u64
+/// How many loads there were.
+pub(crate) fn loads_of(rig: &Box<dyn Rig>) -> u64
     ensures { result ≡ (rig_state rig.now).loads }
 {
     rig.loads()
@@ -100,7 +100,45 @@ fn sum_of(loads: u64, more: u32) -> u64
     loads.saturating_add(u64::from(more))
 }
 
+// So many loads more, as far as they can be counted.
+fn sum_of_both(loads: u64, more: u64) -> u64
+    ensures low { loads ≤ result }
+    ensures high { result ≤ loads + more }
+{
+    loads.saturating_add(more)
+}
+
 impl Purse {
+    /// Holds nothing.
+    pub(crate) fn empty(alloc: Global, shape: &Shape) -> Result<Purse, AllocError> {
+        Ok(Purse {
+            most: 0,
+            unsettled: BitSet::new(alloc, shape.crosses())?,
+        })
+    }
+
+    /// Holds so many loads.
+    pub(crate) fn of(
+        alloc: Global,
+        rig: &Box<dyn Rig>,
+        proof: &Proof,
+        bad: &Bad,
+        field: &Field,
+        left: u64,
+    ) -> Result<Purse, AllocError>
+        requires field { IsFieldOf proof.now.shape field.now }
+        requires marks { AreMarksFor proof.now.shape bad.now }
+        ensures len { IfOk result (λ purse. length purse.unsettled ≡ crosses_of proof.now.shape) }
+        ensures funded { IfOk result (λ purse. (known : KnownWires) → IsFunded
+            (worth field.now proof.now bad.now (rig_state rig.now).loads left) field.now
+            (in_hand proof.now known bad.now purse (rig_state rig.now).loads)) }
+    {
+        Ok(Purse {
+            most: sum_of_both(loads_of(rig), left),
+            unsettled: undecided_in(alloc, proof, bad, field)?,
+        })
+    }
+
     /// Holds a load for each pin of the machine in the field.
     pub(crate) fn new(
         alloc: Global,

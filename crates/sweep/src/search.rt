@@ -123,7 +123,17 @@ impl Search {
         search.tries.resize(shape.wires() as usize, 0)?;
         search.full.resize(shape.nodes() as usize, false)?;
         search.board.learn_all(known);
+        search.forbid_unclear(bad);
         Ok(search)
+    }
+
+    // Wires that are found unclear can't come to be known.
+    fn forbid_unclear(&mut self, bad: &Bad) {
+        'wires: for w in 0..bad.unclear.len() {
+            if bad.unclear.has(w) {
+                self.board.forbid(Wire(w));
+            }
+        }
     }
 
     /// A climb from a wire over wires that aren't used. Its wires are used then.

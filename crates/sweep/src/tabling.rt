@@ -9,7 +9,7 @@ use crate::bad::Bad;
 use crate::fits::{are_fit, are_given, table_forest};
 use crate::gear::Sheet;
 use crate::trees::is_known;
-use crate::turns::sweep_all;
+use crate::turns::{sweep_all, sweep_chosen};
 use evidence::Proof;
 use known::{Field, Known};
 use rig::{Rig, RigFail};
@@ -164,5 +164,27 @@ pub(crate) fn sweep_sheet(
     ensures cause { IsErrOf result RigFail.Failed → Rose (rig_state rig.old).failures (rig_state rig.new).failures }
 {
     sweep_all(rig, proof, known, bad, field, &mut sheet.gear)?;
+    test_tables(rig, proof, known, bad, field, sheet)
+}
+
+/// The same behind a choice.
+pub(crate) fn sweep_again(
+    rig: &mut Box<dyn Rig>,
+    proof: &mut Proof,
+    known: &mut Known,
+    bad: &mut Bad,
+    field: &Field,
+    sheet: &mut Sheet,
+) -> Result<(), RigFail>
+    requires attached { shape_of (rig_state rig.old) ≡ Some proof.old.shape }
+    requires hand { IsHand field.now (in_hand proof.old known.old bad.old sheet.old.gear.purse (rig_state rig.old).loads) }
+    ensures goes { Goes (rig_state rig.old).machine.faults field.now sheet.old.tables.items
+        (in_hand proof.old known.old bad.old sheet.old.gear.purse (rig_state rig.old).loads)
+        (in_hand proof.new known.new bad.new sheet.new.gear.purse (rig_state rig.new).loads) }
+    ensures tables { sheet.new.tables ≡ sheet.old.tables }
+    ensures advances { Advances (rig_state rig.old) (rig_state rig.new) proof.old proof.new }
+    ensures cause { IsErrOf result RigFail.Failed → Rose (rig_state rig.old).failures (rig_state rig.new).failures }
+{
+    sweep_chosen(rig, proof, known, bad, field, &mut sheet.gear)?;
     test_tables(rig, proof, known, bad, field, sheet)
 }

@@ -52,8 +52,8 @@ fn machine_pin(shape: &Shape, w: Wire) -> Option<u32>
     Some(w.0 - first)
 }
 
-// Plants a pin of the machine.
-fn plant(forest: &mut Forest, proof: &Proof, w: Wire)
+/// Plants a pin of the machine.
+pub(crate) fn plant(forest: &mut Forest, proof: &Proof, w: Wire)
     requires { KeepsForest proof.now forest.old }
     ensures { KeepsForest proof.now forest.new }
 {
@@ -94,12 +94,12 @@ fn lay_climb(forest: &mut Forest, proof: &Proof, walk: &Walk) -> Result<(), Allo
 pub(crate) fn lay_climbs(
     forest: &mut Forest,
     proof: &Proof,
-    search: &Search,
+    climbs: &Vec<Walk>,
 ) -> Result<(), AllocError>
     requires { KeepsForest proof.now forest.old }
     ensures { KeepsForest proof.now forest.new }
 {
-    'climbs: for walk in &search.climbs {
+    'climbs: for walk in climbs {
         lay_climb(forest, proof, walk)?;
     }
     Ok(())
@@ -156,7 +156,7 @@ pub(crate) fn hang_forest(
     ensures { IfOk result (KeepsForest proof.now) }
 {
     let mut forest = Forest::new(alloc, &proof.shape())?;
-    lay_climbs(&mut forest, proof, search)?;
+    lay_climbs(&mut forest, proof, &search.climbs)?;
     lay_rest(&mut forest, proof, known, &mut search.draws)?;
     Ok(forest)
 }

@@ -8,12 +8,14 @@ ghost use Rattle.sweep.specs.Marks.{AreMarksFor};
 ghost use Rattle.sweep.specs.Stages.{Goes, IsHand, Settles, in_hand};
 
 use crate::bad::Bad;
+use crate::choosing::{Aim, FIRST_HEIGHT, knows};
 use crate::gear::Gear;
 use crate::hanging::{hang_load, pin_load};
 use crate::leading::lead_paths;
 use crate::learn::{learn_hangs, learn_pins};
 use crate::purse::Purse;
 use crate::search::Hung;
+use crate::telling::tell_all;
 use evidence::Proof;
 use known::{Field, Known};
 use rig::{Rig, RigFail};
@@ -23,9 +25,6 @@ const MOST_LOADS: u32 = 1_000_000;
 
 /// The greatest height of a wire: the pins of tables of the deepest level.
 const MOST_HEIGHT: u32 = 8;
-
-/// How often all heights are gone through.
-const PASSES: u32 = 2;
 
 // Looks at the pins of the machine. Those that can be known are.
 fn pin_turn(
@@ -170,6 +169,53 @@ fn sweep_heights(
     Ok(())
 }
 
+// Looks for wires that are unfit, and then tests those of each height.
+fn sweep_pass(
+    rig: &mut Box<dyn Rig>,
+    proof: &mut Proof,
+    known: &mut Known,
+    bad: &mut Bad,
+    field: &Field,
+    gear: &mut Gear,
+) -> Result<(), RigFail>
+    requires attached { shape_of (rig_state rig.old) ≡ Some proof.old.shape }
+    requires hand { IsHand field.now (in_hand proof.old known.old bad.old gear.old.purse (rig_state rig.old).loads) }
+    ensures goes { Goes (rig_state rig.old).machine.faults field.now []
+        (in_hand proof.old known.old bad.old gear.old.purse (rig_state rig.old).loads)
+        (in_hand proof.new known.new bad.new gear.new.purse (rig_state rig.new).loads) }
+    ensures advances { Advances (rig_state rig.old) (rig_state rig.new) proof.old proof.new }
+    ensures cause { IsErrOf result RigFail.Failed → Rose (rig_state rig.old).failures (rig_state rig.new).failures }
+{
+    tell_all(rig, proof, known, bad, field, gear)?;
+    gear.search.begin_pass();
+    sweep_heights(rig, proof, known, bad, field, gear)?;
+    gear.start = known.len();
+    Ok(())
+}
+
+// Goes through all heights twice.
+fn sweep_twice(
+    rig: &mut Box<dyn Rig>,
+    proof: &mut Proof,
+    known: &mut Known,
+    bad: &mut Bad,
+    field: &Field,
+    gear: &mut Gear,
+) -> Result<(), RigFail>
+    requires attached { shape_of (rig_state rig.old) ≡ Some proof.old.shape }
+    requires hand { IsHand field.now (in_hand proof.old known.old bad.old gear.old.purse (rig_state rig.old).loads) }
+    ensures goes { Goes (rig_state rig.old).machine.faults field.now []
+        (in_hand proof.old known.old bad.old gear.old.purse (rig_state rig.old).loads)
+        (in_hand proof.new known.new bad.new gear.new.purse (rig_state rig.new).loads) }
+    ensures advances { Advances (rig_state rig.old) (rig_state rig.new) proof.old proof.new }
+    ensures cause { IsErrOf result RigFail.Failed → Rose (rig_state rig.old).failures (rig_state rig.new).failures }
+{
+    gear.aim = Aim::Again;
+    sweep_pass(rig, proof, known, bad, field, gear)?;
+    gear.aim = Aim::Rest;
+    sweep_pass(rig, proof, known, bad, field, gear)
+}
+
 /// Looks at the pins of the machine, and tests what is further and further from them.
 pub(crate) fn sweep_all(
     rig: &mut Box<dyn Rig>,
@@ -188,10 +234,85 @@ pub(crate) fn sweep_all(
     ensures cause { IsErrOf result RigFail.Failed → Rose (rig_state rig.old).failures (rig_state rig.new).failures }
 {
     pin_turn(rig, proof, known, bad, field, gear)?;
-    'passes: for _pass in 0..PASSES {
-        gear.search.begin_pass();
-        sweep_heights(rig, proof, known, bad, field, gear)?;
-        gear.start = known.len();
+    sweep_twice(rig, proof, known, bad, field, gear)
+}
+
+// Whether all pins of the machine are known.
+fn knows_pins(known: &Known) -> bool {
+    let shape = known.shape();
+    'pins: for pin in 0..shape.pins() {
+        if !knows(known, shape.pin(pin)) {
+            return false;
+        }
     }
-    Ok(())
+    true
+}
+
+// Looks at the pins of the machine, unless all are known.
+fn pins_left(
+    rig: &mut Box<dyn Rig>,
+    proof: &mut Proof,
+    known: &mut Known,
+    bad: &mut Bad,
+    field: &Field,
+    gear: &mut Gear,
+) -> Result<(), RigFail>
+    requires attached { shape_of (rig_state rig.old) ≡ Some proof.old.shape }
+    requires hand { IsHand field.now (in_hand proof.old known.old bad.old gear.old.purse (rig_state rig.old).loads) }
+    ensures goes { Goes (rig_state rig.old).machine.faults field.now []
+        (in_hand proof.old known.old bad.old gear.old.purse (rig_state rig.old).loads)
+        (in_hand proof.new known.new bad.new gear.new.purse (rig_state rig.new).loads) }
+    ensures advances { Advances (rig_state rig.old) (rig_state rig.new) proof.old proof.new }
+    ensures cause { IsErrOf result RigFail.Failed → Rose (rig_state rig.old).failures (rig_state rig.new).failures }
+{
+    if knows_pins(known) {
+        return Ok(());
+    }
+    pin_turn(rig, proof, known, bad, field, gear)
+}
+
+// The same, and then tests the wires for which others gave way.
+fn first_turns(
+    rig: &mut Box<dyn Rig>,
+    proof: &mut Proof,
+    known: &mut Known,
+    bad: &mut Bad,
+    field: &Field,
+    gear: &mut Gear,
+) -> Result<(), RigFail>
+    requires attached { shape_of (rig_state rig.old) ≡ Some proof.old.shape }
+    requires hand { IsHand field.now (in_hand proof.old known.old bad.old gear.old.purse (rig_state rig.old).loads) }
+    ensures goes { Goes (rig_state rig.old).machine.faults field.now []
+        (in_hand proof.old known.old bad.old gear.old.purse (rig_state rig.old).loads)
+        (in_hand proof.new known.new bad.new gear.new.purse (rig_state rig.new).loads) }
+    ensures advances { Advances (rig_state rig.old) (rig_state rig.new) proof.old proof.new }
+    ensures cause { IsErrOf result RigFail.Failed → Rose (rig_state rig.old).failures (rig_state rig.new).failures }
+{
+    let Ok(()) = gear.chooser.hint(&mut gear.search) else {
+        return Err(RigFail::Memory);
+    };
+    pins_left(rig, proof, known, bad, field, gear)?;
+    gear.height = FIRST_HEIGHT;
+    hang_height(rig, proof, known, bad, field, gear)
+}
+
+/// The same behind a choice: first the wires for which others gave way.
+pub(crate) fn sweep_chosen(
+    rig: &mut Box<dyn Rig>,
+    proof: &mut Proof,
+    known: &mut Known,
+    bad: &mut Bad,
+    field: &Field,
+    gear: &mut Gear,
+) -> Result<(), RigFail>
+    requires attached { shape_of (rig_state rig.old) ≡ Some proof.old.shape }
+    requires hand { IsHand field.now (in_hand proof.old known.old bad.old gear.old.purse (rig_state rig.old).loads) }
+    ensures goes { Goes (rig_state rig.old).machine.faults field.now []
+        (in_hand proof.old known.old bad.old gear.old.purse (rig_state rig.old).loads)
+        (in_hand proof.new known.new bad.new gear.new.purse (rig_state rig.new).loads) }
+    ensures advances { Advances (rig_state rig.old) (rig_state rig.new) proof.old proof.new }
+    ensures cause { IsErrOf result RigFail.Failed → Rose (rig_state rig.old).failures (rig_state rig.new).failures }
+{
+    first_turns(rig, proof, known, bad, field, gear)?;
+    sweep_twice(rig, proof, known, bad, field, gear)
 }

@@ -8,6 +8,7 @@ ghost use Rattle.known.specs.Known.{IsKnown};
 ghost use Rattle.sweep.specs.Marks.{AreMarksFor, MarksIn, Pays, TrueIf};
 
 use crate::bad::Bad;
+use crate::choosing::{Aim, Chooser};
 use crate::gear::{Gear, Sheet};
 use crate::purse::Purse;
 use crate::search::Search;
@@ -52,12 +53,17 @@ pub fn sweep(
     let Ok(search) = Search::new(known.alloc(), proof, known, bad, field) else {
         return Err(RigFail::Memory);
     };
+    let Ok(chooser) = Chooser::new(known.alloc(), proof) else {
+        return Err(RigFail::Memory);
+    };
     let Ok(tables) = Vec::from_slice(known.alloc(), tables) else {
         return Err(RigFail::Memory);
     };
     let gear = Gear {
         purse,
         search,
+        chooser,
+        aim: Aim::Rest,
         height: 0,
         start: 0,
     };

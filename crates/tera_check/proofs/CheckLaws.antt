@@ -29,10 +29,10 @@ module _ (machine name image : List ℕ) (old new : Around) where
   -- right files are refused for nothing but what the store and the rig do, and want of memory
   check-well : CheckRight (check_files old.store machine image) → IsWell old new (check_course machine name image old new)
   check-well right =
-      machine-well old new machine name _ _ right.machine_file right.shape right.machine_told right.machine right.machine_within
+      machine-well old new machine name _ _ right.machine.bytes right.shape right.machine.is_told right.machine.says right.machine.within
       (well-after old new _ _ _
-      (λ refusal stops. image-excused old new right.image_file right.shape right.image right.image_right right.image_shape right.image_is
-      right.image_within refusal (rw right.image_told at stops))
+      (λ refusal stops. image-excused old new right.file.bytes right.shape right.image right.file.says.image right.file.says.shape right.file.says.text
+      right.file.within refusal (rw right.file.is_told at stops))
       (λ i _. well-after old new _ _ _ (λ refusal stops. rig-excused old new refusal stops.0)
       (λ t _. of-two t.sound _ _ (written-well i t.loads Sound)
       (well-after old new _ _ _ (λ refusal stops. rig-excused old new refusal stops.0)

@@ -1,20 +1,20 @@
 -- What the command `check` is.
-use Rattle.std.specs.Prelude.{◌≡◌, ℕ, ◌≤◌, Bool, true, false, List, [], ◌∷◌, length}
-use Rattle.tm_outside.specs.Told.{Told, holds}
+use Rattle.std.specs.Prelude.{◌≡◌, ℕ, Bool, true, false, List, [], ◌∷◌}
+use Rattle.tm_outside.specs.Told.{Told}
 use Rattle.tm_outside.specs.Store.{StoreState}
 use Rattle.hierarchy.specs.declared.Shape.{Shape}
 use Rattle.machine_file.specs.Machine.{IsMachine}
 use Rattle.defect_db.specs.Lists.{DefectList}
-use Rattle.config_image.specs.Images.{ImageValue, IsImage, image_bytes}
+use Rattle.config_image.specs.Images.{ImageValue}
 use Rattle.rig.specs.Rig.{RigState}
-use Rattle.tm_text.specs.Size.{most_bytes}
 use Rattle.steps.specs.Outside.{Around, StandsIn}
 use Rattle.steps.specs.Courses.{Course, Step, after, write, done}
-use Rattle.steps.specs.Texts.{reads_machine, reads_image, attaches, AsksMachine}
+use Rattle.steps.specs.Beginnings.{Unloaded, machine_attached}
+use Rattle.steps.specs.Texts.{IsImageText, IsRightFile, reads_machine, reads_image, AsksMachine}
 use Rattle.steps.specs.Jobs.{Job, quiet}
 use Rattle.steps.specs.declared.refusal.Refusal.{Refusal}
 use Rattle.steps.specs.declared.refusal.Refusal.TheVariants as refused
-use Rattle.listing.specs.Lists.{Listed, Unloaded, lists}
+use Rattle.listing.specs.Lists.{Listed, lists}
 use Rattle.tera_check.specs.Answers.{IsAnswer, answer_line}
 use Rattle.tera_check.specs.Testing.{Tried, tests}
 use Rattle.tera_check.specs.declared.answer.Answer.{Answer}
@@ -71,16 +71,9 @@ image_read machine image old new m =
     after (reads_image (old.store.contents image) m) (Unloaded (image ∷ machine ∷ []) old new)
     (image_tested (image ∷ machine ∷ []) old.store new.store new.rig old.rig.loads)
 
--- The machine is attached, and the image is read and tested
-abbrev pub machine_attached : (machine name image : List ℕ) → Around → Around → Shape → Course
-machine_attached machine name image old new m =
-    after (attaches (record { shape = m; name = name }) old.rig new.rig) (Unloaded (machine ∷ []) old new)
-    (λ _. image_read machine image old new m)
-
 -- The machine is read and attached, and the image is read and tested. No load is made before
 abbrev pub check_course : (machine name image : List ℕ) → Around → Around → Course
-check_course machine name image old new =
-    after (reads_machine (old.store.contents machine)) (Unloaded (machine ∷ []) old new) (machine_attached machine name image old new)
+check_course machine name image old new = machine_attached machine name old new (image_read machine image old new)
 
 -- ---- the files
 
@@ -96,17 +89,8 @@ check_files old machine image = record { machine = old.contents machine; image =
 pub record CheckRight (t : CheckFiles) : Type 0 where
   pub shape : Shape
   pub image : ImageValue
-  -- the bytes of the two files
-  pub machine_file : List ℕ
-  pub image_file : List ℕ
-  pub machine_told : t.machine ≡ holds machine_file
-  pub machine : IsMachine machine_file shape.counts
-  pub machine_within : length machine_file ≤ most_bytes
-  pub image_told : t.image ≡ holds image_file
-  pub image_right : IsImage image
-  pub image_shape : image.config.shape ≡ shape
-  pub image_is : image_bytes image ≡ image_file
-  pub image_within : length image_file ≤ most_bytes
+  pub machine : IsRightFile t.machine (λ bytes. IsMachine bytes shape.counts)
+  pub file : IsRightFile t.image (λ bytes. IsImageText shape bytes image)
 
 -- ---- the command
 

@@ -18,9 +18,9 @@ module _ (machine defects design : List ℕ) (old new : Around) where
       IsLed next_is (design_laid (design ∷ defects ∷ machine ∷ []) old.store new.store right.list right.draft) →
       IsLed next_is (compile_course machine defects design old.store new.store)
   files-led right excused led =
-      led-sure (machine-sure right.machine_told right.machine_within right.list.shape right.machine) excused
-      (led-sure (list-sure right.defects_told right.defects_within right.list right.defects) excused
-      (led-sure (design-sure right.design_told right.design_within Design right.draft right.design) excused led))
+      led-sure (machine-sure right.machine.is_told right.machine.within right.list.shape right.machine.says) excused
+      (led-sure (list-sure right.defects.is_told right.defects.within right.list right.defects.says) excused
+      (led-sure (design-sure right.design.is_told right.design.within Design right.draft right.design.says) excused led))
 
   -- where there is room the design is laid
   compile-right : AreDecided → CompileRight t → IsLed (EndsWell old new) (compile_course machine defects design old.store new.store)

@@ -1,18 +1,17 @@
 -- What the command `compile` is.
-use Rattle.std.specs.Prelude.{◌≡◌, ℕ, ◌≤◌, List, [], ◌∷◌, length}
-use Rattle.tm_outside.specs.Told.{Told, holds}
+use Rattle.std.specs.Prelude.{◌≡◌, ℕ, List, [], ◌∷◌}
+use Rattle.tm_outside.specs.Told.{Told}
 use Rattle.tm_outside.specs.Store.{StoreState}
-use Rattle.hierarchy.specs.declared.Shape.{Shape}
 use Rattle.machine_file.specs.Machine.{IsMachine}
 use Rattle.defect_db.specs.Lists.{DefectList}
 use Rattle.defect_db.specs.Faults.{IsText}
 use Rattle.netlist.specs.declared.draft.Draft.{Draft}
 use Rattle.blif_read.specs.Designs.{IsDesign}
 use Rattle.config_image.specs.Images.{ImageValue, image_bytes}
-use Rattle.tm_text.specs.Size.{most_bytes}
 use Rattle.steps.specs.Outside.{StandsIn}
 use Rattle.steps.specs.Courses.{Course, after, write, done}
-use Rattle.steps.specs.Texts.{reads_machine, reads_defects, reads_design}
+use Rattle.steps.specs.Beginnings.{listed_course}
+use Rattle.steps.specs.Texts.{IsRightFile, reads_design}
 use Rattle.steps.specs.Jobs.{Job}
 use Rattle.steps.specs.declared.design_file.DesignFile.TheVariants.{Design}
 use Rattle.lay.specs.Laying.{lays, HasRoom, LacksRoom}
@@ -27,22 +26,9 @@ image_written files old new i = write (image_bytes i) (StandsIn files old new) (
 abbrev pub design_laid : (files : List (List ℕ)) → StoreState → StoreState → DefectList → Draft → Course
 design_laid files old new d draft = after (lays d draft) (StandsIn files old new) (image_written files old new)
 
--- The design is read and laid
-abbrev pub design_read : (machine defects design : List ℕ) → StoreState → StoreState → DefectList → Course
-design_read machine defects design old new d =
-    after (reads_design Design (old.contents design)) (StandsIn (design ∷ defects ∷ machine ∷ []) old new)
-    (design_laid (design ∷ defects ∷ machine ∷ []) old new d)
-
--- The list of the machine's defects is read, and then the design
-abbrev pub list_read : (machine defects design : List ℕ) → StoreState → StoreState → Shape → Course
-list_read machine defects design old new m =
-    after (reads_defects (old.contents defects) m) (StandsIn (defects ∷ machine ∷ []) old new)
-    (design_read machine defects design old new)
-
--- The machine is read, then the list and the design
+-- The machine is read, then the list and the design, which is laid
 abbrev pub compile_course : (machine defects design : List ℕ) → StoreState → StoreState → Course
-compile_course machine defects design old new =
-    after (reads_machine (old.contents machine)) (StandsIn (machine ∷ []) old new) (list_read machine defects design old new)
+compile_course machine defects design = listed_course (λ told m. reads_design Design told) design_laid machine defects design
 
 -- ---- the files
 
@@ -56,19 +42,9 @@ pub record CompileFiles : Type 0 where
 pub record AreRightFiles (t : CompileFiles) : Type 0 where
   pub list : DefectList
   pub draft : Draft
-  -- the bytes of the three files
-  pub machine_file : List ℕ
-  pub defects_file : List ℕ
-  pub design_file : List ℕ
-  pub machine_told : t.machine ≡ holds machine_file
-  pub machine : IsMachine machine_file list.shape.counts
-  pub machine_within : length machine_file ≤ most_bytes
-  pub defects_told : t.defects ≡ holds defects_file
-  pub defects : IsText list.shape defects_file list
-  pub defects_within : length defects_file ≤ most_bytes
-  pub design_told : t.design ≡ holds design_file
-  pub design : IsDesign design_file draft
-  pub design_within : length design_file ≤ most_bytes
+  pub machine : IsRightFile t.machine (λ bytes. IsMachine bytes list.shape.counts)
+  pub defects : IsRightFile t.defects (λ bytes. IsText list.shape bytes list)
+  pub design : IsRightFile t.design (λ bytes. IsDesign bytes draft)
 
 -- and there is room for the design
 pub record CompileRight (t : CompileFiles) : Type 0 where

@@ -2,13 +2,14 @@
 use Rattle.std.proofs.Common.{◌≡◌, ℕ, List, [], ◌∷◌, refl}
 use Rattle.defect_db.specs.Text.{text_of}
 use Rattle.steps.specs.Outside.{Around, StandsIn}
-use Rattle.steps.specs.Courses.{done}
+use Rattle.steps.specs.Courses.{after, done}
+use Rattle.steps.specs.Beginnings.{Unloaded}
 use Rattle.steps.specs.Texts.{reads_machine, attaches}
 use Rattle.steps.specs.Jobs.{IsLawful, Leads, Fronts, EndsWell}
 use Rattle.steps.proofs.Leading.{after-leads, write-leads, done-leads}
 use Rattle.steps.proofs.Excused.{machine-excused, attach-excused, rig-excused}
-use Rattle.listing.specs.Lists.{Unloaded, lists}
-use Rattle.tera_diagnose.specs.Diagnose.{diagnose_course, diagnose_job, machine_attached, machine_listed, list_written, DiagnoseRight}
+use Rattle.listing.specs.Lists.{lists}
+use Rattle.tera_diagnose.specs.Diagnose.{diagnose_course, diagnose_job, machine_listed, list_written, DiagnoseRight}
 
 module _ (machine name : List ℕ) (old new : Around) where
   abbrev near : Type 0
@@ -23,8 +24,9 @@ module _ (machine name : List ℕ) (old new : Around) where
   diagnose-right : Leads (Fronts (λ front. DiagnoseRight (old.store.contents machine))) (diagnose_course machine name old new) (EndsWell old new)
   diagnose-right text next is at =
       let right = is [] text refl in
-      after-leads (reads_machine (old.store.contents machine)) unloaded (machine_attached machine name old new) any (EndsWell old new)
-      (λ _ refusal stops. machine-excused old new right.file right.shape.counts right.is_machine right.within refusal (rw right.told at stops))
+      after-leads (reads_machine (old.store.contents machine)) unloaded
+      (λ m. after (attaches (record { shape = m; name = name }) old.rig new.rig) unloaded (λ _. machine_listed machine old new m)) any (EndsWell old new)
+      (λ _ refusal stops. machine-excused old new right.text.bytes right.shape.counts right.text.says right.text.within refusal (rw right.text.is_told at stops))
       (λ m read. after-leads (attaches (record { shape = m; name = name }) old.rig new.rig) unloaded (λ _. machine_listed machine old new m) any (EndsWell old new)
       (λ _ refusal stops. attach-excused old new (record { shape = m; name = name }) refusal stops)
       (λ _ _. after-leads (lists m old.rig.loads new.rig) near (list_written machine old new) any (EndsWell old new)

@@ -14,7 +14,8 @@ use Rattle.steps.specs.Texts.{reads_machine, attaches, MayAsk}
 use Rattle.steps.specs.declared.refusal.Stop.{Stop}
 use Rattle.steps.proofs.Machines.{named, machine-stops, attach-stops, attached-gives}
 use Rattle.steps.proofs.Taking.{all-done}
-use Rattle.listing.specs.Lists.{Listed, Unloaded, WritesList}
+use Rattle.listing.specs.Lists.{Listed, WritesList}
+use Rattle.steps.specs.Beginnings.{Unloaded}
 use Rattle.listing.proofs.Following.{list-ends, list-goes}
 use Rattle.tera_diagnose.specs.Diagnose.{diagnose_job, machine_listed}
 

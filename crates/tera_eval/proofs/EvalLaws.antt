@@ -18,15 +18,15 @@ use Rattle.tera_eval.specs.Eval.{eval_rows, eval_course, eval_job, EvalRight}
 module _ (design vectors : List ℕ) (old new : Around) where
   module _ (right : EvalRight (old.store.contents design) (old.store.contents vectors)) where
     -- vectors of the right design have no fault
-    same-fault : (draft : Draft) → IfTold (old.store.contents design) (λ bytes. IsDesignText bytes draft) → (says_at (length draft.inputs) right.vectors_file).fault ≡ None
+    same-fault : (draft : Draft) → IfTold (old.store.contents design) (λ bytes. IsDesignText bytes draft) → (says_at (length draft.inputs) right.said.bytes).fault ≡ None
     same-fault draft is =
-        let only = rw right.design_told at is in
-        subst (λ d. (says_at (length d.inputs) right.vectors_file).fault ≡ None) (only.only right.draft right.is_design) right.no_fault
+        let only = rw right.file.is_told at is in
+        subst (λ d. (says_at (length d.inputs) right.said.bytes).fault ≡ None) (only.only right.draft right.file.says) right.said.no_fault
 
     eval-well : IsWell old new (eval_course design vectors old.store new.store)
     eval-well =
-        well-after old new _ _ _ (λ refusal stops. design-excused old new Design right.design_file right.draft right.is_design right.within refusal (rw right.design_told at stops))
-        (λ draft gives. record { well = λ text next at. opened-well (eval_rows draft (old.store.contents vectors) new.store.current) _ vectors (design ∷ []) old.store new.store _ old new right.vectors_file right.vectors_told (same-fault draft gives) text next tt at })
+        well-after old new _ _ _ (λ refusal stops. design-excused old new Design right.file.bytes right.draft right.file.says right.file.within refusal (rw right.file.is_told at stops))
+        (λ draft gives. record { well = λ text next at. opened-well (eval_rows draft (old.store.contents vectors) new.store.current) _ vectors (design ∷ []) old.store new.store _ old new right.said.bytes right.said.is_told (same-fault draft gives) text next tt at })
 
   -- no row wants memory
   eval-few : (text : List ℕ) → (more : List ℕ) × (text ≡ outputs_line ++ more) → eval_course design vectors old.store new.store text (refuses Memory) → ⊥

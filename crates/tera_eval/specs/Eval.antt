@@ -1,16 +1,15 @@
 -- What the command `eval` is.
-use Rattle.std.specs.Prelude.{◌≡◌, ℕ, ◌≤◌, List, [], ◌∷◌, ◌++◌, length, Option, Some, None}
-use Rattle.tm_outside.specs.Told.{Told, holds}
+use Rattle.std.specs.Prelude.{◌≡◌, ℕ, List, [], ◌∷◌, ◌++◌, length, Option, Some}
+use Rattle.tm_outside.specs.Told.{Told}
 use Rattle.tm_outside.specs.Store.{StoreState, StorePlace}
 use Rattle.netlist.specs.declared.draft.Draft.{Draft}
 use Rattle.netlist.specs.Rows.{AreRows}
 use Rattle.blif_read.specs.Designs.{IsDesign}
-use Rattle.tm_text.specs.Size.{most_bytes}
-use Rattle.steps.specs.Files.{says_at}
+use Rattle.steps.specs.Files.{AreRightVectors}
 use Rattle.steps.specs.Lines.{outputs_line}
 use Rattle.steps.specs.Outside.{StandsIn}
 use Rattle.steps.specs.Courses.{Course, RowWork, after, write, all_rows}
-use Rattle.steps.specs.Texts.{reads_design, opens}
+use Rattle.steps.specs.Texts.{IsRightFile, reads_design, opens}
 use Rattle.steps.specs.Jobs.{Job}
 use Rattle.steps.specs.declared.design_file.DesignFile.TheVariants.{Design}
 
@@ -47,13 +46,8 @@ eval_course design vectors old new =
 -- both texts are told and right
 pub record EvalRight (design vectors : Told) : Type 0 where
   pub draft : Draft
-  pub design_file : List ℕ
-  pub vectors_file : List ℕ
-  pub design_told : design ≡ holds design_file
-  pub is_design : IsDesign design_file draft
-  pub within : length design_file ≤ most_bytes
-  pub vectors_told : vectors ≡ holds vectors_file
-  pub no_fault : (says_at (length draft.inputs) vectors_file).fault ≡ None
+  pub file : IsRightFile design (λ bytes. IsDesign bytes draft)
+  pub said : AreRightVectors vectors (length draft.inputs)
 
 abbrev pub eval_job : (design vectors : List ℕ) → Job
 eval_job design vectors = record {

@@ -51,15 +51,14 @@ module _ (machine name design vectors : List ℕ) where
     -- the files are right, and this is so of what they say
     right-files : (t : AreGoTexts files) (P : Shape → Laid → Type 0) → P t.shape (design_laid t.draft) → IsRight words old P
     right-files t P is = record {
-      machine = record { shape = t.shape; file = t.machine_file; is_told = t.machine_told; is = t.machine; within = t.machine_within };
-      designs =
-          (record { draft = t.draft; file = t.design_file; is_told = t.design_told; is = t.design; within = t.design_within }, is);
+      machine = record { shape = t.shape; text = t.machine };
+      designs = (record { draft = t.draft; text = t.design }, is);
     }
 
     few-vectors : GoFew files → IsRight words old (HasFew words old new)
     few-vectors r =
         let t = r.texts in
-        right-files t (HasFew words old new) (record { file = t.vectors_file; is_told = t.vectors_told; few = r.few })
+        right-files t (HasFew words old new) (record { file = t.vectors.bytes; is_told = t.vectors.is_told; few = r.few })
 
     module _ (decided : AreDecided) where
       lacks-room : (front : List ℕ) → GoShort files front → IsRight words old (Lacks words old new front)
@@ -90,11 +89,9 @@ module _ (machine name design vectors : List ℕ) where
         fits front r =
             let t = r.texts in
             right-files t (Fits words old new front) (record {
-              file = t.vectors_file;
-              is_told = t.vectors_told;
-              no_fault = t.no_fault;
+              vectors = t.vectors;
               room = λ l list same refusal stops.
-                  let room = has-room front t.shape t.draft t.design.checked r.room l list same in
+                  let room = has-room front t.shape t.draft t.design.says.checked r.room l list same in
                   lay-excused l.list t.draft old new room refusal stops;
             })
 

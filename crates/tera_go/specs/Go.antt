@@ -1,6 +1,6 @@
 -- What the command `go` is.
-use Rattle.std.specs.Prelude.{◌≡◌, ◌⊎◌, ℕ, ◌≤◌, List, [], ◌∷◌, length, Option, None, Some}
-use Rattle.tm_outside.specs.Told.{Told, holds}
+use Rattle.std.specs.Prelude.{◌≡◌, ◌⊎◌, ℕ, ◌≤◌, List, [], ◌∷◌, length, Option, Some}
+use Rattle.tm_outside.specs.Told.{Told}
 use Rattle.hierarchy.specs.declared.Shape.{Shape}
 use Rattle.hierarchy.specs.Faults.{Faults}
 use Rattle.machine_file.specs.Machine.{IsMachine}
@@ -10,18 +10,17 @@ use Rattle.blif_read.specs.Designs.{IsDesign}
 use Rattle.table_map.specs.declared.network.Network.{Network}
 use Rattle.table_map.specs.Plain.{IsPlainNetwork}
 use Rattle.sound_room.specs.Enough.{HasStandingRoom}
-use Rattle.tm_text.specs.Size.{most_bytes}
-use Rattle.steps.specs.Files.{says_at, vectors_at}
+use Rattle.steps.specs.Files.{AreRightVectors, vectors_at}
 use Rattle.steps.specs.Outside.{Around}
 use Rattle.steps.specs.Courses.{Course, after}
-use Rattle.steps.specs.Texts.{reads_machine, reads_design, AsksMachine}
+use Rattle.steps.specs.Beginnings.{Unloaded, machine_attached}
+use Rattle.steps.specs.Texts.{IsRightFile, reads_machine, reads_design, AsksMachine}
 use Rattle.steps.specs.Jobs.{Job}
 use Rattle.steps.specs.declared.design_file.DesignFile.TheVariants.{Design}
-use Rattle.listing.specs.Lists.{Unloaded}
 use Rattle.lay.specs.Laying.{lays, HasRoom, LacksRoom}
 use Rattle.image_rows.specs.Rows.{most_rows}
 use Rattle.laid_rows.specs.Laid.{Laid}
-use Rattle.laid_rows.specs.Runs.{RunBegin, machine_attached, machine_listed, IfList, HasOutputs}
+use Rattle.laid_rows.specs.Runs.{RunBegin, machine_listed, IfList, HasOutputs}
 
 -- the design as what is laid: by its plain network, and with its rows
 abbrev pub design_laid : Draft → Laid
@@ -55,18 +54,9 @@ go_files old machine design vectors =
 pub record AreGoTexts (t : GoFiles) : Type 0 where
   pub shape : Shape
   pub draft : Draft
-  -- the bytes of the three files
-  pub machine_file : List ℕ
-  pub design_file : List ℕ
-  pub vectors_file : List ℕ
-  pub machine_told : t.machine ≡ holds machine_file
-  pub machine : IsMachine machine_file shape.counts
-  pub machine_within : length machine_file ≤ most_bytes
-  pub design_told : t.design ≡ holds design_file
-  pub design : IsDesign design_file draft
-  pub design_within : length design_file ≤ most_bytes
-  pub vectors_told : t.vectors ≡ holds vectors_file
-  pub no_fault : (says_at (length draft.inputs) vectors_file).fault ≡ None
+  pub machine : IsRightFile t.machine (λ bytes. IsMachine bytes shape.counts)
+  pub design : IsRightFile t.design (λ bytes. IsDesign bytes draft)
+  pub vectors : AreRightVectors t.vectors (length draft.inputs)
 
 -- the faults of the machine are told, and as many parts stand as the plain network has
 pub record HasPartsFor (told : Option Faults) (m : Shape) (draft : Draft) : Type 0 where
@@ -89,7 +79,7 @@ pub record GoShort (t : GoFiles) (front : List ℕ) : Type 0 where
 -- there are no more vectors than the rig was asked to have room for
 pub record GoFew (t : GoFiles) : Type 0 where
   pub texts : AreGoTexts t
-  pub few : length (vectors_at (length texts.draft.inputs) texts.vectors_file) ≤ most_rows
+  pub few : length (vectors_at (length texts.draft.inputs) texts.vectors.bytes) ≤ most_rows
 
 abbrev pub go_job : (machine name design vectors : List ℕ) → Job
 go_job machine name design vectors = record {

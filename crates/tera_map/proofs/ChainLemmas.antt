@@ -33,18 +33,14 @@ module _ (machine defects design name : List ℕ) (old new handed : Outside) (f 
     files = record {
       list = f.list;
       draft = f.mapped;
-      machine_file = h.machine_file;
-      defects_file = h.defects_file;
-      design_file = f.text;
-      machine_told = h.machine_again;
-      machine = machine-text.text;
-      machine_within = machine-text.within;
-      defects_told = h.defects_again;
-      defects = defects-text.text;
-      defects_within = defects-text.within;
-      design_told = h.text_told;
-      design = f.wrote.remapped.another.design;
-      design_within = f.wrote.remapped.another.short;
+      machine = record { bytes = h.machine_file; is_told = h.machine_again; says = machine-text.text; within = machine-text.within };
+      defects = record { bytes = h.defects_file; is_told = h.defects_again; says = defects-text.text; within = defects-text.within };
+      design = record {
+        bytes = f.text;
+        is_told = h.text_told;
+        says = f.wrote.remapped.another.design;
+        within = f.wrote.remapped.another.short;
+      };
     };
     room = f.room;
   }

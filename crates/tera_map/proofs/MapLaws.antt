@@ -14,7 +14,7 @@ module _ (old new : Around) where
   -- a right design is remapped
   map-right : (design : List ℕ) → MapRight (old.store.contents design) → IsLed (EndsWell old new) (map_course design old.store new.store)
   map-right design right =
-      led-sure (text-sure right.design_told right.within Design right.draft right.is_design) (λ refusal h. h)
+      led-sure (text-sure right.file.is_told right.file.within Design right.draft right.file.says) (λ refusal h. h)
       (led-after (map-excused old new) (λ r is. led-line tt tt))
 
   -- and where there is room for it, one with room
@@ -22,9 +22,9 @@ module _ (old new : Around) where
       IsLed (EndsWell old new) (fit_course machine defects design old.store new.store)
   fit-right decided machine defects design right =
       let t = right.files in
-      led-sure (machine-sure t.machine_told t.machine_within t.list.shape t.machine) (λ refusal h. h)
-      (led-sure (list-sure t.defects_told t.defects_within t.list t.defects) (λ refusal h. h)
-      (led-sure (text-sure t.design_told t.design_within Design t.draft t.design) (λ refusal h. h)
+      led-sure (machine-sure t.machine.is_told t.machine.within t.list.shape t.machine.says) (λ refusal h. h)
+      (led-sure (list-sure t.defects.is_told t.defects.within t.list t.defects.says) (λ refusal h. h)
+      (led-sure (text-sure t.design.is_told t.design.within Design t.draft t.design.says) (λ refusal h. h)
       (led-after (lay-excused t.list t.draft old new (never-refused decided t.list t.draft right.room)) (λ r is. led-line tt tt))))
 
 pub map-lawful : (design : List ℕ) → IsLawful (map_job design)

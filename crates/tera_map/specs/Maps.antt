@@ -1,18 +1,17 @@
 -- What the mapper does: for a design, and for a design and a machine.
-use Rattle.std.specs.Prelude.{◌≡◌, ℕ, ◌≤◌, List, [], ◌∷◌, length}
-use Rattle.tm_outside.specs.Told.{Told, holds}
+use Rattle.std.specs.Prelude.{◌≡◌, ℕ, List, [], ◌∷◌}
+use Rattle.tm_outside.specs.Told.{Told}
 use Rattle.tm_outside.specs.Store.{StoreState}
-use Rattle.hierarchy.specs.declared.Shape.{Shape}
 use Rattle.defect_db.specs.Lists.{DefectList}
 use Rattle.netlist.specs.declared.draft.Draft.{Draft}
 use Rattle.blif_read.specs.Designs.{IsDesign}
-use Rattle.tm_text.specs.Size.{most_bytes}
 use Rattle.remap.specs.Remapped.{MayStandFor}
 use Rattle.remap.specs.declared.text.Remapped.{Remapped}
 use Rattle.lay.specs.Laying.{NotLaid, HasRoom}
 use Rattle.steps.specs.Outside.{Around, StandsIn}
 use Rattle.steps.specs.Courses.{Course, Step, after, write, done}
-use Rattle.steps.specs.Texts.{reads_machine, reads_defects, reads_text}
+use Rattle.steps.specs.Beginnings.{listed_course}
+use Rattle.steps.specs.Texts.{IsRightFile, reads_text}
 use Rattle.steps.specs.Jobs.{Job, quiet}
 use Rattle.steps.specs.declared.design.DesignText.{DesignText}
 use Rattle.steps.specs.declared.design_file.DesignFile.TheVariants.{Design}
@@ -55,32 +54,16 @@ abbrev pub map_course : (design : List ℕ) → StoreState → StoreState → Co
 map_course design old new =
     after (reads_text Design (old.contents design)) (StandsIn (design ∷ []) old new) (design_mapped (design ∷ []) old new)
 
--- the design is read behind the list, and remapped
-abbrev pub design_read : (machine defects design : List ℕ) → StoreState → StoreState → DefectList → Course
-design_read machine defects design old new d =
-    after (reads_text Design (old.contents design)) (StandsIn (design ∷ defects ∷ machine ∷ []) old new)
-    (design_fitted (design ∷ defects ∷ machine ∷ []) old new d)
-
--- the list of the machine's defects is read, and then the design
-abbrev pub list_read : (machine defects design : List ℕ) → StoreState → StoreState → Shape → Course
-list_read machine defects design old new m =
-    after (reads_defects (old.contents defects) m) (StandsIn (defects ∷ machine ∷ []) old new)
-    (design_read machine defects design old new)
-
--- the machine is read, then the list and the design
+-- the machine is read, then the list and the design, which is remapped
 abbrev pub fit_course : (machine defects design : List ℕ) → StoreState → StoreState → Course
-fit_course machine defects design old new =
-    after (reads_machine (old.contents machine)) (StandsIn (machine ∷ []) old new) (list_read machine defects design old new)
+fit_course machine defects design = listed_course (λ told m. reads_text Design told) design_fitted machine defects design
 
 -- ---- the jobs
 
 -- the design's file is told and right
 pub record MapRight (design : Told) : Type 0 where
   pub draft : Draft
-  pub design_file : List ℕ
-  pub design_told : design ≡ holds design_file
-  pub is_design : IsDesign design_file draft
-  pub within : length design_file ≤ most_bytes
+  pub file : IsRightFile design (λ bytes. IsDesign bytes draft)
 
 -- The rig isn't asked
 abbrev pub HasSameRig : Around → Around → Type 0

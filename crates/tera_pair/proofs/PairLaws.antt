@@ -31,26 +31,21 @@ module _ (machine name first second vectors : List ℕ) where
     right-files : (t : ArePairTexts files) (P : Shape → Laid → Type 0) → P t.shape (both_laid t.first_draft t.second_draft)
         → IsRight words old P
     right-files t P is = record {
-      machine = record { shape = t.shape; file = t.machine_file; is_told = t.machine_told; is = t.machine; within = t.machine_within };
-      designs = (
-        record { draft = t.first_draft; file = t.first_file; is_told = t.first_told; is = t.first; within = t.first_within },
-        (record { draft = t.second_draft; file = t.second_file; is_told = t.second_told; is = t.second; within = t.second_within }, is),
-      );
+      machine = record { shape = t.shape; text = t.machine };
+      designs = (record { draft = t.first_draft; text = t.first }, (record { draft = t.second_draft; text = t.second }, is));
     }
 
     few-vectors : PairFew files → IsRight words old (HasFew words old new)
     few-vectors r =
         let t = r.texts in
-        right-files t (HasFew words old new) (record { file = t.vectors_file; is_told = t.vectors_told; few = r.few })
+        right-files t (HasFew words old new) (record { file = t.vectors.bytes; is_told = t.vectors.is_told; few = r.few })
 
     module _ (decided : AreDecided) (front : List ℕ) where
       fits : PairRight files front → IsRight words old (Fits words old new front)
       fits r =
           let t = r.texts in
           right-files t (Fits words old new front) (record {
-            file = t.vectors_file;
-            is_told = t.vectors_told;
-            no_fault = t.no_fault;
+            vectors = t.vectors;
             room = λ l list same refusal stops.
                 let room = r.room l.list list.shape list.kept same in
                 both-excused l.list t.first_draft t.second_draft old new decided room refusal stops;

@@ -1,20 +1,19 @@
 -- What the command `pair` is.
-use Rattle.std.specs.Prelude.{◌≡◌, ℕ, ◌+◌, ◌≤◌, List, [], ◌∷◌, length, None}
-use Rattle.tm_outside.specs.Told.{Told, holds}
+use Rattle.std.specs.Prelude.{ℕ, ◌+◌, ◌≤◌, List, [], ◌∷◌, length}
+use Rattle.tm_outside.specs.Told.{Told}
 use Rattle.hierarchy.specs.declared.Shape.{Shape}
 use Rattle.machine_file.specs.Machine.{IsMachine}
 use Rattle.netlist.specs.declared.draft.Draft.{Draft}
 use Rattle.blif_read.specs.Designs.{IsDesign}
-use Rattle.tm_text.specs.Size.{most_bytes}
-use Rattle.steps.specs.Files.{says_at, vectors_at}
+use Rattle.steps.specs.Files.{AreRightVectors, vectors_at}
 use Rattle.steps.specs.Outside.{Around}
 use Rattle.steps.specs.Courses.{Course, after}
-use Rattle.steps.specs.Texts.{reads_machine, reads_design, AsksMachine}
+use Rattle.steps.specs.Beginnings.{Unloaded, machine_attached}
+use Rattle.steps.specs.Texts.{IsRightFile, reads_machine, reads_design, AsksMachine}
 use Rattle.steps.specs.Jobs.{Job}
 use Rattle.steps.specs.declared.design_file.DesignFile.TheVariants.{First, Second}
-use Rattle.listing.specs.Lists.{Unloaded}
 use Rattle.image_rows.specs.Rows.{most_rows}
-use Rattle.laid_rows.specs.Runs.{RunBegin, machine_attached, machine_listed, IfList, HasOutputs}
+use Rattle.laid_rows.specs.Runs.{RunBegin, machine_listed, IfList, HasOutputs}
 use Rattle.tera_pair.specs.Both.{BothHaveRoom, BothLackRoom, both_laid}
 
 abbrev pub pair_begin : Around → (machine first second vectors : List ℕ) → RunBegin
@@ -60,22 +59,10 @@ pub record ArePairTexts (t : PairFiles) : Type 0 where
   pub shape : Shape
   pub first_draft : Draft
   pub second_draft : Draft
-  -- the bytes of the four files
-  pub machine_file : List ℕ
-  pub first_file : List ℕ
-  pub second_file : List ℕ
-  pub vectors_file : List ℕ
-  pub machine_told : t.machine ≡ holds machine_file
-  pub machine : IsMachine machine_file shape.counts
-  pub machine_within : length machine_file ≤ most_bytes
-  pub first_told : t.first ≡ holds first_file
-  pub first : IsDesign first_file first_draft
-  pub first_within : length first_file ≤ most_bytes
-  pub second_told : t.second ≡ holds second_file
-  pub second : IsDesign second_file second_draft
-  pub second_within : length second_file ≤ most_bytes
-  pub vectors_told : t.vectors ≡ holds vectors_file
-  pub no_fault : (says_at (length first_draft.inputs + length second_draft.inputs) vectors_file).fault ≡ None
+  pub machine : IsRightFile t.machine (λ bytes. IsMachine bytes shape.counts)
+  pub first : IsRightFile t.first (λ bytes. IsDesign bytes first_draft)
+  pub second : IsRightFile t.second (λ bytes. IsDesign bytes second_draft)
+  pub vectors : AreRightVectors t.vectors (length first_draft.inputs + length second_draft.inputs)
 
 -- there is room on the list that stands there
 pub record PairRight (t : PairFiles) (front : List ℕ) : Type 0 where
@@ -90,7 +77,7 @@ pub record PairShort (t : PairFiles) (front : List ℕ) : Type 0 where
 -- there are no more vectors than the rig was asked to have room for
 pub record PairFew (t : PairFiles) : Type 0 where
   pub texts : ArePairTexts t
-  pub few : length (vectors_at (length texts.first_draft.inputs + length texts.second_draft.inputs) texts.vectors_file) ≤ most_rows
+  pub few : length (vectors_at (length texts.first_draft.inputs + length texts.second_draft.inputs) texts.vectors.bytes) ≤ most_rows
 
 abbrev pub pair_job : (machine name first second vectors : List ℕ) → Job
 pair_job machine name first second vectors = record {

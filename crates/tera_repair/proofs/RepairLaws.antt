@@ -25,9 +25,9 @@ module _ (machine defects image : List ℕ) (old new : Around) (next_is : Next �
   repair-led right excused lacks repaired =
       let m = right.list.shape in
       let i = right.image in
-      led-sure (machine-sure right.machine_told right.machine_within m right.machine) excused
-      (led-sure (list-sure right.defects_told right.defects_within right.list right.defects) excused
-      (led-sure (image-sure right.image_told right.image_within m i right.image_right right.image_shape right.image_is) excused
+      led-sure (machine-sure right.machine.is_told right.machine.within m right.machine.says) excused
+      (led-sure (list-sure right.defects.is_told right.defects.within right.list right.defects.says) excused
+      (led-sure (image-sure right.file.is_told right.file.within m i right.file.says.image right.file.says.shape right.file.says.text) excused
       (led-after too-many (λ _ _. led-after unrepaired repaired))))
     where
       too-many : (refusal : Refusal) → HasTooMany right.image refusal → next_is (refuses refusal)

@@ -30,11 +30,11 @@ module _ (machine name image vectors : List ℕ) (old new : Around) where
       let m = right.shape in
       let i = right.image in
       let excused : Excuses old new (EndsWell old new) = λ refusal h. h in
-      led-sure (machine-sure right.machine_told right.machine_within m right.machine) excused
+      led-sure (machine-sure right.machine.is_told right.machine.within m right.machine.says) excused
       (led-after (attach-excused old new (record { shape = m; name = name })) (λ _ _.
-      led-sure (image-sure right.image_told right.image_within m i right.image_right right.image_shape right.image_is) excused
+      led-sure (image-sure right.file.is_told right.file.within m i right.file.says.image right.file.says.shape right.file.says.text) excused
       (record {
-        leads = λ text next. image-well (rows i) (begin i) old new right.vectors_file right.vectors_told right.no_fault text next tt;
+        leads = λ text next. image-well (rows i) (begin i) old new right.vectors.bytes right.vectors.is_told right.vectors.no_fault text next tt;
       })))
 
   -- after the line `outputs` memory is wanting only for more rows than there was room for
@@ -45,10 +45,10 @@ module _ (machine name image vectors : List ℕ) (old new : Around) where
   run-few few text more begins (inr (m, read, inr (u, attached, inl h))) = let empty = h.0 in absurd (cc)
   run-few few text more begins (inr (m, read, inr (u, attached, inr (i, given, h)))) =
       let r = few.right in
-      let shape = r.image_shape ∙ one-machine t.machine r.machine_file r.shape m r.machine_told r.machine read in
-      let same = one-image t.image r.image_file m r.image i r.image_told shape r.image_right r.image_is given in
-      let most = subst (λ (w : ImageValue). length (vectors_at (length w.inputs) r.vectors_file) ≤ most_rows) same few.few in
-      image-few (rows i) (begin i) new r.vectors_file r.vectors_told (λ count most. most) most text more begins h
+      let shape = r.file.says.shape ∙ one-machine t.machine r.machine.bytes r.shape m r.machine.is_told r.machine.says read in
+      let same = one-image t.image r.file.bytes m r.image i r.file.is_told shape r.file.says.image r.file.says.text given in
+      let most = subst (λ (w : ImageValue). length (vectors_at (length w.inputs) r.vectors.bytes) ≤ most_rows) same few.few in
+      image-few (rows i) (begin i) new r.vectors.bytes r.vectors.is_told (λ count most. most) most text more begins h
 
 pub run-lawful : (machine name image vectors : List ℕ) → IsLawful (run_job machine name image vectors)
 run-lawful machine name image vectors = record {

@@ -1,21 +1,17 @@
 -- What the command `run` is.
-use Rattle.std.specs.Prelude.{◌≡◌, ℕ, ◌≤◌, List, [], ◌∷◌, ◌++◌, length, None}
-use Rattle.tm_outside.specs.Told.{Told, holds}
+use Rattle.std.specs.Prelude.{◌≡◌, ℕ, ◌≤◌, List, [], ◌∷◌, ◌++◌, length}
+use Rattle.tm_outside.specs.Told.{Told}
 use Rattle.hierarchy.specs.declared.Shape.{Shape}
 use Rattle.machine_file.specs.Machine.{IsMachine}
-use Rattle.config_image.specs.Images.{ImageValue, IsImage, image_bytes}
-use Rattle.tm_text.specs.Size.{most_bytes}
-use Rattle.steps.specs.Files.{says_at, vectors_at}
+use Rattle.config_image.specs.Images.{ImageValue}
+use Rattle.steps.specs.Files.{AreRightVectors, vectors_at}
 use Rattle.steps.specs.Lines.{outputs_line}
-use Rattle.steps.specs.Outside.{Around, StandsIn}
+use Rattle.steps.specs.Outside.{Around}
 use Rattle.steps.specs.Courses.{Course, after}
-use Rattle.steps.specs.Texts.{reads_machine, reads_image, attaches, AsksMachine}
+use Rattle.steps.specs.Beginnings.{Unloaded, machine_attached}
+use Rattle.steps.specs.Texts.{IsImageText, IsRightFile, reads_machine, reads_image, AsksMachine}
 use Rattle.steps.specs.Jobs.{Job}
 use Rattle.image_rows.specs.Rows.{most_rows, image_rows, image_course}
-
--- the store stands in one of these files, the last asked first, and no load was made yet
-abbrev pub IsUnloadedIn : (files : List (List ℕ)) → Around → Around → Type 0
-IsUnloadedIn files old new = StandsIn files old.store new.store × (new.rig.loads ≡ old.rig.loads)
 
 -- The image is loaded by one load, and its rows are written
 abbrev pub image_run : (machine image vectors : List ℕ) → Around → Around → ImageValue → Course
@@ -26,20 +22,12 @@ image_run machine image vectors old new i =
 -- The image is read and run
 abbrev pub image_read : (machine image vectors : List ℕ) → Around → Around → Shape → Course
 image_read machine image vectors old new m =
-    after (reads_image (old.store.contents image) m) (IsUnloadedIn (image ∷ machine ∷ []) old new)
+    after (reads_image (old.store.contents image) m) (Unloaded (image ∷ machine ∷ []) old new)
     (image_run machine image vectors old new)
-
--- The machine is attached, and the image is read and run
-abbrev pub machine_attached : (machine name image vectors : List ℕ) → Around → Around → Shape → Course
-machine_attached machine name image vectors old new m =
-    after (attaches (record { shape = m; name = name }) old.rig new.rig) (IsUnloadedIn (machine ∷ []) old new)
-    (λ _. image_read machine image vectors old new m)
 
 -- The machine is read and attached, and the image is read and run
 abbrev pub run_course : (machine name image vectors : List ℕ) → Around → Around → Course
-run_course machine name image vectors old new =
-    after (reads_machine (old.store.contents machine)) (IsUnloadedIn (machine ∷ []) old new)
-    (machine_attached machine name image vectors old new)
+run_course machine name image vectors old new = machine_attached machine name old new (image_read machine image vectors old new)
 
 -- what is told of the files
 pub record RunFiles : Type 0 where
@@ -55,25 +43,14 @@ run_files old machine image vectors =
 pub record RunRight (t : RunFiles) : Type 0 where
   pub shape : Shape
   pub image : ImageValue
-  -- the bytes of the three files
-  pub machine_file : List ℕ
-  pub image_file : List ℕ
-  pub vectors_file : List ℕ
-  pub machine_told : t.machine ≡ holds machine_file
-  pub machine : IsMachine machine_file shape.counts
-  pub machine_within : length machine_file ≤ most_bytes
-  pub image_told : t.image ≡ holds image_file
-  pub image_right : IsImage image
-  pub image_shape : image.config.shape ≡ shape
-  pub image_is : image_bytes image ≡ image_file
-  pub image_within : length image_file ≤ most_bytes
-  pub vectors_told : t.vectors ≡ holds vectors_file
-  pub no_fault : (says_at (length image.inputs) vectors_file).fault ≡ None
+  pub machine : IsRightFile t.machine (λ bytes. IsMachine bytes shape.counts)
+  pub file : IsRightFile t.image (λ bytes. IsImageText shape bytes image)
+  pub vectors : AreRightVectors t.vectors (length image.inputs)
 
 -- and there are no more vectors than there is room for
 pub record RunFew (t : RunFiles) : Type 0 where
   pub right : RunRight t
-  pub few : length (vectors_at (length right.image.inputs) right.vectors_file) ≤ most_rows
+  pub few : length (vectors_at (length right.image.inputs) right.vectors.bytes) ≤ most_rows
 
 abbrev pub run_job : (machine name image vectors : List ℕ) → Job
 run_job machine name image vectors = record {

@@ -1,24 +1,20 @@
 -- What a program comes to, from what its words ask for.
-use Rattle.std.proofs.Common.{◌≡◌, ◌∙◌, ℕ, List, Bool, true, false, ap, subst, inl, inr}
+use Rattle.std.proofs.Common.{◌≡◌, ◌∙◌, ℕ, List, ap, subst}
 use Rattle.std.specs.List.{list_any}
 use Rattle.steps.specs.Outside.{Outside}
 use Rattle.steps.specs.Jobs.{Job}
 use Rattle.steps.specs.Ends.{Ended}
+use Rattle.steps.specs.Words.{Asked, no_job, a_job, HasNoJob, job_of, asked_if, is_dashed}
+use Rattle.steps.proofs.AskedLemmas.{ended-asked}
 use Rattle.steps.proofs.Done.{EndedAs}
-use Rattle.tera_top.specs.Words.{Asked, no_job, a_job, HasNoJob, job_of, asked_if, commands, asked_in, asked_by, is_dashed}
-
-abbrev EndedSo : (old new : Outside) → (status : ℕ) → Asked → Type 0
-EndedSo old new status asked = Ended (HasNoJob asked) (job_of asked) old new status
+use Rattle.tera_top.specs.Words.{commands, asked_in, asked_by}
 
 -- words that the table has a line for are wrong, since one begins with `-`, or the job was done
 pub ended-as : {line : List (List ℕ)} {job : Job} (words : List (List ℕ)) {status : ℕ} (old new : Outside)
     → Ended (HasNoJob (asked_by words)) (job_of (asked_by words)) old new status
     → words ≡ line → asked_in commands line ≡ a_job job → EndedAs job old new status
-ended-as {line} {job} words {status} old new ended is asks = by_test (list_any is_dashed line) (subst (EndedSo old new status) same ended)
+ended-as {line} {job} words {status} old new ended is asks =
+    ended-asked (list_any is_dashed line) old new (subst (λ (asked : Asked). Ended (HasNoJob asked) (job_of asked) old new status) same ended)
   where
     same : asked_by words ≡ asked_if (list_any is_dashed line) no_job (a_job job)
     same = ap asked_by is ∙ ap (asked_if (list_any is_dashed line) no_job) asks
-
-    by_test : (b : Bool) → EndedSo old new status (asked_if b no_job (a_job job)) → EndedAs job old new status
-    by_test true e = inl e
-    by_test false e = inr e

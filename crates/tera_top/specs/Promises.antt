@@ -2,6 +2,7 @@
 use Rattle.std.specs.Prelude.{ℕ, List}
 use Rattle.steps.specs.Outside.{Outside}
 use Rattle.steps.specs.Ends.{Ended}
+use Rattle.steps.specs.Words.{HasNoJob, job_of}
 use Rattle.tera_eval.specs.Promises.{EvalPromises}
 use Rattle.tera_compile.specs.Promises.{CompilePromises}
 use Rattle.tera_run.specs.Promises.{RunPromises}
@@ -11,7 +12,7 @@ use Rattle.tera_bench.specs.Promises.{BenchPromises}
 use Rattle.tera_check.specs.Promises.{CheckPromises}
 use Rattle.tera_repair.specs.Promises.{RepairPromises}
 use Rattle.tera_pair.specs.Promises.{PairPromises}
-use Rattle.tera_top.specs.Words.{HasNoJob, job_of, asked_by}
+use Rattle.tera_top.specs.Words.{asked_by}
 
 -- Of these words, to this status: what was asked, what was written, what stays, and the cause of the status; and what each command
 -- promises where the words are its own

@@ -21,7 +21,7 @@ links-init g c = record {
   tried = tried_none refl;
   marks = c.requires.marks;
   spends = spends_none refl refl;
-  looked = λ i b less at. absurd (let no : ⊥ = omega (arith, less) in no);
+  also = λ i b less at. absurd (let no : ⊥ = omega (arith, less) in no);
 }
 
 pub links-preserved-in_default : goal.links-preserved-in_default
@@ -33,7 +33,7 @@ links-preserved-in_default g c =
       tried = old.tried;
       marks = old.marks;
       spends = old.spends;
-      looked = looks_past c.args.place c.wire_at-wire.result.0 c.links.j (sym c.link_at.ensures ∙ c.in_default.is) old.looked;
+      also = looks_past c.args.place c.wire_at-wire.result.0 c.links.j (sym c.link_at.ensures ∙ c.in_default.is) old.also;
     }
 
 pub look_over-requires-clause-links : goal.look_over-requires-clause-links
@@ -71,13 +71,13 @@ links-preserved g c =
           (subst (λ (told : Option Faults). AreTried told c.look_over.new.proof c.look_over.new.known.steps c.links.marks.barred c.look_over.new.marks.barred) same c.in_ok-look_over.ensures.tried);
       marks = subst (λ (told : Option Faults). AreAllMarks told c.look_over.new.proof c.args.near.now.items c.look_over.new.known.steps c.look_over.new.marks) same c.in_ok-look_over.ensures.marks;
       spends = spends_then old.advances.more old.advances.holds old.spends (spends_told same c.look_over.ensures.spends);
-      looked = looks_next c.args.place c.wire_at-wire.result.0 c.links.j c.in-Some.link more step (let low = c.requires.place in omega (arith, low, long)) (sym c.link_at.ensures ∙ c.in-Some.is)
+      also = looks_next c.args.place c.wire_at-wire.result.0 c.links.j c.in-Some.link more step (let low = c.requires.place in omega (arith, low, long)) (sym c.link_at.ensures ∙ c.in-Some.is)
           (subst (λ (told : Option Faults). IsLooked told c.look_over.new.proof c.args.near.now.items c.look_over.new.known.steps c.look_over.new.marks.barred c.args.place c.in-Some.link.cross.0 c.in-Some.link.wire.0) same
-          c.in_ok-look_over.ensures.looked) old.looked;
+          c.in_ok-look_over.ensures.looked) old.also;
     }
 
 pub returns-clause-grown : goal.returns-clause-grown
 returns-clause-grown g c =
     let old = c.links.invariant in
     λ grown. grown_next c.requires.links (subst (λ ss. IsAt ss c.args.place c.wire_at-wire.result.0) (sym old.grows.steps) (at_later old.grows.more c.wire_at-wire.ensures.at))
-    (looks_all c.args.place c.wire_at-wire.result.0 _ (omega arith) old.looked) (grown_on old.advances.more (let low = c.requires.place in omega (arith, low)) old.grows grown)
+    (looks_all c.args.place c.wire_at-wire.result.0 _ (omega arith) old.also) (grown_on old.advances.more (let low = c.requires.place in omega (arith, low)) old.grows grown)

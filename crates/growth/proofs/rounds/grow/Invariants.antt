@@ -1,12 +1,8 @@
-use Rattle.evidence.specs.Kept.{Advances}
-use Rattle.growth.proofs.Circling.{IsGrowing}
+use Rattle.growth.proofs.SoFar.{HasGrown}
 use Rattle.growth.proofs.rounds.grow.Given as goal
 
 abbrev pub invariant-pins : goal.invariant-pins
 invariant-pins g l =
     let rig0 = (goal.Rig-dyn g (l.fn.rig.vtable, l.fn.rig.value)).rig_state l.fn.rig.value in
     let rig = (goal.Rig-dyn g (l.rig.vtable, l.rig.value)).rig_state l.rig.value in
-    record {
-      advances : Advances rig0 rig l.fn.proof l.proof;
-      growing : IsGrowing rig0.machine.faults l.fn.proof l.proof l.field l.near.items l.fn.known l.known l.marks rig0.loads rig.loads l.pin;
-    }
+    HasGrown rig0 rig l.fn.proof l.proof l.field l.near.items l.fn.known l.known l.marks l.pin

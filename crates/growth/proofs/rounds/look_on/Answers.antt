@@ -18,10 +18,9 @@ places-init g c = record {
   advances = advances_itself _ c.args.proof.now;
   grows = grows_itself c.requires.known (more_itself c.args.proof.now) refl;
   tried = tried_none refl;
-  within = c.requires.from;
-  grown = λ grown. grown;
   marks = c.requires.marks;
   spends = spends_none refl refl;
+  also = (c.requires.from, λ grown. grown);
 }
 
 pub look_at-requires-clause-links : goal.look_at-requires-clause-links
@@ -59,15 +58,17 @@ places-preserved g c =
       grows = grows_then old.grows step;
       tried = tried_then step.more step.steps more old.tried
           (subst (λ (told : Option Faults). AreTried told c.look_at.new.proof c.look_at.new.known.steps c.places.marks.barred c.look_at.new.marks.barred) same c.in_ok-look_at.ensures.tried);
-      within = omega (arith, long, len);
-      grown = λ grown. subst (λ (told : Option Faults). IsGrown told c.places.proof c.args.near.now.items c.places.known.steps c.places.marks.barred c.places.place →
-          IsGrown told c.look_at.new.proof c.args.near.now.items c.look_at.new.known.steps c.look_at.new.marks.barred (c.places.place + 1)) same c.in_ok-look_at.ensures.grown (old.grown grown);
       marks = subst (λ (told : Option Faults). AreAllMarks told c.look_at.new.proof c.args.near.now.items c.look_at.new.known.steps c.look_at.new.marks) same c.in_ok-look_at.ensures.marks;
       spends = spends_then old.advances.more old.advances.holds old.spends (spends_told same c.look_at.ensures.spends);
+      also = (
+        omega (arith, long, len),
+        λ grown. subst (λ (told : Option Faults). IsGrown told c.places.proof c.args.near.now.items c.places.known.steps c.places.marks.barred c.places.place →
+            IsGrown told c.look_at.new.proof c.args.near.now.items c.look_at.new.known.steps c.look_at.new.marks.barred (c.places.place + 1)) same c.in_ok-look_at.ensures.grown (old.also.1 grown),
+      );
     }
 
 pub returns-clause-grown : goal.returns-clause-grown
 returns-clause-grown g c =
     let old = c.places.invariant in
-    let end : c.places.place ≡ length c.places.known.steps = (let within = old.within in let len = c.len.ensures.len in omega (arith, within, len)) in
-    λ grown. grown_at end (old.grown grown)
+    let end : c.places.place ≡ length c.places.known.steps = (let within = old.also.0 in let len = c.len.ensures.len in omega (arith, within, len)) in
+    λ grown. grown_at end (old.also.1 grown)

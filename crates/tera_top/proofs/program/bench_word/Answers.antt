@@ -1,4 +1,4 @@
-use Rattle.tera_top.proofs.AskedLemmas.{does-none, does-job}
+use Rattle.steps.proofs.AskedLemmas.{does-none, does-job}
 use Rattle.tera_top.proofs.program.bench_word.Goals as goal
 
 pub returns-in-Some : goal.returns-in-Some

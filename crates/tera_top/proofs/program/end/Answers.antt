@@ -1,6 +1,6 @@
 use Rattle.std.proofs.Common.{map, string_bytes}
 use Rattle.tera_top.specs.Words.{asked_by}
-use Rattle.tera_top.proofs.AskedLemmas.{ends-so}
+use Rattle.steps.proofs.AskedLemmas.{ends-so}
 use Rattle.tera_top.proofs.program.end.Goals as goal
 
 pub returns : goal.returns

@@ -1,7 +1,6 @@
 use Rattle.std.proofs.Common.{string_bytes, Global}
-use Rattle.tera_top.specs.Words.{is_dashed}
-use Rattle.tera_top.proofs.WordLemmas.{list_any-map}
-use Rattle.tera_top.proofs.AskedLemmas.{does-none}
+use Rattle.steps.specs.Words.{is_dashed}
+use Rattle.steps.proofs.AskedLemmas.{does-none, list_any-map}
 use Rattle.tera_top.proofs.program.work.Goals as goal
 
 pub returns-then-some_begins_dashed : goal.returns-then-some_begins_dashed

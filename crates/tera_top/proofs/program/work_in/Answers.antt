@@ -1,7 +1,7 @@
 use Rattle.std.proofs.Common.{◌∙◌, map, string_bytes, sym}
 use Rattle.std.specs.Prelude.{codes}
 use Rattle.tera_top.proofs.WordLemmas.{begun}
-use Rattle.tera_top.proofs.AskedLemmas.{does-none, does-job}
+use Rattle.steps.proofs.AskedLemmas.{does-none, does-job}
 use Rattle.tera_top.proofs.program.work_in.Goals as goal
 
 pub returns-then-begins : goal.returns-then-begins
