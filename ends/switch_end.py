@@ -2,6 +2,9 @@
 
 Strengths carry the rule for a wire's value: stuck at 0 is strong, stuck at 1 is pull, a pin or a table that gives 0 is
 weak, and what nothing pulls floats, which is read as 1. verilog/switch_port.v answers requests with it.
+
+A simulator looks at every switch whenever a pin changes. So where no table is on, four cycles are made at once: in the second
+pins pull to a weak 1, in the last two to a medium 0 and 1. What the first and the second pull is a weak x, and so on.
 """
 
 from machine import INPUTS, OUTPUT
@@ -15,9 +18,9 @@ def header(machine):
 `define CROSSES {len(machine.crosses)}
 `define COUNTS "{machine.counts_text}"
 `define MOST_LOADS {machine.most_loads}
-module machine(input load, input tick, input clock_edge, input [`PINS-1:0] drive, output [`PINS-1:0] read);
+module machine(input load, input tick, input clock_edge, input [4*`PINS-1:0] pull, output [4*`PINS-1:0] read, output [`PINS-1:0] hidden);
   // what is set: the port writes these
-  reg on [0:`TABLES-1];
+  reg [`TABLES-1:0] on;
   reg [63:0] cells [0:`TABLES-1];
   reg [1:0] flags [0:`TABLES-1];"""
 
@@ -27,22 +30,27 @@ def row(at, tap):
     return f"closed{at}_{tap}"
 
 
+def choice(rows, depth):
+    """Statements that write the crosspoint of number x, whose row is found by halving."""
+    indent, half = "  " * depth, len(rows) // 2
+    if not half:
+        return [f"{indent}{rows[0][1]}[x - {rows[0][0]}] = is_closed;"]
+    return [f"{indent}if (x < {rows[half][0]})", *choice(rows[:half], depth + 1), f"{indent}else", *choice(rows[half:], depth + 1)]
+
+
 def setting(machine):
     """The registers of crosspoints, and the tasks that write them."""
-    registers, tests, rows = [], [], []
+    registers, rows = [], []
     for at, node in enumerate(machine.nodes):
-        width, first = len(node.lines), node.first
-        names = [row(at, tap) for tap in range(len(node.taps))]
-        rows += names
-        registers += [f"  reg [{width - 1}:0] {name} = 0;" for name in names]
-        arms = " ".join(f"{tap}: {name}[(x - {first}) % {width}] = is_closed;" for tap, name in enumerate(names))
-        tests.append(f"    if (x >= {first} && x < {node.crosses.stop}) case ((x - {first}) / {width}) {arms} endcase")
-    opening = " ".join(f"{name} = 0;" for name in rows)
+        width = len(node.lines)
+        rows += [(node.first + tap * width, row(at, tap)) for tap in range(len(node.taps))]
+        registers += [f"  reg [{width - 1}:0] {row(at, tap)} = 0;" for tap in range(len(node.taps))]
+    opening = " ".join(f"{name} = 0;" for _, name in rows)
     return [
         *registers,
-        "  task set(input integer x, input is_closed); begin",
-        *tests,
-        "  end endtask",
+        "  task set(input integer x, input is_closed);",
+        *choice(rows, 2),
+        "  endtask",
         f"  task open_all; begin {opening} end endtask",
     ]
 
@@ -67,8 +75,8 @@ def wires(machine, faults):
         strengths = "(highz0, pull1)" if value else "(strong0, highz1)"
         yield f"  assign {strengths} wire{wire} = {value};"
     for pin, wire in enumerate(machine.pins):
-        yield f"  {WEAK} wire{wire} = drive[{pin}];"
-        yield f"  assign read[{pin}] = wire{wire} !== 0;"
+        ways = ", ".join(f"{{{', '.join(f'{name}[{k} * `PINS + {pin}]' for k in range(3, -1, -1))}}}" for name in ("pull", "read"))
+        yield f"  switch_pin pin{pin}(wire{wire}, {ways}, hidden[{pin}]);"
 
 
 def tables(machine, faults):

@@ -13,6 +13,7 @@ sys.path.insert(0, str(HERE))
 
 import c_end
 import compare
+import cost
 import overlay_end
 import switch_end
 from asker import Asker, DevicePort, WrongReply, edits
@@ -115,6 +116,9 @@ class Lines(unittest.TestCase):
     def test_talk(self):
         for request, reply in TALK:
             self.assertEqual(self.device.answer(request.encode()), reply.encode() + b"\n")
+
+    def test_cycles_of_loads(self):
+        self.assertEqual(cost.cycles_of(b"a*61\nc0 l d0e d0f*f0\nd0f*fa\nz l d0e*00\n"), [3, 1])
 
     def test_several_drives(self):
         self.device.answer(b"c0 c4 l d0f")
@@ -245,6 +249,10 @@ class Programs(unittest.TestCase):
     @unittest.skipUnless(shutil.which("cc"), "no compiler of C")
     def test_c(self):
         self.check("c")
+
+    @unittest.skipUnless(shutil.which("iverilog"), "no Icarus")
+    def test_switch(self):
+        self.check("switch")
 
     def test_refused_texts(self):
         words = [sys.executable, HERE / "make.py", "c", EXAMPLES / "tiny.faults", "-o", self.folder]

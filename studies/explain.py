@@ -19,6 +19,10 @@ ENDINGS = {".machine": "machine", ".faults": "rig", ".defects": "defects", ".ima
 # What isn't said by the kind's own word, or by a look into the files.
 KINDS = {
     "byte": "a byte that may not stand in a text; of a file that was saved as UTF-16 every second one",
+    "doubled": "this stands there already: a second time, or a signal that two lines drive",
+    "against": "an earlier line says the other value of the same part",
+    "cyclic": "covers that read each other in a circle without a latch, from this line's cover on",
+    "undriven": "no .inputs, .names or .latch gives a value to the signal that is named",
     "latchtype": "only latches of type re are known; let yosys run dfflegalize and dffunmap (docs/BLIF.md)",
     "leftout": "a BLIF line that isn't read; let yosys map to .names and .latch (docs/BLIF.md)",
     "nomodel": "the first line isn't .model: is this a BLIF file?",
@@ -40,9 +44,8 @@ def words_wrong(words):
     wanted = COMMANDS[words[0]].split()
     if len(words) - 1 != len(wanted):
         return f"`{words[0]}` takes {len(wanted)} words ({' '.join(wanted).upper()}), and {len(words) - 1} were given"
-    for word in words:
-        if word.startswith("-"):
-            return f"`{word}` begins with -, and there are no options; of a file with this name write ./{word}"
+    if word := next((word for word in words if word.startswith("-")), ""):
+        return f"`{word}` begins with -, and there are no options; of a file with this name write ./{word}"
     return f"`{words[1]}` is no number from 0 to 4,294,967,295 without leading zeros" if words[0] == "bench" else "the words look right"
 
 

@@ -44,11 +44,9 @@ def count_of(wanted, parts, chance):
     if wanted in (0.0, 1.0):
         return round(wanted * parts)
     found, at = 0, -1
-    while True:
-        at += 1 + int(math.log(1.0 - chance.random()) / math.log(1.0 - wanted))
-        if at >= parts:
-            return found
+    while (at := at + 1 + int(math.log(1.0 - chance.random()) / math.log(1.0 - wanted))) < parts:
         found += 1
+    return found
 
 
 def largest_rate(room, parts):
@@ -65,10 +63,9 @@ class Places:
 
     def near(self, parts, at, spread):
         """A place near another; one beyond the edge is drawn anew."""
-        while True:
-            found = round(self.chance.gauss(at, spread))
-            if 0 <= found < parts:
-                return found
+        while not 0 <= (found := round(self.chance.gauss(at, spread))) < parts:
+            pass
+        return found
 
     def middle(self, group):
         """What a new cluster lies around: a part, or a hextant."""

@@ -16,12 +16,14 @@ from program import wilson
 
 plt.switch_backend("svg")
 plt.rcParams.update({"svg.hashsalt": "teramac", "legend.fontsize": 8, "legend.handlelength": 3.6, "axes.grid": True, "grid.alpha": 0.3})
-LOADS = {"all loads": "loads", "of growth": "loads_growth", "of the sweep": "loads_sweep", "of tests of tables": "loads_tables"}
-NUMBERS = [*"crosspoints rate seed faults thrown_wires thrown_crosses thrown_tables tables closed spare".split(), *LOADS.values()]
+PARTS = {"": "", " of growth": "_growth", " of the sweep": "_sweep", " of tests of tables": "_tables"}
+COSTS = {cost + words: cost + name for cost in ("loads", "cycles") for words, name in PARTS.items()}
+NUMBERS = [*"crosspoints rate seed faults thrown_wires thrown_crosses thrown_tables tables closed spare".split(), *COSTS.values()]
 UNDECIDED = ("cut off", "6")  # or no memory, which says nothing of room; counted apart
 DECIDED = ("0", "3", "wrong")
 LEVELS = ("root", "module", "chip", "hextant")
 SHARE = ["share", "low", "high", "runs", "undecided"]
+STUDENT = (12.71, 4.303, 3.182, 2.776, 2.571, 2.447, 2.365, 2.306)  # quantiles for 1 to 8 degrees of freedom
 STYLES = {  # how each list is drawn, named, and modelled
     "exact": ("-", "o", "exact list", "every fault and nothing else is listed; compile, run"),
     "diagnosed": ((0, (5, 2)), "s", "own diagnosis", "the list of diagnose; compile, run"),
@@ -65,9 +67,6 @@ def share(rows, holds=lambda row: row["status"] == "0"):
     return [hits / len(decided) if decided else math.nan, *wilson(hits, len(decided)), len(decided), len(rows) - len(decided)]
 
 
-STUDENT = (12.71, 4.303, 3.182, 2.776, 2.571, 2.447, 2.365, 2.306)  # quantiles for 1 to 8 degrees of freedom
-
-
 def mean(values):
     """The mean with its interval of 95 % by Student's law, and how many there are."""
     middle, free = sum(values) / len(values), max(1, len(values) - 1)
@@ -79,7 +78,7 @@ def mean(values):
 def facets(rows, columns=("machine", "kind")):
     """A picture with one pair of axes for each machine and kind; gives it, and for each the axes and the rows."""
     parts = split(rows, *columns)
-    across = 2 if len(parts) == 4 else min(3, len(parts))
+    across = {4: 2, 8: 4}.get(len(parts), min(3, len(parts)))
     down = -(-len(parts) // across)
     picture, axes = plt.subplots(down, across, figsize=(1.6 + 5.6 * across, 4.2 * down), squeeze=False, layout="constrained")
     for spare in axes.flat[len(parts) :]:
@@ -201,24 +200,26 @@ def thrown(rows, _):
 
 
 def loads(rows, per_second):
-    """Loads of a diagnosis, in all and by part, and what they take on a machine of so many loads a second"""
+    """Loads and cycles of a diagnosis, in all and by part, and what loads take on a machine of so many a second"""
     rows, columns = diagnoses(rows, "loads"), ["mean", "low", "high", "diagnoses", "seconds"]
     if not rows:
         return nothing("no loads were told: build crates/teramac_report (rt run there) or name it by TERAMAC_REPORT"), columns, []
     one = len({row["crosspoints"] for row in rows}) == 1  # then against the rate
     series, along = (("machine", "kind"), "rate") if one else (("kind", "rate"), "crosspoints")
-    rows = [{**row, "part": part, "loads": row[name]} for row in rows for part, name in LOADS.items() if row[name] is not None]
+    rows = [{**row, "part": part, "count": row[name]} for row in rows for part, name in COSTS.items() if row[name] is not None]
     picture, parts = facets(rows, ("part",))
-    table, most = [], max(row["loads"] for row in rows)
+    table, most = [], max(row["count"] for row in rows)
     for axes, part, runs in parts:
+        of_loads = part[0].startswith("loads")
         for (names, those), marker in zip(split(runs, *series).items(), cycle("os^Dv")):
-            points = {x: mean([row["loads"] for row in of]) for (x,), of in split(those, along).items()}
-            table += [[*part, *names, x, *point, point[0] / per_second] for x, point in points.items()]
+            points = {x: mean([row["count"] for row in of]) for (x,), of in split(those, along).items()}
+            table += [[*part, *names, x, *point, point[0] / per_second if of_loads else ""] for x, point in points.items()]
             words = [f"rate {name:g}" if isinstance(name, float) else name for name in names]
             curve(axes, points, points.values(), 0, ("-", marker), label=", ".join(words))
         axes.set(xlabel="rate of faults" if one else "crosspoints of the machine", xscale="linear" if one else "log")
-        axis_of_counts(axes, most, "loads (mean, bars: 95 %)")
-        axis_of_counts(axes.twinx(), most, f"seconds at {per_second:g} loads a second", per_second)
+        axis_of_counts(axes, most, f"{part[0].split()[0]} (mean, bars: 95 %)")
+        if of_loads:
+            axis_of_counts(axes.twinx(), most, f"seconds at {per_second:g} loads a second", per_second)
     parts[0][0].legend(fontsize=7)
     return picture, ["part", *series, along, *columns], table
 

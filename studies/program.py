@@ -14,8 +14,9 @@ import teramac_texts as texts
 HERE = os.path.dirname(os.path.abspath(__file__))
 DEFAULT = os.environ.get("TERAMAC", os.path.normpath(os.path.join(HERE, "../crates/teramac/out/teramac")))
 # Other programs: as the environment says (TERAMAC_MAP, ..), as they stand built here, or on the path; '' where one isn't there.
-OTHERS = {name: os.environ.get(name.upper(), f"{HERE}/../crates/{name}/out/{name}") for name in ("teramac_report", "teramac_map")}
-REPORT, MAPPER = (path if os.path.exists(path) else shutil.which(name) or "" for name, path in OTHERS.items())
+NAMES = ("teramac_report", "teramac_port", "teramac_map")
+OTHERS = {name: os.environ.get(name.upper(), f"{HERE}/../crates/{name}/out/{name}") for name in NAMES}
+REPORT, PORT, MAPPER = (path if os.path.exists(path) else shutil.which(name) or "" for name, path in OTHERS.items())
 
 
 class Answer:

@@ -31,8 +31,7 @@ def counts_for(network, tree, spare, tables=0):
 
 def best_machine(network, trees, spare):
     """Of the trees the one with the fewest crosspoints, within the limits of a machine."""
-    found = [counts_for(network, tree, spare) for tree in trees]
-    found = [texts.Machine(counts) for counts in found if texts.are_within_limits(counts)]
+    found = [texts.Machine(counts) for tree in trees if texts.are_within_limits(counts := counts_for(network, tree, spare))]
     if not found:
         sys.exit("no machine within the limits (16,384 wires, 4,194,304 crosspoints, 4,096 tables) holds this design")
     return min(found, key=lambda machine: machine.sizes["cross"])

@@ -20,7 +20,7 @@ import yaml
 
 import designs
 import teramac_texts as texts
-from program import DEFAULT, HERE, MAPPER, REPORT, add_program, checked_design
+from program import DEFAULT, HERE, MAPPER, PORT, REPORT, add_program, checked_design
 from size import TREES, best_machine, counts_for
 
 KNOWN = set("folder machines designs fill spares tree kinds rates seeds first_seed lists clustered shape seconds".split())
@@ -56,8 +56,7 @@ class Study:
     def __init__(self, path, program=None, folder=None):
         path = path if os.path.isfile(path) else os.path.join(HERE, path + ".yaml")
         try:
-            with open(path, encoding="utf-8") as file:
-                self.settings = yaml.safe_load(file)
+            self.settings = yaml.safe_load(Path(path).read_text(encoding="utf-8"))
         except (OSError, yaml.YAMLError) as error:
             sys.exit(f"{path}: {error}")
         self.complain(path)
@@ -124,12 +123,13 @@ class Study:
         lists = [name for name in get("lists", ["exact", "diagnosed"]) if name != "mapped" or MAPPER]
         more = ["--lists", ",".join(lists), "--mapper", MAPPER, "--seconds", str(get("seconds", 600))]
         more += ["--clustered", str(get("clustered", 0)), "--shape", get("shape", "spots"), "--program", self.program, "--report", REPORT]
+        more += ["--port", PORT if "loads" in self.figures else ""]
         places = list(self.on_machines())
         # Seed by seed, so that one can see early how a study comes out.
         for seed in range(first, first + self.settings["seeds"]):
             for (name, machine, spare, listed), kind, rate in product(places, self.settings["kinds"], self.settings["rates"]):
                 pairs = [f"{design}={blif}:{vectors}" for design, (blif, vectors) in listed.items()]
-                others = filter(None, (REPORT, "mapped" in lists and MAPPER))
+                others = filter(None, (REPORT, "mapped" in lists and MAPPER, "loads" in self.figures and PORT))
                 inputs = [self.program, machine, *(file for pair in listed.values() for file in pair), *others]
                 spared = [] if spare is None else ["--spare", str(spare)]
                 words = [machine, *pairs, "--name", name, *spared, "--kind", kind, "--rate", str(rate), "--seed", str(seed), *more]

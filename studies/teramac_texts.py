@@ -17,6 +17,11 @@ FAULT_LIMIT, CLOSED_LIMIT = 65_536, 1_048_576
 PARTS = ("wire", "cross", "table")
 LEVELS = ("root", "module", "chip", "hextant")
 BLANK = str.maketrans("\t\r", "  ")
+FORMS = {1: "defects 1", 2: "shape( [0-9]+){12}"}
+ENTRY_FORM = "(wire|table|cross [^ ]+) [^ ]+|end"
+FAULT_WORDS = {"stuck0": 2, "stuck1": 2, "open": 3, "closed": 3, "cell": 4, "register": 3, "bridge": 3}
+AGAINST = {"stuck0": "stuck1", "stuck1": "stuck0", "open": "closed", "closed": "open"}
+MACHINE_WORDS = {"teramac": 2, "modules": 2, "chips": 2, "hextants": 2, "tables": 2, "ports": 4, "lines": 5, "pins": 2, "end": 1}
 
 
 class Refused(Exception):
@@ -147,9 +152,6 @@ def are_within_limits(counts):
     return all(count <= most for count, most in zip(sizes_of(counts), LIMITS))
 
 
-MACHINE_WORDS = {"teramac": 2, "modules": 2, "chips": 2, "hextants": 2, "tables": 2, "ports": 4, "lines": 5, "pins": 2, "end": 1}
-
-
 def read_machine(data):
     """The machine of a text."""
     due, counts = list(MACHINE_WORDS), []
@@ -171,10 +173,6 @@ def read_machine(data):
     if due:
         raise Refused("machine", 0, "missing")
     return Machine(counts[1:])
-
-
-FAULT_WORDS = {"stuck0": 2, "stuck1": 2, "open": 3, "closed": 3, "cell": 4, "register": 3, "bridge": 3}
-AGAINST = {"stuck0": "stuck1", "stuck1": "stuck0", "open": "closed", "closed": "open"}
 
 
 class Faults(dict):
@@ -288,10 +286,6 @@ def sound_listed(machine, faults, defects):
     bad = faults.parts
     sound = set(range(machine.sizes["wire"])).difference(bad["wire"], *short_groups(machine, faults))
     return [sum(sound.issuperset(machine.wires_of(kind, at)) for at in defects[kind] - bad[kind]) for kind in PARTS]
-
-
-FORMS = {1: "defects 1", 2: "shape( [0-9]+){12}"}
-ENTRY_FORM = "(wire|table|cross [^ ]+) [^ ]+|end"
 
 
 def read_defects(machine, data):

@@ -64,8 +64,9 @@ class Figures(unittest.TestCase):
             rows = rows_of(list=["diagnosed"], machine=machines, rate=[0.1], loads=[6.0], loads_sweep=[swept], loads_growth=[2.0])
             picture, columns, table = figures.loads([{**row, "crosspoints": ord(row["machine"])} for row in rows], 100)
             found = {row["part"]: [row["mean"], row["seconds"]] for row in (dict(zip(columns, line)) for line in table)}
-            self.assertEqual((found.get("of the sweep"), found["all loads"]), (swept and [4, 0.04], [6, 0.06]))
-            self.assertEqual((picture.axes[0].get_xlabel(), len(picture.axes)), (label, 2 * len(found)))
+            self.assertEqual((found.get("loads of the sweep"), found["loads"]), (swept and [4, 0.04], [6, 0.06]))
+            self.assertEqual((picture.axes[0].get_xlabel(), len(picture.axes)), (label, 2 * len(found) - 4))
+            self.assertEqual(found["cycles of growth"], [1, ""])
 
     def test_ticks_and_legends(self):
         picture, _, _ = figures.thrown(rows_of(list=["diagnosed"], rate=[0.1, 0.2], thrown_wires=[2000.0]), 0)
@@ -101,10 +102,8 @@ class Figures(unittest.TestCase):
 class Kinds(unittest.TestCase):
     def test_clusters_are_not_heaped_at_edges(self):
         """Line 31 next to line 30: with what falls beyond the edge put onto it, it had several times as many."""
-        chance = random.Random(1)
-        places, found = Places(SMALL, chance, 9, "spots"), Counter()
-        for _ in range(4000):
-            found[places.near(32, 30, 3)] += 1
+        places = Places(SMALL, random.Random(1), 9, "spots")
+        found = Counter(places.near(32, 30, 3) for _ in range(4000))
         self.assertLess(found[31], 1.25 * found[30])
         self.assertLess(found[30], 1.4 * found[28])
 
@@ -222,8 +221,7 @@ class Runs(unittest.TestCase):
             for name, line in (("apt-get", 'echo "apt-get $*"'), ("sudo", 'echo "sudo $*"'), ("id", f"echo {user}")):
                 (self.folder / name).write_text(f"#!/bin/sh\n{line}\n")
                 (self.folder / name).chmod(0o755)
-            path = {**os.environ, "PATH": f"{self.folder}:{os.environ['PATH']}"}
-            ran = run("setup", *lean, command="sh", env=path)
+            ran = run("setup", *lean, command="sh", env={**os.environ, "PATH": f"{self.folder}:{os.environ['PATH']}"})
             self.assertTrue(ran.stdout.splitlines()[1].startswith(said))
             self.assertEqual("snakemake" in ran.stdout, not lean)
 

@@ -15,11 +15,12 @@ from pathlib import Path
 import designs
 import teramac_texts as texts
 from faults import KINDS, SHAPES, add_clusters, amount, make_faults
-from program import MAPPER, REPORT, add_program, call
+from program import HERE, MAPPER, REPORT, add_program, call
 
 COLUMNS = (
     "machine crosspoints kind rate seed faults design list status refusal listed_wires listed_crosses listed_tables thrown_wires "
-    "thrown_crosses thrown_tables tables nets crossings closed seconds diagnose_seconds loads loads_sweep loads_growth loads_tables spare"
+    "thrown_crosses thrown_tables tables nets crossings closed seconds diagnose_seconds loads loads_sweep loads_growth loads_tables "
+    "cycles cycles_sweep cycles_growth cycles_tables spare"
 ).split()
 LISTS = ("exact", "diagnosed", "mapped", "wires", "hextants", "none", "triplicated")
 UNDIAGNOSED = ("none", "triplicated")
@@ -55,24 +56,21 @@ def wires_list(machine, faults):
 def hextants_list(machine, faults):
     """The exact list, and of each hextant with a part on it all wires."""
     found = texts.exact_list(machine, faults)
-    wires = set(found["wire"])
     for node in machine.nodes:
         if node.level == 3:
             inside = range(node.ports.start, node.lines.stop + 7 * len(node.tables))
             crosses = range(node.first, node.first + len(node.taps) * len(node.lines))
             if not (found["wire"].isdisjoint(inside) and found["cross"].isdisjoint(crosses) and found["table"].isdisjoint(node.tables)):
-                wires.update(inside)
-    found["wire"] = wires
+                found["wire"].update(inside)
     for kind in ("cross", "table"):
-        found[kind] = {at for at in found[kind] if wires.isdisjoint(machine.wires_of(kind, at))}
+        found[kind] = {at for at in found[kind] if found["wire"].isdisjoint(machine.wires_of(kind, at))}
     return found
-
-
-BY_FAULTS = {"exact": texts.exact_list, "mapped": texts.exact_list, "wires": wires_list, "hextants": hextants_list}
 
 
 class Trial:
     """One set of faults, and what is the same in all its rows."""
+
+    LISTED = {"exact": texts.exact_list, "mapped": texts.exact_list, "wires": wires_list, "hextants": hextants_list}
 
     def __init__(self, args):
         self.args = args
@@ -132,19 +130,21 @@ class Trial:
         return self.compared(ran, design, vectors, promised), self.shape_of(image.written)
 
     def loads(self):
-        """The loads of a diagnosis, in all and by part, by the program of reports; none without it."""
+        """The loads of a diagnosis, in all and by part, by the program of reports; with that of ports the cycles too."""
         if not self.args.report:
             return {}
-        answer = call(self.args.report, self.args.machine, self.fault_text, seconds=self.args.seconds)
-        told = re.findall(rb"^(?:diagnosis|part (sweep|growth|tables)) loads (\d+)$", answer.written, re.MULTILINE)
-        return {f"loads_{part.decode()}" if part else "loads": int(count) for part, count in told} if answer.status == 0 else {}
+        cost = [sys.executable, f"{HERE}/../ends/cost.py", self.args.port] if self.args.port else []
+        answer = call(*cost, self.args.report, self.args.machine, self.fault_text, seconds=self.args.seconds)
+        told = re.findall(r"^(?:diagnosis|part( \w+)) loads (\d+)(?: cycles (\d+))?$", answer.written.decode(), re.MULTILINE)
+        costs = [(cost + part.replace(" ", "_"), many) for part, *counts in told for cost, many in zip(("loads", "cycles"), counts)]
+        return {name: int(many) for name, many in costs if many and name in COLUMNS} if answer.status == 0 else {}
 
     def rows(self):
         for kind in self.args.lists:
             if kind == "diagnosed":
                 yield from self.diagnosed_rows()
                 continue
-            listed = texts.defects_text(self.machine, BY_FAULTS.get(kind, lambda *_: texts.Defects())(self.machine, self.faults)).encode()
+            listed = texts.defects_text(self.machine, self.LISTED.get(kind, lambda *_: texts.Defects())(self.machine, self.faults)).encode()
             for name, design, vectors in self.args.designs:
                 given = design
                 if kind == "triplicated":
@@ -186,6 +186,7 @@ def main():
     parser.add_argument("--lists", default="exact,diagnosed", help=f"of {','.join(LISTS)} (default: %(default)s)")
     parser.add_argument("--seconds", type=float, default=600, help="no call takes longer; it is cut off (default: 600)")
     parser.add_argument("--report", default=REPORT, help="the built teramac_report, which tells loads; '' for none (default: %(default)s)")
+    parser.add_argument("--port", default="", help="the built teramac_port, by which cycles are counted (default: none)")
     parser.add_argument("--name", help="the machine's name in the table (default: its file's)")
     parser.add_argument("--spare", type=float, help="what the machine has to spare, for the table")
     parser.add_argument("-o", "--output", default="-", help="a new file (default: standard output)")
