@@ -4,8 +4,11 @@
 //! what the command wrote and its status.
 #![tactic(auto)]
 
+mod lost;
+
 ghost use Rattle.std.specs.Prelude.{◌≡◌, None, IfOk};
 
+use crate::lost::load_twice;
 use board_rig::BoardRig;
 use cycle_sim::SimRig;
 use doubled_rig::{RepeatRig, TwinRig};
@@ -111,6 +114,28 @@ fn try_end(rt: &HostRuntime, words: &[String]) -> io::Result<bool> {
     Ok(true)
 }
 
+// Over a machine behind a port, what is read behind a load that may have been made again.
+fn try_lost(rt: &HostRuntime, name: &str) -> io::Result<bool> {
+    let alloc: Global = rt.alloc();
+    let Ok(shape) = Shape::new(TINY) else {
+        return Ok(false);
+    };
+    let board = PortBoard::new(alloc, RigPort::new(alloc, sim_of(alloc)?, shape));
+    let mut rig: Box<dyn Rig> = Box::new(alloc, BoardRig::new(alloc, board))?;
+    if rig.attach(&shape, name).is_err() {
+        return Ok(false);
+    }
+    match load_twice(alloc, &mut rig, &shape) {
+        Ok(found) => {
+            let reading = found.reading;
+            let again = found.again;
+            println!(rt; "reads {reading}, {again} loads made again")?;
+        }
+        Err(_) => return Ok(false),
+    }
+    Ok(true)
+}
+
 // Tries a case; false where it says none.
 fn try_line(rt: &HostRuntime, line: &str) -> io::Result<bool> {
     let alloc: Global = rt.alloc();
@@ -128,6 +153,7 @@ fn try_line(rt: &HostRuntime, line: &str) -> io::Result<bool> {
         [kind, name, words @ ..] if kind.as_str() == "twin" => try_twin(rt, name.as_str(), words),
         [kind, words @ ..] if kind.as_str() == "port" => try_port(rt, words),
         [kind, words @ ..] if kind.as_str() == "end" => try_end(rt, words),
+        [kind, name] if kind.as_str() == "lost" => try_lost(rt, name.as_str()),
         _ => Ok(false),
     }
 }

@@ -1,0 +1,94 @@
+//! A machine behind a port that has a load made again: where a configuration finds no memory on its way, what is set at the other
+//! end may be some of it and some of the one before, and the next load has to say all anew.
+ghost use Rattle.std.specs.Prelude.{◌≡◌, Some, OnOk, length};
+ghost use Rattle.rig.specs.Rig.{config_of, shape_of};
+
+use config_set::Config;
+use hierarchy::{Cross, Shape};
+use rig::{PinBits, Rig, RigFail, cycle, load};
+use std::alloc::{AllocError, Global};
+
+/// What the pins read at last, a digit a pin, and how many loads were made again.
+#[derive(Drop)]
+pub struct Outcome {
+    pub reading: String,
+    pub again: u32,
+}
+
+// Closes a crosspoint, where the machine has it.
+fn close(config: &mut Config, at: u32) -> Result<(), AllocError>
+    ensures { config.new.config.shape ≡ config.old.config.shape }
+{
+    if at < config.shape().crosses() {
+        return config.close_cross(Cross(at));
+    }
+    Ok(())
+}
+
+// Opens a crosspoint, where the machine has it.
+fn open(config: &mut Config, at: u32)
+    ensures { config.new.config.shape ≡ config.old.config.shape }
+{
+    if at < config.shape().crosses() {
+        config.open_cross(Cross(at));
+    }
+}
+
+// Loads a configuration, a second time where memory was wanting. Says whether it was.
+fn loaded(rig: &mut Box<dyn Rig>, config: &Config) -> Result<bool, RigFail>
+    requires { shape_of (rig_state rig.old) ≡ Some config.now.config.shape }
+    ensures machine { (rig_state rig.new).machine ≡ (rig_state rig.old).machine }
+    ensures config { OnOk result (config_of (rig_state rig.new) ≡ Some config.now.config) }
+{
+    match load(rig, config, 1) {
+        Ok(()) => Ok(false),
+        Err(RigFail::Memory) => match load(rig, config, 1) {
+            Ok(()) => Ok(true),
+            Err(fail) => Err(fail),
+        },
+        Err(fail) => Err(fail),
+    }
+}
+
+// Makes a cycle in which the first pin and the third are driven 0, and spells what all read.
+fn read_pins(alloc: Global, rig: &mut Box<dyn Rig>, config: &Config) -> Result<String, RigFail>
+    requires { config_of (rig_state rig.old) ≡ Some config.now.config }
+{
+    let mut drive = PinBits::new(alloc, config.shape().pins())?;
+    let mut read = PinBits::new(alloc, config.shape().pins())?;
+    if 2 < drive.len() {
+        drive.set(0, false);
+        drive.set(2, false);
+    }
+    cycle(rig, &drive, &mut read)?;
+    let mut text = String::new(alloc);
+    for bit in read.as_slice() {
+        text.push(if *bit { '1' } else { '0' })?;
+    }
+    Ok(text)
+}
+
+/// Joins the first two pins of the machine that is attached, and then the third and the fourth in their place. Each load is made again
+/// where memory was wanting.
+///
+/// # Errors
+///
+/// What a second load, or the cycle, fails with.
+pub fn load_twice(alloc: Global, rig: &mut Box<dyn Rig>, shape: &Shape) -> Result<Outcome, RigFail>
+    requires { shape_of (rig_state rig.old) ≡ Some shape.now }
+{
+    let mut config = Config::with_room(alloc, *shape, 0)?;
+    close(&mut config, 0)?;
+    close(&mut config, 4)?;
+    let first = loaded(rig, &config)?;
+    open(&mut config, 0);
+    open(&mut config, 4);
+    close(&mut config, 9)?;
+    close(&mut config, 13)?;
+    let second = loaded(rig, &config)?;
+    let reading = read_pins(alloc, rig, &config)?;
+    Ok(Outcome {
+        reading,
+        again: first as u32 + second as u32,
+    })
+}
