@@ -13,6 +13,12 @@ use std::alloc::{AllocError, Global};
 /// How many ANDs the graphs of all rounds may have in sum before no further round begins.
 const ENOUGH_ANDS: u64 = 60_000;
 
+/// Of how many ANDs on a graph is so large that few cuts are kept of a node: the time goes with their square.
+const MANY_ANDS: u64 = 100_000;
+
+/// How many cuts are kept of a node then.
+const FEW_CUTS: u32 = 4;
+
 /// How many rounds with chance there are at most.
 const MORE_ROUNDS: u64 = 8;
 
@@ -69,6 +75,14 @@ fn round_by_chance(number: u64) -> Round {
     }
 }
 
+// How many cuts a node keeps in a round over so many ANDs.
+fn cuts_for(round: Round, ands: u64) -> u32 {
+    if ands >= MANY_ANDS {
+        return FEW_CUTS;
+    }
+    round.cuts
+}
+
 // A round from a design. Its text is the one that it comes to, if this may stand for the design.
 fn found_from(alloc: Global, design: &Netlist, round: Round) -> Result<Found, AllocError>
     ensures another { IfOk result (λ f. IfSome f.text (λ r. IsAnotherText design.now r.text r.netlist)) }
@@ -84,7 +98,8 @@ fn found_from(alloc: Global, design: &Netlist, round: Round) -> Result<Found, Al
         }
     };
     let ands = made.graph.ands.as_slice().len() as u64;
-    let drawn = covered(alloc, design, &made, round.cuts, round.chance)?;
+    let cuts = cuts_for(round, ands);
+    let drawn = covered(alloc, design, &made, cuts, round.chance)?;
     let text = checked(alloc, design, &made, &drawn)?;
     Ok(Found { text, ands })
 }
