@@ -1,13 +1,11 @@
 //! Examples of the libraries, by parts, each of which a word names:
 //!
 //! - `plans NAME`: the cases of a text about plans; its head says how they are written;
-//! - `machines`: small machines with faults, each of which is diagnosed, and its list held against its faults;
 //! - `show MACHINE DEFECTS DESIGN`: what is to be seen of the plans of a design.
 //!
 //! Several parts may stand behind one another. The status is 0 where all is right.
 #![tactic(auto)]
 
-mod machines;
 mod plans;
 
 use std::process::ExitCode;
@@ -39,7 +37,6 @@ fn part(rt: &HostRuntime, words: &[String], place: usize) -> io::Result<(usize, 
     let third = word(words, place.saturating_add(3));
     match name {
         "plans" => Ok((2, plans::try_text(rt, first)?)),
-        "machines" => Ok((1, machines::try_all(rt)?)),
         "show" => Ok((4, plans::show(rt, first, second, third)?)),
         other => {
             println!(rt; "what is {other}?")?;

@@ -1,17 +1,19 @@
 //! Whether a list covers the faults, and whether it is tight to them.
 
-use crate::machines::feet::on_two;
-use crate::machines::seating::is_seated;
-use crate::machines::sight::Sight;
+use crate::feet::on_two;
+use crate::seating::is_seated;
+use crate::sight::Sight;
 use hierarchy::Meaning;
 use std::alloc::{AllocError, Global};
 
 /// No free crosspoint is stuck, no free table is wrong, and no free wire is shorted to a stuck one or to another free one.
 pub fn covers(sight: &Sight) -> bool {
-    let wires = sight.wires.iter().all(|w| !w.free
-        || (sight.is_clear(w) && sight.free_with(w) == 1));
+    let wires = sight
+        .wires
+        .iter()
+        .all(|w| !w.free || (w.clear && sight.free_with(w) == 1));
     let crosses = sight.crosses.iter().all(|c| !c.free || !c.stuck);
-    let tables = sight.tables.iter().all(|t| !t.free || t.right);
+    let tables = sight.tables.iter().all(|t| !t.free || t.is_right());
     wires && crosses && tables
 }
 
@@ -28,7 +30,7 @@ fn wires_are_tight(alloc: Global, sight: &Sight) -> Result<bool, AllocError> {
     let two = on_two(alloc, &crosses, &free)?;
     'wires: for (wire, two) in sight.wires.iter().zip(two.iter()) {
         let could = *two || matches!(wire.meaning, Meaning::Pin { .. });
-        if could && sight.is_clear(wire) && sight.free_with(wire) == 0 {
+        if could && wire.clear && sight.free_with(wire) == 0 {
             return Ok(false);
         }
     }
@@ -46,7 +48,7 @@ fn crosses_are_tight(sight: &Sight) -> bool {
 // Each table that is listed, and so has free pins, is wrong or isn't seated.
 fn tables_are_tight(alloc: Global, sight: &Sight) -> Result<bool, AllocError> {
     'tables: for table in sight.tables.iter() {
-        if !table.free && table.right && is_seated(alloc, sight, table)? {
+        if !table.free && table.is_right() && is_seated(alloc, sight, table)? {
             return Ok(false);
         }
     }

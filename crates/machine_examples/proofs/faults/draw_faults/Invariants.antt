@@ -1,5 +1,5 @@
 use Rattle.std.proofs.Common.{◌≡◌}
-use Rattle.library_examples.proofs.machines.faults.draw_faults.Given as goal
+use Rattle.machine_examples.proofs.faults.draw_faults.Given as goal
 
 abbrev pub invariant-faults : goal.invariant-faults
 invariant-faults l = l.set.shape ≡ l.shape

@@ -1,7 +1,7 @@
 //! Which tables are seated among free wires.
 
-use crate::machines::feet::on_two;
-use crate::machines::sight::{Sight, TableSeen};
+use crate::feet::on_two;
+use crate::sight::{Sight, TableSeen};
 use hierarchy::{Meaning, Node};
 use std::alloc::{AllocError, Global};
 

@@ -1,0 +1,146 @@
+//! Whether what is kept and known is so.
+
+use crate::picture::{Facts, Picture, rows_stay, stays};
+use crate::sight::{Sight, WireSeen, has};
+use hierarchy::Meaning;
+use known::{Foot, Stand, Step};
+
+// A kept crosspoint isn't stuck.
+fn crosses_are_true(sight: &Sight, kept: &Facts) -> bool {
+    sight
+        .crosses
+        .iter()
+        .zip(kept.crosses.iter())
+        .all(|(c, kept)| !*kept || !c.stuck)
+}
+
+// A kept wire is shorted to no stuck one.
+fn wires_are_true(sight: &Sight, kept: &Facts) -> bool {
+    sight
+        .wires
+        .iter()
+        .zip(kept.wires.iter())
+        .all(|(w, kept)| !*kept || w.clear)
+}
+
+// The wires with which this one is a kept pair aren't shorted to it.
+fn pairs_with(sight: &Sight, wire: &WireSeen, kept: &[bool]) -> bool {
+    sight
+        .wires
+        .iter()
+        .zip(kept.iter())
+        .all(|(w, kept)| !*kept || w.group != wire.group)
+}
+
+fn pairs_are_true(sight: &Sight, kept: &Facts) -> bool {
+    sight
+        .wires
+        .iter()
+        .zip(kept.pairs.iter())
+        .all(|(w, kept)| pairs_with(sight, w, kept.as_slice()))
+}
+
+// No kept cell is wrong.
+fn cells_in(wrong: &[bool], kept: &[bool]) -> bool {
+    wrong
+        .iter()
+        .zip(kept.iter())
+        .all(|(wrong, kept)| !*kept || !*wrong)
+}
+
+fn cells_are_true(sight: &Sight, kept: &Facts) -> bool {
+    sight
+        .tables
+        .iter()
+        .zip(kept.cells.iter())
+        .all(|(t, kept)| cells_in(t.cells.as_slice(), kept.as_slice()))
+}
+
+// A kept register isn't stuck.
+fn registers_are_true(sight: &Sight, kept: &Facts) -> bool {
+    sight
+        .tables
+        .iter()
+        .zip(kept.registers.iter())
+        .all(|(t, kept)| !*kept || !t.register)
+}
+
+/// Each kept fact is true.
+///
+/// # Errors
+///
+/// Which isn't.
+pub fn are_true(sight: &Sight, kept: &Facts) -> Result<(), &'static str> {
+    if !crosses_are_true(sight, kept) {
+        return Err("a kept crosspoint is stuck");
+    }
+    if !wires_are_true(sight, kept) {
+        return Err("a kept wire isn't clear");
+    }
+    if !pairs_are_true(sight, kept) {
+        return Err("a kept pair is shorted");
+    }
+    if !cells_are_true(sight, kept) {
+        return Err("a kept cell is wrong");
+    }
+    if !registers_are_true(sight, kept) {
+        return Err("a kept register is stuck");
+    }
+    Ok(())
+}
+
+/// What was kept still is.
+pub fn still_are(was: &Facts, is: &Facts) -> bool {
+    stays(&was.crosses, &is.crosses)
+        && stays(&was.wires, &is.wires)
+        && rows_stay(&was.pairs, &is.pairs)
+        && rows_stay(&was.cells, &is.cells)
+        && stays(&was.registers, &is.registers)
+}
+
+// Whether two wires are a kept pair.
+fn are_pair(kept: &Facts, a: u32, b: u32) -> bool {
+    let (low, high) = if a < b { (a, b) } else { (b, a) };
+    kept.pairs
+        .get(high as usize)
+        .is_some_and(|row| has(row.as_slice(), low))
+}
+
+// A kept crosspoint leads from the wire to one of these.
+fn is_foot(sight: &Sight, kept: &Facts, earlier: &[Step], wire: u32, foot: &Foot) -> bool {
+    let Some(cross) = sight.crosses.get(foot.cross.0 as usize) else {
+        return false;
+    };
+    let other = foot.wire.0;
+    let leads = cross.ends == (wire, other) || cross.ends == (other, wire);
+    leads && has(&kept.crosses, foot.cross.0) && earlier.iter().any(|s| s.wire.0 == other)
+}
+
+// A known wire is a pin of the machine, or stands on two kept crosspoints to two different wires that came before it; it is kept, and
+// a kept pair with each of these.
+fn stands(sight: &Sight, kept: &Facts, earlier: &[Step], step: &Step) -> bool {
+    let wire = step.wire.0;
+    let on = match &step.stand {
+        Stand::Pin(_) => sight
+            .wires
+            .get(wire as usize)
+            .is_some_and(|w| matches!(w.meaning, Meaning::Pin { .. })),
+        Stand::Feet(a, b) => {
+            a.wire.0 != b.wire.0
+                && is_foot(sight, kept, earlier, wire, a)
+                && is_foot(sight, kept, earlier, wire, b)
+        }
+    };
+    on && has(&kept.wires, wire) && earlier.iter().all(|s| are_pair(kept, s.wire.0, wire))
+}
+
+/// What is known is known by what is kept.
+pub fn are_known(sight: &Sight, picture: &Picture) -> bool {
+    let steps = picture.known.steps.as_slice();
+    'steps: for place in 0..steps.len() {
+        if !stands(sight, &picture.kept, &steps[..place], &steps[place]) {
+            return false;
+        }
+    }
+    true
+}

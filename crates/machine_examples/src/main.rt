@@ -1,0 +1,44 @@
+//! Small machines with faults, both as numbers make them: each is diagnosed as a whole and call by call.
+//!
+//! What a list, a fact and a mark have to be is looked at in plain numbers, by what is said of them and not by how they come about.
+//! Each group of machines has faults of its own kinds; a line tells how many of it are right, and lines before it what is wrong with
+//! the others. The word says how many machines a group has. The status is 0 where all are right.
+#![tactic(auto)]
+
+mod calls;
+mod choices;
+mod closed;
+mod counts;
+mod facts;
+mod faults;
+mod feet;
+mod fields;
+mod groups;
+mod judge;
+mod looks;
+mod marks;
+mod picture;
+mod purse;
+mod seating;
+mod shorts;
+mod sight;
+mod trial;
+
+use std::process::ExitCode;
+use std::{env, io};
+
+// Tries as many machines of each group as the word says.
+fn run(rt: &HostRuntime) -> io::Result<bool> {
+    let mut many = 0u32;
+    'words: for word in env::args(rt)?.skip(1) {
+        many = word.parse::<u32>().unwrap_or(0);
+    }
+    Ok(groups::try_all(rt, many)? && many > 0)
+}
+
+fn main(rt: HostRuntime) -> ExitCode {
+    match run(&rt) {
+        Ok(true) => ExitCode::from(0),
+        _ => ExitCode::from(1),
+    }
+}
