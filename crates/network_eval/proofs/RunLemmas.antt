@@ -173,4 +173,4 @@ clear_all gates marks m all none t gate = elim (cases_lt (t / 64) m) [
 ]
 
 pub clear_settled : (plan : Plan) (s : State) → IsPlan plan → IsKept plan s → AreClear plan.gates.items s.marks.items → AreSettled plan.network s
-clear_settled plan s is kept clear t c = kept.marked t c.within (clear t (is.gates.all t c.within c))
+clear_settled plan s is kept clear t c = sym (kept.marked t) ∙ clear t (is.gates.all t c.within c)

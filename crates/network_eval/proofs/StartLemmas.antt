@@ -1,8 +1,8 @@
 -- What is kept of a network at its first cycle, and vectors and rows.
-use Rattle.std.proofs.Common.{◌≡◌, ◌⊎◌, Bool, ℕ, zero, suc, ◌+◌, ◌*◌, ◌/◌, ◌%◌, ◌^◌, ◌<◌, ◌≤◌, List, [], ◌∷◌, ◌++◌, take, true, false, length, map, get_or, set, replicate, refl, sym, ap, subst, ◌∙◌, inl, inr, arith}
+use Rattle.std.proofs.Common.{◌≡◌, ◌⊎◌, Bool, ℕ, zero, suc, ◌+◌, ◌*◌, ◌/◌, ◌%◌, ◌^◌, ◌<◌, ◌≤◌, List, [], ◌∷◌, ◌++◌, take, true, false, length, map, get_or, set, refl, sym, ap, subst, ◌∙◌, inl, inr, arith}
 use Rattle.std.specs.Prelude.{not}
 use Rattle.std.proofs.lemmas.Bool.{cases_eq, cases_lt}
-use Rattle.std.proofs.lemmas.List.{ext_get_or, get_or-map, get_or_default, get_or_past, get_or-set_same, get_or-set_other, get_or_append_left, get_or_push, length-map, length_push, length-set, get_or-replicate, length-replicate}
+use Rattle.std.proofs.lemmas.List.{ext_get_or, get_or-map, get_or_default, get_or_past, get_or-set_same, get_or-set_other, get_or_append_left, get_or_push, length-map, length_push, length-set}
 use Rattle.std.proofs.lemmas.Nat.{pow_below}
 use Rattle.table_map.specs.declared.source.Source.{Source}
 use Rattle.table_map.specs.declared.source.Source.TheVariants.{Input, Table}
@@ -11,13 +11,10 @@ use Rattle.table_map.specs.declared.network.Network.{Network}
 use Rattle.table_map.specs.Networks.{no_table, table_at}
 use Rattle.table_map.specs.Rows.{bit_of, cell_at}
 use Rattle.table_map.specs.Plain.{flip}
-use Rattle.table_map.proofs.CellLemmas.{cell_ones}
-use Rattle.network_eval.specs.declared.plan.Plan.{Plan}
-use Rattle.network_eval.specs.declared.state.State.{State}
 use Rattle.network_eval.specs.Pins.{AreInRange}
-use Rattle.network_eval.specs.Marks.{number_at, is_marked, AreMarked}
-use Rattle.network_eval.specs.States.{value_in, pin_bit, HavePins, HaveMasks, IsPlan, IsSized, IsKept}
-use Rattle.network_eval.specs.Starting.{AreFirstMasks, IsAddress, AreFirstAddresses, HaveMasksTo, HaveAddressesTo}
+use Rattle.network_eval.specs.Marks.{number_at}
+use Rattle.network_eval.specs.States.{value_in, pin_bit, HavePins, HaveMasks}
+use Rattle.network_eval.specs.Starting.{IsAddress, HaveMasksTo, HaveAddressesTo}
 
 -- a row that is made bit by bit
 pub show_more : (f : Source → Bool) (outputs : List Source) (row : List Bool) (k : ℕ) (x : Bool) → k < length row → x ≡ f (get_or outputs k (Input 0)) → ((j : ℕ) → j < k → get_or row j true ≡ f (get_or outputs j (Input 0))) → (j : ℕ) → j < k + 1 → get_or (set row k x) j true ≡ f (get_or outputs j (Input 0))
@@ -46,16 +43,7 @@ other_bit false true d = refl
 other_bit false false d = absurd (d refl)
 
 -- masks, one after the other
-pub masks_more : (tables : List NetTable) (values : List Bool) (m mask : ℕ) (cells : ℕ) (value : Bool) (old : List ℕ) → cells ≡ (get_or tables m no_table).cells → value ≡ value_in values m → ((a : ℕ) → a < 64 → cell_at mask a ≡ flip value (cell_at cells a)) → AreFirstMasks tables values m old → AreFirstMasks tables values (m + 1) (old ++ mask ∷ [])
-masks_more tables values m mask cells value old ec ev is are = record {
-  len = length_push old mask ∙ ap (λ n. n + 1) are.len;
-  cells = λ t a lt la. elim (cases_eq t m) [
-    | inl e ↦ ap (λ x. cell_at x a) (get_or_push old mask 0 t (are.len ∙ sym e)) ∙ is a la ∙ ap (λ v. flip v (cell_at cells a)) ev ∙ ap (λ c. flip (value_in values m) (cell_at c a)) ec ∙ ap (λ x. flip (value_in values x) (cell_at (get_or tables x no_table).cells a)) (sym e)
-    | inr d ↦ ap (λ x. cell_at x a) (get_or_append_left old (mask ∷ []) 0 t (let l = are.len in omega (arith, d))) ∙ are.cells t a (omega (arith, d)) la
-  ];
-}
 
--- addresses, pin by pin
 pub address_first : (ins : List Source) (inputs values : List Bool) → IsAddress ins inputs values 0 63
 address_first ins inputs values = record {
   low = omega arith;
@@ -82,52 +70,7 @@ address_more ins inputs values m address new bit lm e low this rest old = record
   others = λ p g lp. rest p (λ s. (let no : ⊥ = omega (arith, s) in no)) ∙ old.others p (omega arith) lp;
 }
 
-pub addresses_more : (n : Network) (inputs values : List Bool) (m address : ℕ) (ins : List Source) (old : List ℕ) → ins ≡ (table_at n m).ins → IsAddress ins inputs values (length ins) address → AreFirstAddresses n inputs values m old → AreFirstAddresses n inputs values (m + 1) (old ++ address ∷ [])
-addresses_more n inputs values m address ins old e is are = record {
-  len = length_push old address ∙ ap (λ x. x + 1) are.len;
-  each = λ t lt. elim (cases_eq t m) [
-    | inl s ↦ subst (λ x. IsAddress (table_at n x).ins inputs values (length (table_at n x).ins) (number_at (old ++ address ∷ []) x)) (sym s) (subst (IsAddress (table_at n m).ins inputs values (length (table_at n m).ins)) (sym (get_or_push old address 0 m are.len)) (subst (λ xs. IsAddress xs inputs values (length xs) address) e is))
-    | inr d ↦ subst (IsAddress (table_at n t).ins inputs values (length (table_at n t).ins)) (sym (get_or_append_left old (address ∷ []) 0 t (let l = are.len in omega (arith, d)))) (are.each t (omega (arith, d)))
-  ];
-}
-
--- so the first state is right, and all is marked
-pub first_pins : (n : Network) (inputs values : List Bool) (addresses : List ℕ) → AreFirstAddresses n inputs values (length n.tables) addresses → HavePins n inputs values addresses
-first_pins n inputs values addresses are = record {
-  len = are.len;
-  low = λ t lt. (are.each t (let l = are.len in omega arith)).low;
-  pins = λ t p lt lp. elim (cases_lt p (length (table_at n t).ins)) [
-    | inl l ↦ (are.each t lt).pins p l
-    | inr g ↦ (are.each t lt).others p g lp ∙ sym (get_or_past (map (bit_of inputs (value_in values)) (table_at n t).ins) p true (omega (arith, length-map (table_at n t).ins (bit_of inputs (value_in values)))))
-  ];
-}
-
-pub first_masks : (n : Network) (values : List Bool) (masks : List ℕ) → AreFirstMasks n.tables values (length n.tables) masks → HaveMasks n values masks
-first_masks n values masks are = record { len = are.len; cells = are.cells }
-
--- words of ones have all marks
-pub all_ones : (words : List ℕ) (count : ℕ) → words ≡ replicate count 18446744073709551615 → (t : ℕ) → t < 64 * count → is_marked words t ≡ true
-all_ones words count e t lt =
-    ap (λ ws. cell_at (number_at ws (t / 64)) (t % 64)) e
-    ∙ ap (λ w. cell_at w (t % 64)) (get_or-replicate count (t / 64) 18446744073709551615 0 (omega arith))
-    ∙ cell_ones (t % 64) (omega arith)
-
-no_both : true ≡ false → ⊥
-no_both e = cc
-
-pub first_kept : (plan : Plan) (state : State) → IsPlan plan → length state.inputs.items ≡ plan.network.inputs → length state.values.items ≡ length plan.network.tables → AreFirstMasks plan.network.tables state.values.items (length plan.network.tables) state.masks.items → AreFirstAddresses plan.network state.inputs.items state.values.items (length plan.network.tables) state.addresses.items → state.marks.items ≡ replicate (length plan.gates.items) 18446744073709551615 → IsKept plan state
-first_kept plan state is inputs values masks addresses marks = record {
-  sized = record {
-    inputs = inputs;
-    values = values;
-    marks = ap length marks ∙ length-replicate (length plan.gates.items) 18446744073709551615;
-    pins = first_pins plan.network state.inputs.items state.values.items state.addresses.items addresses;
-    masks = first_masks plan.network state.values.items state.masks.items masks;
-  };
-  marked = λ t lt un. absurd (no_both (sym (all_ones state.marks.items (length plan.gates.items) marks t (let s = is.gates.size in omega arith)) ∙ un));
-}
-
--- the same of lists that are written anew
+-- lists that are written anew
 pub masks_set : (tables : List NetTable) (values : List Bool) (m mask cells : ℕ) (value : Bool) (old : List ℕ) → m < length tables → cells ≡ (get_or tables m no_table).cells → value ≡ value_in values m → ((a : ℕ) → a < 64 → cell_at mask a ≡ flip value (cell_at cells a)) → HaveMasksTo tables values m old → HaveMasksTo tables values (m + 1) (set old m mask)
 masks_set tables values m mask cells value old lm ec ev is are = record {
   len = length-set old m mask ∙ are.len;
@@ -146,20 +89,15 @@ addresses_set n inputs values m address ins old lm e is are = record {
   ];
 }
 
-pub marks_set : (old : List ℕ) (k : ℕ) → k < length old → ((t : ℕ) → t < 64 * k → is_marked old t ≡ true) → (t : ℕ) → t < 64 * (k + 1) → is_marked (set old k 18446744073709551615) t ≡ true
-marks_set old k lk h t lt = elim (cases_eq (t / 64) k) [
-  | inl e ↦ ap (λ r. cell_at (number_at (set old k 18446744073709551615) r) (t % 64)) e ∙ ap (λ w. cell_at w (t % 64)) (get_or-set_same old k 18446744073709551615 0 lk) ∙ cell_ones (t % 64) (omega arith)
-  | inr d ↦ ap (λ w. cell_at w (t % 64)) (get_or-set_other old k (t / 64) 18446744073709551615 0 d) ∙ h t (omega (arith, d))
-]
-
-pub fresh_kept : (plan : Plan) (state : State) → IsPlan plan → length state.inputs.items ≡ plan.network.inputs → length state.values.items ≡ length plan.network.tables → HaveMasksTo plan.network.tables state.values.items (length plan.network.tables) state.masks.items → HaveAddressesTo plan.network state.inputs.items state.values.items (length plan.network.tables) state.addresses.items → length state.marks.items ≡ length plan.gates.items → ((t : ℕ) → t < 64 * length plan.gates.items → is_marked state.marks.items t ≡ true) → IsKept plan state
-fresh_kept plan state is inputs values masks addresses len marks = record {
-  sized = record {
-    inputs = inputs;
-    values = values;
-    marks = len;
-    pins = first_pins plan.network state.inputs.items state.values.items state.addresses.items (record { len = addresses.len; each = addresses.each });
-    masks = first_masks plan.network state.values.items state.masks.items (record { len = masks.len; cells = masks.cells });
-  };
-  marked = λ t lt un. absurd (no_both (sym (marks t (let s = is.gates.size in omega arith)) ∙ un));
+pub set_pins : (n : Network) (inputs values : List Bool) (addresses : List ℕ) → HaveAddressesTo n inputs values (length n.tables) addresses → HavePins n inputs values addresses
+set_pins n inputs values addresses are = record {
+  len = are.len;
+  low = λ t lt. (are.each t (let l = are.len in omega arith)).low;
+  pins = λ t p lt lp. elim (cases_lt p (length (table_at n t).ins)) [
+    | inl l ↦ (are.each t lt).pins p l
+    | inr g ↦ (are.each t lt).others p g lp ∙ sym (get_or_past (map (bit_of inputs (value_in values)) (table_at n t).ins) p true (omega (arith, length-map (table_at n t).ins (bit_of inputs (value_in values)))))
+  ];
 }
+
+pub set_masks : (n : Network) (values : List Bool) (masks : List ℕ) → HaveMasksTo n.tables values (length n.tables) masks → HaveMasks n values masks
+set_masks n values masks are = record { len = are.len; cells = are.cells }

@@ -1,5 +1,5 @@
 -- Addresses and masks while signals change.
-use Rattle.std.proofs.Common.{◌≡◌, ◌⊎◌, Bool, ℕ, zero, suc, ◌+◌, ◌*◌, ◌-◌, ◌<◌, ◌≤◌, ◌==◌, ◌||◌, List, ◌++◌, take, drop, true, false, length, map, get_or, set, refl, sym, ap, subst, ◌∙◌, inl, inr, arith}
+use Rattle.std.proofs.Common.{◌≡◌, ◌⊎◌, Bool, ℕ, zero, suc, ◌+◌, ◌*◌, ◌-◌, ◌<◌, ◌≤◌, ◌==◌, List, ◌++◌, take, drop, true, false, length, map, get_or, set, refl, sym, ap, subst, ◌∙◌, inl, inr, arith}
 use Rattle.std.specs.Prelude.{not, slice_index_or}
 use Rattle.std.specs.Int.{bit_at}
 use Rattle.std.specs.Vec.{with_items}
@@ -22,9 +22,9 @@ use Rattle.network_eval.specs.declared.pins.Pin.{Pin}
 use Rattle.network_eval.specs.declared.plan.Plan.{Plan}
 use Rattle.network_eval.specs.declared.state.State.{State}
 use Rattle.network_eval.specs.Pins.{signal_of, source_at, signal_at, AreInRange, pins_at, IsAmong, AreApart, ArePins}
-use Rattle.network_eval.specs.Marks.{number_at, is_marked, differs, AreMarked, AreOthersMarked}
+use Rattle.network_eval.specs.Marks.{number_at, is_marked, differs, AreMarked}
 use Rattle.network_eval.specs.Turns.{AreLow, ArePinsIn, AreTurned}
-use Rattle.network_eval.specs.States.{value_in, pin_bit, HavePins, HaveMasks, IsPlan, IsSized, IsKept}
+use Rattle.network_eval.specs.States.{value_in, pin_bit, HavePins, HaveMasks, IsPlan, IsKept}
 use Rattle.network_eval.specs.Changes.{differs_in, AreOthersAsBefore, IsTurnedAt, IsEvaluated}
 use Rattle.network_eval.proofs.WordLemmas.{bit_of_cell}
 use Rattle.network_eval.proofs.PinLemmas.{pins_in, is_listed, is_read, reads_of}
@@ -183,26 +183,11 @@ same_address n lists range are j t old new lj len by apart = elim (cases_lt t (l
   | inr g ↦ get_or_past new t 0 (let e = by.len in omega arith) ∙ sym (get_or_past old t 0 (omega arith))
 ]
 
--- one mark is taken away, or one set
-or_last : (a b : Bool) → (a || b) ≡ false → b ≡ false
-or_last true b e = absurd (let no : true ≡ false = e in cc)
-or_last false b e = e
-
-pub others_marked : (count j : ℕ) (masks addresses marks marks' : List ℕ) → AreMarked count masks addresses marks → ((t : ℕ) → (t ≡ j → ⊥) → is_marked marks' t ≡ is_marked marks t) → AreOthersMarked j count masks addresses marks'
-others_marked count j masks addresses marks marks' are others t lt d un = are t lt (sym (others t d) ∙ un)
-
--- all are right where the one that was left out doesn't differ
-pub all_marked : (count j : ℕ) (masks addresses marks : List ℕ) → AreOthersMarked j count masks addresses marks → differs masks addresses j ≡ false → AreMarked count masks addresses marks
-all_marked count j masks addresses marks are none t lt un = elim (cases_eq t j) [
-  | inl e ↦ ap (differs masks addresses) e ∙ none
-  | inr d ↦ are t lt d un
-]
-
--- a table whose mask is turned is marked where it differs then
-pub turned_marked : (count j bit : ℕ) (masks masks' addresses marks marks' : List ℕ) → AreOthersMarked j count masks addresses marks → ((t : ℕ) → (t ≡ j → ⊥) → number_at masks' t ≡ number_at masks t) → bit ≡ bit_at (number_at masks' j) (number_at addresses j) → is_marked marks' j ≡ (is_marked marks j || (bit == 1)) → ((t : ℕ) → (t ≡ j → ⊥) → is_marked marks' t ≡ is_marked marks t) → AreMarked count masks' addresses marks'
-turned_marked count j bit masks masks' addresses marks marks' are same cell this others t lt un = elim (cases_eq t j) [
-  | inl e ↦ ap (differs masks' addresses) e ∙ ap (λ b. b == 1) (sym cell) ∙ or_last (is_marked marks j) (bit == 1) (sym this ∙ ap (is_marked marks') (sym e) ∙ un)
-  | inr d ↦ ap (λ m. cell_at m (number_at addresses t)) (same t d) ∙ are t lt d (sym (others t d) ∙ un)
+-- the mark of a table whose mask is turned is turned too
+pub turned_marked : (j : ℕ) (masks masks' addresses marks marks' : List ℕ) → AreMarked masks addresses marks → ((t : ℕ) → (t ≡ j → ⊥) → number_at masks' t ≡ number_at masks t) → differs masks' addresses j ≡ not (differs masks addresses j) → is_marked marks' j ≡ not (is_marked marks j) → ((t : ℕ) → (t ≡ j → ⊥) → is_marked marks' t ≡ is_marked marks t) → AreMarked masks' addresses marks'
+turned_marked j masks masks' addresses marks marks' are same here this others t = elim (cases_eq t j) [
+  | inl e ↦ ap (is_marked marks') e ∙ this ∙ ap not (are j) ∙ sym here ∙ sym (ap (differs masks' addresses) e)
+  | inr d ↦ others t d ∙ are t ∙ sym (ap (λ m. cell_at m (number_at addresses t)) (same t d))
 ]
 
 -- ---- one change of a signal
@@ -220,16 +205,13 @@ pins_apart plan s pins is at = subst AreApart (sym at) (is.pins.apart s)
 turned_at : (pins pins' : List Pin) (from from' new : List ℕ) → pins ≡ pins' → from ≡ from' → AreTurned pins (length pins) from new → AreTurned pins' (length pins') from' new
 turned_at pins pins' from from' new e f h = subst (λ xs. AreTurned pins' (length pins') xs new) f (subst (λ ps. AreTurned ps (length ps) from new) e h)
 
-pub marked_as : (count count' : ℕ) (m m' a a' k k' : List ℕ) → count ≡ count' → m ≡ m' → a ≡ a' → k ≡ k' → AreMarked count m a k → AreMarked count' m' a' k'
-marked_as count count' m m' a a' k k' e1 e2 e3 e4 h = subst (λ x. AreMarked x m' a' k') e1 (subst (λ x. AreMarked count x a' k') e2 (subst (λ x. AreMarked count m x k') e3 (subst (AreMarked count m a) e4 h)))
+pub marked_as : (m m' a a' k k' : List ℕ) → m ≡ m' → a ≡ a' → k ≡ k' → AreMarked m a k → AreMarked m' a' k'
+marked_as m m' a a' k k' e2 e3 e4 h = subst (λ x. AreMarked x a' k') e2 (subst (λ x. AreMarked m x k') e3 (subst (AreMarked m a) e4 h))
 
 -- an input is turned
-module _ (plan : Plan) (old new : State) (k : ℕ) (bit : Bool) (pins : List Pin) (from masks marks : List ℕ) (is : IsPlan plan) (kept : IsKept plan old) (lk : k < plan.network.inputs) (bit_is : bit ≡ value_in old.inputs.items k) (inputs : new.inputs.items ≡ set old.inputs.items k (not bit)) (values : new.values.items ≡ old.values.items) (same : new.masks.items ≡ old.masks.items) (at : pins ≡ pins_at plan.pins.items (length plan.network.tables + k)) (from_is : from ≡ old.addresses.items) (masks_is : masks ≡ old.masks.items) (marks_is : marks ≡ old.marks.items) (to marks' : List ℕ) (to_is : new.addresses.items ≡ to) (marks'_is : new.marks.items ≡ marks') (by : AreTurned pins (length pins) from to) (len : length marks' ≡ length marks) (marked : AreMarked (length from) masks from marks → AreMarked (length from) masks to marks') where
+module _ (plan : Plan) (old new : State) (k : ℕ) (bit : Bool) (pins : List Pin) (from masks marks : List ℕ) (is : IsPlan plan) (kept : IsKept plan old) (lk : k < plan.network.inputs) (bit_is : bit ≡ value_in old.inputs.items k) (inputs : new.inputs.items ≡ set old.inputs.items k (not bit)) (values : new.values.items ≡ old.values.items) (same : new.masks.items ≡ old.masks.items) (at : pins ≡ pins_at plan.pins.items (length plan.network.tables + k)) (from_is : from ≡ old.addresses.items) (masks_is : masks ≡ old.masks.items) (marks_is : marks ≡ old.marks.items) (to marks' : List ℕ) (to_is : new.addresses.items ≡ to) (marks'_is : new.marks.items ≡ marks') (by : AreTurned pins (length pins) from to) (len : length marks' ≡ length marks) (marked : AreMarked masks from marks → AreMarked masks to marks') where
   input_after : new.inputs.items ≡ set old.inputs.items k (not (value_in old.inputs.items k))
   input_after = inputs ∙ ap (λ b. set old.inputs.items k (not b)) bit_is
-
-  from_len : length from ≡ length plan.network.tables
-  from_len = ap length from_is ∙ kept.sized.pins.len
 
   pub input_kept : IsKept plan new
   input_kept = record {
@@ -244,26 +226,28 @@ module _ (plan : Plan) (old new : State) (k : ℕ) (bit : Bool) (pins : List Pin
           (turned_at pins (pins_at plan.pins.items (length plan.network.tables + k)) from old.addresses.items new.addresses.items at from_is (subst (AreTurned pins (length pins) from) (sym to_is) by))));
       masks = subst (λ vs. HaveMasks plan.network vs new.masks.items) (sym values) (subst (HaveMasks plan.network old.values.items) (sym same) kept.sized.masks);
     };
-    marked = marked_as (length from) (length plan.network.tables) masks new.masks.items to new.addresses.items marks' new.marks.items from_len (masks_is ∙ sym same) (sym to_is) (sym marks'_is)
-        (marked (marked_as (length plan.network.tables) (length from) old.masks.items masks old.addresses.items from old.marks.items marks (sym from_len) (sym masks_is) (sym from_is) (sym marks_is) kept.marked));
+    marked = marked_as masks new.masks.items to new.addresses.items marks' new.marks.items (masks_is ∙ sym same) (sym to_is) (sym marks'_is)
+        (marked (marked_as old.masks.items masks old.addresses.items from old.marks.items marks (sym masks_is) (sym from_is) (sym marks_is) kept.marked));
   }
 
--- a table is turned, and marked where it differs then
-module _ (plan : Plan) (old new : State) (j : ℕ) (bit : Bool) (mask differ : ℕ) (pins : List Pin) (from masks marks : List ℕ) (is : IsPlan plan) (lj : j < length plan.network.tables) (sized : IsSized plan.network (length plan.gates.items) old) (others : AreOthersMarked j (length plan.network.tables) old.masks.items old.addresses.items old.marks.items) (bit_is : bit ≡ value_in old.values.items j) (mask_is : mask ≡ number_at old.masks.items j) (fits : mask < 18446744073709551616) (inputs : new.inputs.items ≡ old.inputs.items) (values : new.values.items ≡ set old.values.items j (not bit)) (same : new.masks.items ≡ set old.masks.items j (18446744073709551615 - mask)) (at : pins ≡ pins_at plan.pins.items j) (from_is : from ≡ old.addresses.items) (masks_is : masks ≡ new.masks.items) (to marks' : List ℕ) (to_is : new.addresses.items ≡ to) (marks'_is : new.marks.items ≡ marks') (by : AreTurned pins (length pins) from to) (differ_is : differ ≡ bit_at (number_at new.masks.items j) (number_at old.addresses.items j)) (this : is_marked marks j ≡ (is_marked old.marks.items j || (differ == 1))) (rest : (t : ℕ) → (t ≡ j → ⊥) → is_marked marks t ≡ is_marked old.marks.items t) (len : length marks' ≡ length old.marks.items) (marked : AreMarked (length from) masks from marks → AreMarked (length from) masks to marks') where
+-- a table is turned, and its mark
+module _ (plan : Plan) (old new : State) (j : ℕ) (bit : Bool) (mask : ℕ) (pins : List Pin) (from masks marks : List ℕ) (is : IsPlan plan) (lj : j < length plan.network.tables) (kept : IsKept plan old) (bit_is : bit ≡ value_in old.values.items j) (mask_is : mask ≡ number_at old.masks.items j) (fits : mask < 18446744073709551616) (inputs : new.inputs.items ≡ old.inputs.items) (values : new.values.items ≡ set old.values.items j (not bit)) (same : new.masks.items ≡ set old.masks.items j (18446744073709551615 - mask)) (at : pins ≡ pins_at plan.pins.items j) (from_is : from ≡ old.addresses.items) (masks_is : masks ≡ new.masks.items) (to marks' : List ℕ) (to_is : new.addresses.items ≡ to) (marks'_is : new.marks.items ≡ marks') (by : AreTurned pins (length pins) from to) (this : is_marked marks j ≡ not (is_marked old.marks.items j)) (rest : (t : ℕ) → (t ≡ j → ⊥) → is_marked marks t ≡ is_marked old.marks.items t) (len : length marks' ≡ length old.marks.items) (marked : AreMarked masks from marks → AreMarked masks to marks') where
   fits_at : number_at old.masks.items j < 18446744073709551616
   fits_at = subst (λ m. m < 18446744073709551616) mask_is fits
 
-  value_after : new.values.items ≡ values_after plan.network old.values.items old.masks.items j sized.values lj fits_at sized.masks
+  value_after : new.values.items ≡ values_after plan.network old.values.items old.masks.items j kept.sized.values lj fits_at kept.sized.masks
   value_after = values ∙ ap (λ b. set old.values.items j (not b)) bit_is
 
-  mask_after : new.masks.items ≡ masks_after plan.network old.values.items old.masks.items j sized.values lj fits_at sized.masks
+  mask_after : new.masks.items ≡ masks_after plan.network old.values.items old.masks.items j kept.sized.values lj fits_at kept.sized.masks
   mask_after = same ∙ ap (λ m. set old.masks.items j (18446744073709551615 - m)) mask_is
 
-  from_length : length from ≡ length plan.network.tables
-  from_length = ap length from_is ∙ sized.pins.len
-
   other_masks : (t : ℕ) → (t ≡ j → ⊥) → number_at new.masks.items t ≡ number_at old.masks.items t
-  other_masks t d = ap (λ ms. number_at ms t) mask_after ∙ mask_there plan.network old.values.items old.masks.items j sized.values lj fits_at sized.masks t d
+  other_masks t d = ap (λ ms. number_at ms t) mask_after ∙ mask_there plan.network old.values.items old.masks.items j kept.sized.values lj fits_at kept.sized.masks t d
+
+  differs_not : differs new.masks.items old.addresses.items j ≡ not (differs old.masks.items old.addresses.items j)
+  differs_not =
+      ap (λ ms. cell_at (number_at ms j) (number_at old.addresses.items j)) mask_after
+      ∙ mask_here plan.network old.values.items old.masks.items j kept.sized.values lj fits_at kept.sized.masks (number_at old.addresses.items j) (kept.sized.pins.low j (let l = kept.sized.pins.len in omega arith))
 
   turn_by : AreTurned (pins_at plan.pins.items j) (length (pins_at plan.pins.items j)) old.addresses.items new.addresses.items
   turn_by = turned_at pins (pins_at plan.pins.items j) from old.addresses.items new.addresses.items at from_is (subst (AreTurned pins (length pins) from) (sym to_is) by)
@@ -271,30 +255,37 @@ module _ (plan : Plan) (old new : State) (j : ℕ) (bit : Bool) (mask differ : �
   pub table_kept : IsKept plan new
   table_kept = record {
     sized = record {
-      inputs = ap length inputs ∙ sized.inputs;
-      values = ap length values ∙ length-set old.values.items j (not bit) ∙ sized.values;
-      marks = ap length marks'_is ∙ len ∙ sized.marks;
+      inputs = ap length inputs ∙ kept.sized.inputs;
+      values = ap length values ∙ length-set old.values.items j (not bit) ∙ kept.sized.values;
+      marks = ap length marks'_is ∙ len ∙ kept.sized.marks;
       pins =
           subst (λ is. HavePins plan.network is new.values.items new.addresses.items) (sym inputs) (subst (λ vs. HavePins plan.network old.inputs.items vs new.addresses.items) (sym (values ∙ ap (λ b. set old.values.items j (not b)) bit_is))
           (turned_pins plan.network plan.pins.items is.range is.pins j old.inputs.items old.values.items old.inputs.items (set old.values.items j (not (value_in old.values.items j)))
-          (table_turned plan.network old.inputs.items old.values.items j sized.values lj) old.addresses.items new.addresses.items sized.pins turn_by));
-      masks = subst (λ vs. HaveMasks plan.network vs new.masks.items) (sym value_after) (subst (HaveMasks plan.network (values_after plan.network old.values.items old.masks.items j sized.values lj fits_at sized.masks)) (sym mask_after) (turned_masks plan.network old.values.items old.masks.items j sized.values lj fits_at sized.masks));
+          (table_turned plan.network old.inputs.items old.values.items j kept.sized.values lj) old.addresses.items new.addresses.items kept.sized.pins turn_by));
+      masks = subst (λ vs. HaveMasks plan.network vs new.masks.items) (sym value_after) (subst (HaveMasks plan.network (values_after plan.network old.values.items old.masks.items j kept.sized.values lj fits_at kept.sized.masks)) (sym mask_after) (turned_masks plan.network old.values.items old.masks.items j kept.sized.values lj fits_at kept.sized.masks));
     };
-    marked = marked_as (length from) (length plan.network.tables) masks new.masks.items to new.addresses.items marks' new.marks.items from_length masks_is (sym to_is) (sym marks'_is)
-        (marked (marked_as (length plan.network.tables) (length from) new.masks.items masks old.addresses.items from marks marks (sym from_length) (sym masks_is) (sym from_is) refl
-        (turned_marked (length plan.network.tables) j differ old.masks.items new.masks.items old.addresses.items old.marks.items marks others other_masks differ_is this rest)));
+    marked = marked_as masks new.masks.items to new.addresses.items marks' new.marks.items masks_is (sym to_is) (sym marks'_is)
+        (marked (marked_as new.masks.items masks old.addresses.items from marks marks (sym masks_is) (sym from_is) refl
+        (turned_marked j old.masks.items new.masks.items old.addresses.items old.marks.items marks kept.marked other_masks differs_not this rest)));
   }
 
   address_as : (t : ℕ) → (Reads plan.network t j → ⊥) → number_at new.addresses.items t ≡ number_at old.addresses.items t
-  address_as t apart = same_address plan.network plan.pins.items is.range is.pins j t old.addresses.items new.addresses.items lj sized.pins.len turn_by apart
+  address_as t apart = same_address plan.network plan.pins.items is.range is.pins j t old.addresses.items new.addresses.items lj kept.sized.pins.len turn_by apart
 
   pub table_turned_at : IsTurnedAt plan.network j old new
   table_turned_at = record {
     inputs = inputs;
     values = values ∙ ap (λ b. set old.values.items j (not b)) bit_is;
     this = λ apart.
-        ap (λ a. cell_at (number_at new.masks.items j) a) (address_as j apart)
-        ∙ ap (λ ms. cell_at (number_at ms j) (number_at old.addresses.items j)) mask_after
-        ∙ mask_here plan.network old.values.items old.masks.items j sized.values lj fits_at sized.masks (number_at old.addresses.items j) (sized.pins.low j (let l = sized.pins.len in omega arith));
+        ap (λ a. cell_at (number_at new.masks.items j) a) (address_as j apart) ∙ differs_not;
     others = λ t d apart. ap (cell_at (number_at new.masks.items t)) (address_as t apart) ∙ ap (λ m. cell_at m (number_at old.addresses.items t)) (other_masks t d);
   }
+
+-- a table that differs is given its cell where it is turned
+pub evaluated_by : (n : Network) (table value mask address : ℕ) (old new : State) → value ≡ bit_at mask address → mask ≡ number_at old.masks.items table → address ≡ number_at old.addresses.items table → value ≡ 1 → IsTurnedAt n table old new → IsEvaluated n table old new
+evaluated_by n table value mask address old new e m a one at = record {
+  inputs = at.inputs;
+  values = λ t d. ap (λ vs. value_in vs t) at.values ∙ get_or-set_other old.values.items table t (not (value_in old.values.items table)) false d;
+  this = λ apart. at.this apart ∙ ap not (sym (ap (λ x. x == 1) (e ∙ ap (λ x. bit_at x address) m ∙ ap (bit_at (number_at old.masks.items table)) a)) ∙ ap (λ x. x == 1) one);
+  others = at.others;
+}

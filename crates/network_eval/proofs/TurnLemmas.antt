@@ -1,10 +1,11 @@
 -- Pins that are turned, one after the other.
-use Rattle.std.proofs.Common.{◌≡◌, ◌⊎◌, Bool, ℕ, zero, suc, ◌+◌, ◌^◌, ◌<◌, ◌≤◌, ◌==◌, ◌||◌, List, true, false, length, get_or, set, refl, sym, ap, subst, ◌∙◌, inl, inr, arith}
+use Rattle.std.proofs.Common.{◌≡◌, ◌⊎◌, Bool, ℕ, zero, suc, ◌+◌, ◌^◌, ◌<◌, ◌≤◌, ◌==◌, List, true, false, length, get_or, set, refl, sym, ap, subst, ◌∙◌, inl, inr, arith}
 use Rattle.std.specs.Prelude.{not}
 use Rattle.std.specs.Int.{bit_at}
 use Rattle.std.proofs.lemmas.Bool.{cases_eq}
 use Rattle.std.proofs.lemmas.List.{get_or-set_same, get_or-set_other, length-set}
 use Rattle.table_map.specs.Rows.{cell_at}
+use Rattle.table_map.specs.Plain.{flip}
 use Rattle.network_eval.specs.declared.pins.Pin.{Pin}
 use Rattle.network_eval.specs.Pins.{pin_at, pin_of, IsAmong, AreApart}
 use Rattle.network_eval.specs.Marks.{number_at, is_marked, differs, AreMarked}
@@ -107,14 +108,13 @@ module _ (pins : List Pin) (k : ℕ) (old cur : List ℕ) (address : ℕ) (are :
       (this h.1 h.3 at_bit ∙ ap (λ x. not (cell_at (number_at cur x) h.1)) at_table)
       (λ q d. others h.1 q at_bit d ∙ ap (λ x. cell_at (number_at cur x) q) at_table))
 
-or_last : (a b : Bool) → (a || b) ≡ false → b ≡ false
-or_last true b e = absurd (let no : true ≡ false = e in cc)
-or_last false b e = e
-
--- a table whose address changed is marked if it differs
-pub mark_more : (count : ℕ) (masks cur marks marks' : List ℕ) (u address bit : ℕ) → u < length cur → AreMarked count masks cur marks → bit ≡ bit_at (number_at masks u) address → is_marked marks' u ≡ (is_marked marks u || (bit == 1)) → ((t : ℕ) → (t ≡ u → ⊥) → is_marked marks' t ≡ is_marked marks t) → AreMarked count masks (set cur u address) marks'
-mark_more count masks cur marks marks' u address bit lu are cell this others t lt un = by (cases_eq t u)
+-- the mark of a table whose address changed is turned where its cell did
+pub mark_more : (masks cur marks marks' : List ℕ) (u address bit : ℕ) → u < length cur → AreMarked masks cur marks → flip (bit == 1) (cell_at (number_at masks u) (number_at cur u)) ≡ cell_at (number_at masks u) address → is_marked marks' u ≡ flip (bit == 1) (is_marked marks u) → ((t : ℕ) → (t ≡ u → ⊥) → is_marked marks' t ≡ is_marked marks t) → AreMarked masks (set cur u address) marks'
+mark_more masks cur marks marks' u address bit lu are cell this others t = by (cases_eq t u)
   where
-    by : (t ≡ u) ⊎ (t ≡ u → ⊥) → differs masks (set cur u address) t ≡ false
-    by (inl e) = ap (λ x. differs masks (set cur u address) x) e ∙ ap (cell_at (number_at masks u)) (get_or-set_same cur u address 0 lu) ∙ ap (λ b. b == 1) (sym cell) ∙ or_last (is_marked marks u) (bit == 1) (sym this ∙ ap (is_marked marks') (sym e) ∙ un)
-    by (inr d) = ap (cell_at (number_at masks t)) (get_or-set_other cur u t address 0 d) ∙ are t lt (sym (others t d) ∙ un)
+    by : (t ≡ u) ⊎ (t ≡ u → ⊥) → is_marked marks' t ≡ differs masks (set cur u address) t
+    by (inl e) =
+        ap (is_marked marks') e ∙ this ∙ ap (flip (bit == 1)) (are u) ∙ cell
+        ∙ sym (ap (cell_at (number_at masks u)) (get_or-set_same cur u address 0 lu))
+        ∙ sym (ap (λ x. differs masks (set cur u address) x) e)
+    by (inr d) = others t d ∙ are t ∙ sym (ap (cell_at (number_at masks t)) (get_or-set_other cur u t address 0 d))

@@ -3,12 +3,13 @@ use Rattle.std.proofs.Common.{◌≡◌, ◌⊎◌, Bool, ℕ, zero, suc, ◌+�
 use Rattle.std.specs.Prelude.{not, bit_xor}
 use Rattle.std.specs.Int.{bit_at}
 use Rattle.std.proofs.lemmas.Nat.{and_le_l, xor_lt, pow_below}
-use Rattle.std.proofs.lemmas.Bool.{cases_eq}
-use Rattle.std.proofs.lemmas.List.{get_or-set_same, get_or-set_other}
+use Rattle.std.proofs.lemmas.Bool.{cases_eq, cases_lt}
+use Rattle.std.proofs.lemmas.List.{get_or-set_same, get_or-set_other, get_or_past}
 use Rattle.std.proofs.lemmas.Nat.Bits.{bit_at_xor, bit_at-pow_same, bit_at-pow_other, bit_at-lt}
 use Rattle.table_map.specs.Rows.{cell_at}
+use Rattle.table_map.specs.Plain.{flip}
 use Rattle.table_map.proofs.CellLemmas.{cell_or, cell_and, cell_not, cell_zero}
-use Rattle.network_eval.specs.Marks.{number_at, is_marked}
+use Rattle.network_eval.specs.Marks.{number_at, is_marked, differs, AreMarked, AreMarkedTo}
 
 -- one word takes the place of another, from which it differs at one bit at most
 module _ (marks : List ℕ) (t word : ℕ) (within : t < 64 * length marks) where
@@ -62,6 +63,14 @@ and_no false = refl
 pub and_yes : (b : Bool) → (b && true) ≡ b
 and_yes true = refl
 and_yes false = refl
+
+pub bit_of_cell : (p q : ℕ) → p < 2 → q < 2 → (p == 1) ≡ (q == 1) → p ≡ q
+bit_of_cell zero zero lp lq e = refl
+bit_of_cell zero (suc zero) lp lq e = absurd (let no : false ≡ true = e in cc)
+bit_of_cell (suc zero) zero lp lq e = absurd (let no : true ≡ false = e in cc)
+bit_of_cell (suc zero) (suc zero) lp lq e = refl
+bit_of_cell (suc (suc p)) q lp lq e = absurd (omega arith)
+bit_of_cell p (suc (suc q)) lp lq e = absurd (omega arith)
 
 -- addresses in which a bit is turned
 
@@ -124,6 +133,82 @@ module _ (marks : List ℕ) (t bit : ℕ) (within : t < 64 * length marks) (lb :
       ∙ ap (λ b. cell_at (number_at marks (t / 64)) k || b) (cell_times_other bit (t % 64) k lb d)
       ∙ or_no (cell_at (number_at marks (t / 64)) k))
 
+-- a word in which a bit is turned where another is 1
+abbrev with_turned : (marks : List ℕ) (t bit : ℕ) → ℕ
+with_turned marks t bit = bit_xor (number_at marks (t / 64)) (bit * 2 ^ (t % 64) % 18446744073709551616)
+
+xor_none : (w k : ℕ) → cell_at (bit_xor w 0) k ≡ cell_at w k
+xor_none w k = ap (λ b. b == 1) (bit_at_xor w 0 k ∙ ap (λ m. (bit_at w k + m) % 2) (bit_of_cell (bit_at 0 k) 0 (bit_at-lt 0 k) (omega arith) (cell_zero k)) ∙ kept_bit (bit_at w k) (bit_at-lt w k))
+
+xor_times : (w bit k : ℕ) → bit < 2 → cell_at (bit_xor w (bit * 2 ^ k)) k ≡ flip (bit == 1) (cell_at w k)
+xor_times w zero k lb = ap (λ m. cell_at (bit_xor w m) k) (zero_times (2 ^ k)) ∙ xor_none w k
+xor_times w (suc zero) k lb = ap (λ m. cell_at (bit_xor w m) k) (let e : 1 * 2 ^ k ≡ 2 ^ k = omega arith in e) ∙ xor_this w k
+xor_times w (suc (suc b)) k lb = absurd (omega arith)
+
+xor_times_other : (w bit k i : ℕ) → bit < 2 → (i ≡ k → ⊥) → cell_at (bit_xor w (bit * 2 ^ k)) i ≡ cell_at w i
+xor_times_other w zero k i lb d = ap (λ m. cell_at (bit_xor w m) i) (zero_times (2 ^ k)) ∙ xor_none w i
+xor_times_other w (suc zero) k i lb d = ap (λ m. cell_at (bit_xor w m) i) (let e : 1 * 2 ^ k ≡ 2 ^ k = omega arith in e) ∙ xor_other w k i d
+xor_times_other w (suc (suc b)) k i lb d = absurd (omega arith)
+
+module _ (marks : List ℕ) (t bit : ℕ) (within : t < 64 * length marks) (lb : bit < 2) where
+  same_turn : with_turned marks t bit ≡ bit_xor (number_at marks (t / 64)) (bit * 2 ^ (t % 64))
+  same_turn = ap (bit_xor (number_at marks (t / 64))) (shifted bit (t % 64) lb (omega arith))
+
+  pub turned_mark : is_marked (set marks (t / 64) (with_turned marks t bit)) t ≡ flip (bit == 1) (is_marked marks t)
+  turned_mark =
+      this_mark marks t (with_turned marks t bit) within
+      ∙ ap (λ w. cell_at w (t % 64)) same_turn
+      ∙ xor_times (number_at marks (t / 64)) bit (t % 64) lb
+
+  pub turned_others : (k : ℕ) → (k ≡ t → ⊥) → is_marked (set marks (t / 64) (with_turned marks t bit)) k ≡ is_marked marks k
+  turned_others = other_mark marks t (with_turned marks t bit) within (λ k lk d. ap (λ w. cell_at w k) same_turn ∙ xor_times_other (number_at marks (t / 64)) bit (t % 64) k lb d)
+
+-- two cells, as 0 or 1
+pub change_few : (p q : ℕ) → p < 2 → q < 2 → bit_xor p q < 2
+change_few zero zero lp lq = omega arith
+change_few zero (suc zero) lp lq = omega arith
+change_few (suc zero) zero lp lq = omega arith
+change_few (suc zero) (suc zero) lp lq = omega arith
+change_few (suc (suc p)) q lp lq = absurd (omega arith)
+change_few p (suc (suc q)) lp lq = absurd (omega arith)
+
+pub change_turns : (p q : ℕ) → p < 2 → q < 2 → flip (bit_xor p q == 1) (p == 1) ≡ (q == 1)
+change_turns zero zero lp lq = refl
+change_turns zero (suc zero) lp lq = refl
+change_turns (suc zero) zero lp lq = refl
+change_turns (suc zero) (suc zero) lp lq = refl
+change_turns (suc (suc p)) q lp lq = absurd (omega arith)
+change_turns p (suc (suc q)) lp lq = absurd (omega arith)
+
+-- all marks are taken away
+pub clear_next : (marks : List ℕ) (k : ℕ) → k < length marks → ((t : ℕ) → t / 64 < k → is_marked marks t ≡ false) → (t : ℕ) → t / 64 < k + 1 → is_marked (set marks k 0) t ≡ false
+clear_next marks k lk h t lt = elim (cases_eq (t / 64) k) [
+  | inl e ↦ ap (λ r. cell_at (number_at (set marks k 0) r) (t % 64)) e ∙ ap (λ w. cell_at w (t % 64)) (get_or-set_same marks k 0 0 lk) ∙ cell_zero (t % 64)
+  | inr d ↦ ap (λ w. cell_at w (t % 64)) (get_or-set_other marks k (t / 64) 0 0 d) ∙ h t (omega (arith, d))
+]
+
+pub clear_done : (marks : List ℕ) (k : ℕ) → length marks ≤ k → ((t : ℕ) → t / 64 < k → is_marked marks t ≡ false) → (t : ℕ) → is_marked marks t ≡ false
+clear_done marks k g h t = elim (cases_lt (t / 64) k) [
+  | inl l ↦ h t l
+  | inr f ↦ ap (λ w. cell_at w (t % 64)) (get_or_past marks (t / 64) 0 (omega arith)) ∙ cell_zero (t % 64)
+]
+
+-- one more table
+pub marked_next : (masks addresses marks marks' : List ℕ) (m bit : ℕ) → bit ≡ bit_at (number_at masks m) (number_at addresses m) → is_marked marks' m ≡ (is_marked marks m || (bit == 1)) → ((k : ℕ) → (k ≡ m → ⊥) → is_marked marks' k ≡ is_marked marks k) → AreMarkedTo masks addresses m marks → AreMarkedTo masks addresses (m + 1) marks'
+marked_next masks addresses marks marks' m bit e this others old = record {
+  done = λ t lt. elim (cases_eq t m) [
+    | inl s ↦ ap (is_marked marks') s ∙ this ∙ ap (λ b. b || (bit == 1)) (old.rest m (omega arith)) ∙ ap (λ b. b == 1) e ∙ sym (ap (differs masks addresses) s)
+    | inr d ↦ others t d ∙ old.done t (omega (arith, d))
+  ];
+  rest = λ t g. others t (λ s. (let no : ⊥ = omega (arith, s) in no)) ∙ old.rest t (omega arith);
+}
+
+pub marked_all : (masks addresses marks : List ℕ) (m : ℕ) → length masks ≤ m → AreMarkedTo masks addresses m marks → AreMarked masks addresses marks
+marked_all masks addresses marks m g are t = elim (cases_lt t m) [
+  | inl l ↦ are.done t l
+  | inr f ↦ are.rest t f ∙ sym (ap (λ w. cell_at w (number_at addresses t)) (get_or_past masks t 0 (omega arith)) ∙ cell_zero (number_at addresses t))
+]
+
 -- a word without a bit
 abbrev without_bit : (word bit : ℕ) → ℕ
 without_bit word bit = bit_and word (18446744073709551615 - 1 * 2 ^ bit % 18446744073709551616)
@@ -147,11 +232,3 @@ module _ (word bit : ℕ) (lb : bit < 64) where
       by : (without_bit word bit ≡ word) ⊎ (without_bit word bit ≡ word → ⊥) → without_bit word bit < word
       by (inl e) = absurd (no_both (sym set ∙ ap (λ w. cell_at w bit) (sym e) ∙ gone_without))
       by (inr d) = let l = and_le_l word (18446744073709551615 - 1 * 2 ^ bit % 18446744073709551616) in omega (arith, d)
-
-pub bit_of_cell : (p q : ℕ) → p < 2 → q < 2 → (p == 1) ≡ (q == 1) → p ≡ q
-bit_of_cell zero zero lp lq e = refl
-bit_of_cell zero (suc zero) lp lq e = absurd (let no : false ≡ true = e in cc)
-bit_of_cell (suc zero) zero lp lq e = absurd (let no : true ≡ false = e in cc)
-bit_of_cell (suc zero) (suc zero) lp lq e = refl
-bit_of_cell (suc (suc p)) q lp lq e = absurd (omega arith)
-bit_of_cell p (suc (suc q)) lp lq e = absurd (omega arith)

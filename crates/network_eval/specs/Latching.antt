@@ -1,5 +1,5 @@
 -- Latched tables that take what they read.
-use Rattle.std.specs.Prelude.{◌≡◌, ◌+◌, ◌*◌, ◌<◌, ◌⊎◌, ℕ, List, true, false, length}
+use Rattle.std.specs.Prelude.{◌≡◌, ◌+◌, ◌*◌, ◌<◌, ℕ, List, true, false, length}
 use Rattle.table_map.specs.declared.network.Network.{Network}
 use Rattle.table_map.specs.Networks.{IsLatched}
 use Rattle.table_map.specs.Rows.{cell_at}
@@ -10,13 +10,6 @@ use Rattle.network_eval.specs.Marks.{number_at, is_marked}
 use Rattle.network_eval.specs.States.{value_in}
 use Rattle.network_eval.specs.Changes.{differs_in}
 
--- a bit stays where its table differs from what it gives, and else it goes
-abbrev pub IsKeptIfDue : Plan → State → (word bit old new : ℕ) → Type 0
-IsKeptIfDue plan state word bit old new =
-    ((64 * word + bit < length plan.network.tables) × (differs_in state (64 * word + bit) ≡ true) × (new ≡ old))
-    ⊎ ((64 * word + bit < length plan.network.tables → differs_in state (64 * word + bit) ≡ false) × (cell_at new bit ≡ false)
-    × ((k : ℕ) → k < 64 → (k ≡ bit → ⊥) → cell_at new k ≡ cell_at old k))
-
 -- the bits of a word: a table is due if it is latched and differs from what it gives
 pub record AreDueIn (plan : Plan) (state : State) (word due : ℕ) : Type 0 where
   pub latched : (bit : ℕ) → bit < 64 → IsLatched plan.network (64 * word + bit) → cell_at due bit ≡ differs_in state (64 * word + bit)
@@ -25,13 +18,6 @@ pub record AreDueIn (plan : Plan) (state : State) (word due : ℕ) : Type 0 wher
 -- and those of the first m words
 abbrev pub AreDue : Plan → State → ℕ → List ℕ → Type 0
 AreDue plan state m due = (word : ℕ) → word < m → AreDueIn plan state word (number_at due word)
-
--- all is as it was but marks
-pub record AreOthersSame (old new : State) : Type 0 where
-  pub inputs : new.inputs.items ≡ old.inputs.items
-  pub values : new.values.items ≡ old.values.items
-  pub masks : new.masks.items ≡ old.masks.items
-  pub addresses : new.addresses.items ≡ old.addresses.items
 
 -- what the tables of a word give is turned where the bits say so, and nothing else
 pub record AreTurnedBy (word due : ℕ) (old new : State) : Type 0 where

@@ -1,5 +1,5 @@
 -- Tables that differ from what they give, and marks of those that may.
-use Rattle.std.specs.Prelude.{◌≡◌, ◌/◌, ◌%◌, ◌<◌, ℕ, List, Bool, false, slice_index_or}
+use Rattle.std.specs.Prelude.{◌≡◌, ◌/◌, ◌%◌, ◌<◌, ◌≤◌, ℕ, List, Bool, false, slice_index_or}
 use Rattle.table_map.specs.Rows.{cell_at}
 
 abbrev pub number_at : List ℕ → ℕ → ℕ
@@ -13,10 +13,11 @@ is_marked marks t = cell_at (number_at marks (t / 64)) (t % 64)
 abbrev pub differs : (masks addresses : List ℕ) → ℕ → Bool
 differs masks addresses t = cell_at (number_at masks t) (number_at addresses t)
 
--- a table without a mark doesn't differ
-abbrev pub AreMarked : ℕ → (masks addresses marks : List ℕ) → Type 0
-AreMarked count masks addresses marks = (t : ℕ) → t < count → is_marked marks t ≡ false → differs masks addresses t ≡ false
+-- exactly the tables that differ are marked
+abbrev pub AreMarked : (masks addresses marks : List ℕ) → Type 0
+AreMarked masks addresses marks = (t : ℕ) → is_marked marks t ≡ differs masks addresses t
 
--- but one of them may
-abbrev pub AreOthersMarked : ℕ → ℕ → (masks addresses marks : List ℕ) → Type 0
-AreOthersMarked but count masks addresses marks = (t : ℕ) → t < count → (t ≡ but → ⊥) → is_marked marks t ≡ false → differs masks addresses t ≡ false
+-- so are the first m of them, and no others
+pub record AreMarkedTo (masks addresses : List ℕ) (m : ℕ) (marks : List ℕ) : Type 0 where
+  pub done : (t : ℕ) → t < m → is_marked marks t ≡ differs masks addresses t
+  pub rest : (t : ℕ) → m ≤ t → is_marked marks t ≡ false

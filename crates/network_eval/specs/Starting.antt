@@ -12,21 +12,11 @@ use Rattle.network_eval.specs.States.{value_in}
 abbrev pub first_values : List NetTable → List Bool
 first_values tables = map (λ t. t.init) tables
 
--- the first m masks are those of tables that give these bits
-pub record AreFirstMasks (tables : List NetTable) (values : List Bool) (m : ℕ) (masks : List ℕ) : Type 0 where
-  pub len : length masks ≡ m
-  pub cells : (t a : ℕ) → t < m → a < 64 → cell_at (number_at masks t) a ≡ flip (value_in values t) (cell_at (slice_index_or tables t no_table).cells a)
-
 -- the address has what the first m of these sources give, and else 1
 pub record IsAddress (ins : List Source) (inputs values : List Bool) (m address : ℕ) : Type 0 where
   pub low : address < 64
   pub pins : (p : ℕ) → p < m → cell_at address p ≡ slice_index_or (map (bit_of inputs (value_in values)) ins) p true
   pub others : (p : ℕ) → m ≤ p → p < 6 → cell_at address p ≡ true
-
--- the first m addresses have what their tables' pins read
-pub record AreFirstAddresses (n : Network) (inputs values : List Bool) (m : ℕ) (addresses : List ℕ) : Type 0 where
-  pub len : length addresses ≡ m
-  pub each : (t : ℕ) → t < m → IsAddress (table_at n t).ins inputs values (length (table_at n t).ins) (number_at addresses t)
 
 -- the first m masks, of all, are those of tables that give these bits
 pub record HaveMasksTo (tables : List NetTable) (values : List Bool) (m : ℕ) (masks : List ℕ) : Type 0 where

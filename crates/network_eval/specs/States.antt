@@ -62,7 +62,7 @@ pub record IsSized (n : Network) (words : ℕ) (state : State) : Type 0 where
   pub pins : HavePins n state.inputs.items state.values.items state.addresses.items
   pub masks : HaveMasks n state.values.items state.masks.items
 
--- and each table that differs is marked
+-- and exactly the tables that differ are marked
 pub record IsKept (plan : Plan) (state : State) : Type 0 where
   pub sized : IsSized plan.network (length plan.gates.items) state
-  pub marked : AreMarked (length plan.network.tables) state.masks.items state.addresses.items state.marks.items
+  pub marked : AreMarked state.masks.items state.addresses.items state.marks.items

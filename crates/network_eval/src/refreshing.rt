@@ -1,16 +1,55 @@
 //! Addresses, masks and marks that are made anew.
 
-ghost use Rattle.std.specs.Prelude.{◌≡◌, ◌*◌, ◌<◌, ℕ, true, length};
-ghost use Rattle.network_eval.specs.Marks.{is_marked};
+ghost use Rattle.std.specs.Prelude.{◌≡◌, ◌≢◌, ◌<◌, ◌≤◌, ℕ, length, true};
+ghost use Rattle.table_map.specs.Plain.{flip};
+ghost use Rattle.table_map.specs.Rows.{cell_at};
 ghost use Rattle.network_eval.specs.Pins.{AreInRange};
-ghost use Rattle.network_eval.specs.Starting.{HaveAddressesTo, HaveMasksTo};
-ghost use Rattle.network_eval.specs.States.{IsPlan, IsKept};
+ghost use Rattle.network_eval.specs.Starting.{HaveAddressesTo, HaveMasksTo, IsAddress};
+ghost use Rattle.network_eval.specs.States.{IsPlan, IsSized, IsKept};
 ghost use Rattle.network_eval.specs.Wires.{IsShaped};
 
 use crate::plan::Plan;
-use crate::starting::{address_of, mask_of};
-use crate::state::State;
-use table_map::{NetTable, Network};
+use crate::showing::bit_of;
+use crate::state::{State, turned};
+use crate::words::mark_differing;
+use table_map::{NetTable, Network, Source};
+
+/// The address where all pins read 1.
+const ALL_ONES: u8 = 63;
+
+// The mask of a table with these cells that gives this bit.
+fn mask_of(cells: u64, value: bool) -> u64
+    ensures { (a : ℕ) → a < 64 → cell_at result a ≡ flip value (cell_at cells a) }
+{
+    if value { !cells } else { cells }
+}
+
+// An address in which a pin that read 1 reads this.
+fn with_pin(address: u8, pin: usize, bit: bool) -> u8
+    requires address { address < 64 }
+    requires pin { pin < 6 }
+    requires one { cell_at address pin ≡ true }
+    ensures low { result < 64 }
+    ensures this { cell_at result pin ≡ bit }
+    ensures others { (p : ℕ) → p ≢ pin → cell_at result p ≡ cell_at address p }
+{
+    if bit {
+        return address;
+    }
+    turned(address, 1 << pin)
+}
+
+// The address that these sources make. A pin without one reads 1.
+fn address_of(ins: &[Source], inputs: &[bool], values: &[bool]) -> u8
+    requires { length ins.now ≤ 6 }
+    ensures { IsAddress ins.now inputs.now values.now (length ins.now) result }
+{
+    let mut address = ALL_ONES;
+    'pins: for pin in 0..ins.len() {
+        address = with_pin(address, pin, bit_of(inputs, values, ins[pin]));
+    }
+    address
+}
 
 // The masks of tables that give these bits.
 fn refresh_masks(masks: &mut [u64], tables: &[NetTable], values: &[bool])
@@ -35,21 +74,11 @@ fn refresh_addresses(network: &Network, addresses: &mut [u8], inputs: &[bool], v
     }
 }
 
-// Marks all tables.
-fn mark_all(marks: &mut [u64])
-    ensures len { length marks.new ≡ length marks.old }
-    ensures marked { (t : ℕ) → t < 64 * length marks.old → is_marked marks.new t ≡ true }
-{
-    'words: for k in 0..marks.len() {
-        marks[k] = u64::MAX;
-    }
-}
-
-/// Makes addresses and masks those of what signals give, and marks all tables.
-pub fn refresh(plan: &Plan, state: &mut State)
+// Makes addresses and masks those of what signals give.
+fn refresh_tables(plan: &Plan, state: &mut State)
     requires plan { IsPlan plan.now }
     requires shaped { IsShaped plan.now state.old }
-    ensures kept { IsKept plan.now state.new }
+    ensures sized { IsSized plan.now.network (length plan.now.gates.items) state.new }
     ensures values { state.new.values.items ≡ state.old.values.items }
 {
     refresh_masks(
@@ -63,5 +92,25 @@ pub fn refresh(plan: &Plan, state: &mut State)
         &state.inputs,
         &state.values,
     );
-    mark_all(&mut state.marks);
+}
+
+// Marks exactly the tables that differ.
+fn refresh_marks(plan: &Plan, state: &mut State)
+    requires plan { IsPlan plan.now }
+    requires sized { IsSized plan.now.network (length plan.now.gates.items) state.old }
+    ensures kept { IsKept plan.now state.new }
+    ensures values { state.new.values.items ≡ state.old.values.items }
+{
+    mark_differing(&mut state.marks, &state.masks, &state.addresses);
+}
+
+/// Makes addresses, masks and marks those of what signals give.
+pub fn refresh(plan: &Plan, state: &mut State)
+    requires plan { IsPlan plan.now }
+    requires shaped { IsShaped plan.now state.old }
+    ensures kept { IsKept plan.now state.new }
+    ensures values { state.new.values.items ≡ state.old.values.items }
+{
+    refresh_tables(plan, state);
+    refresh_marks(plan, state);
 }

@@ -3,14 +3,14 @@
 ghost use Rattle.std.specs.Prelude.{◌≡◌, ◌≢◌, ◌<◌, ◌≤◌, ◌*◌, ◌^◌, ℕ, not, true, false, length, slice_set};
 ghost use Rattle.table_map.specs.Rows.{cell_at};
 ghost use Rattle.network_eval.specs.Pins.{AreApart};
-ghost use Rattle.network_eval.specs.Marks.{differs, AreMarked, AreOthersMarked};
+ghost use Rattle.network_eval.specs.Marks.{differs, AreMarked};
 ghost use Rattle.network_eval.specs.Turns.{AreLow, ArePinsIn, AreTurned};
-ghost use Rattle.network_eval.specs.States.{value_in, IsPlan, IsSized, IsKept};
+ghost use Rattle.network_eval.specs.States.{value_in, IsPlan, IsKept};
 ghost use Rattle.network_eval.specs.Changes.{IsTurnedAt, IsEvaluated};
 
 use crate::pins::Pin;
 use crate::plan::Plan;
-use crate::words::{cell, mark_if, unmark};
+use crate::words::{cell, change, turn_mark};
 
 /// What signals give, and for each table its address and its cells, turned where it gives 1: the cell at the address says
 /// whether the table differs from what it gives.
@@ -21,7 +21,7 @@ pub struct State {
     pub values: Vec<bool>,
     pub masks: Vec<u64>,
     pub addresses: Vec<u8>,
-    /// A bit for each table that may differ, 64 to a word.
+    /// A bit for each table that differs from what it gives, 64 to a word.
     pub marks: Vec<u64>,
 }
 
@@ -35,7 +35,7 @@ pub fn turned(address: u8, bit: u8) -> u8
     address ^ bit
 }
 
-// Turns the pins in their tables' addresses, and marks the tables that differ then.
+// Turns the pins in their tables' addresses, and the marks of tables that differ then and didn't before, or the other way round.
 fn turn_pins(pins: &[Pin], addresses: &mut [u8], masks: &[u64], marks: &mut [u64])
     requires pins { ArePinsIn (length addresses.old) pins.now }
     requires apart { AreApart pins.now }
@@ -44,14 +44,15 @@ fn turn_pins(pins: &[Pin], addresses: &mut [u8], masks: &[u64], marks: &mut [u64
     requires marks { length addresses.old ≤ 64 * length marks.old }
     ensures turned { AreTurned pins.now (length pins.now) addresses.old addresses.new }
     ensures len { length marks.new ≡ length marks.old }
-    ensures marked { AreMarked (length addresses.old) masks.now addresses.old marks.old → AreMarked (length addresses.old) masks.now addresses.new marks.new }
+    ensures marked { AreMarked masks.now addresses.old marks.old → AreMarked masks.now addresses.new marks.new }
 {
     'pins: for k in 0..pins.len() {
         let pin = pins[k];
         let table = pin.table as usize;
-        let address = turned(addresses[table], pin.bit);
-        addresses[table] = address;
-        mark_if(marks, table, cell(masks[table], address));
+        let before = addresses[table];
+        let after = turned(before, pin.bit);
+        addresses[table] = after;
+        turn_mark(marks, table, change(masks[table], before, after));
     }
 }
 
@@ -77,15 +78,13 @@ pub fn turn_input(plan: &Plan, state: &mut State, input: usize)
 pub fn turn_table(plan: &Plan, state: &mut State, table: usize)
     requires plan { IsPlan plan.now }
     requires within { table < length plan.now.network.tables }
-    requires sized { IsSized plan.now.network (length plan.now.gates.items) state.old }
-    requires marked { AreOthersMarked table (length plan.now.network.tables) state.old.masks.items state.old.addresses.items state.old.marks.items }
+    requires kept { IsKept plan.now state.old }
     ensures kept { IsKept plan.now state.new }
     ensures turned { IsTurnedAt plan.now.network table state.old state.new }
 {
     state.values[table] = !state.values[table];
     state.masks[table] = !state.masks[table];
-    let differs = cell(state.masks[table], state.addresses[table]);
-    mark_if(&mut state.marks, table, differs);
+    turn_mark(&mut state.marks, table, 1);
     turn_pins(
         plan.pins[table].as_slice(),
         &mut state.addresses,
@@ -102,7 +101,6 @@ pub fn evaluate(plan: &Plan, state: &mut State, table: usize) -> usize
     ensures kept { IsKept plan.now state.new }
     ensures evaluated { IsEvaluated plan.now.network table state.old state.new }
 {
-    unmark(&mut state.marks, table);
     if cell(state.masks[table], state.addresses[table]) == 1 {
         turn_table(plan, state, table);
         return 1;

@@ -1,9 +1,11 @@
 //! Words of 64 marks.
 
-ghost use Rattle.std.specs.Prelude.{◌≡◌, ◌≢◌, ◌<◌, ◌*◌, ◌||◌, ◌==◌, ℕ, true, false, length, MatchOption};
+ghost use Rattle.std.specs.Prelude.{◌≡◌, ◌≢◌, ◌<◌, ◌≤◌, ◌*◌, ◌||◌, ◌==◌, ℕ, true, false, length, MatchOption};
 ghost use Rattle.std.specs.Int.{bit_at};
+ghost use Rattle.table_map.specs.Plain.{flip};
 ghost use Rattle.table_map.specs.Rows.{cell_at};
-ghost use Rattle.network_eval.specs.Marks.{is_marked};
+ghost use Rattle.network_eval.specs.Marks.{is_marked, AreMarked};
+ghost use Rattle.network_eval.specs.Turns.{AreLow};
 
 /// How many marks a word has.
 pub const WORD: usize = 64;
@@ -47,11 +49,47 @@ pub fn mark_if(marks: &mut [u64], table: usize, bit: u64)
     marks[table / WORD] |= bit << (table % WORD);
 }
 
-/// Takes the mark of the table away.
-pub fn unmark(marks: &mut [u64], table: usize)
-    requires { table < 64 * length marks.old }
+/// Turns the mark of the table where the bit is 1.
+pub fn turn_mark(marks: &mut [u64], table: usize, bit: u64)
+    requires within { table < 64 * length marks.old }
+    requires bit { bit < 2 }
     ensures len { length marks.new ≡ length marks.old }
+    ensures this { is_marked marks.new table ≡ flip (bit == 1) (is_marked marks.old table) }
     ensures others { (k : ℕ) → k ≢ table → is_marked marks.new k ≡ is_marked marks.old k }
 {
-    marks[table / WORD] = without(marks[table / WORD], table % WORD);
+    marks[table / WORD] ^= bit << (table % WORD);
+}
+
+/// Whether the cells at two addresses differ, as 0 or 1.
+pub fn change(mask: u64, before: u8, after: u8) -> u64
+    requires before { before < 64 }
+    requires after { after < 64 }
+    ensures few { result < 2 }
+    ensures turned { flip (result == 1) (cell_at mask before) ≡ cell_at mask after }
+{
+    cell(mask, before) ^ cell(mask, after)
+}
+
+// Takes all marks away.
+fn clear(marks: &mut [u64])
+    ensures len { length marks.new ≡ length marks.old }
+    ensures none { (t : ℕ) → is_marked marks.new t ≡ false }
+{
+    'words: for k in 0..marks.len() {
+        marks[k] = 0;
+    }
+}
+
+/// Marks exactly the tables that differ.
+pub fn mark_differing(marks: &mut [u64], masks: &[u64], addresses: &[u8])
+    requires marks { length masks.now ≤ 64 * length marks.old }
+    requires addresses { length addresses.now ≡ length masks.now }
+    requires low { AreLow addresses.now }
+    ensures len { length marks.new ≡ length marks.old }
+    ensures marked { AreMarked masks.now addresses.now marks.new }
+{
+    clear(marks);
+    'tables: for table in 0..masks.len() {
+        mark_if(marks, table, cell(masks[table], addresses[table]));
+    }
 }

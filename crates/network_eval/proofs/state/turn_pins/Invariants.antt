@@ -7,5 +7,5 @@ abbrev pub invariant-pins : goal.invariant-pins
 invariant-pins l = record {
   turned : AreTurned l.pins l.k l.fn.addresses l.addresses;
   len : length l.marks ≡ length l.fn.marks;
-  marked : AreMarked (length l.fn.addresses) l.masks l.fn.addresses l.fn.marks → AreMarked (length l.fn.addresses) l.masks l.addresses l.marks;
+  marked : AreMarked l.masks l.fn.addresses l.fn.marks → AreMarked l.masks l.addresses l.marks;
 }

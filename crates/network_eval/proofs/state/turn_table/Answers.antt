@@ -1,5 +1,5 @@
-use Rattle.std.proofs.Common.{◌-◌, ◌||◌, ◌==◌, ◌∙◌, [], length, set, refl, sym, ap, subst, arith, false}
-use Rattle.std.specs.Int.{bit_at}
+use Rattle.std.proofs.Common.{◌-◌, ◌∙◌, [], length, set, refl, sym, ap, subst, arith, false}
+use Rattle.std.specs.Prelude.{not}
 use Rattle.std.specs.Vec.{with_items}
 use Rattle.std.proofs.lemmas.List.{get_or_default, length-set}
 use Rattle.network_eval.specs.Marks.{number_at, is_marked, AreMarked}
@@ -10,52 +10,50 @@ pub turn_pins-requires-clause-pins : goal.turn_pins-requires-clause-pins
 turn_pins-requires-clause-pins c =
     let l = c.requires.plan.pins.len in
     let w = c.requires.within in
-    pins_ready c.args.plan.now c.args.table c.as_slice.result.now c.deref_mut-2.result.now c.requires.plan (c.as_slice.ensures ∙ c.index-5.ensures ∙ get_or_default c.args.plan.now.pins.items c.args.table c.index-5.result.now [] (omega arith)) (ap length c.deref_mut-2.ensures.value ∙ c.requires.sized.pins.len)
+    pins_ready c.args.plan.now c.args.table c.as_slice.result.now c.deref_mut-2.result.now c.requires.plan (c.as_slice.ensures ∙ c.index-3.ensures ∙ get_or_default c.args.plan.now.pins.items c.args.table c.index-3.result.now [] (omega arith)) (ap length c.deref_mut-2.ensures.value ∙ c.requires.kept.sized.pins.len)
 
 pub turn_pins-requires-clause-apart : goal.turn_pins-requires-clause-apart
 turn_pins-requires-clause-apart c =
     let l = c.requires.plan.pins.len in
     let w = c.requires.within in
-    pins_apart c.args.plan.now c.args.table c.as_slice.result.now c.requires.plan (c.as_slice.ensures ∙ c.index-5.ensures ∙ get_or_default c.args.plan.now.pins.items c.args.table c.index-5.result.now [] (omega arith))
+    pins_apart c.args.plan.now c.args.table c.as_slice.result.now c.requires.plan (c.as_slice.ensures ∙ c.index-3.ensures ∙ get_or_default c.args.plan.now.pins.items c.args.table c.index-3.result.now [] (omega arith))
 
 pub returns-clause-kept : goal.returns-clause-kept
 returns-clause-kept c =
     let l = c.requires.plan.pins.len in
     let w = c.requires.within in
-    let v = c.requires.sized.values in
-    let m = c.requires.sized.masks.len in
-    let a = c.requires.sized.pins.len in
+    let v = c.requires.kept.sized.values in
+    let m = c.requires.kept.sized.masks.len in
+    let a = c.requires.kept.sized.pins.len in
     let s = length-set c.args.state.now.masks.items c.args.table (18446744073709551615 - c.index-2.result.now) in
-    table_kept c.args.plan.now c.args.state.now _ c.args.table c.index.result.now c.index-2.result.now c.cell-differs.result c.as_slice.result.now c.deref_mut-2.result.now c.deref.result.now c.mark_if.new.marks c.requires.plan c.requires.within c.requires.sized c.requires.marked
+    table_kept c.args.plan.now c.args.state.now _ c.args.table c.index.result.now c.index-2.result.now c.as_slice.result.now c.deref_mut-2.result.now c.deref.result.now c.turn_mark.new.marks c.requires.plan c.requires.within c.requires.kept
     (c.index.ensures ∙ get_or_default c.args.state.now.values.items c.args.table c.index.result.now false (omega arith))
     (c.index-2.ensures ∙ get_or_default c.args.state.now.masks.items c.args.table c.index-2.result.now 0 (omega arith))
     (omega arith)
     refl refl refl
-    (c.as_slice.ensures ∙ c.index-5.ensures ∙ get_or_default c.args.plan.now.pins.items c.args.table c.index-5.result.now [] (omega arith))
-    c.deref_mut-2.ensures.value c.deref.ensures.value c.turn_pins.new.addresses c.turn_pins.new.marks (whole_items c.args.state.now.addresses c.turn_pins.new.addresses (c.turn_pins.ensures.turned.len ∙ ap length c.deref_mut-2.ensures.value)) (whole_items (with_items c.args.state.now.marks c.mark_if.new.marks) c.turn_pins.new.marks (c.turn_pins.ensures.len ∙ ap length c.deref_mut-3.ensures.value)) c.turn_pins.ensures.turned
-    (c.cell-differs.ensures ∙ ap (λ x. bit_at x c.index-4.result.now) (c.index-3.ensures ∙ get_or_default (set c.args.state.now.masks.items c.args.table (18446744073709551615 - c.index-2.result.now)) c.args.table c.index-3.result.now 0 (omega arith)) ∙ ap (bit_at (number_at (set c.args.state.now.masks.items c.args.table (18446744073709551615 - c.index-2.result.now)) c.args.table)) (c.index-4.ensures ∙ get_or_default c.args.state.now.addresses.items c.args.table c.index-4.result.now 0 (omega arith)))
-    (c.mark_if.ensures.this ∙ ap (λ ms. is_marked ms c.args.table || (c.cell-differs.result == 1)) c.deref_mut.ensures.value)
-    (λ t d. c.mark_if.ensures.others t d ∙ ap (λ ms. is_marked ms t) c.deref_mut.ensures.value)
-    (c.turn_pins.ensures.len ∙ (ap length (c.deref_mut-3.ensures.value ∙ whole_items c.args.state.now.marks c.mark_if.new.marks (c.mark_if.ensures.len ∙ ap length c.deref_mut.ensures.value)) ∙ (c.mark_if.ensures.len ∙ ap length c.deref_mut.ensures.value)))
-    (λ h. c.turn_pins.ensures.marked (subst (AreMarked (length c.deref_mut-2.result.now) c.deref.result.now c.deref_mut-2.result.now) (sym (c.deref_mut-3.ensures.value ∙ whole_items c.args.state.now.marks c.mark_if.new.marks (c.mark_if.ensures.len ∙ ap length c.deref_mut.ensures.value))) h))
+    (c.as_slice.ensures ∙ c.index-3.ensures ∙ get_or_default c.args.plan.now.pins.items c.args.table c.index-3.result.now [] (omega arith))
+    c.deref_mut-2.ensures.value c.deref.ensures.value c.turn_pins.new.addresses c.turn_pins.new.marks (whole_items c.args.state.now.addresses c.turn_pins.new.addresses (c.turn_pins.ensures.turned.len ∙ ap length c.deref_mut-2.ensures.value)) (whole_items (with_items c.args.state.now.marks c.turn_mark.new.marks) c.turn_pins.new.marks (c.turn_pins.ensures.len ∙ ap length c.deref_mut-3.ensures.value)) c.turn_pins.ensures.turned
+    (c.turn_mark.ensures.this ∙ ap (λ ms. not (is_marked ms c.args.table)) c.deref_mut.ensures.value)
+    (λ t d. c.turn_mark.ensures.others t d ∙ ap (λ ms. is_marked ms t) c.deref_mut.ensures.value)
+    (c.turn_pins.ensures.len ∙ (ap length (c.deref_mut-3.ensures.value ∙ whole_items c.args.state.now.marks c.turn_mark.new.marks (c.turn_mark.ensures.len ∙ ap length c.deref_mut.ensures.value)) ∙ (c.turn_mark.ensures.len ∙ ap length c.deref_mut.ensures.value)))
+    (λ h. c.turn_pins.ensures.marked (subst (AreMarked c.deref.result.now c.deref_mut-2.result.now) (sym (c.deref_mut-3.ensures.value ∙ whole_items c.args.state.now.marks c.turn_mark.new.marks (c.turn_mark.ensures.len ∙ ap length c.deref_mut.ensures.value))) h))
 
 pub returns-clause-turned : goal.returns-clause-turned
 returns-clause-turned c =
     let l = c.requires.plan.pins.len in
     let w = c.requires.within in
-    let v = c.requires.sized.values in
-    let m = c.requires.sized.masks.len in
-    let a = c.requires.sized.pins.len in
+    let v = c.requires.kept.sized.values in
+    let m = c.requires.kept.sized.masks.len in
+    let a = c.requires.kept.sized.pins.len in
     let s = length-set c.args.state.now.masks.items c.args.table (18446744073709551615 - c.index-2.result.now) in
-    table_turned_at c.args.plan.now c.args.state.now _ c.args.table c.index.result.now c.index-2.result.now c.cell-differs.result c.as_slice.result.now c.deref_mut-2.result.now c.deref.result.now c.mark_if.new.marks c.requires.plan c.requires.within c.requires.sized c.requires.marked
+    table_turned_at c.args.plan.now c.args.state.now _ c.args.table c.index.result.now c.index-2.result.now c.as_slice.result.now c.deref_mut-2.result.now c.deref.result.now c.turn_mark.new.marks c.requires.plan c.requires.within c.requires.kept
     (c.index.ensures ∙ get_or_default c.args.state.now.values.items c.args.table c.index.result.now false (omega arith))
     (c.index-2.ensures ∙ get_or_default c.args.state.now.masks.items c.args.table c.index-2.result.now 0 (omega arith))
     (omega arith)
     refl refl refl
-    (c.as_slice.ensures ∙ c.index-5.ensures ∙ get_or_default c.args.plan.now.pins.items c.args.table c.index-5.result.now [] (omega arith))
-    c.deref_mut-2.ensures.value c.deref.ensures.value c.turn_pins.new.addresses c.turn_pins.new.marks (whole_items c.args.state.now.addresses c.turn_pins.new.addresses (c.turn_pins.ensures.turned.len ∙ ap length c.deref_mut-2.ensures.value)) (whole_items (with_items c.args.state.now.marks c.mark_if.new.marks) c.turn_pins.new.marks (c.turn_pins.ensures.len ∙ ap length c.deref_mut-3.ensures.value)) c.turn_pins.ensures.turned
-    (c.cell-differs.ensures ∙ ap (λ x. bit_at x c.index-4.result.now) (c.index-3.ensures ∙ get_or_default (set c.args.state.now.masks.items c.args.table (18446744073709551615 - c.index-2.result.now)) c.args.table c.index-3.result.now 0 (omega arith)) ∙ ap (bit_at (number_at (set c.args.state.now.masks.items c.args.table (18446744073709551615 - c.index-2.result.now)) c.args.table)) (c.index-4.ensures ∙ get_or_default c.args.state.now.addresses.items c.args.table c.index-4.result.now 0 (omega arith)))
-    (c.mark_if.ensures.this ∙ ap (λ ms. is_marked ms c.args.table || (c.cell-differs.result == 1)) c.deref_mut.ensures.value)
-    (λ t d. c.mark_if.ensures.others t d ∙ ap (λ ms. is_marked ms t) c.deref_mut.ensures.value)
-    (c.turn_pins.ensures.len ∙ (ap length (c.deref_mut-3.ensures.value ∙ whole_items c.args.state.now.marks c.mark_if.new.marks (c.mark_if.ensures.len ∙ ap length c.deref_mut.ensures.value)) ∙ (c.mark_if.ensures.len ∙ ap length c.deref_mut.ensures.value)))
-    (λ h. c.turn_pins.ensures.marked (subst (AreMarked (length c.deref_mut-2.result.now) c.deref.result.now c.deref_mut-2.result.now) (sym (c.deref_mut-3.ensures.value ∙ whole_items c.args.state.now.marks c.mark_if.new.marks (c.mark_if.ensures.len ∙ ap length c.deref_mut.ensures.value))) h))
+    (c.as_slice.ensures ∙ c.index-3.ensures ∙ get_or_default c.args.plan.now.pins.items c.args.table c.index-3.result.now [] (omega arith))
+    c.deref_mut-2.ensures.value c.deref.ensures.value c.turn_pins.new.addresses c.turn_pins.new.marks (whole_items c.args.state.now.addresses c.turn_pins.new.addresses (c.turn_pins.ensures.turned.len ∙ ap length c.deref_mut-2.ensures.value)) (whole_items (with_items c.args.state.now.marks c.turn_mark.new.marks) c.turn_pins.new.marks (c.turn_pins.ensures.len ∙ ap length c.deref_mut-3.ensures.value)) c.turn_pins.ensures.turned
+    (c.turn_mark.ensures.this ∙ ap (λ ms. not (is_marked ms c.args.table)) c.deref_mut.ensures.value)
+    (λ t d. c.turn_mark.ensures.others t d ∙ ap (λ ms. is_marked ms t) c.deref_mut.ensures.value)
+    (c.turn_pins.ensures.len ∙ (ap length (c.deref_mut-3.ensures.value ∙ whole_items c.args.state.now.marks c.turn_mark.new.marks (c.turn_mark.ensures.len ∙ ap length c.deref_mut.ensures.value)) ∙ (c.turn_mark.ensures.len ∙ ap length c.deref_mut.ensures.value)))
+    (λ h. c.turn_pins.ensures.marked (subst (AreMarked c.deref.result.now c.deref_mut-2.result.now) (sym (c.deref_mut-3.ensures.value ∙ whole_items c.args.state.now.marks c.turn_mark.new.marks (c.turn_mark.ensures.len ∙ ap length c.deref_mut.ensures.value))) h))
