@@ -1,5 +1,5 @@
 -- Walks over the trees that are reached beside a route.
-use Rattle.std.proofs.Common.{◌≡◌, ◌≢◌, ◌⊎◌, ℕ, zero, suc, ◌+◌, ◌<◌, Bool, true, false, Some, List, [], ◌∷◌, ◌++◌, length, refl, sym, ap, ◌∙◌, subst, inl, inr, arith, get_or}
+use Rattle.std.proofs.Common.{◌≡◌, ◌≢◌, ◌⊎◌, ℕ, zero, suc, ◌+◌, ◌<◌, Bool, true, false, Some, List, [], ◌∷◌, ◌++◌, length, refl, sym, ap, ◌∙◌, subst, inl, inr, arith, get_or, set}
 use Rattle.std.specs.Prelude.{slice_get}
 use Rattle.std.proofs.lemmas.Bool.{false≢true}
 use Rattle.std.proofs.lemmas.Option.{slice_get-get_or}
@@ -14,7 +14,7 @@ use Rattle.evidence.specs.Kept.{Kept, keeps_cross}
 use Rattle.known.specs.Known.{KnownWires, IsAt, IsBefore, HasWire, IsFoot, IsKnown}
 use Rattle.known.specs.Routes.{IsPin}
 use Rattle.known.specs.Descents.{IsPinAt, IsPinHere, Stays}
-use Rattle.reach.specs.Reaches.{reach_at, IsFrom, HangsOn, own, by_first, by_second, AreTrees, IsTie, HangsAt, IsFromAt, HangsAlong, Hangs, IsTreeWalk, GoesOn, GoesBelow, GoesTo, AreBefore, Leads, HasTree, IsWalkFrom, HasWalk, AreWalksFrom, AreWalks, upper_of}
+use Rattle.reach.specs.Reaches.{reach_at, IsFrom, HangsOn, own, by_first, by_second, AreTrees, IsTie, HangsAt, IsFromAt, HangsAlong, Hangs, IsTreeWalk, GoesOn, GoesBelow, GoesTo, AreBefore, Leads, HasTree, AreTreeWalks, IsOnWalk, StayOn, upper_of}
 use Rattle.reach.specs.declared.beside.Reach.{Reach}
 use Rattle.reach.specs.declared.beside.Reach.TheVariants as reach
 use Rattle.known.specs.declared.descents.Down.{Down}
@@ -23,7 +23,6 @@ use Rattle.known.specs.declared.step.Stand.{Stand}
 use Rattle.known.specs.declared.step.Stand.TheVariants as stand
 use Rattle.known.specs.declared.step.Step.{Step}
 use Rattle.known.proofs.Places.{one_place, some_same, before_has, feet_here, pin_here, at_one, both_pins, get_before, get_last, get_pushed}
-use Rattle.reach.proofs.Reaching.{from_same}
 use Rattle.known.proofs.Rising.{foot_end, among_one}
 
 -- one foot more, and one less
@@ -298,26 +297,65 @@ module _ (P : ℕ → Type 0) (wanted : List Wire) (n : ℕ) (below : n < length
           subst (λ (x : Wire). P x.0) is this
 
 -- one walk more
-pub walks_pushed : {k : Kept} {rs : List Reach} {wanted : List Wire} (old new : List Walk) (r : Walk) {pin : ℕ} → new ≡ old ++ r ∷ [] → AreWalksFrom k rs wanted old → IsWalkFrom k rs wanted pin r → AreWalksFrom k rs wanted new
-walks_pushed {k} {rs} {wanted} old new r {pin} more are one j q here = by_place (get_pushed old r j q (subst (λ qs. slice_get qs j ≡ Some q) more here))
-  where
-    by_place : (slice_get old j ≡ Some q) ⊎ ((j ≡ length old) × (r ≡ q)) → IsWalkFrom k rs wanted q.pin q
-    by_place (inl before) = are j q before
-    by_place (inr last) = subst (λ (x : Walk). IsWalkFrom k rs wanted x.pin x) last.1 (subst (λ p. IsWalkFrom k rs wanted p r) (sym one.pin_is) one)
+module _ (old new : List Walk) (r : Walk) (more : new ≡ old ++ r ∷ []) where
+  pub walks_pushed : {k : Kept} {rs : List Reach} → AreTreeWalks k rs old → IsTreeWalk k rs r → AreTreeWalks k rs new
+  walks_pushed {k} {rs} are one j q here = by_place (get_pushed old r j q (subst (λ qs. slice_get qs j ≡ Some q) more here))
+    where
+      by_place : (slice_get old j ≡ Some q) ⊎ ((j ≡ length old) × (r ≡ q)) → IsTreeWalk k rs q
+      by_place (inl before) = are j q before
+      by_place (inr last) = subst (IsTreeWalk k rs) last.1 one
 
-pub has_walk_still : (old new : List Walk) (r : Walk) → new ≡ old ++ r ∷ [] → (pin : ℕ) → HasWalk old pin → HasWalk new pin
-has_walk_still old new r more pin has = subst (λ qs. HasWalk qs pin) (sym more) (record { place = has.place; route = has.route; here = get_before old (r ∷ []) has.place has.route has.here; from = has.from })
+  pub stay_pushed : StayOn old new
+  stay_pushed w on = subst (λ qs. IsOnWalk qs w) (sym more) (record { place = on.place; route = on.route; here = get_before old (r ∷ []) on.place on.route on.here; on = on.on })
 
-pub has_walk_now : (old new : List Walk) (r : Walk) → new ≡ old ++ r ∷ [] → (pin : ℕ) → r.pin ≡ pin → HasWalk new pin
-has_walk_now old new r more pin e = subst (λ qs. HasWalk qs pin) (sym more) (record { place = length old; route = r; here = get_last old r; from = e })
+  pub on_pushed : (w : ℕ) → among r.wires w ≡ true → IsOnWalk new w
+  on_pushed w over = subst (λ qs. IsOnWalk qs w) (sym more) (record { place = length old; route = r; here = get_last old r; on = over })
 
-pub same_pin : {rs : List Reach} {how : Reach} {pin other w : ℕ} → how ≡ reach_at rs w → how ≡ reach.From pin → IsFrom rs other w → pin ≡ other
-same_pin {pin = pin} {other = other} e is f = from_same pin other (sym is ∙ e ∙ f.at)
+next_place : {P : Type 0} {j n : ℕ} → P ⊎ (j ≡ n) → P ⊎ (suc j ≡ suc n)
+next_place (inl p) = inl p
+next_place (inr e) = inr (ap suc e)
 
-pub walks_over : {k : Kept} {rs : List Reach} {wanted : List Wire} {routes : List Walk} → AreWalksFrom k rs wanted routes → ((j : ℕ) (w : Wire) → slice_get wanted j ≡ Some w → (pin : ℕ) → IsFrom rs pin w.0 → HasWalk routes pin) → AreWalks k rs wanted routes
-walks_over {rs = rs} {routes = routes} from has = record {
-  each = λ j r here. (from j r here).walk;
-  over = λ j w at reached.
-      let h = has j w at reached.pin reached.from in
-      record { place = h.place; route = h.route; here = h.here; on = (from h.place h.route h.here).over j w at (subst (λ p. IsFrom rs p w.0) (sym h.from) reached.from) };
-}
+-- a list that is changed at one place
+module _ {A : Type 0} where
+  get_set : (xs : List A) (n : ℕ) (x y : A) → slice_get xs n ≡ Some x → slice_get (set xs n y) n ≡ Some y
+  get_set [] n x y e = cc
+  get_set (z ∷ xs) zero x y e = refl
+  get_set (z ∷ xs) (suc n) x y e = get_set xs n x y e
+
+  get_unset : (xs : List A) (n : ℕ) (y : A) (j : ℕ) (q : A) → slice_get (set xs n y) j ≡ Some q → (slice_get xs j ≡ Some q) ⊎ (y ≡ q)
+  get_unset [] n y j q e = inl e
+  get_unset (z ∷ xs) zero y zero q e = inr cc
+  get_unset (z ∷ xs) zero y (suc j) q e = inl e
+  get_unset (z ∷ xs) (suc n) y zero q e = inl e
+  get_unset (z ∷ xs) (suc n) y (suc j) q e = get_unset xs n y j q e
+
+  get_other : (xs : List A) (n : ℕ) (y : A) (j : ℕ) (q : A) → slice_get xs j ≡ Some q → (slice_get (set xs n y) j ≡ Some q) ⊎ (j ≡ n)
+  get_other [] n y j q e = inl e
+  get_other (z ∷ xs) zero y zero q e = inr refl
+  get_other (z ∷ xs) zero y (suc j) q e = inl e
+  get_other (z ∷ xs) (suc n) y zero q e = inl e
+  get_other (z ∷ xs) (suc n) y (suc j) q e = next_place (get_other xs n y j q e)
+
+-- one of some walks goes on
+module _ (routes : List Walk) (n : ℕ) (r s : Walk) (at : slice_get routes n ≡ Some r) where
+  pub walks_set : {k : Kept} {rs : List Reach} → AreTreeWalks k rs routes → IsTreeWalk k rs s → AreTreeWalks k rs (set routes n s)
+  walks_set {k} {rs} are one j q here = by_place (get_unset routes n s j q here)
+    where
+      by_place : (slice_get routes j ≡ Some q) ⊎ (s ≡ q) → IsTreeWalk k rs q
+      by_place (inl old) = are j q old
+      by_place (inr e) = subst (IsTreeWalk k rs) e one
+
+  pub stay_set : ((w : ℕ) → among r.wires w ≡ true → among s.wires w ≡ true) → StayOn routes (set routes n s)
+  stay_set stays w on = by_place (get_other routes n s on.place on.route on.here)
+    where
+      by_place : (slice_get (set routes n s) on.place ≡ Some on.route) ⊎ (on.place ≡ n) → IsOnWalk (set routes n s) w
+      by_place (inl here) = record { place = on.place; route = on.route; here = here; on = on.on }
+      by_place (inr e) = record {
+        place = n;
+        route = s;
+        here = get_set routes n r s at;
+        on = stays w (subst (λ (x : Walk). among x.wires w ≡ true) (some_same (sym on.here ∙ ap (slice_get routes) e ∙ at)) on.on);
+      }
+
+  pub on_set : (w : ℕ) → among s.wires w ≡ true → IsOnWalk (set routes n s) w
+  on_set w over = record { place = n; route = s; here = get_set routes n r s at; on = over }

@@ -110,21 +110,9 @@ pub record HasTree (rs : List Reach) (pin : ℕ) : Type 0 where
   pub wire : ℕ
   pub from : IsFrom rs pin wire
 
--- a route from this pin, over all of these wires that are reached from there
-pub record IsWalkFrom (k : Kept) (rs : List Reach) (wanted : List Wire) (pin : ℕ) (r : Walk) : Type 0 where
-  pub walk : IsTreeWalk k rs r
-  pub pin_is : r.pin ≡ pin
-  pub over : (j : ℕ) (w : Wire) → slice_get wanted j ≡ Some w → IsFrom rs pin w.0 → among r.wires w.0 ≡ true
-
--- one of the routes is from this pin
-pub record HasWalk (routes : List Walk) (pin : ℕ) : Type 0 where
-  pub place : ℕ
-  pub route : Walk
-  pub here : slice_get routes place ≡ Some route
-  pub from : route.pin ≡ pin
-
-abbrev pub AreWalksFrom : Kept → List Reach → List Wire → List Walk → Type 0
-AreWalksFrom k rs wanted routes = (j : ℕ) (r : Walk) → slice_get routes j ≡ Some r → IsWalkFrom k rs wanted r.pin r
+-- all are routes over wires that are reached from their pins
+abbrev pub AreTreeWalks : Kept → List Reach → List Walk → Type 0
+AreTreeWalks k rs routes = (j : ℕ) (r : Walk) → slice_get routes j ≡ Some r → IsTreeWalk k rs r
 
 -- one of these routes goes over the wire
 pub record IsOnWalk (routes : List Walk) (w : ℕ) : Type 0 where
@@ -132,6 +120,10 @@ pub record IsOnWalk (routes : List Walk) (w : ℕ) : Type 0 where
   pub route : Walk
   pub here : slice_get routes place ≡ Some route
   pub on : among route.wires w ≡ true
+
+-- the wires over which one of the routes goes are such still
+abbrev pub StayOn : List Walk → List Walk → Type 0
+StayOn old new = (w : ℕ) → IsOnWalk old w → IsOnWalk new w
 
 -- routes over wires that are reached, among them each of these that is
 pub record AreWalks (k : Kept) (rs : List Reach) (wanted : List Wire) (routes : List Walk) : Type 0 where

@@ -6,8 +6,8 @@ ghost use Rattle.config_set.specs.Groups.{among};
 ghost use Rattle.test_configs.specs.Routes.{IsRoute, Extends};
 ghost use Rattle.known.specs.Known.{IsKnown};
 ghost use Rattle.known.specs.Descents.{Stays};
-ghost use Rattle.reach.specs.Reaches.{AreBefore, AreTrees, AreWalks, AreWalksFrom, GoesBelow, GoesOn, GoesTo, Hangs, HangsAlong, HangsAt};
-ghost use Rattle.reach.specs.Reaches.{HangsOn, HasTree, HasWalk, IsFrom, IsFromAt, IsTreeWalk, IsWalkFrom, Leads, upper_of};
+ghost use Rattle.reach.specs.Reaches.{AreBefore, AreTreeWalks, AreTrees, AreWalks, GoesBelow, GoesOn, GoesTo, Hangs, HangsAlong, HangsAt};
+ghost use Rattle.reach.specs.Reaches.{HangsOn, IsFrom, IsFromAt, IsOnWalk, IsTreeWalk, Leads, StayOn, upper_of};
 ghost use Rattle.known.specs.declared.step.Stand.TheVariants as stand;
 
 use crate::beside::{Reach, reach_at};
@@ -216,62 +216,91 @@ fn visit(
     Ok(())
 }
 
-// A walk from a pin over those of some wires that are reached from there, out and back in their order.
-fn walk_from(
+// A walk from a pin to a wire that is reached from there.
+fn walk_to(
     known: &Known,
     proof: &Proof,
     reaches: &Vec<Reach>,
     pin: u32,
-    wanted: &[Wire],
+    w: Wire,
 ) -> Result<Route, AllocError>
     requires known { IsKnown proof.now known.now }
     requires trees { AreTrees known.now.steps reaches.now.items }
-    requires from { HasTree reaches.now.items pin }
-    ensures { IfOk result (IsWalkFrom proof.now reaches.now.items wanted.now pin) }
+    requires from { IsFrom reaches.now.items pin w.0 }
+    ensures walk { IfOk result (IsTreeWalk proof.now reaches.now.items) }
+    ensures over { IfOk result (λ r. among r.wires w.0 ≡ true) }
 {
     let mut walk = route_at(known.alloc(), &proof.shape(), pin)?;
     let mut ups = Vec::new(known.alloc());
-    'wanted: for w in wanted {
-        visit(&mut walk, known, proof, reaches, &mut ups, *w)?;
-    }
+    visit(&mut walk, known, proof, reaches, &mut ups, w)?;
     Ok(walk)
 }
 
-// Whether one of the routes is from this pin.
-fn has_walk(routes: &Vec<Route>, pin: u32) -> bool
-    ensures { IsTrue result → HasWalk routes.now.items pin }
+// Goes to a wire on the walk at a place, if that is from the pin from which the wire is reached. False where it isn't.
+fn visit_at(
+    known: &Known,
+    proof: &Proof,
+    reaches: &Vec<Reach>,
+    routes: &mut Vec<Route>,
+    place: usize,
+    w: Wire,
+) -> Result<bool, AllocError>
+    requires known { IsKnown proof.now known.now }
+    requires trees { AreTrees known.now.steps reaches.now.items }
+    requires walks { AreTreeWalks proof.now reaches.now.items routes.old.items }
+    ensures walks { OnOk result (AreTreeWalks proof.now reaches.now.items routes.new.items) }
+    ensures stay { OnOk result (StayOn routes.old.items routes.new.items) }
+    ensures on { IfOk result (λ yes. IsTrue yes → IsOnWalk routes.new.items w.0) }
 {
-    'routes: for k in 0..routes.len() {
-        if routes[k].pin() == pin {
-            return true;
-        }
+    if place >= routes.len() {
+        return Ok(false);
     }
-    false
+    if !is_from(reaches, routes[place].pin(), w) {
+        return Ok(false);
+    }
+    let mut ups = Vec::new(known.alloc());
+    visit(&mut routes[place], known, proof, reaches, &mut ups, w)?;
+    Ok(true)
 }
 
-// Takes the walk on which a wire is, if it is reached and the walk isn't there.
+// The place that is noted for the walk from a pin, or the first one.
+fn place_of(places: &Vec<usize>, pin: u32) -> usize {
+    places.get(pin as usize).copied().unwrap_or(0)
+}
+
+// Notes the place of the walk from a pin.
+fn note_place(places: &mut Vec<usize>, pin: u32, place: usize) {
+    let at = pin as usize;
+    if at < places.len() {
+        places[at] = place;
+    }
+}
+
+// Goes to a wire, if it is reached: on the walk from its pin, or on a new one. Where walks are noted to stand they needn't.
 fn add_walk(
     known: &Known,
     proof: &Proof,
     reaches: &Vec<Reach>,
-    wanted: &[Wire],
     routes: &mut Vec<Route>,
+    places: &mut Vec<usize>,
     w: Wire,
 ) -> Result<(), AllocError>
     requires known { IsKnown proof.now known.now }
     requires trees { AreTrees known.now.steps reaches.now.items }
-    requires walks { AreWalksFrom proof.now reaches.now.items wanted.now routes.old.items }
-    ensures walks { OnOk result (AreWalksFrom proof.now reaches.now.items wanted.now routes.new.items) }
-    ensures stays { OnOk result ((pin : ℕ) → HasWalk routes.old.items pin → HasWalk routes.new.items pin) }
-    ensures has { OnOk result ((pin : ℕ) → IsFrom reaches.now.items pin w.0 → HasWalk routes.new.items pin) }
+    requires walks { AreTreeWalks proof.now reaches.now.items routes.old.items }
+    ensures walks { OnOk result (AreTreeWalks proof.now reaches.now.items routes.new.items) }
+    ensures stay { OnOk result (StayOn routes.old.items routes.new.items) }
+    ensures on { OnOk result ((pin : ℕ) → IsFrom reaches.now.items pin w.0 → IsOnWalk routes.new.items w.0) }
 {
     let Reach::From(pin) = reach_at(reaches, w) else {
         return Ok(());
     };
-    if has_walk(routes, pin) {
+    let place = place_of(places, pin);
+    if visit_at(known, proof, reaches, routes, place, w)? {
         return Ok(());
     }
-    let walk = walk_from(known, proof, reaches, pin, wanted)?;
+    note_place(places, pin, routes.len());
+    let walk = walk_to(known, proof, reaches, pin, w)?;
     routes.push(walk)?;
     Ok(())
 }
@@ -289,8 +318,10 @@ pub fn walks(
     ensures { IfOk result (λ routes. AreWalks proof.now reaches.now.items wanted.now routes.items) }
 {
     let mut routes = Vec::new(known.alloc());
+    let mut places = Vec::new(known.alloc());
+    places.resize(proof.shape().pins() as usize, 0)?;
     'wanted: for w in wanted {
-        add_walk(known, proof, reaches, wanted, &mut routes, *w)?;
+        add_walk(known, proof, reaches, &mut routes, &mut places, *w)?;
     }
     Ok(routes)
 }

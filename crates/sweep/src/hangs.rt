@@ -18,6 +18,10 @@ const MOST_CLIMBS: u32 = 4;
 /// How many wires in a row may fail to hang.
 const MOST_MISSES: u32 = 16;
 
+/// For how many pins of the machine a wire has to hang at least. A look goes over all pins for each of them: where they are many and few
+/// wires hang, growth takes less.
+const PINS_A_WIRE: usize = 1_000;
+
 /// How high the pins of tables are.
 const TABLE_PINS: usize = 8;
 
@@ -143,6 +147,9 @@ impl Search {
             if let Some(w) = self.wire_around(height, begin, place) {
                 misses = self.try_hang(unfit, w, misses)?;
             }
+        }
+        if self.hangs.len().saturating_mul(PINS_A_WIRE) < self.board.pins() as usize {
+            self.hangs.clear();
         }
         Ok(())
     }

@@ -22,7 +22,7 @@ fn is_good(proof: &Proof, known: &Known, w: Wire) -> bool
         return false;
     }
     'places: for place in 0..known.len() {
-        if !proof.keeps_pair(known.wire_at(place), w) {
+        if !proof.keeps_pair(w, known.wire_at(place)) {
             return false;
         }
     }

@@ -24,6 +24,13 @@ const MOST_TRIED: u64 = 400;
 /// More wires than a walk of a crossbar can have.
 const MOST_WIRES: u32 = 65_536;
 
+/// The most that is left to try of some wires, and the first place of one that has so much.
+#[derive(Clone, Copy)]
+struct Peak {
+    left: u32,
+    place: u32,
+}
+
 impl Search {
     /// Counts what is left to try, before the first load of walks. There are no groups yet.
     pub(crate) fn begin_walks(&mut self) {
@@ -60,31 +67,76 @@ impl Search {
         best
     }
 
-    // Of the links of a wire in a crossbar to wires that aren't used, with this mark, the one whose wire has most left to try.
-    fn best_link(&self, node: u32, w: Wire, mark: Mark) -> Option<Foot> {
+    // The most that is left to try of the wires at the other ends of the links of a wire in a crossbar, of those that aren't used.
+    fn peak(&self, node: u32, w: Wire) -> Peak {
         let (first, end) = self.heights.within(w, node);
-        let mut best: Option<Foot> = None;
-        let mut most = 0;
+        let mut peak = Peak { left: 0, place: 0 };
         'links: for j in first..end {
             let Some(link) = self.heights.link(w, j) else {
                 continue;
             };
-            if self.board.mark(link.cross) == mark
-                && self.board.left(link.wire) > most
-                && self.board.is_idle(link.wire)
-            {
-                most = self.board.left(link.wire);
-                best = Some(link);
+            let left = self.board.left(link.wire);
+            if left > peak.left && self.board.is_idle(link.wire) {
+                peak.left = left;
+                peak.place = j.saturating_sub(first);
+            }
+        }
+        peak
+    }
+
+    // Of the links of a wire from one place to another, to wires that aren't used, with this mark, the first one whose wire has most left
+    // to try, with that. None is looked for behind a wire with so much as the peak.
+    fn best_within(
+        &self,
+        w: Wire,
+        mark: Mark,
+        first: u32,
+        end: u32,
+        peak: u32,
+    ) -> Option<(u32, Foot)> {
+        let mut best: Option<(u32, Foot)> = None;
+        let mut most = 0;
+        'links: for j in first..end {
+            if most >= peak {
+                break;
+            }
+            let Some(link) = self.heights.link(w, j) else {
+                continue;
+            };
+            let left = self.board.left(link.wire);
+            if left > most && self.board.mark(link.cross) == mark && self.board.is_idle(link.wire) {
+                most = left;
+                best = Some((left, link));
             }
         }
         best
     }
 
+    // Of the links of a wire in a crossbar to wires that aren't used, with this mark, the first one whose wire has most left to try. No wire
+    // there has more than the peak, and none before the place of the peak has so much.
+    fn best_link(&self, node: u32, w: Wire, mark: Mark, peak: Peak) -> Option<(u32, Foot)> {
+        let (first, end) = self.heights.within(w, node);
+        let from = first.saturating_add(peak.place);
+        let later = self.best_within(w, mark, from, end, peak.left);
+        let most = match later {
+            Some(found) => found.0,
+            None => 0,
+        };
+        if most >= peak.left {
+            return later;
+        }
+        let earlier = self.best_within(w, mark, first, from, peak.left);
+        match earlier {
+            Some(found) => { if found.0 >= most { earlier } else { later } }
+            None => later,
+        }
+    }
+
     // Goes on over a crosspoint that isn't decided, or, where there is none, over one that is kept. None where it can't; else whether the
     // crosspoint is tried.
-    fn go_on(&mut self, node: u32) -> Result<Option<bool>, AllocError> {
+    fn go_on(&mut self, node: u32, peak: Peak) -> Result<Option<bool>, AllocError> {
         let at = self.stretch.end();
-        if let Some(link) = self.best_link(node, at, Mark::Undecided) {
+        if let Some((_left, link)) = self.best_link(node, at, Mark::Undecided, peak) {
             self.board.take(link.wire);
             self.stretch.push(link.cross, link.wire)?;
             return Ok(Some(true));
@@ -92,7 +144,7 @@ impl Search {
         if !self.ends_tried() {
             return Ok(None);
         }
-        if let Some(link) = self.best_link(node, at, Mark::Kept) {
+        if let Some((_left, link)) = self.best_link(node, at, Mark::Kept, peak) {
             self.board.take(link.wire);
             self.stretch.push(link.cross, link.wire)?;
             return Ok(Some(false));
@@ -115,11 +167,18 @@ impl Search {
         self.stretch.wires.clear();
         self.stretch.crosses.clear();
         self.stretch.wires.push(from)?;
+        // The wires of a stretch are lines and taps by turns. What is left of a wire doesn't change while it is laid.
+        let mut peak: Option<Peak> = None;
+        let mut other: Option<Peak> = None;
         'wires: for _wire in 0..MOST_WIRES {
             if tried >= limit {
                 break;
             }
-            match self.go_on(node)? {
+            let here = match peak {
+                Some(found) => found,
+                None => self.peak(node, self.stretch.end()),
+            };
+            match self.go_on(node, here)? {
                 Some(true) => {
                     tried = tried.saturating_add(1);
                 }
@@ -128,6 +187,8 @@ impl Search {
                     break;
                 }
             }
+            peak = other;
+            other = Some(here);
         }
         Ok(())
     }
