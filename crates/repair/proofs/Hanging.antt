@@ -1,12 +1,12 @@
 -- The nets of a configuration, by the lowest wires of its groups.
-use Rattle.std.proofs.Common.{◌≡◌, ◌≢◌, ◌⊎◌, ℕ, ◌<◌, ◌≤◌, true, List, length, get_or, refl, sym, ap, ◌∙◌, subst, inl, inr, arith}
+use Rattle.std.proofs.Common.{◌≡◌, ◌≢◌, ◌⊎◌, ℕ, ◌<◌, ◌≤◌, Bool, true, false, List, length, get_or, refl, sym, ap, ◌∙◌, subst, inl, inr, arith}
 use Rattle.std.specs.List.{All, Contains}
 use Rattle.hierarchy.specs.Shape.{Ends, in_order, turned, ends_of, wires_of}
 use Rattle.hierarchy.specs.Laws.{IsNumbered}
 use Rattle.hierarchy.specs.Joined.{here, then, crossed, bridged}
 use Rattle.hierarchy.proofs.JoinedLemmas.{Joined-trans, Joined-sym}
 use Rattle.std.proofs.lemmas.Bool.{false≢true}
-use Rattle.std.proofs.lemmas.List.{get_or_default}
+use Rattle.std.proofs.lemmas.List.{get_or_default, get_or_read}
 use Rattle.config_set.specs.Configuration.{Configuration, IsConfiguration, is_closed}
 use Rattle.config_image.proofs.FreeWires.{keeps}
 use Rattle.place.specs.Lists.{AreThose, nth_of}
@@ -129,3 +129,11 @@ module _ (g : Configuration) (numbered : IsNumbered g.shape) (right : IsConfigur
 -- a net with the line of a closed crosspoint has its tap
 pub line_to_tap : (g : Configuration) (lowest : List ℕ) (k x : ℕ) → is_closed g x ≡ true → HasWire g lowest k (ends_of g.shape x).1 → HasWire g lowest k (ends_of g.shape x).0
 line_to_tap g lowest k x on wire = (wire.0, then wire.1 (crossed x on (turned refl refl)))
+
+-- ---- whether a net moves, as it is read
+
+pub mark_within : (moves : List Bool) {n net : ℕ} → length moves ≡ n → net < n → net < length moves
+mark_within moves {net = net} sized less = subst (λ k. net < k) (sym sized) less
+
+pub mark_read : (moves : List Bool) {n : ℕ} (net : ℕ) {read : Bool} → length moves ≡ n → net < n → read ≡ get_or moves net read → read ≡ get_or moves net false
+mark_read moves net {read} sized less at = get_or_read moves net read (mark_within moves sized less) at false

@@ -1,14 +1,10 @@
-use Rattle.std.proofs.Common.{◌≡◌, ◌<◌, ℕ, false, length, get_or, sym, ap, ◌∙◌, subst, arith}
+use Rattle.std.proofs.Common.{◌≡◌, ℕ, false, get_or, sym, ap, ◌∙◌, arith}
 use Rattle.std.proofs.lemmas.Bool.{false≢true, not-true, not_from_false}
-use Rattle.std.proofs.lemmas.List.{get_or_read}
-use Rattle.repair.proofs.Hanging.{has_end, one_net_has}
+use Rattle.repair.proofs.Hanging.{has_end, mark_read, mark_within, one_net_has}
 use Rattle.repair.proofs.rest.stays.Goals as goal
 
 pub index-moves-requires : goal.index-moves-requires
-index-moves-requires c =
-    let sized : length c.args.plan.now.moves.items ≡ length c.args.plan.now.nets.lowest = c.requires.plan.moves_sized in
-    let within : c.in-Some.net < length c.args.plan.now.nets.lowest = c.in-Some.ensures.some.0 in
-    omega (arith, sized, within)
+index-moves-requires c = omega (arith, mark_within c.args.plan.now.moves.items c.requires.plan.moves_sized c.in-Some.ensures.some.0)
 
 pub returns-in-None : goal.returns-in-None
 returns-in-None c =
@@ -21,8 +17,7 @@ returns-in-Some c =
     let g = c.args.config.now.config in
     let p = c.args.plan.now in
     let net : ℕ = c.in-Some.net in
-    let within : net < length p.moves.items = subst (λ n. net < n) (sym c.requires.plan.moves_sized) c.in-Some.ensures.some.0 in
-    let mark : c.index-moves.result.now ≡ get_or p.moves.items net false = get_or_read p.moves.items _ _ within c.index-moves.ensures false in (
+    let mark = mark_read p.moves.items net c.requires.plan.moves_sized c.in-Some.ensures.some.0 c.index-moves.ensures in (
       λ t. (net, sym mark ∙ not-true c.index-moves.result.now t, c.in-Some.ensures.some),
       λ stays.
           let same : stays.0 ≡ net = one_net_has g (c.the_numbering_is_sound.ensures.numbered g.shape) c.shape-shape.ensures.right p.nets.lowest c.requires.plan.nets_are.lowest_are stays.0 net c.args.wire.0 stays.2 c.in-Some.ensures.some in
