@@ -1,6 +1,7 @@
 -- What tests read, and where they are bound to pass. `told` is the faults of the machine, where they are told.
 use Rattle.std.specs.Prelude.{◌≡◌, ◌≢◌, ◌↔◌, ◌⊎◌, ℕ, Bool, true, false, Option, Some, None, IsTrue, List, [], ◌∷◌}
-use Rattle.std.specs.Prelude.{All, flat_map, slice_index_or}
+use Rattle.std.specs.Prelude.{All, flat_map, slice_index_or, ◌≤◌, ◌+◌, Result, IsErrOf}
+use Rattle.tm_outside.specs.Counts.{Rose}
 use Rattle.hierarchy.specs.Circuit.{Pins}
 use Rattle.hierarchy.specs.Faults.{Faults}
 use Rattle.hierarchy.specs.Shape.{pin_wire}
@@ -10,6 +11,8 @@ use Rattle.config_set.specs.Faulty.{IsRun}
 use Rattle.config_set.specs.Groups.{AreGroups, among}
 use Rattle.config_set.specs.Tests.{AreOff, IsLoop, IsCellTest, IsRegisterTest, IsDrivenAlone, IsDrivenIn, AreReleased}
 use Rattle.rig.specs.Rig.{RigState, config_of, cycles_of, drives_of}
+use Rattle.rig.specs.declared.rig.RigFail.{RigFail}
+use Rattle.rig.specs.declared.rig.RigFail.TheVariants as work
 use Rattle.test_configs.specs.Routes.{Walk, IsRoute}
 use Rattle.evidence.specs.Kept.{Kept, keeps_cross}
 
@@ -17,6 +20,15 @@ use Rattle.evidence.specs.Kept.{Kept, keeps_cross}
 pub record HasCycled (g : Configuration) (drives : List Pins) (rig : RigState) : Type 0 where
   pub config : config_of rig ≡ Some g
   pub cycles : drives_of (cycles_of rig) ≡ drives
+
+-- What at most so many loads leave: the machine as it was, and counts of failures and loads that didn't fall; where they failed, the
+-- failures rose.
+pub record LoadsUpTo {T : Type 0} (most : ℕ) (result : Result T RigFail) (old new : RigState) : Type 0 where
+  pub machine : new.machine ≡ old.machine
+  pub later : old.failures ≤ new.failures
+  pub counted : old.loads ≤ new.loads
+  pub loads : new.loads ≤ old.loads + most
+  pub cause : IsErrOf result work.Failed → Rose old.failures new.failures
 
 -- Memory was wanting before a session began: the rig is as it was, or its last load was refused and there is no session.
 abbrev pub WantsBefore : RigState → RigState → Type 0

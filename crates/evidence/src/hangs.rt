@@ -8,6 +8,7 @@ ghost use Rattle.evidence.specs.Forests.{KnowsForest};
 ghost use Rattle.evidence.specs.Hangs.{AreHangs, AreAllOf, HasTried, UnfitIf, UnclearIf, StayMarked};
 ghost use Rattle.evidence.specs.Hangs.{IsFoot, over_of, turned, overs, is_shown, others_part_from, shown, some_answers};
 ghost use Rattle.evidence.specs.Looks.{HasLooked, WantsRoom};
+ghost use Rattle.evidence.specs.Readings.{LoadsUpTo};
 ghost use Rattle.evidence.specs.Plans.{IsPlan, AreViews, HasViewed, HasLearnt};
 
 use crate::feet::{mark_unfit, pin_at};
@@ -207,12 +208,8 @@ impl Proof {
         ensures same { self.new ≡ self.old }
         ensures views { AreViews (pins_of self.old.shape) views.new }
         ensures viewed { IfOk result (HasViewed (rig_state rig.old).machine.faults forest.now hangs.now views.new) }
-        ensures machine { (rig_state rig.new).machine ≡ (rig_state rig.old).machine }
-        ensures later { (rig_state rig.old).failures ≤ (rig_state rig.new).failures }
-        ensures counted { (rig_state rig.old).loads ≤ (rig_state rig.new).loads }
-        ensures loads { (rig_state rig.new).loads ≤ (rig_state rig.old).loads + 3 }
+        ensures loads { LoadsUpTo 3 result (rig_state rig.old) (rig_state rig.new) }
         ensures session { OnOk result (HasLooked self.old.shape (rig_state rig.new)) }
-        ensures cause { IsErrOf result RigFail.Failed → Rose (rig_state rig.old).failures (rig_state rig.new).failures }
         ensures wanting { IsErrOf result RigFail.Memory → WantsRoom self.old.shape (rig_state rig.old) (rig_state rig.new) }
     {
         self.look(rig, forest, &plan.all, &plan.drives, &mut views.all)?;

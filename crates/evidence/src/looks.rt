@@ -1,8 +1,7 @@
 //! Looks: what all pins read while nothing is driven, and while each pin is driven alone.
-ghost use Rattle.std.specs.Prelude.{◌≡◌, ◌<◌, ◌≤◌, ◌+◌, ◌^◌, true, Some, None, All, length, IfOk, OnOk, IsErrOf, IsTrue};
-ghost use Rattle.tm_outside.specs.Counts.{Rose};
+ghost use Rattle.std.specs.Prelude.{◌≡◌, ◌<◌, ◌+◌, ◌^◌, true, Some, None, All, length, IfOk, OnOk, IsErrOf, IsTrue};
 ghost use Rattle.rig.specs.Rig.{shape_of};
-ghost use Rattle.evidence.specs.Readings.{HasCycled};
+ghost use Rattle.evidence.specs.Readings.{HasCycled, LoadsUpTo};
 ghost use Rattle.hierarchy.specs.Shape.{pins_of};
 ghost use Rattle.evidence.specs.Looks.{AreSights, ReadsEach, look_drives, reads_somewhere, swings, parts, read_free, read_under};
 
@@ -170,11 +169,7 @@ impl Looks {
         requires pins { self.old.pins ≡ pins_of config.now.config.shape }
         requires drives { drives.now.items ≡ look_drives self.old.pins }
         ensures pins { self.new.pins ≡ self.old.pins }
-        ensures machine { (rig_state rig.new).machine ≡ (rig_state rig.old).machine }
-        ensures later { (rig_state rig.old).failures ≤ (rig_state rig.new).failures }
-        ensures counted { (rig_state rig.old).loads ≤ (rig_state rig.new).loads }
-        ensures loads { (rig_state rig.new).loads ≤ (rig_state rig.old).loads + 1 }
-        ensures cause { IsErrOf result RigFail.Failed → Rose (rig_state rig.old).failures (rig_state rig.new).failures }
+        ensures loads { LoadsUpTo 1 result (rig_state rig.old) (rig_state rig.new) }
         ensures wanting { IsErrOf result RigFail.Memory → (rig_state rig.new).session ≡ None }
         ensures session { OnOk result (HasCycled config.now.config (look_drives self.old.pins) (rig_state rig.new)) }
         ensures run { OnOk result (ReadsEach (rig_state rig.old).machine.faults config.now.config (look_drives self.old.pins)

@@ -1,11 +1,10 @@
 //! Readings of a rig.
-ghost use Rattle.std.specs.Prelude.{◌≡◌, ◌≢◌, ◌≤◌, ◌<◌, ◌+◌, true, false, Some, None, [], ◌∷◌, All, length, slice_index_or, IfOk};
+ghost use Rattle.std.specs.Prelude.{◌≡◌, ◌≢◌, ◌<◌, true, false, Some, None, [], ◌∷◌, All, length, slice_index_or, IfOk};
 ghost use Rattle.std.specs.Prelude.{OnOk, OnErr, IsTrue, IsErrOf};
-ghost use Rattle.tm_outside.specs.Counts.{Rose};
 ghost use Rattle.hierarchy.specs.Shape.{pins_of};
 ghost use Rattle.rig.specs.Rig.{shape_of, Begins, KeepLengths};
 ghost use Rattle.evidence.specs.Looks.{ReadsEach};
-ghost use Rattle.evidence.specs.Readings.{HasCycled, ReadsOnce, Reads, ReadsPins, ReadsTwice, WantsBefore};
+ghost use Rattle.evidence.specs.Readings.{HasCycled, LoadsUpTo, Reads, ReadsOnce, ReadsPins, ReadsTwice, WantsBefore};
 
 use crate::pins::Pins;
 use config_set::Config;
@@ -15,11 +14,7 @@ use test_configs::Route;
 // Begins a session. No load is lost from the count.
 pub(crate) fn begin(rig: &mut Box<dyn Rig>, config: &Config, room: u32) -> Result<(), RigFail>
     requires { shape_of (rig_state rig.old) ≡ Some config.now.config.shape }
-    ensures machine { (rig_state rig.new).machine ≡ (rig_state rig.old).machine }
-    ensures later { (rig_state rig.old).failures ≤ (rig_state rig.new).failures }
-    ensures counted { (rig_state rig.old).loads ≤ (rig_state rig.new).loads }
-    ensures loads { (rig_state rig.new).loads ≤ (rig_state rig.old).loads + 1 }
-    ensures cause { IsErrOf result RigFail.Failed → Rose (rig_state rig.old).failures (rig_state rig.new).failures }
+    ensures loads { LoadsUpTo 1 result (rig_state rig.old) (rig_state rig.new) }
     ensures begins { OnOk result (Begins config.now.config room (rig_state rig.new)) }
     ensures ended { OnErr result ((rig_state rig.new).session ≡ None) }
 {
@@ -37,15 +32,11 @@ fn read_once(
     requires attached { shape_of (rig_state rig.old) ≡ Some config.now.config.shape }
     requires drive { length drive.now ≡ pins_of config.now.config.shape }
     requires read { length read.old ≡ pins_of config.now.config.shape }
-    ensures machine { (rig_state rig.new).machine ≡ (rig_state rig.old).machine }
-    ensures later { (rig_state rig.old).failures ≤ (rig_state rig.new).failures }
-    ensures counted { (rig_state rig.old).loads ≤ (rig_state rig.new).loads }
-    ensures loads { (rig_state rig.new).loads ≤ (rig_state rig.old).loads + 1 }
-    ensures cause { IsErrOf result RigFail.Failed → Rose (rig_state rig.old).failures (rig_state rig.new).failures }
+    ensures loads { LoadsUpTo 1 result (rig_state rig.old) (rig_state rig.new) }
     ensures wanting { IsErrOf result RigFail.Memory → (rig_state rig.new).session ≡ None }
-    ensures length { length read.new ≡ length read.old }
     ensures session { OnOk result (HasCycled config.now.config (drive.now ∷ []) (rig_state rig.new)) }
     ensures run { OnOk result (ReadsOnce (rig_state rig.old).machine.faults config.now.config drive.now read.new) }
+    ensures length { length read.new ≡ length read.old }
 {
     begin(rig, config, 1)?;
     cycle(rig, drive, read)
@@ -64,11 +55,7 @@ pub(crate) fn read_rows(
     requires rows { All (λ row. length row ≡ pins_of config.now.config.shape) rows.old }
     requires as_many { length drives.now ≡ length rows.old }
     requires room { room ≡ length drives.now }
-    ensures machine { (rig_state rig.new).machine ≡ (rig_state rig.old).machine }
-    ensures later { (rig_state rig.old).failures ≤ (rig_state rig.new).failures }
-    ensures counted { (rig_state rig.old).loads ≤ (rig_state rig.new).loads }
-    ensures loads { (rig_state rig.new).loads ≤ (rig_state rig.old).loads + 1 }
-    ensures cause { IsErrOf result RigFail.Failed → Rose (rig_state rig.old).failures (rig_state rig.new).failures }
+    ensures loads { LoadsUpTo 1 result (rig_state rig.old) (rig_state rig.new) }
     ensures wanting { IsErrOf result RigFail.Memory → (rig_state rig.new).session ≡ None }
     ensures lengths { KeepLengths rows.old rows.new }
     ensures session { OnOk result (HasCycled config.now.config drives.now (rig_state rig.new)) }
@@ -89,11 +76,7 @@ pub(crate) fn read_all(
     requires attached { shape_of (rig_state rig.old) ≡ Some config.now.config.shape }
     requires drive { length drive.now ≡ pins_of config.now.config.shape }
     ensures pins { pins.new ≡ pins.old }
-    ensures machine { (rig_state rig.new).machine ≡ (rig_state rig.old).machine }
-    ensures later { (rig_state rig.old).failures ≤ (rig_state rig.new).failures }
-    ensures counted { (rig_state rig.old).loads ≤ (rig_state rig.new).loads }
-    ensures loads { (rig_state rig.new).loads ≤ (rig_state rig.old).loads + 1 }
-    ensures cause { IsErrOf result RigFail.Failed → Rose (rig_state rig.old).failures (rig_state rig.new).failures }
+    ensures loads { LoadsUpTo 1 result (rig_state rig.old) (rig_state rig.new) }
     ensures wanting { IsErrOf result RigFail.Memory → WantsBefore (rig_state rig.old) (rig_state rig.new) }
     ensures session { OnOk result (HasCycled config.now.config (drive.now ∷ []) (rig_state rig.new)) }
     ensures length { IfOk result (λ read. length read ≡ pins_of config.now.config.shape) }
@@ -134,15 +117,11 @@ pub(crate) fn read_pin(
     requires drive { length drive.now ≡ pins_of config.now.config.shape }
     requires read { length read.old ≡ pins_of config.now.config.shape }
     requires at { at < pins_of config.now.config.shape }
-    ensures machine { (rig_state rig.new).machine ≡ (rig_state rig.old).machine }
-    ensures later { (rig_state rig.old).failures ≤ (rig_state rig.new).failures }
-    ensures counted { (rig_state rig.old).loads ≤ (rig_state rig.new).loads }
-    ensures loads { (rig_state rig.new).loads ≤ (rig_state rig.old).loads + 1 }
-    ensures cause { IsErrOf result RigFail.Failed → Rose (rig_state rig.old).failures (rig_state rig.new).failures }
+    ensures loads { LoadsUpTo 1 result (rig_state rig.old) (rig_state rig.new) }
     ensures wanting { IsErrOf result RigFail.Memory → (rig_state rig.new).session ≡ None }
-    ensures length { length read.new ≡ length read.old }
     ensures session { OnOk result (HasCycled config.now.config (drive.now ∷ []) (rig_state rig.new)) }
     ensures reads { IfOk result (λ bit. Reads (rig_state rig.old).machine.faults config.now.config drive.now at bit) }
+    ensures length { length read.new ≡ length read.old }
 {
     read_once(rig, config, drive, read)?;
     Ok(read.get(at))
@@ -163,11 +142,7 @@ pub(crate) fn read_pins(
     requires first { first < pins_of config.now.config.shape }
     requires second { second < pins_of config.now.config.shape }
     ensures pins { pins.new ≡ pins.old }
-    ensures machine { (rig_state rig.new).machine ≡ (rig_state rig.old).machine }
-    ensures later { (rig_state rig.old).failures ≤ (rig_state rig.new).failures }
-    ensures counted { (rig_state rig.old).loads ≤ (rig_state rig.new).loads }
-    ensures loads { (rig_state rig.new).loads ≤ (rig_state rig.old).loads + 1 }
-    ensures cause { IsErrOf result RigFail.Failed → Rose (rig_state rig.old).failures (rig_state rig.new).failures }
+    ensures loads { LoadsUpTo 1 result (rig_state rig.old) (rig_state rig.new) }
     ensures wanting { IsErrOf result RigFail.Memory → WantsBefore (rig_state rig.old) (rig_state rig.new) }
     ensures session { OnOk result (HasCycled config.now.config (drive.now ∷ []) (rig_state rig.new)) }
     ensures reads { IfOk result (λ bits. ReadsPins
@@ -197,11 +172,7 @@ pub(crate) fn read_twice(
     requires high { length high.now ≡ pins_of config.now.config.shape }
     requires at { at < pins_of config.now.config.shape }
     ensures pins { pins.new ≡ pins.old }
-    ensures machine { (rig_state rig.new).machine ≡ (rig_state rig.old).machine }
-    ensures later { (rig_state rig.old).failures ≤ (rig_state rig.new).failures }
-    ensures counted { (rig_state rig.old).loads ≤ (rig_state rig.new).loads }
-    ensures loads { (rig_state rig.new).loads ≤ (rig_state rig.old).loads + 1 }
-    ensures cause { IsErrOf result RigFail.Failed → Rose (rig_state rig.old).failures (rig_state rig.new).failures }
+    ensures loads { LoadsUpTo 1 result (rig_state rig.old) (rig_state rig.new) }
     ensures wanting { IsErrOf result RigFail.Memory → WantsBefore (rig_state rig.old) (rig_state rig.new) }
     ensures session { OnOk result (HasCycled config.now.config (low.now ∷ high.now ∷ []) (rig_state rig.new)) }
     ensures reads { IfOk result (λ bits. ReadsTwice

@@ -1,11 +1,10 @@
 //! What a test of many tables needs, and its two loads.
-ghost use Rattle.std.specs.Prelude.{◌≡◌, ◌==◌, ◌≤◌, ◌<◌, ◌+◌, Some, None, OnOk, IfOk, IsErrOf, All, length, slice_get};
+ghost use Rattle.std.specs.Prelude.{◌≡◌, ◌==◌, ◌<◌, Some, None, OnOk, IfOk, IsErrOf, All, length, slice_get};
 ghost use Rattle.std.specs.Int.{bit_at};
-ghost use Rattle.tm_outside.specs.Counts.{Rose};
 ghost use Rattle.hierarchy.specs.Shape.{pins_of, tables_of};
 ghost use Rattle.rig.specs.Rig.{shape_of};
 ghost use Rattle.evidence.specs.Looks.{ReadsEach};
-ghost use Rattle.evidence.specs.Readings.{HasCycled};
+ghost use Rattle.evidence.specs.Readings.{HasCycled, LoadsUpTo};
 ghost use Rattle.evidence.specs.Sheets.{AreTableDrives, HasAddress, HasInputs, HaveWidth, IsReadTwice, IsReadyFor, IsSheet, SwitchesOn};
 ghost use Rattle.evidence.specs.TableRows.{AreOpposite, AreTablesOn, IsTableConfig};
 
@@ -193,11 +192,7 @@ fn read_load(
     requires drives { HaveWidth (pins_of config.now.config.shape) drives.now }
     requires reads { HaveWidth (pins_of config.now.config.shape) reads.old }
     requires as_many { length reads.old ≡ 65 }
-    ensures machine { (rig_state rig.new).machine ≡ (rig_state rig.old).machine }
-    ensures later { (rig_state rig.old).failures ≤ (rig_state rig.new).failures }
-    ensures counted { (rig_state rig.old).loads ≤ (rig_state rig.new).loads }
-    ensures loads { (rig_state rig.new).loads ≤ (rig_state rig.old).loads + 1 }
-    ensures cause { IsErrOf result RigFail.Failed → Rose (rig_state rig.old).failures (rig_state rig.new).failures }
+    ensures loads { LoadsUpTo 1 result (rig_state rig.old) (rig_state rig.new) }
     ensures wanting { IsErrOf result RigFail.Memory → (rig_state rig.new).session ≡ None }
     ensures width { HaveWidth (pins_of config.now.config.shape) reads.new }
     ensures as_many { length reads.new ≡ 65 }
@@ -216,11 +211,7 @@ pub(crate) fn read_tables(
     requires attached { shape_of (rig_state rig.old) ≡ Some sheet.old.config.config.shape }
     requires sheet { IsSheet sheet.old.config.config.shape sheet.old }
     requires tables { All (λ t. t.0 < tables_of sheet.old.config.config.shape) tables.now }
-    ensures machine { (rig_state rig.new).machine ≡ (rig_state rig.old).machine }
-    ensures later { (rig_state rig.old).failures ≤ (rig_state rig.new).failures }
-    ensures counted { (rig_state rig.old).loads ≤ (rig_state rig.new).loads }
-    ensures loads { (rig_state rig.new).loads ≤ (rig_state rig.old).loads + 2 }
-    ensures cause { IsErrOf result RigFail.Failed → Rose (rig_state rig.old).failures (rig_state rig.new).failures }
+    ensures loads { LoadsUpTo 2 result (rig_state rig.old) (rig_state rig.new) }
     ensures wanting { IsErrOf result RigFail.Memory → (rig_state rig.new).session ≡ None }
     ensures read { OnOk result (IsReadTwice (rig_state rig.old).machine.faults tables.now sheet.old sheet.new (rig_state rig.new)) }
 {

@@ -8,7 +8,7 @@ ghost use Rattle.evidence.specs.Kept.{Advances};
 ghost use Rattle.evidence.specs.Forests.{KeepsForest};
 ghost use Rattle.evidence.specs.Hangs.{ClosesJust, feet_crosses, closes};
 ghost use Rattle.evidence.specs.Looks.{HasLooked, HasSeen, IsLook, look_drives};
-ghost use Rattle.evidence.specs.Readings.{WantsBefore};
+ghost use Rattle.evidence.specs.Readings.{LoadsUpTo, WantsBefore};
 
 use crate::looks::look_drives;
 use crate::{Forest, Looks, Proof};
@@ -61,11 +61,7 @@ impl Proof {
         requires reads { reads.old.pins ≡ pins_of self.old.shape }
         ensures same { self.new ≡ self.old }
         ensures pins { reads.new.pins ≡ reads.old.pins }
-        ensures machine { (rig_state rig.new).machine ≡ (rig_state rig.old).machine }
-        ensures later { (rig_state rig.old).failures ≤ (rig_state rig.new).failures }
-        ensures counted { (rig_state rig.old).loads ≤ (rig_state rig.new).loads }
-        ensures loads { (rig_state rig.new).loads ≤ (rig_state rig.old).loads + 1 }
-        ensures cause { IsErrOf result RigFail.Failed → Rose (rig_state rig.old).failures (rig_state rig.new).failures }
+        ensures loads { LoadsUpTo 1 result (rig_state rig.old) (rig_state rig.new) }
         ensures wanting { IsErrOf result RigFail.Memory → WantsBefore (rig_state rig.old) (rig_state rig.new) }
         ensures looked { OnOk result (IsLook (rig_state rig.old).machine.faults forest.now.shape (closes forest.now feet.now)
             reads.new.rows) }

@@ -6,7 +6,7 @@ ghost use Rattle.hierarchy.specs.Shape.{pins_of, crosses_of, tables_of};
 ghost use Rattle.config_set.specs.Configuration.{is_closed, setting_of, with_open, with_setting, with_cell, with_init};
 ghost use Rattle.rig.specs.Rig.{shape_of};
 ghost use Rattle.evidence.specs.Kept.{Gains, Advances, one_cross, one_cell, one_register};
-ghost use Rattle.evidence.specs.Readings.{HasCycled, Reads, TellsApart, CrossPasses, CellPasses, RegisterPasses, WantsBefore};
+ghost use Rattle.evidence.specs.Readings.{CellPasses, CrossPasses, HasCycled, LoadsUpTo, Reads, RegisterPasses, TellsApart, WantsBefore};
 
 use crate::Proof;
 use crate::readings::read_pin;
@@ -29,16 +29,12 @@ fn read_without(
     requires drive { length drive.now ≡ pins_of config.old.config.shape }
     requires read { length read.old ≡ pins_of config.old.config.shape }
     requires at { at < pins_of config.old.config.shape }
-    ensures machine { (rig_state rig.new).machine ≡ (rig_state rig.old).machine }
-    ensures later { (rig_state rig.old).failures ≤ (rig_state rig.new).failures }
-    ensures counted { (rig_state rig.old).loads ≤ (rig_state rig.new).loads }
-    ensures loads { (rig_state rig.new).loads ≤ (rig_state rig.old).loads + 1 }
-    ensures cause { IsErrOf result RigFail.Failed → Rose (rig_state rig.old).failures (rig_state rig.new).failures }
+    ensures loads { LoadsUpTo 1 result (rig_state rig.old) (rig_state rig.new) }
     ensures wanting { IsErrOf result RigFail.Memory → (rig_state rig.new).session ≡ None }
-    ensures length { length read.new ≡ length read.old }
     ensures session { OnOk result (HasCycled (with_open config.old.config c.0) (drive.now ∷ []) (rig_state rig.new)) }
     ensures reads { IfOk result (λ bit. Reads (rig_state rig.old).machine.faults (with_open config.old.config c.0) drive.now at bit) }
     ensures config { config.new.config ≡ config.old.config }
+    ensures length { length read.new ≡ length read.old }
 {
     config.open_cross(c);
     let bit = read_pin(rig, config, drive, read, at);
@@ -83,18 +79,14 @@ fn read_with(
     requires drive { length drive.now ≡ pins_of config.old.config.shape }
     requires read { length read.old ≡ pins_of config.old.config.shape }
     requires at { at < pins_of config.old.config.shape }
-    ensures machine { (rig_state rig.new).machine ≡ (rig_state rig.old).machine }
-    ensures later { (rig_state rig.old).failures ≤ (rig_state rig.new).failures }
-    ensures counted { (rig_state rig.old).loads ≤ (rig_state rig.new).loads }
-    ensures loads { (rig_state rig.new).loads ≤ (rig_state rig.old).loads + 1 }
-    ensures cause { IsErrOf result RigFail.Failed → Rose (rig_state rig.old).failures (rig_state rig.new).failures }
+    ensures loads { LoadsUpTo 1 result (rig_state rig.old) (rig_state rig.new) }
     ensures wanting { IsErrOf result RigFail.Memory → (rig_state rig.new).session ≡ None }
-    ensures length { length read.new ≡ length read.old }
     ensures session { OnOk result (HasCycled (with_setting config.old.config switch.table.0 (Some switch.setting)) (drive.now ∷ [])
         (rig_state rig.new)) }
     ensures reads { IfOk result (λ bit. Reads (rig_state rig.old).machine.faults
         (with_setting config.old.config switch.table.0 (Some switch.setting)) drive.now at bit) }
     ensures config { config.new.config ≡ config.old.config }
+    ensures length { length read.new ≡ length read.old }
 {
     let Some(was) = config.setting(switch.table) else {
         return Ok(false);

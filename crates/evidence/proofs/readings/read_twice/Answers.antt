@@ -8,7 +8,7 @@ returns-clause-reads g c = record {
   reading = c.cycle.new.read;
   later = c.cycle-2.new.read;
   run = two_cycles _ _ _ _ c.args.config.now.config _ c.args.low.now c.args.high.now _ _ c.in_ok-begin.ensures.begins c.in_ok-cycle.ensures.cycles c.in_ok-cycle-2.ensures.cycles
-      (ap (λ (m : Machine). m.faults) (c.in_ok-cycle-2.ensures.machine ∙ c.in_ok-cycle.ensures.machine ∙ c.in_ok-begin.ensures.machine));
+      (ap (λ (m : Machine). m.faults) (c.in_ok-cycle-2.ensures.machine ∙ c.in_ok-cycle.ensures.machine ∙ c.in_ok-begin.ensures.loads.machine));
   first_is = got c.cycle.new.read c.args.at _ c.get-first.ensures;
   second_is = got c.cycle-2.new.read c.args.at _ c.get-second.ensures;
 }

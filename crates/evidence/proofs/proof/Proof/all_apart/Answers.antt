@@ -23,5 +23,5 @@ returns-clause-exact g c = tells_all c.args.left.now c.args.rights.now c.in_ok-r
 pub returns-clause-advances : goal.returns-clause-advances
 returns-clause-advances g c =
     let gains : Gains (these_pairs c.args.left.now.wires (wires_over c.args.rights.now)) c.args.self.now c.keep_all_pairs.new.self = rw (← c.self.view_is) c.keep_all_pairs.ensures in
-    advances_by (these_pairs c.args.left.now.wires (wires_over c.args.rights.now)) c.in_ok-read.ensures.machine c.in_ok-read.ensures.later c.in_ok-read.ensures.counted gains
+    advances_by (these_pairs c.args.left.now.wires (wires_over c.args.rights.now)) c.in_ok-read.ensures.loads.machine c.in_ok-read.ensures.loads.later c.in_ok-read.ensures.loads.counted gains
     (all_gain c.args.left.now c.args.rights.now c.in_ok-read.ensures.reads c.args.self.now c.requires.shape c.requires.left c.requires.rights (rw c.pin.ensures at (c.all_differ-apart.ensures.yes c.if-not-apart.false)))

@@ -15,6 +15,6 @@ returns-clause-seen g c = record {
 
 pub returns-clause-advances : goal.returns-clause-advances
 returns-clause-advances g c =
-    advances_by (seen_in c.args.forest.now c.look.new.reads.rows) c.in_ok-look.ensures.machine c.in_ok-look.ensures.later c.in_ok-look.ensures.counted
+    advances_by (seen_in c.args.forest.now c.look.new.reads.rows) c.in_ok-look.ensures.loads.machine c.in_ok-look.ensures.loads.later c.in_ok-look.ensures.loads.counted
     (subst (λ (k : Kept). Gains (seen_in c.args.forest.now c.look.new.reads.rows) k c.keep_seen.new.self) c.in_ok-look.ensures.same c.keep_seen.ensures)
     (look_holds _ c.args.self.now c.args.forest.now c.look.new.reads.rows c.shape-shape.ensures.forest c.requires.forest (no_feet _ c.args.forest.now c.look.new.reads.rows c.in_ok-look.ensures.looked))
