@@ -20,6 +20,11 @@ module _ {X : Type 0} (p : X → Bool) where
   count_at (x ∷ xs) zero d h e = let c = count_cons x xs in let o = ap {B = ℕ} (λ b. cond b 1 0) e in omega (arith, c, o)
   count_at (x ∷ xs) (suc k) d h e = let c = count_cons x xs in let more : 1 ≤ count_by p xs = count_at xs k d (omega (arith, h)) e in omega (arith, c, more)
 
+  -- what stands in a list that has it once exactly where the answer is yes
+  yes_from_count : (xs : List X) (k : ℕ) (d : X) (b : Bool) → count_by p xs ≡ cond b 1 0 → k < length xs → p (get_or xs k d) ≡ true → b ≡ true
+  yes_from_count xs k d true e h is = refl
+  yes_from_count xs k d false e h is = absurd (let c = count_at xs k d h is in omega (arith, c, e))
+
   pub place_from_count : (xs : List X) → 1 ≤ count_by p xs → (k : ℕ) × (k < length xs) × ((d : X) → p (get_or xs k d) ≡ true)
   place_from_count [] h = absurd (omega arith)
   place_from_count (x ∷ xs) h = ⊎_elim
@@ -44,14 +49,7 @@ some_below g t is = ⊎_elim (λ l. l) (λ l. absurd (false≢true (sym (ap is_s
 
 module _ (g : Configuration) (on : List Table) (counts : (t : ℕ) → count_by (λ x. eqb x.0 t) on ≡ cond (is_some (setting_of g t)) 1 0) where
   pub on_is_some : (k : ℕ) (d : Table) → k < length on → IsSome (setting_of g (get_or on k d).0)
-  on_is_some k d h = by_bool (is_some (setting_of g t)) (counts t)
-    where
-      t : ℕ
-      t = (get_or on k d).0
-
-      by_bool : (b : Bool) → count_by (λ x. eqb x.0 t) on ≡ cond b 1 0 → b ≡ true
-      by_bool true e = refl
-      by_bool false e = absurd (let c = count_at (λ (x : Table). eqb x.0 t) on k d h (eq-eqb t t refl) in omega (arith, c, e))
+  on_is_some k d h = let t = (get_or on k d).0 in yes_from_count (λ (x : Table). eqb x.0 t) on k d (is_some (setting_of g t)) (counts t) h (eq-eqb t t refl)
 
   pub on_below : IsConfiguration g → (k : ℕ) (d : Table) → k < length on → (get_or on k d).0 < tables_of g.shape
   on_below is k d h = let b = some_below g (get_or on k d).0 (on_is_some k d h) in let e = is.tables in omega (arith, b, e)
@@ -64,14 +62,7 @@ module _ (g : Configuration) (on : List Table) (counts : (t : ℕ) → count_by 
 
 module _ (g : Configuration) (closed : List Cross) (counts : (x : ℕ) → count_by (λ c. eqb c.0 x) closed ≡ cond (is_closed g x) 1 0) where
   pub closed_below : IsConfiguration g → All (λ c. c.0 < crosses_of g.shape) closed
-  closed_below is k d h = is.crosses x (by_bool (is_closed g x) (counts x))
-    where
-      x : ℕ
-      x = (get_or closed k d).0
-
-      by_bool : (b : Bool) → count_by (λ c. eqb c.0 x) closed ≡ cond b 1 0 → b ≡ true
-      by_bool true e = refl
-      by_bool false e = absurd (let c = count_at (λ (c : Cross). eqb c.0 x) closed k d h (eq-eqb x x refl) in omega (arith, c, e))
+  closed_below is k d h = let x = (get_or closed k d).0 in is.crosses x (yes_from_count (λ (c : Cross). eqb c.0 x) closed k d (is_closed g x) (counts x) h (eq-eqb x x refl))
 
   pub among_closed : (x : ℕ) → is_among closed x ≡ is_closed g x
   among_closed x = any_from_count (λ c. eqb c.0 x) (is_closed g x) closed (counts x)

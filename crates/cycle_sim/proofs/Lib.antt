@@ -20,4 +20,5 @@ mod Reading
 mod Pulling
 mod Eventing
 mod Periods
+mod SoFar
 mod Turns

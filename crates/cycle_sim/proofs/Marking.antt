@@ -27,6 +27,14 @@ marked_more old new x P Q are h here_ more_ only_ = record { len = length-set ne
 pub marked_same : (old new : List Bool) (P Q : ℕ → Type 0) → AreMarkedToo old new P → ((r : ℕ) → P r → Q r) → ((r : ℕ) → Q r → P r) → AreMarkedToo old new Q
 marked_same old new P Q are to from = record { len = are.len; kept = are.kept; more = λ r q. are.more r (from r q); only = λ r e. ⊎_elim (λ o. inl o) (λ p. inr (to r p)) (are.only r e) }
 
+-- one mark less: those that are left are marks of what is left
+low_later : (low : List Bool) (x : ℕ) (P Q : ℕ → Type 0) → x < length low → ((r : ℕ) → r ≢ x → P r → Q r) → ((r : ℕ) → is_low low r ≡ true → P r) → (r : ℕ) → is_low (set low x false) r ≡ true → Q r
+low_later low x P Q within later only r e = by (cases_eq r x)
+  where
+    by : (r ≡ x) ⊎ (r ≢ x) → Q r
+    by (inl q) = absurd (false≢true (sym (get_or-set_same low x false false within) ∙ ap (is_low (set low x false)) (sym q) ∙ e))
+    by (inr m) = later r m (only r (sym (get_or-set_other low x r false false m) ∙ e))
+
 module _ (gates : List Gate) where
   pub no_pull : (r : ℕ) → ¬ IsPulledBy gates 0 r
   no_pull r p = let h = p.below in omega (arith, h)
@@ -58,22 +66,12 @@ module _ (gates : List Gate) where
 
   -- a mark less
   pub output_later : (low : List Bool) (n : ℕ) (d : Gate) → (get_or gates n d).out < length low → ((r : ℕ) → is_low low r ≡ true → IsOutputOf gates n r) → (r : ℕ) → is_low (set low (get_or gates n d).out false) r ≡ true → IsOutputOf gates (n + 1) r
-  output_later low n d within only r e = by_case (cases_eq r (get_or gates n d).out)
+  output_later low n d within only = low_later low (get_or gates n d).out (IsOutputOf gates n) (IsOutputOf gates (n + 1)) within later only
     where
-      x : ℕ
-      x = (get_or gates n d).out
-
-      by_place : r ≢ x → (o : IsOutputOf gates n r) → IsOutputOf gates (n + 1) r
-      by_place m o = record {
-        place = o.place;
-        from = ⊎_elim (λ q. absurd (m (sym (o.out d) ∙ ap (λ k. (get_or gates k d).out) q))) (λ q. let h = o.from in omega (arith, h, q)) (cases_eq o.place n);
-        within = o.within;
-        out = o.out;
-      }
-
-      by_case : (r ≡ x) ⊎ (r ≢ x) → IsOutputOf gates (n + 1) r
-      by_case (inl q) = absurd (false≢true (sym (get_or-set_same low x false false within) ∙ ap (is_low (set low x false)) (sym q) ∙ e))
-      by_case (inr m) = by_place m (only r (sym (get_or-set_other low x r false false m) ∙ e))
+      later : (r : ℕ) → r ≢ (get_or gates n d).out → (o : IsOutputOf gates n r) → IsOutputOf gates (n + 1) r
+      later r m o =
+          let from : n + 1 ≤ o.place = ⊎_elim (λ q. absurd (m (sym (o.out d) ∙ ap (λ k. (get_or gates k d).out) q))) (λ q. let h = o.from in omega (arith, h, q)) (cases_eq o.place n) in
+          record { place = o.place; from = from; within = o.within; out = o.out }
 
   pub outputs_done : (low : List Bool) (n : ℕ) → length gates ≤ n → ((r : ℕ) → is_low low r ≡ true → IsOutputOf gates n r) → IsClear low
   outputs_done low n h only r = false_from_ne_true (is_low low r) (λ e. let o = only r e in let f = o.from in let w = o.within in omega (arith, f, w, h))
@@ -102,22 +100,12 @@ module _ (pins : List ℕ) (drive : Pins) where
 
 module _ (pins : List ℕ) where
   pub pin_later : (low : List Bool) (n : ℕ) → get_or pins n 0 < length low → ((r : ℕ) → is_low low r ≡ true → IsPinOf pins n r) → (r : ℕ) → is_low (set low (get_or pins n 0) false) r ≡ true → IsPinOf pins (n + 1) r
-  pin_later low n within only r e = by_case (cases_eq r (get_or pins n 0))
+  pin_later low n within only = low_later low (get_or pins n 0) (IsPinOf pins n) (IsPinOf pins (n + 1)) within later only
     where
-      x : ℕ
-      x = get_or pins n 0
-
-      by_place : r ≢ x → (o : IsPinOf pins n r) → IsPinOf pins (n + 1) r
-      by_place m o = record {
-        place = o.place;
-        from = ⊎_elim (λ q. absurd (m (sym o.root ∙ ap (λ k. get_or pins k 0) q))) (λ q. let h = o.from in omega (arith, h, q)) (cases_eq o.place n);
-        within = o.within;
-        root = o.root;
-      }
-
-      by_case : (r ≡ x) ⊎ (r ≢ x) → IsPinOf pins (n + 1) r
-      by_case (inl q) = absurd (false≢true (sym (get_or-set_same low x false false within) ∙ ap (is_low (set low x false)) (sym q) ∙ e))
-      by_case (inr m) = by_place m (only r (sym (get_or-set_other low x r false false m) ∙ e))
+      later : (r : ℕ) → r ≢ get_or pins n 0 → (o : IsPinOf pins n r) → IsPinOf pins (n + 1) r
+      later r m o =
+          let from : n + 1 ≤ o.place = ⊎_elim (λ q. absurd (m (sym o.root ∙ ap (λ k. get_or pins k 0) q))) (λ q. let h = o.from in omega (arith, h, q)) (cases_eq o.place n) in
+          record { place = o.place; from = from; within = o.within; root = o.root }
 
   pub pins_done : (low : List Bool) (n : ℕ) → length pins ≤ n → ((r : ℕ) → is_low low r ≡ true → IsPinOf pins n r) → IsClear low
   pins_done low n h only r = false_from_ne_true (is_low low r) (λ e. let o = only r e in let f = o.from in let w = o.within in omega (arith, f, w, h))

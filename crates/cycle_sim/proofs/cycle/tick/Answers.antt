@@ -1,33 +1,18 @@
-use Rattle.std.proofs.Common.{◌≡◌, ◌<◌, ◌∙◌, ℕ, List, All, map, length, sym, refl, subst}
+use Rattle.std.proofs.Common.{◌∙◌, length, sym, refl}
 use Rattle.hierarchy.specs.Shape.{tables_of}
-use Rattle.cycle_sim.specs.declared.gates.Gate.{Gate}
-use Rattle.cycle_sim.specs.Gates.{level_at, ticked, Fits, IsOutputOf}
-use Rattle.cycle_sim.proofs.Ticking.{marks_at_outputs, fits_stay, ticked_fits, outs_fit}
+use Rattle.cycle_sim.specs.Gates.{level_at, ticked}
+use Rattle.cycle_sim.proofs.Ticking.{stepped_outputs, stepped_fit, stepped_within, ticked_fits}
 use Rattle.cycle_sim.proofs.cycle.tick.Goals as goal
 
 pub clear_tables-requires-clause-fits : goal.clear_tables-requires-clause-fits
 clear_tables-requires-clause-fits c =
-    let level = level_at c.args.knots.now c.args.low_pins.now c.mark_tables.new.low in
-    let t = tables_of c.args.faults.now.shape in
-    let n : ℕ = length c.args.knots.now in
-    let len : n ≡ length c.mark_tables.new.low = sym (c.mark_tables.ensures.len ∙ c.requires.tables) in
-    subst (λ (gs : List Gate). All (λ (x : Gate). x.out < length c.mark_tables.new.low) gs) (sym c.tick_all-changed.ensures.next)
-    (subst (λ (k : ℕ). All (λ (x : Gate). x.out < k) (map (ticked c.args.faults.now.faults level) c.args.gates.now)) len
-    (outs_fit t n _ (fits_stay (ticked c.args.faults.now.faults level) (λ x. refl) c.args.gates.now t n (ticked_fits c.args.faults.now.faults level t n) c.requires.fits)))
+    stepped_within (ticked c.args.faults.now.faults (level_at c.args.knots.now c.args.low_pins.now c.mark_tables.new.low)) (λ x. refl) c.args.gates.now (tables_of c.args.faults.now.shape) (length c.args.knots.now) (ticked_fits _ _ _ _) c.requires.fits c.tick_all-changed.ensures.next (sym (c.mark_tables.ensures.len ∙ c.requires.tables))
 
 pub clear_tables-requires-clause-only : goal.clear_tables-requires-clause-only
-clear_tables-requires-clause-only c = λ r e.
-    let level = level_at c.args.knots.now c.args.low_pins.now c.mark_tables.new.low in
-    subst (λ (gs : List Gate). IsOutputOf gs 0 r) (sym c.tick_all-changed.ensures.next)
-    (marks_at_outputs (ticked c.args.faults.now.faults level) (λ x. refl) c.args.gates.now c.requires.clear c.mark_tables.ensures r e)
+clear_tables-requires-clause-only c = stepped_outputs (ticked c.args.faults.now.faults (level_at c.args.knots.now c.args.low_pins.now c.mark_tables.new.low)) (λ x. refl) c.args.gates.now c.requires.clear c.mark_tables.ensures c.tick_all-changed.ensures.next
 
 pub returns-clause-fits : goal.returns-clause-fits
-returns-clause-fits c =
-    let level = level_at c.args.knots.now c.args.low_pins.now c.mark_tables.new.low in
-    let t = tables_of c.args.faults.now.shape in
-    let n : ℕ = length c.args.knots.now in
-    subst (λ (gs : List Gate). All (Fits t n) gs) (sym c.tick_all-changed.ensures.next)
-    (fits_stay (ticked c.args.faults.now.faults level) (λ x. refl) c.args.gates.now t n (ticked_fits c.args.faults.now.faults level t n) c.requires.fits)
+returns-clause-fits c = stepped_fit (ticked c.args.faults.now.faults (level_at c.args.knots.now c.args.low_pins.now c.mark_tables.new.low)) (λ x. refl) c.args.gates.now (tables_of c.args.faults.now.shape) (length c.args.knots.now) (ticked_fits _ _ _ _) c.requires.fits c.tick_all-changed.ensures.next
 
 pub returns-clause-tick : goal.returns-clause-tick
 returns-clause-tick c = record { clear = c.args.low_tables.now; is_clear = c.requires.clear; marks = c.mark_tables.new.low; marked = c.mark_tables.ensures; next = c.tick_all-changed.ensures.next }

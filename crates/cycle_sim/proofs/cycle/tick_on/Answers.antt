@@ -1,22 +1,12 @@
-use Rattle.cycle_sim.specs.Cycles.{not_yet}
-use Rattle.cycle_sim.proofs.Periods.{ticked_more, ticked_when_same}
+use Rattle.cycle_sim.proofs.Periods.{ticked_when_same}
+use Rattle.cycle_sim.proofs.SoFar.{ticks_begin, ticks_more}
 use Rattle.cycle_sim.proofs.cycle.tick_on.Goals as goal
 
 pub ticks-init : goal.ticks-init
-ticks-init c = record {
-  fits = c.requires.fits;
-  tables = c.requires.tables;
-  clear = c.requires.clear;
-  ticked = not_yet;
-}
+ticks-init c = ticks_begin c.requires.fits c.requires.tables c.requires.clear
 
 pub ticks-preserved : goal.ticks-preserved
-ticks-preserved c = record {
-  fits = c.tick.ensures.fits;
-  tables = c.tick.ensures.tables;
-  clear = c.tick.ensures.clear;
-  ticked = ticked_more c.ticks.invariant.ticked c.tick.ensures.tick;
-}
+ticks-preserved c = ticks_more c.tick.ensures.fits c.tick.ensures.tables c.ticks.invariant c.tick.ensures.clear c.tick.ensures.tick
 
 pub returns-then-not-tick-clause-ticked : goal.returns-then-not-tick-clause-ticked
 returns-then-not-tick-clause-ticked c = ticked_when_same c.ticks.invariant.ticked c.tick.ensures.tick c.ticks-test.true (c.tick.ensures.same c.if-not-tick.true)
