@@ -1,4 +1,3 @@
-use Rattle.std.specs.Prelude.{◌×◌}
 use Rattle.hierarchy.specs.Shape.{tables_of}
 use Rattle.cycle_sim.specs.Pasts.{HasComeIfKept}
 use Rattle.cycle_sim.proofs.SoFar.{AreTickedListed}
