@@ -1,7 +1,6 @@
 -- What walks gain and mark, one walk after the other, and that it is true.
-use Rattle.std.proofs.Common.{◌≡◌, ◌≢◌, ◌⊎◌, inl, inr, ℕ, suc, ◌<◌, ◌+◌, Bool, true, false, not, ◌&&◌, ◌||◌, Some, None, Option, List, [], ◌∷◌, length, get_or, take, refl, sym, ap, ◌∙◌, subst, arith}
+use Rattle.std.proofs.Common.{◌≡◌, ◌≢◌, ◌⊎◌, inl, inr, ℕ, ◌<◌, ◌+◌, Bool, true, false, not, ◌&&◌, ◌||◌, Some, None, Option, List, [], ◌∷◌, length, get_or, take, refl, sym, ap, ◌∙◌, subst, arith}
 use Rattle.std.specs.Prelude.{◌==◌, slice_set}
-use Rattle.std.specs.List.{list_any}
 use Rattle.std.proofs.lemmas.Bool.{false≢true, and_parts, or_cases}
 use Rattle.std.proofs.lemmas.List.Folds.{list_any_more}
 use Rattle.tm_bits.specs.Numbers.{has_number}
@@ -15,7 +14,8 @@ use Rattle.evidence.specs.declared.leads.Lead.{Lead}
 use Rattle.evidence.specs.Kept.{Kept, Gains, HoldsFor, keeps_cross}
 use Rattle.evidence.specs.Leads.{IsPathTest, StuckIf, arrives, led_over, held_up_at, is_only_unkept, these_crosses}
 use Rattle.evidence.specs.Readings.{ReadsOnce}
-use Rattle.evidence.proofs.KeptLemmas.{GainHoldsFor, mark_set}
+use Rattle.evidence.proofs.KeptLemmas.{GainHoldsFor, mark_set, or_swapped}
+use Rattle.evidence.proofs.Found.{IsSome_of, some_of}
 use Rattle.evidence.proofs.Leading.{arrives_free, free_where_arrives}
 use Rattle.evidence.proofs.Only.{IsOnly, only_of, only_is, gains_then}
 
@@ -62,14 +62,8 @@ module _ (reading : Pins) (ls : List Lead) (k : ℕ) (l : Lead) (below : k < len
 
     pub held_one : get_or reading l.to true ≡ true → (c : ℕ) → is_only_unkept p l.route.crosses c ≡ true → c < length now → (x : ℕ) → has_number (slice_set now c true) x ≡ (held_up_at p reading (take (k + 1) ls) x || has_number was x)
     held_one high c only within x =
-        mark_set now c x within ∙ ap (λ t. (c == x) || t) (marks x) ∙ moved (c == x) (held_up_at p reading (take k ls) x) (has_number was x)
+        mark_set now c x within ∙ ap (λ t. (c == x) || t) (marks x) ∙ or_swapped (c == x) (held_up_at p reading (take k ls) x) (has_number was x)
         ∙ ap (λ t. t || has_number was x) (sym (held_more p x ∙ ap (λ t. held_up_at p reading (take k ls) x || (not (not t) && is_only_unkept p l.route.crosses x)) high ∙ ap (λ t. held_up_at p reading (take k ls) x || t) (only_is p l.route.crosses c x only)))
-      where
-        moved : (a b c : Bool) → (a || (b || c)) ≡ ((b || a) || c)
-        moved true true c = refl
-        moved true false c = refl
-        moved false true c = refl
-        moved false false c = refl
 
 -- a walk of the list, to name one beyond it by
 first_of : (ls : List Lead) (k : ℕ) → k < length ls → Lead
@@ -79,20 +73,6 @@ first_of (l ∷ ls) k below = l
 or_true : (a b : Bool) → b ≡ true → (a || b) ≡ true
 or_true true b e = refl
 or_true false b e = e
-
--- the walk of which something is told
-record IsOneOf (p : Lead → Bool) (ls : List Lead) : Type 0 where
-  place : ℕ
-  below : place < length ls
-  holds : (d : Lead) → p (get_or ls place d) ≡ true
-
-some_of : (p : Lead → Bool) (ls : List Lead) → list_any p ls ≡ true → IsOneOf p ls
-some_of p [] is = absurd (false≢true is)
-some_of p (l ∷ ls) is = by (or_cases (p l) (list_any p ls) is) (some_of p ls)
-  where
-    by : (p l ≡ true) ⊎ (list_any p ls ≡ true) → (list_any p ls ≡ true → IsOneOf p ls) → IsOneOf p (l ∷ ls)
-    by (inl h) more = record { place = 0; below = omega arith; holds = λ d. h }
-    by (inr h) more = let s = more h in let b = s.below in record { place = suc s.place; below = omega (arith, b); holds = s.holds }
 
 not_true : (b : Bool) → not b ≡ true → b ≡ false
 not_true true e = absurd (false≢true e)
@@ -113,7 +93,7 @@ module _ (told : Option Faults) (k : Kept) (g : Configuration) (drive reading : 
     registers = λ u on. absurd (false≢true on);
   }
     where
-      by : (x : ℕ) → IsOneOf (λ l. arrives reading l && among l.route.crosses x) ls → stuck_cross f x ≡ None
+      by : (x : ℕ) → IsSome_of (λ l. arrives reading l && among l.route.crosses x) ls → stuck_cross f x ≡ None
       by x s =
           let d : Lead = first_of ls s.place s.below in
           let both = and_parts (arrives reading (get_or ls s.place d)) (among (get_or ls s.place d).route.crosses x) (s.holds d) in
@@ -132,7 +112,7 @@ module _ (told : Option Faults) (k : Kept) (g : Configuration) (drive reading : 
         registers = λ u h. holds.registers u (gains.registers u ∙ h);
       }
 
-      of_walk : IsOneOf (λ l. not (arrives reading l) && is_only_unkept k l.route.crosses x) ls → stuck_cross f x ≢ None
+      of_walk : IsSome_of (λ l. not (arrives reading l) && is_only_unkept k l.route.crosses x) ls → stuck_cross f x ≢ None
       of_walk s free =
           let d : Lead = first_of ls s.place s.below in
           let both = and_parts (not (arrives reading (get_or ls s.place d))) (is_only_unkept k (get_or ls s.place d).route.crosses x) (s.holds d) in

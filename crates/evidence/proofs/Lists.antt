@@ -18,7 +18,7 @@ use Rattle.config_set.proofs.Grouped.{LeadsTo-within, LeadsTo-start, LeadsTo-the
 use Rattle.config_set.proofs.Loops.{closed_before}
 use Rattle.config_set.proofs.Passing.{driven_in}
 use Rattle.test_configs.specs.Routes.{Walk, IsRoute}
-use Rattle.test_configs.specs.Configs.{IsLoopConfig}
+use Rattle.test_configs.specs.Configs.{IsLoopConfig, is_laid}
 use Rattle.evidence.specs.Kept.{Kept, keeps_cross}
 use Rattle.evidence.specs.Readings.{CrossPasses, SwingPasses, ApartPasses}
 use Rattle.evidence.specs.Loops.{AreTied, IsLoopBy, LoopPasses, RoutePasses, RoutesPass}
@@ -66,6 +66,19 @@ or_third true b c e = refl
 or_third false true c e = refl
 or_third false false c e = e
 
+-- what stands in the lists is closed
+pub record AreOn (left right : Walk) (ties : List ℕ) (g : Configuration) : Type 0 where
+  pub lefts : (y : ℕ) → among left.crosses y ≡ true → is_closed g y ≡ true
+  pub rights : (y : ℕ) → among right.crosses y ≡ true → is_closed g y ≡ true
+  pub tied : (y : ℕ) → among ties y ≡ true → is_closed g y ≡ true
+
+pub all_on : {left right : Walk} {ties : List ℕ} {g : Configuration} → ((y : ℕ) → is_closed g y ≡ is_laid left right ties y) → AreOn left right ties g
+all_on {left} {right} {ties} closed = record {
+  lefts = λ y is. closed y ∙ or_first (among left.crosses y) (among right.crosses y) (among ties y) is;
+  rights = λ y is. closed y ∙ or_second (among left.crosses y) (among right.crosses y) (among ties y) is;
+  tied = λ y is. closed y ∙ or_third (among left.crosses y) (among right.crosses y) (among ties y) is;
+}
+
 pub grown : {m : Shape} {x : ℕ} {group : ℕ → Bool} (ws : List ℕ) → ((w : ℕ) → among ws w ≡ true → group w ≡ true) → IsWithin m (among ws) x → IsWithin m group x
 grown {m} {x} ws h i = record { tap = h (ends_of m x).0 i.tap; line = h (ends_of m x).1 i.line }
 
@@ -73,14 +86,8 @@ module _ (f : Faults) (g : Configuration) (left right : Walk) (ties : List ℕ) 
     (config : IsLoopConfig g.shape left right ties g) (left_route : IsRoute g.shape left) (right_route : IsRoute g.shape right)
     (lefts_free : (y : ℕ) → among left.crosses y ≡ true → stuck_cross f y ≡ None) (rights_free : (y : ℕ) → among right.crosses y ≡ true → stuck_cross f y ≡ None)
     (tied : among ties x ≡ true) (p : IsLoopBy g.shape f left right ties x l r) where
-  lefts_on : (y : ℕ) → among left.crosses y ≡ true → is_closed g y ≡ true
-  lefts_on y is = config.closed y ∙ or_first (among left.crosses y) (among right.crosses y) (among ties y) is
-
-  rights_on : (y : ℕ) → among right.crosses y ≡ true → is_closed g y ≡ true
-  rights_on y is = config.closed y ∙ or_second (among left.crosses y) (among right.crosses y) (among ties y) is
-
-  ties_on : (y : ℕ) → among ties y ≡ true → is_closed g y ≡ true
-  ties_on y is = config.closed y ∙ or_third (among left.crosses y) (among right.crosses y) (among ties y) is
+  listed : AreOn left right ties g
+  listed = all_on config.closed
 
   left_within : (y : ℕ) → among left.crosses y ≡ true → IsWithin g.shape l y
   left_within y is = grown left.wires p.left_in (LeadsTo-within left_route.leads y is)
@@ -119,18 +126,18 @@ module _ (f : Faults) (g : Configuration) (left right : Walk) (ties : List ℕ) 
         whole.0,
         record {
           leads = whole.1;
-          closed = all_append (λ y. is_closed (with_open g x) y ≡ true) from.crosses xs (all_among _ from.crosses (λ y is. still_closed g x y (on y is) (other y is))) (all_map _ _ xs (λ y t. still_closed g x y (ties_on y t.0) t.1.0) tied);
+          closed = all_append (λ y. is_closed (with_open g x) y ≡ true) from.crosses xs (all_among _ from.crosses (λ y is. still_closed g x y (on y is) (other y is))) (all_map _ _ xs (λ y t. still_closed g x y (listed.tied y t.0) t.1.0) tied);
           free = all_append (λ y. stuck_cross f y ≡ None) from.crosses xs (all_among _ from.crosses free) (all_map _ _ xs (λ y t. t.1.1) tied);
         },
       )
 
   pub loop_of_lists : IsLoop f g x l r left.pin right.pin
   loop_of_lists =
-      let a = led left p.lefts p.left_way p.near left_route lefts_on lefts_free off_left p.leads_left p.left_ties in
-      let b = led right p.rights p.right_way p.far right_route rights_on rights_free off_right p.leads_right p.right_ties in
+      let a = led left p.lefts p.left_way p.near left_route listed.lefts lefts_free off_left p.leads_left p.left_ties in
+      let b = led right p.rights p.right_way p.far right_route listed.rights rights_free off_right p.leads_right p.right_ties in
       record {
         off = config.off;
-        closed = ties_on x tied;
+        closed = listed.tied x tied;
         free = p.free;
         groups = groups;
         k_pin = left_route.pin;

@@ -15,7 +15,7 @@ use Rattle.evidence.specs.Forests.{Trees, IsForest, KnowsForest, is_hung}
 use Rattle.evidence.specs.Looks.{IsLook}
 use Rattle.evidence.specs.Hangs.{Foot, IsFoot, closes, pin_at, others_part, reads_oddly, reads_alike, shows_unfit, shows_unclear, is_unfit_in, is_unclear_in, UnfitIf, UnclearIf, AreAllOf, StayMarked, HasMarked}
 use Rattle.evidence.proofs.Keeping.{holds_earlier}
-use Rattle.evidence.proofs.Seeing.{IsSome_of, some_of}
+use Rattle.evidence.proofs.Found.{IsSome_of, some_of}
 use Rattle.evidence.proofs.Unfitting.{not_odd, not_alike}
 
 same_number : (a b : ℕ) → (a == b) ≡ true → a ≡ b
@@ -49,12 +49,12 @@ module _ (told : Option Faults) (k : Kept) (trees : Trees) (feet : List Foot) (r
   d : Foot
   d = (record { 0 = 0 }, record { 0 = 0 })
 
+  here : k.shape ≡ look.config.shape
+  here = sym knows.keeps.shape ∙ sym look.shape
+
   pub unfit_true : (known : ℕ → Bool) → AreAllOf trees known → UnfitIf told k known was → UnfitIf told k known is
   unfit_true known all before f e holds w on clear alone = by (or_cases (is_unfit_in trees feet rows w) (has_number was w) (sym (marked.unfit w) ∙ on))
     where
-      here : k.shape ≡ look.config.shape
-      here = sym knows.keeps.shape ∙ sym look.shape
-
       of_foot : IsSome_of (λ (foot : Foot). (foot.0.0 == w) && shows_unfit trees feet rows foot) feet → ⊥
       of_foot s =
           let foot = get_or feet s.place d in
@@ -72,9 +72,6 @@ module _ (told : Option Faults) (k : Kept) (trees : Trees) (feet : List Foot) (r
   pub unclear_true : UnclearIf told k were → UnclearIf told k are
   unclear_true before f e holds w on clear = by (or_cases (is_unclear_in trees feet rows w) (has_number were w) (sym (marked.unclear w) ∙ on))
     where
-      here : k.shape ≡ look.config.shape
-      here = sym knows.keeps.shape ∙ sym look.shape
-
       of_foot : IsSome_of (λ (foot : Foot). (foot.0.0 == w) && shows_unclear trees feet rows foot) feet → ⊥
       of_foot s =
           let foot = get_or feet s.place d in

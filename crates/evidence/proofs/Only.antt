@@ -3,6 +3,7 @@ use Rattle.std.proofs.Common.{◌≡◌, ◌≢◌, ◌⊎◌, inl, inr, ℕ, ze
 use Rattle.std.specs.Prelude.{◌==◌, slice_get, IfSome}
 use Rattle.hierarchy.specs.declared.Cross.{Cross}
 use Rattle.std.specs.List.{list_any, list_all}
+use Rattle.std.proofs.Math.Bool.{or_comm}
 use Rattle.std.proofs.lemmas.Bool.{false≢true, and_parts, or_cases}
 use Rattle.std.proofs.lemmas.Bool.Decides.{nat_tests}
 use Rattle.std.proofs.lemmas.List.Folds.{list_any_more}
@@ -175,13 +176,7 @@ pub gains_none : (a : Kept) → Gains (these_crosses (λ _. false)) a a
 gains_none a = record { shape = refl; crosses = λ x. refl; wires = λ w. refl; pairs = λ u v. refl; cells = λ t i. refl; registers = λ t. refl }
 
 pub gains_more : {a b c : Kept} (xs : List ℕ) (i x : ℕ) → i < length xs → slice_get xs i ≡ Some x → Gains (these_crosses (among (take i xs))) a b → Gains (one_cross x) b c → Gains (these_crosses (among (take (i + 1) xs))) a c
-gains_more xs i x below at g h = gains_then g h (λ y. more_among xs i x y below at ∙ turned (among (take i xs) y) (x == y))
-  where
-    turned : (x y : Bool) → (x || y) ≡ (y || x)
-    turned true true = refl
-    turned true false = refl
-    turned false true = refl
-    turned false false = refl
+gains_more xs i x below at g h = gains_then g h (λ y. more_among xs i x y below at ∙ or_comm (among (take i xs) y) (x == y))
 
 pub none_kept : (k : Kept) → AllKept k []
 unfolding AllKept

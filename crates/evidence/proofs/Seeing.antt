@@ -31,24 +31,11 @@ use Rattle.evidence.specs.Forests.{Trees, HangsOn, pin_of, is_laid, IsForest, Ke
 use Rattle.evidence.specs.Looks.{IsLook, look_drives, one_driven, none_driven, differ, parts, swings, reads_somewhere, hangs_apart, hangs_swinging, hang_apart, read_at, seen_in}
 use Rattle.evidence.specs.Hangs.{Foot, IsFoot, closes, pin_at, feet_crosses, seen_on, stands_apart, is_swinging_on, are_apart_on}
 use Rattle.evidence.proofs.Advancing.{joined_along}
+use Rattle.evidence.proofs.Found.{IsSome_of, some_of}
 use Rattle.evidence.proofs.Footing.{pin_below, foot_below}
 use Rattle.evidence.proofs.KeptLemmas.{GainHoldsFor}
 use Rattle.evidence.proofs.Rows.{differ_so, drives_count}
 use Rattle.evidence.proofs.Sighted.{HangApart, apart_so}
-
--- the element of which a test holds
-pub record IsSome_of {A : Type 0} (p : A → Bool) (xs : List A) : Type 0 where
-  pub place : ℕ
-  pub below : place < length xs
-  pub holds : (d : A) → p (get_or xs place d) ≡ true
-
-pub some_of : {A : Type 0} (p : A → Bool) (xs : List A) → list_any p xs ≡ true → IsSome_of p xs
-some_of p [] is = absurd (false≢true is)
-some_of p (x ∷ xs) is = by (or_cases (p x) (list_any p xs) is) (some_of p xs)
-  where
-    by : (p x ≡ true) ⊎ (list_any p xs ≡ true) → (list_any p xs ≡ true → IsSome_of p xs) → IsSome_of p (x ∷ xs)
-    by (inl h) more = record { place = 0; below = omega arith; holds = λ d. h }
-    by (inr h) more = let s = more h in let b = s.below in record { place = suc s.place; below = omega (arith, b); holds = s.holds }
 
 none_by : (o : Option Bool) → ((v : Bool) → o ≡ Some v → ⊥) → o ≡ None
 none_by None n = refl

@@ -1,6 +1,7 @@
 -- One route against several.
 use Rattle.std.proofs.Common.{◌≡◌, ◌≢◌, ◌⊎◌, ◌<◌, ◌+◌, ℕ, zero, suc, Bool, true, false, ◌&&◌, Some, Option, List, [], ◌∷◌, ◌++◌, length, get_or, take, refl, sym, ap, ◌∙◌, subst, inl, inr, arith}
 use Rattle.std.specs.Prelude.{◌==◌, ◌||◌, All}
+use Rattle.std.proofs.Math.Bool.{or_comm}
 use Rattle.std.proofs.lemmas.Bool.{false≢true, or_cases, or_left, or_right}
 use Rattle.std.proofs.lemmas.List.{take_more, flat_map_more}
 use Rattle.std.proofs.lemmas.List.Folds.{list_any-append}
@@ -35,13 +36,7 @@ among_more rs k y s below at = ap (λ ws. among ws y) (over_more rs k s below at
 pub gathered_next : (rs : List Walk) (k w : ℕ) (s : Walk) (t : Bool) → k < length rs → s ≡ get_or rs k s → t ≡ among (wires_over (take k rs)) w →
     (among s.wires w || t) ≡ among (wires_over (take (k + 1) rs)) w
 gathered_next rs k w s t below at is =
-    ap (λ x. among s.wires w || x) is ∙ turned (among s.wires w) (among (wires_over (take k rs)) w) ∙ sym (among_more rs k w s below at)
-  where
-    turned : (x y : Bool) → (x || y) ≡ (y || x)
-    turned true true = refl
-    turned true false = refl
-    turned false true = refl
-    turned false false = refl
+    ap (λ x. among s.wires w || x) is ∙ or_comm (among s.wires w) (among (wires_over (take k rs)) w) ∙ sym (among_more rs k w s below at)
 
 -- a set of the wires of a list serves as the list does
 pub across_between : (ws us : List ℕ) (numbers : List Bool) (a b : ℕ) → ((w : ℕ) → has_number numbers w ≡ among us w) → is_across ws numbers a b ≡ is_between ws us a b

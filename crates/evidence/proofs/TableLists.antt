@@ -18,21 +18,15 @@ use Rattle.evidence.specs.Kept.{Kept, keeps_cross}
 use Rattle.evidence.specs.Readings.{CellPasses, RegisterPasses}
 use Rattle.evidence.specs.Tables.{IsTied, IsTableBy, IsCellBy, CellPassesBy, RegisterPassesBy}
 use Rattle.evidence.proofs.Advancing.{joined_along}
-use Rattle.evidence.proofs.Lists.{laid_cases, or_first, or_second, or_third, grown}
+use Rattle.evidence.proofs.Lists.{AreOn, all_on, laid_cases, grown}
 use Rattle.evidence.proofs.TableTests.{on_after, off_after}
 
 module _ (f : Faults) (g : Configuration) (left right : Walk) (ties : List ℕ) (t cells : ℕ) (l r : ℕ → Bool)
     (config : IsCellConfig g.shape left right ties t cells g) (left_route : IsRoute g.shape left) (right_route : IsRoute g.shape right)
     (lefts_free : (y : ℕ) → among left.crosses y ≡ true → stuck_cross f y ≡ None) (rights_free : (y : ℕ) → among right.crosses y ≡ true → stuck_cross f y ≡ None)
     (p : IsTableBy g.shape f left right ties t l r) where
-  lefts_on : (y : ℕ) → among left.crosses y ≡ true → is_closed g y ≡ true
-  lefts_on y is = config.closed y ∙ or_first (among left.crosses y) (among right.crosses y) (among ties y) is
-
-  rights_on : (y : ℕ) → among right.crosses y ≡ true → is_closed g y ≡ true
-  rights_on y is = config.closed y ∙ or_second (among left.crosses y) (among right.crosses y) (among ties y) is
-
-  ties_on : (y : ℕ) → among ties y ≡ true → is_closed g y ≡ true
-  ties_on y is = config.closed y ∙ or_third (among left.crosses y) (among right.crosses y) (among ties y) is
+  listed : AreOn left right ties g
+  listed = all_on config.closed
 
   by_list : (y : ℕ) → (among left.crosses y ≡ true) ⊎ ((among right.crosses y ≡ true) ⊎ (among ties y ≡ true)) → IsWithin g.shape l y ⊎ IsWithin g.shape r y
   by_list y (inl h) = inl (grown left.wires p.left_in (LeadsTo-within left_route.leads y h))
@@ -52,10 +46,10 @@ module _ (f : Faults) (g : Configuration) (left right : Walk) (ties : List ℕ) 
       IsTied g.shape f ties from.end w → Joined (net_of g.shape f (is_closed g)) (pin_wire g.shape from.pin) w
   tied_joined from w route on free tie =
       joined_along (joined_along {net = net_of g.shape f (is_closed g)} here route.leads (λ y is. conducting f g (stuck_cross f y) (is_closed g y) (on y is) (free y is)) from.end (LeadsTo-end route.leads))
-      tie.leads (λ y is. let h = tie.free y is in conducting f g (stuck_cross f y) (is_closed g y) (ties_on y h.0) h.1) w (LeadsTo-end tie.leads)
+      tie.leads (λ y is. let h = tie.free y is in conducting f g (stuck_cross f y) (is_closed g y) (listed.tied y h.0) h.1) w (LeadsTo-end tie.leads)
 
   led : Joined (net_of g.shape f (is_closed g)) (pin_wire g.shape right.pin) (table_wire g.shape t 6)
-  led = tied_joined right (table_wire g.shape t 6) right_route rights_on rights_free p.output
+  led = tied_joined right (table_wire g.shape t 6) right_route listed.rights rights_free p.output
 
   pub cell_of_lists : (a : ℕ) (bits : ℕ → Bool) → IsCellBy g.shape f left right ties t a l r bits → IsCellTest f g t a (cell_setting cells) l r bits left.pin right.pin
   cell_of_lists a bits q = record {
@@ -76,7 +70,7 @@ module _ (f : Faults) (g : Configuration) (left right : Walk) (ties : List ℕ) 
     where
       input : (j : ℕ) → ((bits j ≡ false) × (l (table_wire g.shape t j) ≡ true) × IsTied g.shape f ties left.end (table_wire g.shape t j)) ⊎ ((bits j ≡ true) × IsLoose g.shape f l r (table_wire g.shape t j)) →
           ((bits j ≡ false) × (l (table_wire g.shape t j) ≡ true) × Joined (net_of g.shape f (is_closed g)) (table_wire g.shape t j) (pin_wire g.shape left.pin)) ⊎ ((bits j ≡ true) × IsLoose g.shape f l r (table_wire g.shape t j))
-      input j (inl h) = inl (h.0, h.1, Joined-sym (tied_joined left (table_wire g.shape t j) left_route lefts_on lefts_free h.2))
+      input j (inl h) = inl (h.0, h.1, Joined-sym (tied_joined left (table_wire g.shape t j) left_route listed.lefts lefts_free h.2))
       input j (inr h) = inr h
 
   pub register_of_lists : (s : Setting) (drive : Pins) → s.latched ≡ true → stuck_register f t ≡ None → IsDrivenAlone drive left.pin →

@@ -31,7 +31,8 @@ use Rattle.evidence.specs.Looks.{IsLook, one_driven, none_driven, differ, parts,
 use Rattle.evidence.specs.Hangs.{Foot, IsFoot, closes, pin_at, feet_crosses, others_part, falls_with_others, reads_oddly, reads_alike}
 use Rattle.evidence.proofs.Growing.{hung_by}
 use Rattle.evidence.proofs.Leading.{of_each}
-use Rattle.evidence.proofs.Seeing.{IsSome_of, some_of, g, row_free, row_under, standing, standing_on, foot_inside, pin_inside, part_unjoined}
+use Rattle.evidence.proofs.Found.{IsSome_of, some_of}
+use Rattle.evidence.proofs.Seeing.{g, row_free, row_under, standing, standing_on, foot_inside, pin_inside, part_unjoined}
 
 -- what is joined to a wire stays so where crosspoints open of which none that isn't stuck has both ends joined to it
 module _ (m : Shape) (f : Faults) (closed less : ℕ → Bool) (q : ℕ)

@@ -45,28 +45,15 @@ impl Model for Proof {
     ghost use Rattle.std.specs.Prelude.{◌≡◌, length, IfSome};
     ghost use Rattle.hierarchy.specs.Shape.{pins_of, wires_of};
     ghost use Rattle.evidence.specs.Kept.{Kept, coded_kept, AreMarksOf};
+    ghost use Rattle.evidence.specs.Inside.{kept_in};
 
     ghost Value = { Kept };
 
     ghost coded = { coded_kept };
 
-    ghost view = { λ p. record {
-      shape = p.shape;
-      crosses = p.crosses;
-      wires = p.wires;
-      pairs = p.pairs;
-      cells = p.cells;
-      registers = p.registers;
-    } };
+    ghost view = { kept_in };
 
-    ghost invariant = { λ p. AreMarksOf (record {
-      shape = p.shape;
-      crosses = p.crosses;
-      wires = p.wires;
-      pairs = p.pairs;
-      cells = p.cells;
-      registers = p.registers;
-    }) × IfSome p.done (λ g. g.config.shape ≡ p.shape) × (p.pins ≡ pins_of p.shape)
+    ghost invariant = { λ p. AreMarksOf (kept_in p) × IfSome p.done (λ g. g.config.shape ≡ p.shape) × (p.pins ≡ pins_of p.shape)
         × (length p.others ≡ wires_of p.shape) × (length p.parted ≡ pins_of p.shape) };
 }
 

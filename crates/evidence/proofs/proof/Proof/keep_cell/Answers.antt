@@ -1,21 +1,14 @@
-use Rattle.std.proofs.Common.{◌<◌, ◌+◌, ◌*◌, length, subst, sym, arith}
-use Rattle.hierarchy.specs.Shape.{tables_of}
-use Rattle.evidence.specs.Kept.{Kept}
-use Rattle.evidence.proofs.KeptLemmas.{gains_cell}
+use Rattle.std.proofs.Common.{◌<◌, ◌+◌, ◌*◌, length, arith}
+use Rattle.evidence.proofs.KeptLemmas.{gains_cell, table_within}
 use Rattle.evidence.proofs.proof.Proof.keep_cell.Goals as goal
 
 pub returns : goal.returns
 returns c =
-    let table : c.args.t.0 < tables_of c.self.inside.shape = subst (λ (k : Kept). c.args.t.0 < tables_of k.shape) (sym c.self.view_is) c.requires.table in
-    let within : 64 * c.args.t.0 + c.args.address < length c.self.inside.cells = omega (arith, table, c.self.invariant.0.cells, c.requires.address) in
+    let within : 64 * c.args.t.0 + c.args.address < length c.self.inside.cells = omega (arith, table_within c.self.view_is c.requires.table, c.self.invariant.0.cells, c.requires.address) in
     rw (← c.self.view_is, c.insert.ensures, c.from.ensures) (gains_cell _ c.args.t.0 c.args.address c.requires.address within)
 
 pub overflow_mul-t : goal.overflow_mul-t
-overflow_mul-t c =
-    let table : c.args.t.0 < tables_of c.self.inside.shape = subst (λ (k : Kept). c.args.t.0 < tables_of k.shape) (sym c.self.view_is) c.requires.table in
-    omega (arith, table, c.self.invariant.0.few)
+overflow_mul-t c = omega (arith, table_within c.self.view_is c.requires.table, c.self.invariant.0.few)
 
 pub overflow_add-t : goal.overflow_add-t
-overflow_add-t c =
-    let table : c.args.t.0 < tables_of c.self.inside.shape = subst (λ (k : Kept). c.args.t.0 < tables_of k.shape) (sym c.self.view_is) c.requires.table in
-    omega (arith, table, c.self.invariant.0.few)
+overflow_add-t c = omega (arith, table_within c.self.view_is c.requires.table, c.self.invariant.0.few)
