@@ -10,12 +10,12 @@ use Rattle.hierarchy.specs.Shape.{pin_wire, pins_of, wires_of}
 use Rattle.hierarchy.specs.Laws.{IsNumbered}
 use Rattle.evidence.specs.Kept.{Kept}
 use Rattle.known.specs.Known.{KnownWires, IsAt, HasWire, Stands, on_pin, on_feet, InSet}
-use Rattle.known.specs.Grounds.{IsBetween, foot_at, IsFootTo, IsGround, Founds, AreSettled}
+use Rattle.known.specs.Grounds.{IsBetween, foot_at, IsFootTo, IsGround, IsSettled, Founds, AreSettled}
 use Rattle.known.specs.declared.links.Near.{Near}
 use Rattle.known.specs.declared.step.Foot.{Foot}
 use Rattle.known.specs.declared.step.Stand.TheVariants as stand
 use Rattle.known.specs.declared.step.Step.{Step}
-use Rattle.known.proofs.Grounding.{ground_then, founds_one, taken_now, foot_is}
+use Rattle.known.proofs.Grounding.{ground_then, ground_foot, founds_foot, settled_foot, founds_one, taken_now, foot_is}
 
 has_within : (left : List Bool) (w : ℕ) → has_number left w ≡ true → w < length left
 has_within left w is = by (dec_lt w (length left))
@@ -48,6 +48,26 @@ feet_stand n f g differ = on_feet (foot_is n f) (foot_is n g) differ
 -- the foot that was found of a wire, as it is read
 pub foot_read : (feet : List (Option Foot)) (w : ℕ) (o : Option Foot) → w < length feet → o ≡ get_or feet w o → foot_at feet w ≡ o
 foot_read feet w o within is = sym (get_or_read feet w o within is None)
+
+-- a wire that isn't settled, and what was read of its feet
+module _ {k : Kept} {n : KnownWires} {left : List Bool} {feet : List (Option Foot)} (g : IsGround k n left feet) {w : ℕ} (low : w < wires_of k.shape) {o : Option Foot} (read : o ≡ get_or feet w o) where
+  room : w < length feet
+  room = let r = g.room in omega (arith, low, r)
+
+  -- a first foot of it was found
+  module _ (none : o ≡ None) {a : Foot} (foot : IsFootTo k n.steps w a) {more : List (Option Foot)} (put : more ≡ set feet w (Some a)) where
+    pub first_ground : IsGround k n left more
+    first_ground = ground_foot g w a room (foot_read feet w o room read ∙ none) foot put
+
+    pub first_founds : Founds n n left left feet more
+    first_founds = founds_foot g w a room (foot_read feet w o room read ∙ none) foot put
+
+    pub first_settled : IsSettled left more w a.wire.0
+    first_settled = settled_foot g w a room (foot_read feet w o room read ∙ none) foot put
+
+  -- or a second one, that leads to another wire
+  pub second_stands : {a b : Foot} → o ≡ Some a → IsFootTo k n.steps w b → a.wire.0 ≢ b.wire.0 → Stands k n.steps (length n.steps) w (stand.Feet a b)
+  second_stands {a} is foot differ = feet_stand n (g.found w a (foot_read feet w o room read ∙ is)) foot differ
 
 -- what stood at a place still stands
 pub has_still_there : {n m : KnownWires} {left rest : List Bool} {feet more : List (Option Foot)} {i w : ℕ} → Founds n m left rest feet more → IsAt n.steps i w → HasWire m.steps w
