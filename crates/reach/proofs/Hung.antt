@@ -4,6 +4,7 @@ use Rattle.std.specs.Prelude.{slice_get, slice_index_or, ◌==◌, ◌||◌}
 use Rattle.std.proofs.lemmas.Bool.{false≢true}
 use Rattle.std.proofs.lemmas.Bool.Decides.{nat_tests}
 use Rattle.std.proofs.lemmas.List.Folds.{list_any-append}
+use Rattle.hierarchy.specs.declared.Cross.{Cross}
 use Rattle.hierarchy.specs.declared.Shape.{Shape}
 use Rattle.hierarchy.specs.Shape.{Ends, ends_of, pin_wire, crosses_of}
 use Rattle.hierarchy.specs.Circuit.{Pins}
@@ -16,7 +17,7 @@ use Rattle.config_set.specs.Groups.{among, IsWithin}
 use Rattle.config_set.specs.Route.{LeadsTo, ends, goes}
 use Rattle.config_set.specs.Tests.{IsLoop, IsDrivenIn}
 use Rattle.config_set.proofs.Grouped.{LeadsTo-start, LeadsTo-end, LeadsTo-within}
-use Rattle.test_configs.specs.Routes.{Walk, IsRoute}
+use Rattle.test_configs.specs.Routes.{Walk, IsRoute, cross_numbers}
 use Rattle.test_configs.specs.Configs.{IsLoopConfig}
 use Rattle.test_configs.proofs.Longer.{among_both}
 use Rattle.evidence.specs.Kept.{Kept, HoldsFor, IsMore}
@@ -38,6 +39,13 @@ use Rattle.reach.proofs.Adding.{later_one}
 use Rattle.reach.proofs.Marking.{fit_faultless}
 use Rattle.reach.proofs.Passing.{rests_known, among_last, among_before, two_ends, both_within, known_clear, known_unshorted}
 use Rattle.known.proofs.Places.{some_same}
+
+-- the same configuration and drive, by other names of the lists
+pub laid_as : {m : Shape} {q : Walk} {xs ys : List Cross} {g : Configuration} → xs ≡ ys → IsLoopConfig m q q (cross_numbers xs) g → IsLoopConfig m q q (cross_numbers ys) g
+laid_as {m} {q} {g = g} same laid = subst (λ (xs : List Cross). IsLoopConfig m q q (cross_numbers xs) g) same laid
+
+pub pulled_as : {rs ss : List Walk} {drive : Pins} → rs ≡ ss → ArePulled rs drive → ArePulled ss drive
+pulled_as {drive = drive} same pulled = subst (λ (rs : List Walk). ArePulled rs drive) same pulled
 
 either : (a b : Bool) → (a || b) ≡ true → (a ≡ true) ⊎ (b ≡ true)
 either true b e = inl refl

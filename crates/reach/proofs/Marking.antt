@@ -48,6 +48,10 @@ none_of true b c e = absurd (false≢true (sym e))
 none_of false true c e = absurd (false≢true (sym e))
 none_of false false c e = (refl, (refl, e))
 
+or_this : {A B C : Type 0} → (A → C) → A ⊎ B → C ⊎ B
+or_this f (inl a) = inl (f a)
+or_this f (inr b) = inr b
+
 -- one crosspoint more is marked
 pub record MarksOne (x : ℕ) (old new : Marks) : Type 0 where
   pub more : (y : ℕ) → is_spent old y ≡ true → is_spent new y ≡ true
@@ -68,38 +72,26 @@ module _ (s : Marks) (x : ℕ) where
   pub offered_one : x < length s.offered → MarksOne x s (record s { offered = slice_set s.offered x true })
   offered_one within = record {
     more = λ y on. by_three (o y) (t y) (b y) on (λ e. first_of _ (t y) (b y) (set_stays s.offered x y e)) (second_of _ (t y) (b y)) (third_of _ (t y) (b y));
-    only = λ y on. by_three _ (t y) (b y) on (λ e. put y (set_only s.offered x y e)) (λ e. inl (second_of (o y) (t y) (b y) e)) (λ e. inl (third_of (o y) (t y) (b y) e));
+    only = λ y on. by_three _ (t y) (b y) on (λ e. or_this (first_of (o y) (t y) (b y)) (set_only s.offered x y e)) (λ e. inl (second_of (o y) (t y) (b y) e)) (λ e. inl (third_of (o y) (t y) (b y) e));
     this = first_of _ (t x) (b x) (set_has s.offered x within);
     barred = refl;
   }
-    where
-      put : (y : ℕ) → (o y ≡ true) ⊎ (x ≡ y) → (is_spent s y ≡ true) ⊎ (x ≡ y)
-      put y (inl e) = inl (first_of (o y) (t y) (b y) e)
-      put y (inr e) = inr e
 
   pub second_one : x < length s.second → MarksOne x s (record s { second = slice_set s.second x true })
   second_one within = record {
     more = λ y on. by_three (o y) (t y) (b y) on (first_of (o y) _ (b y)) (λ e. second_of (o y) _ (b y) (set_stays s.second x y e)) (third_of (o y) _ (b y));
-    only = λ y on. by_three (o y) _ (b y) on (λ e. inl (first_of (o y) (t y) (b y) e)) (λ e. put y (set_only s.second x y e)) (λ e. inl (third_of (o y) (t y) (b y) e));
+    only = λ y on. by_three (o y) _ (b y) on (λ e. inl (first_of (o y) (t y) (b y) e)) (λ e. or_this (second_of (o y) (t y) (b y)) (set_only s.second x y e)) (λ e. inl (third_of (o y) (t y) (b y) e));
     this = second_of (o x) _ (b x) (set_has s.second x within);
     barred = refl;
   }
-    where
-      put : (y : ℕ) → (t y ≡ true) ⊎ (x ≡ y) → (is_spent s y ≡ true) ⊎ (x ≡ y)
-      put y (inl e) = inl (second_of (o y) (t y) (b y) e)
-      put y (inr e) = inr e
 
   pub between_one : x < length s.between → MarksOne x s (record s { between = slice_set s.between x true })
   between_one within = record {
     more = λ y on. by_three (o y) (t y) (b y) on (first_of (o y) (t y) _) (second_of (o y) (t y) _) (λ e. third_of (o y) (t y) _ (set_stays s.between x y e));
-    only = λ y on. by_three (o y) (t y) _ on (λ e. inl (first_of (o y) (t y) (b y) e)) (λ e. inl (second_of (o y) (t y) (b y) e)) (λ e. put y (set_only s.between x y e));
+    only = λ y on. by_three (o y) (t y) _ on (λ e. inl (first_of (o y) (t y) (b y) e)) (λ e. inl (second_of (o y) (t y) (b y) e)) (λ e. or_this (third_of (o y) (t y) (b y)) (set_only s.between x y e));
     this = third_of (o x) (t x) _ (set_has s.between x within);
     barred = refl;
   }
-    where
-      put : (y : ℕ) → (b y ≡ true) ⊎ (x ≡ y) → (is_spent s y ≡ true) ⊎ (x ≡ y)
-      put y (inl e) = inl (third_of (o y) (t y) (b y) e)
-      put y (inr e) = inr e
 
 -- loads, one part after the other
 pub spends_none : {told : Option Faults} {k : Kept} {these : ℕ → Type 0} {s t : Marks} {before after : ℕ} → t ≡ s → after ≡ before → Spends told k these s t before after

@@ -205,6 +205,9 @@ other_or : (a b : Bool) → (a || b) ≡ true → b ≡ false → a ≡ true
 other_or true b e f = refl
 other_or false b e f = absurd (false≢true (sym f ∙ e))
 
+pub wire_within : (ws : List ℕ) {n m : ℕ} → ((w : ℕ) → among ws w ≡ true → w < n) → m ≡ n → (k x : ℕ) → k < length ws → slice_get ws k ≡ Some x → x < m
+wire_within ws all same k x below here = let h = all x (among_at ws k x below here) in omega (arith, h, same)
+
 module _ (ws : List ℕ) (n x : ℕ) (below : n < length ws) (here : slice_get ws n ≡ Some x) (rs : List Reach) (within : x < length rs) where
   pub marked : ((w : ℕ) → among (take n ws) w ≡ true → reach_at rs w ≡ reach.OnRoute) → (w : ℕ) → among (take (n + 1) ws) w ≡ true → reach_at (set rs x reach.OnRoute) w ≡ reach.OnRoute
   marked on w is = by_wire (ℕ_discrete w x)

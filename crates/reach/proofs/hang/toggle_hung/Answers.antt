@@ -4,13 +4,11 @@ use Rattle.std.proofs.lemmas.Result.{IfOk-weaker}
 use Rattle.hierarchy.specs.declared.Cross.{Cross}
 use Rattle.hierarchy.specs.Shape.{pins_of, crosses_of}
 use Rattle.config_set.specs.Groups.{among}
-use Rattle.test_configs.specs.Configs.{IsLoopConfig}
 use Rattle.test_configs.specs.Routes.{Walk, cross_numbers}
 use Rattle.evidence.specs.Kept.{Kept, IsMore}
 use Rattle.evidence.proofs.Lists.{or_third}
-use Rattle.reach.specs.Offers.{ArePulled}
 use Rattle.reach.proofs.Adding.{all_numbers}
-use Rattle.reach.proofs.Hung.{hung_within, hung_tied, hung_lost, hung_sound}
+use Rattle.reach.proofs.Hung.{laid_as, pulled_as, hung_within, hung_tied, hung_lost, hung_sound}
 use Rattle.reach.proofs.hang.toggle_hung.Goals as goal
 
 pub laid-requires-clause-ties : goal.laid-requires-clause-ties
@@ -29,21 +27,11 @@ toggle_cross-answer-requires-clause-closed g c =
 
 pub returns-clause-lost : goal.returns-clause-lost
 returns-clause-lost g c =
-    let m = c.args.proof.now.shape in
-    let q = c.args.way.now in
-    let config = c.in_ok-config.config.config in
-    let laid : IsLoopConfig m q q (cross_numbers c.args.hung.now.ties.items) config = subst (λ (xs : List Cross). IsLoopConfig m q q (cross_numbers xs) config) c.deref.ensures.value c.in_ok-config.ensures.laid in
-    let pulled : ArePulled c.args.hung.now.walks.items c.in_ok-drive.drive = subst (λ (rs : List Walk). ArePulled rs c.in_ok-drive.drive) c.deref-2.ensures.value c.in_ok-drive.ensures.pulled in
     IfOk-weaker c.toggle_cross-answer.result _ _ (λ yes passes. λ is_no.
-    rw (c.give_back_drive.ensures, c.give_back.ensures) (hung_lost c.requires.known c.requires.offer c.requires.way c.requires.hung laid pulled (rw c.pin.ensures at passes) (subst (λ (k : Kept). IsMore k c.toggle_cross-answer.new.self) (c.in_ok-drive.ensures.same ∙ c.in_ok-config.ensures.same) c.toggle_cross-answer.ensures.advances.more) is_no))
+    rw (c.give_back_drive.ensures, c.give_back.ensures) (hung_lost c.requires.known c.requires.offer c.requires.way c.requires.hung (laid_as c.deref.ensures.value c.in_ok-config.ensures.laid) (pulled_as c.deref-2.ensures.value c.in_ok-drive.ensures.pulled) (rw c.pin.ensures at passes) (subst (λ (k : Kept). IsMore k c.toggle_cross-answer.new.self) (c.in_ok-drive.ensures.same ∙ c.in_ok-config.ensures.same) c.toggle_cross-answer.ensures.advances.more) is_no))
     c.toggle_cross-answer.ensures.passes
 
 pub returns-clause-faulty : goal.returns-clause-faulty
 returns-clause-faulty g c =
-    let m = c.args.proof.now.shape in
-    let q = c.args.way.now in
-    let config = c.in_ok-config.config.config in
-    let laid : IsLoopConfig m q q (cross_numbers c.args.hung.now.ties.items) config = subst (λ (xs : List Cross). IsLoopConfig m q q (cross_numbers xs) config) c.deref.ensures.value c.in_ok-config.ensures.laid in
-    let pulled : ArePulled c.args.hung.now.walks.items c.in_ok-drive.drive = subst (λ (rs : List Walk). ArePulled rs c.in_ok-drive.drive) c.deref-2.ensures.value c.in_ok-drive.ensures.pulled in
-    IfOk-weaker c.toggle_cross-answer.result _ _ (λ yes passes. λ is_no. hung_sound c.requires.known c.requires.offer c.requires.way c.requires.hung laid pulled (rw c.pin.ensures at passes) is_no)
+    IfOk-weaker c.toggle_cross-answer.result _ _ (λ yes passes. λ is_no. hung_sound c.requires.known c.requires.offer c.requires.way c.requires.hung (laid_as c.deref.ensures.value c.in_ok-config.ensures.laid) (pulled_as c.deref-2.ensures.value c.in_ok-drive.ensures.pulled) (rw c.pin.ensures at passes) is_no)
     c.toggle_cross-answer.ensures.passes
