@@ -1,9 +1,8 @@
 -- What tests over a seat leave.
-use Rattle.std.proofs.Common.{◌≡◌, ◌⊎◌, ◌<◌, ◌+◌, ℕ, zero, suc, Bool, true, false, ◌&&◌, ◌||◌, Some, None, Option, List, [], ◌∷◌, refl, sym}
+use Rattle.std.proofs.Common.{◌≡◌, ◌⊎◌, ◌<◌, ◌≤◌, ◌+◌, ◌*◌, ℕ, zero, suc, Bool, true, false, ◌&&◌, ◌||◌, Some, None, Option, List, [], ◌∷◌, refl, sym}
 use Rattle.std.proofs.Common.{ap, ◌∙◌, subst, inl, inr, arith}
 use Rattle.std.specs.Prelude.{◌==◌, ◌≢◌, All, IsTrue, length, slice_index_or}
 use Rattle.std.proofs.lemmas.Bool.Decides.{nat_tests}
-use native.Mathlib.Decide.{dec_lt}
 use Rattle.hierarchy.specs.declared.Cross.{Cross}
 use Rattle.hierarchy.specs.declared.Shape.{Shape}
 use Rattle.hierarchy.specs.Shape.{crosses_of, table_wire, tables_of}
@@ -16,6 +15,7 @@ use Rattle.evidence.specs.Kept.{keeps_register}
 use Rattle.table_test.specs.declared.seat.Arm.{Arm}
 use Rattle.table_test.specs.declared.seat.Seat.{Seat}
 use Rattle.table_test.specs.Seats.{near_wires, far_wires, IsKeptBetween, IsKeptWalk, IsArm, IsSeat, TableIf, AddsOnlyTableFacts}
+use Rattle.table_test.proofs.Tying.{lt_or}
 use Rattle.table_test.specs.Ties.{IsSeatTie, to_output, on_arm, AreSeatTies, CellIf, CellsIf, RegisterIf}
 
 -- ties are crosspoints of the machine
@@ -79,6 +79,13 @@ gained_register k l t g = g.registers t ∙ by (t == t) (keeps_register k t) (gr
     by : (b e : Bool) → b ≡ true → (b || e) ≡ true
     by b e p = rw p refl
 
+-- the first n cells were tested
+pub record HasTestedCells (first now : RigState) (k l : Kept) (s : Seat) (n : ℕ) : Type 0 where
+  pub advances : Advances first now k l
+  pub only : AddsOnlyTableFacts k l
+  pub cells : CellsIf first.machine.faults k l s.table.0 n
+  pub loads : now.loads ≤ first.loads + 2 * n
+
 -- one cell more
 told_later : {a b : RigState} {k l : Kept} {f : Faults} → Advances a b k l → a.machine.faults ≡ Some f → b.machine.faults ≡ Some f
 told_later {f = f} adv is = ap (λ m. m.faults) adv.machine ∙ is
@@ -89,16 +96,9 @@ cells_first told k t = record { at = λ f is h a below right. absurd (omega arit
 pub cells_more : {a b : RigState} {k l n : Kept} {t i : ℕ} → Advances a b k l → IsMore l n → CellsIf a.machine.faults k l t i → CellIf b.machine.faults l n t i → CellsIf a.machine.faults k n t (i + 1)
 cells_more {a} {b} {k} {l} {n} {t} {i} adv more old new = record { at = λ f is h c below right. by f is h c right (lt_or c i below) }
   where
-    lt_or : (c i : ℕ) → c < i + 1 → (c < i) ⊎ (i ≡ c)
-    lt_or c i below = by_test (dec_lt c i)
-      where
-        by_test : Dec (c < i) → (c < i) ⊎ (i ≡ c)
-        by_test (yes h) = inl h
-        by_test (no h) = inr (omega arith)
-
-    by : (f : Faults) → a.machine.faults ≡ Some f → HoldsFor k f → (c : ℕ) → wrong_cell f t c ≡ None → (c < i) ⊎ (i ≡ c) → keeps_cell n t c ≡ true
+    by : (f : Faults) → a.machine.faults ≡ Some f → HoldsFor k f → (c : ℕ) → wrong_cell f t c ≡ None → (c < i) ⊎ (c ≡ i) → keeps_cell n t c ≡ true
     by f is h c right (inl less) = more.cells t c (old.at f is h c less right)
-    by f is h c right (inr same) = subst (λ d. keeps_cell n t d ≡ true) same (new.at f (told_later adv is) (adv.holds f is h) (subst (λ d. wrong_cell f t d ≡ None) (sym same) right))
+    by f is h c right (inr same) = subst (λ d. keeps_cell n t d ≡ true) (sym same) (new.at f (told_later adv is) (adv.holds f is h) (subst (λ d. wrong_cell f t d ≡ None) same right))
 
 pub cells_end : {told : Option Faults} {k l : Kept} {t i : ℕ} → i ≡ 64 → CellsIf told k l t i → CellsIf told k l t 64
 cells_end {told} {k} {l} {t} e h = subst (λ i. CellsIf told k l t i) e h

@@ -31,7 +31,7 @@ one_value {a = a} p q = ap (λ o. unwrap_or o a) (sym p ∙ q)
 pub halves_next : (a j : ℕ) → halves a (j + 1) ≡ halves a j / 2
 halves_next a j = ap (halves a) (let e : j + 1 ≡ suc j = omega arith in e)
 
-lt_or : (i j : ℕ) → i < j + 1 → (i < j) ⊎ (i ≡ j)
+pub lt_or : (i j : ℕ) → i < j + 1 → (i < j) ⊎ (i ≡ j)
 lt_or i j below = by (dec_lt i j)
   where
     by : Dec (i < j) → (i < j) ⊎ (i ≡ j)
