@@ -15,6 +15,10 @@ use Rattle.known.specs.declared.step.Step.{Step}
 use Rattle.known.proofs.Places.{get_pushed}
 use Rattle.table_test.specs.declared.seat.Arm.{Arm}
 
+-- what a shape says of the machine's
+pub at_shape : (f : Shape → ℕ) {m n : Shape} {l : ℕ} → m ≡ n → l ≡ f m → l ≡ f n
+at_shape f {l = l} same is = subst (λ (m : Shape). l ≡ f m) same is
+
 -- the crosspoint of a tap and a line: there is none, or it isn't kept
 pub meets_none : (k : Kept) {m : Shape} (tap line : ℕ) → m ≡ k.shape → ((c : ℕ) → c < crosses_of m → ends_of m c ≢ (tap, line)) → ¬ Meets k.shape (IsKeptCrossOf k) tap line
 meets_none k {m} tap line e none h = none h.0 (subst (λ s. h.0 < crosses_of s) (sym e) (h.1).0) (subst (λ s. ends_of s h.0 ≡ (tap, line)) (sym e) h.2)

@@ -3,7 +3,7 @@ use Rattle.hierarchy.specs.declared.Shape.{Shape}
 use Rattle.hierarchy.specs.Shape.{line_at, lines_of}
 use Rattle.seats.specs.Seating.{IsFreeArm}
 use Rattle.known.proofs.Places.{one_more}
-use Rattle.seats.proofs.Searching.{no_line_of, line_there, arm_there, no_arm_beside, no_arm_over}
+use Rattle.seats.proofs.Searching.{at_shape, no_line_of, line_there, arm_there, no_arm_beside, no_arm_over}
 use Rattle.seats.proofs.search.find_arm.Goals as goal
 
 pub lines-init : goal.lines-init
@@ -11,11 +11,9 @@ lines-init c = record { none = λ i less. absurd (let no : ⊥ = omega (arith, l
 
 pub lines-preserved-then-eq : goal.lines-preserved-then-eq
 lines-preserved-then-eq c =
-    let k = c.args.proof.now in
-    let at : c.line-line.result.0 ≡ line_at k.shape c.args.hextant.0 c.lines.k = subst (λ (m : Shape). c.line-line.result.0 ≡ line_at m c.args.hextant.0 c.lines.k) c.shape-shape.ensures c.line-line.ensures.wire in
     let same : c.line-line.result.0 ≡ c.args.beside.0 = search rules in
     record {
-      none = one_more (λ i. ¬ IsFreeArm k c.args.known.now.steps c.args.hextant.0 c.args.near.0 c.args.input.0 c.args.beside.0 (line_at k.shape c.args.hextant.0 i)) c.lines.k c.lines.invariant.none (no_arm_beside (sym at ∙ same));
+      none = one_more (λ i. ¬ IsFreeArm c.args.proof.now c.args.known.now.steps c.args.hextant.0 c.args.near.0 c.args.input.0 c.args.beside.0 (line_at c.args.proof.now.shape c.args.hextant.0 i)) c.lines.k c.lines.invariant.none (no_arm_beside (sym (at_shape (λ m. line_at m c.args.hextant.0 c.lines.k) c.shape-shape.ensures c.line-line.ensures.wire) ∙ same));
     }
 
 pub returns-in-Some-clause-arm : goal.returns-in-Some-clause-arm
@@ -28,10 +26,9 @@ returns-in-Some-clause-arm c =
 pub lines-preserved : goal.lines-preserved
 lines-preserved c =
     let k = c.args.proof.now in
-    let at : c.line-line.result.0 ≡ line_at k.shape c.args.hextant.0 c.lines.k = subst (λ (m : Shape). c.line-line.result.0 ≡ line_at m c.args.hextant.0 c.lines.k) c.shape-shape.ensures c.line-line.ensures.wire in
     record {
       none = one_more (λ i. ¬ IsFreeArm k c.args.known.now.steps c.args.hextant.0 c.args.near.0 c.args.input.0 c.args.beside.0 (line_at k.shape c.args.hextant.0 i)) c.lines.k c.lines.invariant.none
-          (subst (λ l. ¬ IsFreeArm k c.args.known.now.steps c.args.hextant.0 c.args.near.0 c.args.input.0 c.args.beside.0 l) at (no_arm_over c.in_default.ensures.none));
+          (subst (λ l. ¬ IsFreeArm k c.args.known.now.steps c.args.hextant.0 c.args.near.0 c.args.input.0 c.args.beside.0 l) (at_shape (λ m. line_at m c.args.hextant.0 c.lines.k) c.shape-shape.ensures c.line-line.ensures.wire) (no_arm_over c.in_default.ensures.none));
     }
 
 pub returns-clause-none : goal.returns-clause-none

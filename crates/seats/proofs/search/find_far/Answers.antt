@@ -3,7 +3,7 @@ use Rattle.hierarchy.specs.declared.Shape.{Shape}
 use Rattle.hierarchy.specs.Shape.{port_at, own_ports_of}
 use Rattle.seats.specs.Seating.{IsFarPort}
 use Rattle.known.proofs.Places.{one_more}
-use Rattle.seats.proofs.Searching.{no_port_of, port_there, far_there, no_far_near, no_far_out, no_far_apart}
+use Rattle.seats.proofs.Searching.{at_shape, no_port_of, port_there, far_there, no_far_near, no_far_out, no_far_apart}
 use Rattle.seats.proofs.search.find_far.Goals as goal
 
 pub ports-init : goal.ports-init
@@ -12,19 +12,17 @@ ports-init c = record { none = λ i less. absurd (let no : ⊥ = omega (arith, l
 pub ports-preserved-then-eq : goal.ports-preserved-then-eq
 ports-preserved-then-eq c =
     let k = c.args.proof.now in
-    let at : c.port-far.result.0 ≡ port_at k.shape c.args.hextant.0 c.ports.k = subst (λ (m : Shape). c.port-far.result.0 ≡ port_at m c.args.hextant.0 c.ports.k) c.shape-shape.ensures c.port-far.ensures.wire in
     let same : c.port-far.result.0 ≡ c.args.near.0 = search rules in
     record {
-      none = one_more (λ i. ¬ IsFarPort k c.args.without.now.steps c.args.hextant.0 c.args.near.0 c.args.line.0 (port_at k.shape c.args.hextant.0 i)) c.ports.k c.ports.invariant.none (no_far_near (sym at ∙ same));
+      none = one_more (λ i. ¬ IsFarPort k c.args.without.now.steps c.args.hextant.0 c.args.near.0 c.args.line.0 (port_at k.shape c.args.hextant.0 i)) c.ports.k c.ports.invariant.none (no_far_near (sym (at_shape (λ m. port_at m c.args.hextant.0 c.ports.k) c.shape-shape.ensures c.port-far.ensures.wire) ∙ same));
     }
 
 pub ports-preserved-then-not-has : goal.ports-preserved-then-not-has
 ports-preserved-then-not-has c =
     let k = c.args.proof.now in
-    let at : c.port-far.result.0 ≡ port_at k.shape c.args.hextant.0 c.ports.k = subst (λ (m : Shape). c.port-far.result.0 ≡ port_at m c.args.hextant.0 c.ports.k) c.shape-shape.ensures c.port-far.ensures.wire in
     record {
       none = one_more (λ i. ¬ IsFarPort k c.args.without.now.steps c.args.hextant.0 c.args.near.0 c.args.line.0 (port_at k.shape c.args.hextant.0 i)) c.ports.k c.ports.invariant.none
-          (subst (λ w. ¬ IsFarPort k c.args.without.now.steps c.args.hextant.0 c.args.near.0 c.args.line.0 w) at (no_far_out (c.has.ensures.unknown c.if-not-has.true)));
+          (subst (λ w. ¬ IsFarPort k c.args.without.now.steps c.args.hextant.0 c.args.near.0 c.args.line.0 w) (at_shape (λ m. port_at m c.args.hextant.0 c.ports.k) c.shape-shape.ensures c.port-far.ensures.wire) (no_far_out (c.has.ensures.unknown c.if-not-has.true)));
     }
 
 pub returns-in-Some-clause-far : goal.returns-in-Some-clause-far
@@ -39,10 +37,9 @@ returns-in-Some-clause-far c =
 pub ports-preserved : goal.ports-preserved
 ports-preserved c =
     let k = c.args.proof.now in
-    let at : c.port-far.result.0 ≡ port_at k.shape c.args.hextant.0 c.ports.k = subst (λ (m : Shape). c.port-far.result.0 ≡ port_at m c.args.hextant.0 c.ports.k) c.shape-shape.ensures c.port-far.ensures.wire in
     record {
       none = one_more (λ i. ¬ IsFarPort k c.args.without.now.steps c.args.hextant.0 c.args.near.0 c.args.line.0 (port_at k.shape c.args.hextant.0 i)) c.ports.k c.ports.invariant.none
-          (subst (λ w. ¬ IsFarPort k c.args.without.now.steps c.args.hextant.0 c.args.near.0 c.args.line.0 w) at (no_far_apart c.in_default.ensures.none));
+          (subst (λ w. ¬ IsFarPort k c.args.without.now.steps c.args.hextant.0 c.args.near.0 c.args.line.0 w) (at_shape (λ m. port_at m c.args.hextant.0 c.ports.k) c.shape-shape.ensures c.port-far.ensures.wire) (no_far_apart c.in_default.ensures.none));
     }
 
 pub returns-clause-none : goal.returns-clause-none

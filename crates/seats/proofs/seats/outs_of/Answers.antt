@@ -5,7 +5,7 @@ use Rattle.known.proofs.Places.{one_more}
 use Rattle.seats.specs.Choices.{AreOuts, IsTold}
 use Rattle.seats.specs.Seating.{IsPlaceAt}
 use Rattle.seats.specs.declared.seats.Out.{Out}
-use Rattle.seats.proofs.Choosing.{outs_first, outs_next, told_next, all_lines}
+use Rattle.seats.proofs.Choosing.{line_there_is, outs_first, outs_next, told_next, all_lines}
 use Rattle.seats.proofs.Searching.{line_of}
 use Rattle.seats.proofs.seats.outs_of.Goals as goal
 
@@ -23,9 +23,7 @@ pub lines-preserved-in_default : goal.lines-preserved-in_default
 lines-preserved-in_default c =
     let k = c.args.proof.now in
     let h = hextant_of k.shape c.args.t.0 in
-    let node : c.hextant_of-hextant.result.0 ≡ h = subst (λ (m : Shape). c.hextant_of-hextant.result.0 ≡ hextant_of m c.args.t.0) c.shape-shape.ensures c.hextant_of-hextant.ensures.node in
-    let at : c.line.result.0 ≡ line_at k.shape c.hextant_of-hextant.result.0 c.lines.k = subst (λ (m : Shape). c.line.result.0 ≡ line_at m c.hextant_of-hextant.result.0 c.lines.k) c.shape-shape.ensures c.line.ensures.wire in
-    let there : c.line.result.0 ≡ line_at k.shape h c.lines.k = at ∙ ap (λ n. line_at k.shape n c.lines.k) node in
+    let there : c.line.result.0 ≡ line_at k.shape h c.lines.k = line_there_is c.shape-shape.ensures c.hextant_of-hextant.ensures.node c.line.ensures.wire in
     record {
       outs = c.lines.invariant.outs;
       told = one_more (λ i. IsTold k c.args.known.now.steps c.args.without.now.steps c.args.t.0 c.lines.outs.items (line_at k.shape h i)) c.lines.k c.lines.invariant.told
@@ -36,9 +34,7 @@ pub lines-preserved : goal.lines-preserved
 lines-preserved c =
     let k = c.args.proof.now in
     let h = hextant_of k.shape c.args.t.0 in
-    let node : c.hextant_of-hextant.result.0 ≡ h = subst (λ (m : Shape). c.hextant_of-hextant.result.0 ≡ hextant_of m c.args.t.0) c.shape-shape.ensures c.hextant_of-hextant.ensures.node in
-    let at : c.line.result.0 ≡ line_at k.shape c.hextant_of-hextant.result.0 c.lines.k = subst (λ (m : Shape). c.line.result.0 ≡ line_at m c.hextant_of-hextant.result.0 c.lines.k) c.shape-shape.ensures c.line.ensures.wire in
-    let there : c.line.result.0 ≡ line_at k.shape h c.lines.k = at ∙ ap (λ n. line_at k.shape n c.lines.k) node in
+    let there : c.line.result.0 ≡ line_at k.shape h c.lines.k = line_there_is c.shape-shape.ensures c.hextant_of-hextant.ensures.node c.line.ensures.wire in
     record {
       outs = outs_next c.lines.invariant.outs c.in-Some.ensures.out c.in_ok-push.ensures.items;
       told = told_next _ (line_at k.shape h) c.lines.invariant.told (c.in-Some.ensures.line ∙ there) c.in_ok-push.ensures.items;
