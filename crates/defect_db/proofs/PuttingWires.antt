@@ -26,6 +26,12 @@ and_true false = refl
 true_is_no_false : true ≡ false → ⊥
 true_is_no_false e = cc
 
+-- the same counts, by other names of the lists
+pub recounted_as : {m : Shape} {ws vs : List Bool} {ss ts : List ℕ} {n node : ℕ} {lines ls ports ps new_lines new_ports : List ℕ} → vs ≡ ws → ts ≡ ss → node ≡ n → ls ≡ lines → ps ≡ ports →
+    IsRecounted m vs ts (IsItOrAbove m node) ls ps new_lines new_ports → IsRecounted m ws ss (IsItOrAbove m n) lines ports new_lines new_ports
+recounted_as {m = m} {new_lines = new_lines} {new_ports = new_ports} wires shut at lines ports is =
+    subst (λ (p : (List Bool × List ℕ) × (ℕ × (List ℕ × List ℕ))). IsRecounted m p.0.0 p.0.1 (IsItOrAbove m p.1.0) p.1.1.0 p.1.1.1 new_lines new_ports) (λ i. ((wires i, shut i), (at i, (lines i, ports i)))) is
+
 -- ---- tables
 
 -- the pins of a table that the wire isn't one of, and of the one that it is one of

@@ -1,5 +1,5 @@
 -- The crosspoints of a wire at a node, by their numbers.
-use Rattle.std.proofs.Common.{◌≡◌, ◌≢◌, ℕ, ◌+◌, ◌*◌, ◌<◌, Bool, List, length, sym, ap, ◌∙◌, subst, arith}
+use Rattle.std.proofs.Common.{◌≡◌, ◌≢◌, ℕ, ◌+◌, ◌-◌, ◌*◌, ◌<◌, ◌≤◌, Bool, List, length, sym, ap, ◌∙◌, subst, arith}
 use Rattle.hierarchy.specs.declared.Shape.{Shape}
 use Rattle.hierarchy.specs.Laws.{HasCrosses}
 use Rattle.hierarchy.specs.Rows.{first_cross_of, HasRows}
@@ -48,7 +48,7 @@ module _ (m : Shape) (crosses : HasCrosses m) (rows : HasRows m) (n w : ℕ) (ln
 
   -- the crosspoints of a line, one in each row
   module _ (first width : ℕ) (from : first ≡ first_cross_of m n) (wide : width ≡ lines_of m n) where
-    pub in_rows : (i j : ℕ) → i < taps_of m n → j < width → line + j ≡ w → (first + i * width + j < crosses_of m) × (ends_of m (first + i * width + j) ≡ (tap_at m n i, w))
+    in_rows : (i j : ℕ) → i < taps_of m n → j < width → line + j ≡ w → (first + i * width + j < crosses_of m) × (ends_of m (first + i * width + j) ≡ (tap_at m n i, w))
     in_rows i j li lj e =
         let here : first + i * width + j ≡ first_cross_of m n + i * lines_of m n + j = ap (λ f. f + i * width + j) from ∙ ap (λ k. first_cross_of m n + i * k + j) wide in
         let lk : j < lines_of m n = subst (λ k. j < k) wide lj in
@@ -56,8 +56,13 @@ module _ (m : Shape) (crosses : HasCrosses m) (rows : HasRows m) (n w : ℕ) (ln
         let is : line_at m n j ≡ w = omega (arith, at, r, e) in
         (subst (λ y. y < crosses_of m) (sym here) (rows.within n i j ln li lk), ap (ends_of m) here ∙ rows.ends n i j ln li lk ∙ ap (λ l. (tap_at m n i, l)) is)
 
-    pub few_in_rows : (i j : ℕ) → i < taps_of m n → j < width → line + j ≡ w → first + i * width + j < 4194304
-    few_in_rows i j li lj e = let r = in_rows i j li lj e in let c = crosses_are m in omega (arith, r.0, c.1)
+    -- the line stands at its distance from the first one
+    module _ (i : ℕ) (li : i < taps_of m n) (near : w - line < width) (behind : line ≤ w) where
+      pub at_distance : (first + i * width + (w - line) < crosses_of m) × (ends_of m (first + i * width + (w - line)) ≡ (tap_at m n i, w))
+      at_distance = in_rows i (w - line) li near (omega (arith, behind))
+
+      pub few_at_distance : first + i * width + (w - line) < 4194304
+      few_at_distance = let r = at_distance in let c = crosses_are m in omega (arith, r.0, c.1)
 
   -- the wire is no line here
   pub not_a_line : (c b : List Bool) (s : List ℕ) → length c ≡ crosses_of m → length b ≡ crosses_of m → length s ≡ wires_of m → AreShutBy m c s → ((j : ℕ) → j < lines_of m n → line + j ≢ w) → IsSwept m w (OnLine m n w) c b c b s

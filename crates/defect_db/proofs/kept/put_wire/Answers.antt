@@ -1,10 +1,9 @@
-use Rattle.std.proofs.Common.{◌≡◌, ◌∙◌, ℕ, Bool, true, None, get_or, List, set, sym, ap, subst}
+use Rattle.std.proofs.Common.{◌≡◌, ◌∙◌, ℕ, Bool, true, List, sym, ap, subst}
 use Rattle.std.specs.Vec.{with_items}
-use Rattle.hierarchy.specs.Shape.{node_of}
-use Rattle.defect_db.specs.Kept.{AreRight, marks_in, listed_by, free_pins_in, IsRecounted, IsItOrAbove}
+use Rattle.defect_db.specs.Kept.{AreRight, marks_in, listed_by, free_pins_in}
 use Rattle.defect_db.specs.Lists.{IsWithWire}
 use Rattle.tm_bits.proofs.SetsLemmas.{items_after}
-use Rattle.defect_db.proofs.PuttingWires.{wire_as_it_is, owner_read, owner_low, owner_free, wire_right, wire_listed}
+use Rattle.defect_db.proofs.PuttingWires.{wire_as_it_is, owner_read, owner_low, owner_free, recounted_as, wire_right, wire_listed}
 use Rattle.defect_db.proofs.kept.put_wire.Goals as goal
 
 pub returns-then-has-clause-listed : goal.returns-then-has-clause-listed
@@ -24,11 +23,7 @@ pub returns-clause-kept : goal.returns-clause-kept
 returns-clause-kept c =
     let k = marks_in c.args.kept.now in
     let shut_now : (with_items c.args.kept.now.shut c.bar_all.new.shut).items ≡ c.bar_all.new.shut = items_after c.args.kept.now.shut c.bar_all.new.shut (c.bar_all.ensures.shut_width ∙ sym c.requires.kept.wide.shut) in
-    let again : IsRecounted k.shape (set k.wires c.args.w.0 true) c.bar_all.new.shut (IsItOrAbove k.shape (node_of k.shape c.args.w.0)) k.open_lines k.free_ports c.recount_both.new.open_lines c.recount_both.new.free_ports_by =
-    subst (λ (p : (List Bool × List ℕ) × (ℕ × (List ℕ × List ℕ))). IsRecounted k.shape p.0.0 p.0.1 (IsItOrAbove k.shape p.1.0) p.1.1.0 p.1.1.1 c.recount_both.new.open_lines c.recount_both.new.free_ports_by)
-    (λ i. ((c.insert.ensures i, (c.deref.ensures.value ∙ shut_now) i), (c.node_of-node.ensures.node i, (c.deref_mut-2.ensures.value i, c.deref_mut-3.ensures.value i)))) c.recount_both.ensures in
-    let own : get_or k.owners c.args.w.0 None ≡ c.index.result.now = owner_read k c.requires.kept c.args.w.0 c.requires.within c.index.result.now c.index.ensures in
-    let pins_now : c.free_pins-kept.result ≡ free_pins_in k.shape (set k.wires c.args.w.0 true) = c.free_pins-kept.ensures ∙ ap (free_pins_in k.shape) c.insert.ensures in
+    let again = recounted_as c.insert.ensures (c.deref.ensures.value ∙ shut_now) c.node_of-node.ensures.node c.deref_mut-2.ensures.value c.deref_mut-3.ensures.value c.recount_both.ensures in
     let lines_now = items_after c.args.kept.now.open_lines c.recount_both.new.open_lines (c.recount_both.ensures.lines_width ∙ sym c.requires.kept.wide.open_lines) in
     let ports_now = items_after c.args.kept.now.free_ports c.recount_both.new.free_ports_by (c.recount_both.ensures.ports_width ∙ sym c.requires.kept.wide.free_ports) in
     subst (λ (p : (List Bool × List ℕ) × (List ℕ × List ℕ)). AreRight (record {
@@ -47,17 +42,13 @@ returns-clause-kept c =
     }))
     (λ i. ((sym c.insert.ensures i, sym shut_now i), (sym lines_now i, sym ports_now i)))
     (wire_right k c.requires.kept c.args.w.0 c.requires.within c.bar_all.new.crosses c.bar_all.new.barred c.bar_all.new.shut c.bar_all.ensures (c.the_crosspoints_are_sound.ensures.crosses k.shape) (c.the_crosspoints_are_sound.ensures.taps k.shape) (c.the_numbering_is_sound.ensures.tree k.shape) (c.the_numbering_is_sound.ensures.parents k.shape) (c.the_numbering_is_sound.ensures.meanings k.shape)
-    c.recount_both.new.open_lines c.recount_both.new.free_ports_by again c.index.result.now own c.lose_table.new.tables c.lose_table.new.lost c.lose_table.new.free_tables c.free_pins-kept.result c.lose_table.ensures pins_now)
+    c.recount_both.new.open_lines c.recount_both.new.free_ports_by again c.index.result.now (owner_read k c.requires.kept c.args.w.0 c.requires.within c.index.result.now c.index.ensures) c.lose_table.new.tables c.lose_table.new.lost c.lose_table.new.free_tables c.free_pins-kept.result c.lose_table.ensures (c.free_pins-kept.ensures ∙ ap (free_pins_in k.shape) c.insert.ensures))
 
 pub returns-clause-listed : goal.returns-clause-listed
 returns-clause-listed c =
     let k = marks_in c.args.kept.now in
     let shut_now : (with_items c.args.kept.now.shut c.bar_all.new.shut).items ≡ c.bar_all.new.shut = items_after c.args.kept.now.shut c.bar_all.new.shut (c.bar_all.ensures.shut_width ∙ sym c.requires.kept.wide.shut) in
-    let again : IsRecounted k.shape (set k.wires c.args.w.0 true) c.bar_all.new.shut (IsItOrAbove k.shape (node_of k.shape c.args.w.0)) k.open_lines k.free_ports c.recount_both.new.open_lines c.recount_both.new.free_ports_by =
-    subst (λ (p : (List Bool × List ℕ) × (ℕ × (List ℕ × List ℕ))). IsRecounted k.shape p.0.0 p.0.1 (IsItOrAbove k.shape p.1.0) p.1.1.0 p.1.1.1 c.recount_both.new.open_lines c.recount_both.new.free_ports_by)
-    (λ i. ((c.insert.ensures i, (c.deref.ensures.value ∙ shut_now) i), (c.node_of-node.ensures.node i, (c.deref_mut-2.ensures.value i, c.deref_mut-3.ensures.value i)))) c.recount_both.ensures in
-    let own : get_or k.owners c.args.w.0 None ≡ c.index.result.now = owner_read k c.requires.kept c.args.w.0 c.requires.within c.index.result.now c.index.ensures in
-    let pins_now : c.free_pins-kept.result ≡ free_pins_in k.shape (set k.wires c.args.w.0 true) = c.free_pins-kept.ensures ∙ ap (free_pins_in k.shape) c.insert.ensures in
+    let again = recounted_as c.insert.ensures (c.deref.ensures.value ∙ shut_now) c.node_of-node.ensures.node c.deref_mut-2.ensures.value c.deref_mut-3.ensures.value c.recount_both.ensures in
     subst (λ (ws : List Bool). IsWithWire (listed_by k) c.args.w.0 (listed_by (record k { wires = ws; crosses = c.bar_all.new.crosses; tables = c.lose_table.new.tables }))) (sym c.insert.ensures)
     (wire_listed k c.requires.kept c.args.w.0 c.requires.within c.bar_all.new.crosses c.bar_all.new.barred c.bar_all.new.shut c.bar_all.ensures (c.the_crosspoints_are_sound.ensures.crosses k.shape) (c.the_crosspoints_are_sound.ensures.taps k.shape) (c.the_numbering_is_sound.ensures.tree k.shape) (c.the_numbering_is_sound.ensures.parents k.shape) (c.the_numbering_is_sound.ensures.meanings k.shape)
-    c.recount_both.new.open_lines c.recount_both.new.free_ports_by again c.index.result.now own c.lose_table.new.tables c.lose_table.new.lost c.lose_table.new.free_tables c.free_pins-kept.result c.lose_table.ensures pins_now)
+    c.recount_both.new.open_lines c.recount_both.new.free_ports_by again c.index.result.now (owner_read k c.requires.kept c.args.w.0 c.requires.within c.index.result.now c.index.ensures) c.lose_table.new.tables c.lose_table.new.lost c.lose_table.new.free_tables c.free_pins-kept.result c.lose_table.ensures (c.free_pins-kept.ensures ∙ ap (free_pins_in k.shape) c.insert.ensures))

@@ -1,7 +1,7 @@
-use Rattle.std.proofs.Common.{refl, ◌≡◌, ◌+◌, ◌<◌, ◌-◌, arith}
+use Rattle.std.proofs.Common.{refl, ◌<◌, arith}
 use Rattle.hierarchy.specs.Shape.{taps_of}
 use Rattle.defect_db.proofs.Sweeping.{sweep_none, line_some, line_more, lines_done}
-use Rattle.defect_db.proofs.SweptRows.{in_rows, few_in_rows, not_a_line}
+use Rattle.defect_db.proofs.SweptRows.{at_distance, few_at_distance, not_a_line}
 use Rattle.defect_db.proofs.sweep.bar_line.Goals as goal
 
 pub returns-then-w-first_line : goal.returns-then-w-first_line
@@ -21,53 +21,33 @@ taps-init c =
 
 pub overflow_mul-x : goal.overflow_mul-x
 overflow_mul-x c =
-    let li : c.taps.i < taps_of c.args.shape.now c.args.n.0 = omega (arith, c.taps-test.true, c.taps-i-end.ensures) in
-    let lj : c.args.w.0 - c.line-first_line.result.0 < c.lines-width.result = omega (arith, c.if-position-width.false) in
-    let e : c.line-first_line.result.0 + (c.args.w.0 - c.line-first_line.result.0) ≡ c.args.w.0 = omega (arith, c.if-w-first_line.false) in
-    let f = few_in_rows c.args.shape.now (c.the_crosspoints_are_sound.ensures.crosses c.args.shape.now) (c.crosspoints_stand_in_rows.ensures c.args.shape.now) c.args.n.0 c.args.w.0 c.requires.node _ c.line-first_line.ensures.wire _ _ c.first_cross-first.ensures c.lines-width.ensures.lines c.taps.i _ li lj e in omega (arith, f)
+    let f = few_at_distance c.args.shape.now (c.the_crosspoints_are_sound.ensures.crosses c.args.shape.now) (c.crosspoints_stand_in_rows.ensures c.args.shape.now) c.args.n.0 c.args.w.0 c.requires.node _ c.line-first_line.ensures.wire _ _ c.first_cross-first.ensures c.lines-width.ensures.lines c.taps.i (omega (arith, c.taps-test.true, c.taps-i-end.ensures)) (omega (arith, c.if-position-width.false)) (omega (arith, c.if-w-first_line.false)) in omega (arith, f)
 
 pub overflow_add-x : goal.overflow_add-x
 overflow_add-x c =
-    let li : c.taps.i < taps_of c.args.shape.now c.args.n.0 = omega (arith, c.taps-test.true, c.taps-i-end.ensures) in
-    let lj : c.args.w.0 - c.line-first_line.result.0 < c.lines-width.result = omega (arith, c.if-position-width.false) in
-    let e : c.line-first_line.result.0 + (c.args.w.0 - c.line-first_line.result.0) ≡ c.args.w.0 = omega (arith, c.if-w-first_line.false) in
-    let f = few_in_rows c.args.shape.now (c.the_crosspoints_are_sound.ensures.crosses c.args.shape.now) (c.crosspoints_stand_in_rows.ensures c.args.shape.now) c.args.n.0 c.args.w.0 c.requires.node _ c.line-first_line.ensures.wire _ _ c.first_cross-first.ensures c.lines-width.ensures.lines c.taps.i _ li lj e in omega (arith, f)
+    let f = few_at_distance c.args.shape.now (c.the_crosspoints_are_sound.ensures.crosses c.args.shape.now) (c.crosspoints_stand_in_rows.ensures c.args.shape.now) c.args.n.0 c.args.w.0 c.requires.node _ c.line-first_line.ensures.wire _ _ c.first_cross-first.ensures c.lines-width.ensures.lines c.taps.i (omega (arith, c.taps-test.true, c.taps-i-end.ensures)) (omega (arith, c.if-position-width.false)) (omega (arith, c.if-w-first_line.false)) in omega (arith, f)
 
 pub overflow_add-x-in-taps : goal.overflow_add-x-in-taps
 overflow_add-x-in-taps c =
-    let li : c.taps.i < taps_of c.args.shape.now c.args.n.0 = omega (arith, c.taps-test.true, c.taps-i-end.ensures) in
-    let lj : c.args.w.0 - c.line-first_line.result.0 < c.lines-width.result = omega (arith, c.if-position-width.false) in
-    let e : c.line-first_line.result.0 + (c.args.w.0 - c.line-first_line.result.0) ≡ c.args.w.0 = omega (arith, c.if-w-first_line.false) in
-    let f = few_in_rows c.args.shape.now (c.the_crosspoints_are_sound.ensures.crosses c.args.shape.now) (c.crosspoints_stand_in_rows.ensures c.args.shape.now) c.args.n.0 c.args.w.0 c.requires.node _ c.line-first_line.ensures.wire _ _ c.first_cross-first.ensures c.lines-width.ensures.lines c.taps.i _ li lj e in omega (arith, f)
+    let f = few_at_distance c.args.shape.now (c.the_crosspoints_are_sound.ensures.crosses c.args.shape.now) (c.crosspoints_stand_in_rows.ensures c.args.shape.now) c.args.n.0 c.args.w.0 c.requires.node _ c.line-first_line.ensures.wire _ _ c.first_cross-first.ensures c.lines-width.ensures.lines c.taps.i (omega (arith, c.taps-test.true, c.taps-i-end.ensures)) (omega (arith, c.if-position-width.false)) (omega (arith, c.if-w-first_line.false)) in omega (arith, f)
 
 pub bar-requires-clause-listed : goal.bar-requires-clause-listed
 bar-requires-clause-listed c =
-    let li : c.taps.i < taps_of c.args.shape.now c.args.n.0 = omega (arith, c.taps-test.true, c.taps-i-end.ensures) in
-    let lj : c.args.w.0 - c.line-first_line.result.0 < c.lines-width.result = omega (arith, c.if-position-width.false) in
-    let e : c.line-first_line.result.0 + (c.args.w.0 - c.line-first_line.result.0) ≡ c.args.w.0 = omega (arith, c.if-w-first_line.false) in
-    let r = in_rows c.args.shape.now (c.the_crosspoints_are_sound.ensures.crosses c.args.shape.now) (c.crosspoints_stand_in_rows.ensures c.args.shape.now) c.args.n.0 c.args.w.0 c.requires.node _ c.line-first_line.ensures.wire _ _ c.first_cross-first.ensures c.lines-width.ensures.lines c.taps.i _ li lj e in omega (arith, r.0, c.taps.invariant.crosses_width)
+    let r = at_distance c.args.shape.now (c.the_crosspoints_are_sound.ensures.crosses c.args.shape.now) (c.crosspoints_stand_in_rows.ensures c.args.shape.now) c.args.n.0 c.args.w.0 c.requires.node _ c.line-first_line.ensures.wire _ _ c.first_cross-first.ensures c.lines-width.ensures.lines c.taps.i (omega (arith, c.taps-test.true, c.taps-i-end.ensures)) (omega (arith, c.if-position-width.false)) (omega (arith, c.if-w-first_line.false)) in omega (arith, r.0, c.taps.invariant.crosses_width)
 
 pub bar-requires-clause-barred : goal.bar-requires-clause-barred
 bar-requires-clause-barred c =
-    let li : c.taps.i < taps_of c.args.shape.now c.args.n.0 = omega (arith, c.taps-test.true, c.taps-i-end.ensures) in
-    let lj : c.args.w.0 - c.line-first_line.result.0 < c.lines-width.result = omega (arith, c.if-position-width.false) in
-    let e : c.line-first_line.result.0 + (c.args.w.0 - c.line-first_line.result.0) ≡ c.args.w.0 = omega (arith, c.if-w-first_line.false) in
-    let r = in_rows c.args.shape.now (c.the_crosspoints_are_sound.ensures.crosses c.args.shape.now) (c.crosspoints_stand_in_rows.ensures c.args.shape.now) c.args.n.0 c.args.w.0 c.requires.node _ c.line-first_line.ensures.wire _ _ c.first_cross-first.ensures c.lines-width.ensures.lines c.taps.i _ li lj e in omega (arith, r.0, c.taps.invariant.barred_width)
+    let r = at_distance c.args.shape.now (c.the_crosspoints_are_sound.ensures.crosses c.args.shape.now) (c.crosspoints_stand_in_rows.ensures c.args.shape.now) c.args.n.0 c.args.w.0 c.requires.node _ c.line-first_line.ensures.wire _ _ c.first_cross-first.ensures c.lines-width.ensures.lines c.taps.i (omega (arith, c.taps-test.true, c.taps-i-end.ensures)) (omega (arith, c.if-position-width.false)) (omega (arith, c.if-w-first_line.false)) in omega (arith, r.0, c.taps.invariant.barred_width)
 
 pub bar-requires-clause-some : goal.bar-requires-clause-some
 bar-requires-clause-some c =
-    let li : c.taps.i < taps_of c.args.shape.now c.args.n.0 = omega (arith, c.taps-test.true, c.taps-i-end.ensures) in
-    let lj : c.args.w.0 - c.line-first_line.result.0 < c.lines-width.result = omega (arith, c.if-position-width.false) in
-    let e : c.line-first_line.result.0 + (c.args.w.0 - c.line-first_line.result.0) ≡ c.args.w.0 = omega (arith, c.if-w-first_line.false) in
-    line_some c.args.shape.now (c.the_crosspoints_are_sound.ensures.crosses c.args.shape.now) c.args.n.0 c.args.w.0 _ _ _ _ _ c.requires.node _ _ _ c.taps.invariant (in_rows c.args.shape.now (c.the_crosspoints_are_sound.ensures.crosses c.args.shape.now) (c.crosspoints_stand_in_rows.ensures c.args.shape.now) c.args.n.0 c.args.w.0 c.requires.node _ c.line-first_line.ensures.wire _ _ c.first_cross-first.ensures c.lines-width.ensures.lines c.taps.i _ li lj e) c.requires.wire
+    line_some c.args.shape.now (c.the_crosspoints_are_sound.ensures.crosses c.args.shape.now) c.args.n.0 c.args.w.0 _ _ _ _ _ c.requires.node _ _ _ c.taps.invariant (at_distance c.args.shape.now (c.the_crosspoints_are_sound.ensures.crosses c.args.shape.now) (c.crosspoints_stand_in_rows.ensures c.args.shape.now) c.args.n.0 c.args.w.0 c.requires.node _ c.line-first_line.ensures.wire _ _ c.first_cross-first.ensures c.lines-width.ensures.lines c.taps.i (omega (arith, c.taps-test.true, c.taps-i-end.ensures)) (omega (arith, c.if-position-width.false)) (omega (arith, c.if-w-first_line.false))) c.requires.wire
 
 pub taps-preserved : goal.taps-preserved
 taps-preserved c =
     let li : c.taps.i < taps_of c.args.shape.now c.args.n.0 = omega (arith, c.taps-test.true, c.taps-i-end.ensures) in
-    let lj : c.args.w.0 - c.line-first_line.result.0 < c.lines-width.result = omega (arith, c.if-position-width.false) in
-    let e : c.line-first_line.result.0 + (c.args.w.0 - c.line-first_line.result.0) ≡ c.args.w.0 = omega (arith, c.if-w-first_line.false) in
     line_more c.args.shape.now (c.the_crosspoints_are_sound.ensures.crosses c.args.shape.now) c.args.n.0 c.args.w.0 _ _ _ _ _ c.requires.node _ _ _ _ c.bar.ensures.listed c.bar.ensures.barred c.taps.i _ li
-    (in_rows c.args.shape.now (c.the_crosspoints_are_sound.ensures.crosses c.args.shape.now) (c.crosspoints_stand_in_rows.ensures c.args.shape.now) c.args.n.0 c.args.w.0 c.requires.node _ c.line-first_line.ensures.wire _ _ c.first_cross-first.ensures c.lines-width.ensures.lines c.taps.i _ li lj e) refl c.requires.wire c.taps.invariant c.bar.ensures.shut
+    (at_distance c.args.shape.now (c.the_crosspoints_are_sound.ensures.crosses c.args.shape.now) (c.crosspoints_stand_in_rows.ensures c.args.shape.now) c.args.n.0 c.args.w.0 c.requires.node _ c.line-first_line.ensures.wire _ _ c.first_cross-first.ensures c.lines-width.ensures.lines c.taps.i (omega (arith, c.taps-test.true, c.taps-i-end.ensures)) (omega (arith, c.if-position-width.false)) (omega (arith, c.if-w-first_line.false))) refl c.requires.wire c.taps.invariant c.bar.ensures.shut
 
 pub returns : goal.returns
 returns c =

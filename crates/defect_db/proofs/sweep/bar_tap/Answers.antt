@@ -38,23 +38,16 @@ bar-requires-clause-line c =
 
 pub bar-requires-clause-some : goal.bar-requires-clause-some
 bar-requires-clause-some c =
-    let m = c.args.shape.now in
-    let h = c.the_crosspoints_are_sound.ensures.crosses m in
-    let rows = c.crosspoints_stand_in_rows.ensures m in
-    let lt : c.lines.i < lines_of m c.args.n.0 = omega (arith, c.lines-test.true, c.lines-width.ensures.lines) in
-    let r = in_row m h rows c.args.n.0 c.args.w.0 c.requires.node _ c.line-first_line.ensures.wire _ c.in-Some.ensures.found c.lines.i lt in
-    let l = line_within m h rows c.args.n.0 c.args.w.0 c.requires.node _ c.line-first_line.ensures.wire _ c.in-Some.ensures.found c.lines.i lt in
-    tap_some m h c.args.n.0 c.args.w.0 _ _ _ _ _ c.requires.node _ _ _ c.lines.invariant r.0 l
+    tap_some c.args.shape.now (c.the_crosspoints_are_sound.ensures.crosses c.args.shape.now) c.args.n.0 c.args.w.0 _ _ _ _ _ c.requires.node _ _ _ c.lines.invariant
+    (in_row c.args.shape.now (c.the_crosspoints_are_sound.ensures.crosses c.args.shape.now) (c.crosspoints_stand_in_rows.ensures c.args.shape.now) c.args.n.0 c.args.w.0 c.requires.node _ c.line-first_line.ensures.wire _ c.in-Some.ensures.found c.lines.i (omega (arith, c.lines-test.true, c.lines-width.ensures.lines))).0
+    (line_within c.args.shape.now (c.the_crosspoints_are_sound.ensures.crosses c.args.shape.now) (c.crosspoints_stand_in_rows.ensures c.args.shape.now) c.args.n.0 c.args.w.0 c.requires.node _ c.line-first_line.ensures.wire _ c.in-Some.ensures.found c.lines.i (omega (arith, c.lines-test.true, c.lines-width.ensures.lines)))
 
 pub lines-preserved : goal.lines-preserved
 lines-preserved c =
-    let m = c.args.shape.now in
-    let h = c.the_crosspoints_are_sound.ensures.crosses m in
-    let rows = c.crosspoints_stand_in_rows.ensures m in
-    let lt : c.lines.i < lines_of m c.args.n.0 = omega (arith, c.lines-test.true, c.lines-width.ensures.lines) in
-    let r = in_row m h rows c.args.n.0 c.args.w.0 c.requires.node _ c.line-first_line.ensures.wire _ c.in-Some.ensures.found c.lines.i lt in
-    let l = line_within m h rows c.args.n.0 c.args.w.0 c.requires.node _ c.line-first_line.ensures.wire _ c.in-Some.ensures.found c.lines.i lt in
-    tap_more m h c.args.n.0 c.args.w.0 _ _ _ _ _ c.requires.node _ _ _ _ c.bar.ensures.listed c.bar.ensures.barred c.lines.i _ lt r.0 r.1 l c.lines.invariant c.bar.ensures.shut
+    let lt : c.lines.i < lines_of c.args.shape.now c.args.n.0 = omega (arith, c.lines-test.true, c.lines-width.ensures.lines) in
+    let r = in_row c.args.shape.now (c.the_crosspoints_are_sound.ensures.crosses c.args.shape.now) (c.crosspoints_stand_in_rows.ensures c.args.shape.now) c.args.n.0 c.args.w.0 c.requires.node _ c.line-first_line.ensures.wire _ c.in-Some.ensures.found c.lines.i lt in
+    tap_more c.args.shape.now (c.the_crosspoints_are_sound.ensures.crosses c.args.shape.now) c.args.n.0 c.args.w.0 _ _ _ _ _ c.requires.node _ _ _ _ c.bar.ensures.listed c.bar.ensures.barred c.lines.i _ lt r.0 r.1
+    (line_within c.args.shape.now (c.the_crosspoints_are_sound.ensures.crosses c.args.shape.now) (c.crosspoints_stand_in_rows.ensures c.args.shape.now) c.args.n.0 c.args.w.0 c.requires.node _ c.line-first_line.ensures.wire _ c.in-Some.ensures.found c.lines.i lt) c.lines.invariant c.bar.ensures.shut
 
 pub returns : goal.returns
 returns c = taps_done c.args.shape.now (c.the_crosspoints_are_sound.ensures.crosses c.args.shape.now) c.args.n.0 c.args.w.0 _ _ _ _ _ c.requires.node c.lines.i (omega (arith, c.lines-test.false, c.lines-width.ensures.lines)) c.lines.invariant
