@@ -2,6 +2,7 @@
 use Rattle.std.proofs.Common.{◌≡◌, ℕ, suc, ◌≤◌, ◌+◌, Bool, true, false, List, [], ◌∷◌, ◌++◌, map, length, All, Option, None, Some, refl, sym, ap, ◌∙◌, arith, subst}
 use Rattle.std.proofs.lemmas.Bool.{false≢true}
 use Rattle.std.specs.Prelude.{IfSome, IsSome, is_some, option_map}
+use Rattle.std.specs.Option.{option_map_or}
 use Rattle.hierarchy.specs.declared.Shape.{Shape}
 use Rattle.hierarchy.specs.Shape.{pins_of}
 use Rattle.hierarchy.specs.Circuit.{Pins}
@@ -13,6 +14,7 @@ use Rattle.port_board.specs.Lines.{line_of, reading_line, counts_line}
 use Rattle.port_board.specs.Requests.{IsEditOf, AreDrivesOf, attach_line, drives_text, drives_line, load_line}
 use Rattle.port_board.specs.Answers.{Answers, Reads, Loads, Drives, start_of}
 use Rattle.port_board.specs.Ports.{PortState, AskFails}
+use Rattle.port_board.specs.declared.link.Link.{Link}
 use Rattle.port_board.specs.declared.port.PortFail.{PortFail}
 use Rattle.port_board.specs.declared.port.PortFail.TheVariants as port
 use Rattle.port_board.specs.Linked.{IsLinked, told_with}
@@ -38,6 +40,14 @@ pub told_port : (due : Bool) (g : Configuration) (device : Option Device) → Is
 told_port true g None some = some
 told_port true g (Some d) some = refl
 told_port false g device some = some
+
+-- the machine of a link that is there, as the board tells it
+pub told_here : {link : Link} {o : Option Link} {told : Option Device} (device : Option Device) → Some link ≡ o → option_map_or (λ (l : Link). told_with l.due l.set.config device) o device ≡ told → told_with link.due link.set.config device ≡ told
+told_here device there is = ap (λ (o : Option Link). option_map_or (λ (l : Link). told_with l.due l.set.config device) o device) there ∙ is
+
+pub told_alarm : {link : Link} {o : Option Link} {told : Option Device} {before n after : ℕ} (device : Option Device) → Some link ≡ o → option_map_or (λ (l : Link). told_with l.due l.set.config device) o device ≡ told → before ≡ n →
+    (IsSome device → Rose before after) → IsSome told → Rose n after
+told_alarm {link} {after = after} device there is same rose some = subst (λ n. Rose n after) same (rose (told_port link.due link.set.config device (ap is_some (told_here device there is) ∙ some)))
 
 -- the reply of a told machine is the line of a reading for each drive
 pub record IsReply (n : ℕ) (drives : List Pins) (reply : List ℕ) : Type 0 where

@@ -8,6 +8,7 @@ use Rattle.std.proofs.lemmas.List.Sums.{fold-append}
 use Rattle.std.proofs.lemmas.Grind.{flat_map-append}
 use Rattle.std.proofs.Math.Seq.{take-append_seam}
 use Rattle.std.specs.Prelude.{IfSome, Result, Ok, Err, OnOk}
+use Rattle.std.specs.Option.{option_map_or}
 use Rattle.std.specs.Vec.{vec_capacity}
 use Rattle.hierarchy.specs.declared.Shape.{Shape}
 use Rattle.hierarchy.specs.Shape.{pins_of}
@@ -26,6 +27,7 @@ use Rattle.port_board.specs.Answers.{start_of}
 use Rattle.port_board.specs.Ports.{PortState}
 use Rattle.port_board.specs.Linked.{AreEdited, IsPosted, IsLinked, HasTurned, told_with}
 use Rattle.port_board.specs.Boards.{IsHeld}
+use Rattle.port_board.proofs.Alarm.{told_here}
 use Rattle.port_board.proofs.Edited.{spelled}
 
 nothing : {X : Type 0} (P : X → Type 0) → All P []
@@ -100,6 +102,13 @@ cycled_one pairs drives reads drive d old new driven read one w = subst (λ ps. 
       let got : p.reading ≡ get_or reads 0 d = ap (λ l. get_or l 0 d) read in
       ap (λ (x : Pins). record { drive = x; reading = p.reading } ∷ []) at ∙ ap (λ (x : Pins). record { drive = drive; reading = x } ∷ []) got
   same (p ∷ q ∷ ps) reads driven read = let no : drives_of (q ∷ ps) ≡ [] = cc in cc
+
+-- what a turn left, as the board tells it
+pub told_on : {link : Link} {o : Option Link} {told : Option Device} {set : Configuration} (pairs : List Exchange) (device now : Option Device) (due : Bool) → Some link ≡ o → option_map_or (λ (l : Link). told_with l.due l.set.config device) o device ≡ told →
+    set ≡ link.set.config → WhereTold (GoesOnWith pairs) (told_with link.due link.set.config device) (told_with due link.set.config now) → WhereTold (GoesOnWith pairs) told (told_with due set now)
+told_on {link} {told = told} pairs device now due there is same turned =
+    subst (λ (s : Configuration). WhereTold (GoesOnWith pairs) told (told_with due s now)) (sym same)
+    (subst (λ (d : Option Device). WhereTold (GoesOnWith pairs) d (told_with due link.set.config now)) (told_here device there is) turned)
 
 -- turns one after another
 pub turned_more : (set : Configuration) (d1 d2 r1 r2 : List Pins) (due mid_due new_due : Bool) (old mid new : Option Device) → HasTurned d1 r1 due set old mid_due mid → HasTurned d2 r2 mid_due set mid new_due new

@@ -134,7 +134,7 @@ one_text xs ys len e = ext_get_or false xs ys len at where
       same_bit (get_or xs k false) (get_or ys k false) (subst (λ j. bit_of xs j ≡ bit_of ys j) place same)
 
 -- two texts of one length before others
-cut : (a b s t : List ℕ) → length a ≡ length b → a ++ s ≡ b ++ t → (a ≡ b) × (s ≡ t)
+pub cut : (a b s t : List ℕ) → length a ≡ length b → a ++ s ≡ b ++ t → (a ≡ b) × (s ≡ t)
 cut [] [] s t len e = (refl, e)
 cut [] (y ∷ b) s t len e = absurd (omega (arith, len))
 cut (x ∷ a) [] s t len e = absurd (omega (arith, len))

@@ -17,23 +17,13 @@ use Rattle.port_board.specs.Requests.{Edit, Close, Open, On, Off, Tick, IsEditOf
 use Rattle.port_board.proofs.Spelled.{led}
 use Rattle.port_board.proofs.Settings.{same_setting}
 use Rattle.port_board.proofs.OneMachine.{BeginsLow, digits, cut_low}
-use Rattle.port_board.proofs.Readings.{sealed, at_end, one_text, length_text, AreOf}
+use Rattle.port_board.proofs.Readings.{cut, sealed, at_end, one_text, length_text, AreOf}
 
 -- one number stands before others
 numeral : (m n : ℕ) (r q : List ℕ) → m < 2 ^ 64 → n < 2 ^ 64 → BeginsLow r → BeginsLow q → decimal m ++ r ≡ decimal n ++ q → (m ≡ n) × (r ≡ q)
 numeral m n r q small other lr lq e =
     let parts = cut_low (decimal m) (decimal n) r q (digits m small) (digits n other) lr lq e in
     (decimal_injective m n small other parts.0, parts.1)
-
-cut : (a b s t : List ℕ) → length a ≡ length b → a ++ s ≡ b ++ t → (a ≡ b) × (s ≡ t)
-cut [] [] s t len e = (refl, e)
-cut [] (y ∷ b) s t len e = absurd (omega (arith, len))
-cut (x ∷ a) [] s t len e = absurd (omega (arith, len))
-cut (x ∷ a) (y ∷ b) s t len e =
-    let heads : x ≡ y = cc in
-    let tails : a ++ s ≡ b ++ t = cc in
-    let more = cut a b s t (omega (arith, len)) tails in
-    (ap (λ z. z ∷ a) heads ∙ ap (λ l. y ∷ l) more.0, more.1)
 
 -- the byte in front, and what is behind it
 head_of : (x y : ℕ) (r q : List ℕ) → x ∷ r ≡ y ∷ q → x ≡ y

@@ -20,47 +20,26 @@ one_bit true = refl
 one_bit false = refl
 
 -- a bit of a byte is a pin
-bit_found : (pins : Pins) (k r : ℕ) → r < 8 → (octet_at pins k / 2 ^ r % 2 == 1) ≡ get_or pins (k + r) false
-bit_found pins k r lt = by_place r lt where
-  a : bit_of pins k ≤ 1
-  a = few pins k
-
-  b : bit_of pins (k + 1) ≤ 1
-  b = few pins (k + 1)
-
-  c : bit_of pins (k + 2) ≤ 1
-  c = few pins (k + 2)
-
-  d : bit_of pins (k + 3) ≤ 1
-  d = few pins (k + 3)
-
-  e : bit_of pins (k + 4) ≤ 1
-  e = few pins (k + 4)
-
-  f : bit_of pins (k + 5) ≤ 1
-  f = few pins (k + 5)
-
-  g : bit_of pins (k + 6) ≤ 1
-  g = few pins (k + 6)
-
-  h : bit_of pins (k + 7) ≤ 1
-  h = few pins (k + 7)
-
+module _ (pins : Pins) (k : ℕ) (a : bit_of pins k ≤ 1) (b : bit_of pins (k + 1) ≤ 1) (c : bit_of pins (k + 2) ≤ 1) (d : bit_of pins (k + 3) ≤ 1)
+    (e : bit_of pins (k + 4) ≤ 1) (f : bit_of pins (k + 5) ≤ 1) (g : bit_of pins (k + 6) ≤ 1) (h : bit_of pins (k + 7) ≤ 1) where
   is : (v j : ℕ) → v ≡ bit_of pins j → (v == 1) ≡ get_or pins j false
-  is v j e = ap (λ n. n == 1) e ∙ one_bit (get_or pins j false)
+  is v j same = ap (λ n. n == 1) same ∙ one_bit (get_or pins j false)
 
-  by_place : (r : ℕ) → r < 8 → (octet_at pins k / 2 ^ r % 2 == 1) ≡ get_or pins (k + r) false
-  by_place zero lt =
+  at_place : (r : ℕ) → r < 8 → (octet_at pins k / 2 ^ r % 2 == 1) ≡ get_or pins (k + r) false
+  at_place zero lt =
       let same : k ≡ k + 0 = omega arith in
       is (octet_at pins k / 1 % 2) k (omega (arith, a, b, c, d, e, f, g, h)) ∙ ap (λ j. get_or pins j false) same
-  by_place (suc zero) lt = is (octet_at pins k / 2 % 2) (k + 1) (omega (arith, a, b, c, d, e, f, g, h))
-  by_place (suc (suc zero)) lt = is (octet_at pins k / 4 % 2) (k + 2) (omega (arith, a, b, c, d, e, f, g, h))
-  by_place (suc (suc (suc zero))) lt = is (octet_at pins k / 8 % 2) (k + 3) (omega (arith, a, b, c, d, e, f, g, h))
-  by_place (suc (suc (suc (suc zero)))) lt = is (octet_at pins k / 16 % 2) (k + 4) (omega (arith, a, b, c, d, e, f, g, h))
-  by_place (suc (suc (suc (suc (suc zero))))) lt = is (octet_at pins k / 32 % 2) (k + 5) (omega (arith, a, b, c, d, e, f, g, h))
-  by_place (suc (suc (suc (suc (suc (suc zero)))))) lt = is (octet_at pins k / 64 % 2) (k + 6) (omega (arith, a, b, c, d, e, f, g, h))
-  by_place (suc (suc (suc (suc (suc (suc (suc zero))))))) lt = is (octet_at pins k / 128 % 2) (k + 7) (omega (arith, a, b, c, d, e, f, g, h))
-  by_place (suc (suc (suc (suc (suc (suc (suc (suc r)))))))) lt = absurd (omega (arith, lt))
+  at_place (suc zero) lt = is (octet_at pins k / 2 % 2) (k + 1) (omega (arith, a, b, c, d, e, f, g, h))
+  at_place (suc (suc zero)) lt = is (octet_at pins k / 4 % 2) (k + 2) (omega (arith, a, b, c, d, e, f, g, h))
+  at_place (suc (suc (suc zero))) lt = is (octet_at pins k / 8 % 2) (k + 3) (omega (arith, a, b, c, d, e, f, g, h))
+  at_place (suc (suc (suc (suc zero)))) lt = is (octet_at pins k / 16 % 2) (k + 4) (omega (arith, a, b, c, d, e, f, g, h))
+  at_place (suc (suc (suc (suc (suc zero))))) lt = is (octet_at pins k / 32 % 2) (k + 5) (omega (arith, a, b, c, d, e, f, g, h))
+  at_place (suc (suc (suc (suc (suc (suc zero)))))) lt = is (octet_at pins k / 64 % 2) (k + 6) (omega (arith, a, b, c, d, e, f, g, h))
+  at_place (suc (suc (suc (suc (suc (suc (suc zero))))))) lt = is (octet_at pins k / 128 % 2) (k + 7) (omega (arith, a, b, c, d, e, f, g, h))
+  at_place (suc (suc (suc (suc (suc (suc (suc (suc r)))))))) lt = absurd (omega (arith, lt))
+
+bit_found : (pins : Pins) (k r : ℕ) → r < 8 → (octet_at pins k / 2 ^ r % 2 == 1) ≡ get_or pins (k + r) false
+bit_found pins k = at_place pins k (few pins k) (few pins (k + 1)) (few pins (k + 2)) (few pins (k + 3)) (few pins (k + 4)) (few pins (k + 5)) (few pins (k + 6)) (few pins (k + 7))
 
 -- the bytes come the highest first
 octet_get : (pins : Pins) (n j : ℕ) → j < n → get_or (octets_below pins n) j 0 ≡ octet_at pins (8 * (n - 1 - j))
