@@ -34,6 +34,14 @@ module _ (d : Defects) (i : ImageValue) (numbered : IsNumbered i.config.shape) (
   on_within : (t : ℕ) → IsSome (setting_of g t) → t < tables_of g.shape
   on_within t on = on_below g is.config t (true_some (setting_of g t) on)
 
+  -- outputs are alike that are so at each table, on or off
+  each_table : (x y : Outputs) → ((t : ℕ) → setting_of g t ≡ None → x t ≡ y t) → ((t : ℕ) (s : Setting) → setting_of g t ≡ Some s → IsSome (setting_of g t) → x t ≡ y t) → x ≡ y
+  each_table x y off on = fun_ext (λ t. by t (setting_of g t) refl)
+    where
+      by : (t : ℕ) (s : Option Setting) → setting_of g t ≡ s → x t ≡ y t
+      by t None e = off t e
+      by t (Some s) e = on t s e (rw e refl)
+
   good_in : (k : ℕ) → k < length i.inputs → IsGood g.shape d (pin_wire g.shape (get_or i.inputs k 0))
   good_in k h =
       let same = get_or_append_left i.inputs i.outputs 0 k h in
@@ -99,28 +107,18 @@ module _ (d : Defects) (i : ImageValue) (numbered : IsNumbered i.config.shape) (
       low_address t = number_below (map (λ k. u (table_wire g.shape t k)) (range_with_len 0 6))
 
       same_tick : after_tick (circuit_of f g) v o ≡ after_tick (circuit_of h g) u o
-      same_tick = fun_ext (λ t. by t (setting_of g t) refl)
-        where
-          by : (t : ℕ) (s : Option Setting) → setting_of g t ≡ s → after_tick (circuit_of f g) v o t ≡ after_tick (circuit_of h g) u o t
-          by t None e = rw e refl
-          by t (Some s) e =
-              let on : IsSome (setting_of g t) = rw e refl in
-              let a = address_at (circuit_of h g) u t in
-              ap (λ x. tick_output (table_or_off f t (setting_of g t)) x (o t)) (same_address t on)
-              ∙ tick_of f t (setting_of g t) s a (o t) e (cf.cells t a (on_within t on) (low_address t) (free.tables t on))
-              ∙ sym (tick_of h t (setting_of g t) s a (o t) e (ch.cells t a (on_within t on) (low_address t) (free.tables t on)))
+      same_tick = each_table (after_tick (circuit_of f g) v o) (after_tick (circuit_of h g) u o) (λ t e. rw e refl) (λ t s e on.
+          let a = address_at (circuit_of h g) u t in
+          ap (λ x. tick_output (table_or_off f t (setting_of g t)) x (o t)) (same_address t on)
+          ∙ tick_of f t (setting_of g t) s a (o t) e (cf.cells t a (on_within t on) (low_address t) (free.tables t on))
+          ∙ sym (tick_of h t (setting_of g t) s a (o t) e (ch.cells t a (on_within t on) (low_address t) (free.tables t on))))
 
       same_edge : after_edge (circuit_of f g) v o ≡ after_edge (circuit_of h g) u o
-      same_edge = fun_ext (λ t. by t (setting_of g t) refl)
-        where
-          by : (t : ℕ) (s : Option Setting) → setting_of g t ≡ s → after_edge (circuit_of f g) v o t ≡ after_edge (circuit_of h g) u o t
-          by t None e = rw e refl
-          by t (Some s) e =
-              let on : IsSome (setting_of g t) = rw e refl in
-              let a = address_at (circuit_of h g) u t in
-              ap (λ x. edge_output (table_or_off f t (setting_of g t)) x (o t)) (same_address t on)
-              ∙ edge_of f t (setting_of g t) s a (o t) e (cf.cells t a (on_within t on) (low_address t) (free.tables t on)) (cf.registers t (on_within t on) (free.tables t on))
-              ∙ sym (edge_of h t (setting_of g t) s a (o t) e (ch.cells t a (on_within t on) (low_address t) (free.tables t on)) (ch.registers t (on_within t on) (free.tables t on)))
+      same_edge = each_table (after_edge (circuit_of f g) v o) (after_edge (circuit_of h g) u o) (λ t e. rw e refl) (λ t s e on.
+          let a = address_at (circuit_of h g) u t in
+          ap (λ x. edge_output (table_or_off f t (setting_of g t)) x (o t)) (same_address t on)
+          ∙ edge_of f t (setting_of g t) s a (o t) e (cf.cells t a (on_within t on) (low_address t) (free.tables t on)) (cf.registers t (on_within t on) (free.tables t on))
+          ∙ sym (edge_of h t (setting_of g t) s a (o t) e (ch.cells t a (on_within t on) (low_address t) (free.tables t on)) (ch.registers t (on_within t on) (free.tables t on))))
 
       same_row : image_row i (pins_read (circuit_of f g) v) ≡ image_row i (pins_read (circuit_of h g) u)
       same_row = ext_get_or true _ _ (length-map i.outputs _ ∙ sym (length-map i.outputs _)) one
@@ -159,14 +157,9 @@ module _ (d : Defects) (i : ImageValue) (numbered : IsNumbered i.config.shape) (
         λ j. row j ∷ rest j
 
     same_load : at_load (circuit_of f g) ≡ at_load (circuit_of h g)
-    same_load = fun_ext (λ t. by t (setting_of g t) refl)
-      where
-        by : (t : ℕ) (s : Option Setting) → setting_of g t ≡ s → at_load (circuit_of f g) t ≡ at_load (circuit_of h g) t
-        by t None e = rw e refl
-        by t (Some s) e =
-            let on : IsSome (setting_of g t) = rw e refl in
-            first_of f t (setting_of g t) s e (cf.registers t (on_within t on) (free.tables t on))
-            ∙ sym (first_of h t (setting_of g t) s e (ch.registers t (on_within t on) (free.tables t on)))
+    same_load = each_table (at_load (circuit_of f g)) (at_load (circuit_of h g)) (λ t e. rw e refl) (λ t s e on.
+        first_of f t (setting_of g t) s e (cf.registers t (on_within t on) (free.tables t on))
+        ∙ sym (first_of h t (setting_of g t) s e (ch.registers t (on_within t on) (free.tables t on))))
 
     pub runs_alike : (vectors : List (List Bool)) {reads others : List Pins} → IsRun f g (map (drive_of i) vectors) reads → IsRun h g (map (drive_of i) vectors) others → map (image_row i) reads ≡ map (image_row i) others
     runs_alike vectors p q = same_cycles vectors same_load (λ t e. rw e refl) p.cycles q.cycles

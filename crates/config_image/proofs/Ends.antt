@@ -20,6 +20,10 @@ use Rattle.config_image.proofs.Passing.{refused_in, passed_in, pass_field, pass_
 use Rattle.config_image.proofs.Whole.{one_spelling}
 use Rattle.config_image.proofs.Faultless.{faultless}
 
+-- a field by what the most is, under another name
+pub field_as : {most tables : ℕ} {bytes : List ℕ} {at n : ℕ} → most ≡ tables → IsField 2 (most_fault most) bytes at n → IsField 2 (most_fault tables) bytes at n
+field_as {bytes = bytes} {at = at} {n = n} same field = subst (λ (k : ℕ). IsField 2 (most_fault k) bytes at n) same field
+
 module _ (m : Shape) (bytes : List ℕ) (start ticks : ℕ) where
   abbrev pub Whole : ℕ → ImageKind → Type 0
   Whole l k = InPins m bytes l k start 0 []

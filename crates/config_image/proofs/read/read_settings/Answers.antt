@@ -5,7 +5,7 @@ use Rattle.std.specs.FinSet.{contains-empty, len-empty}
 use Rattle.config_set.specs.Configuration.{Configuration, cleared, with_ticks}
 use Rattle.config_image.specs.Faults.{most_fault, closed_fault}
 use Rattle.config_image.specs.Fields.{IsField, IsRefusedField}
-use Rattle.config_image.proofs.Ends.{many_refused, tables_refused, closed_refused, crosses_refused, end_refused, settings_read}
+use Rattle.config_image.proofs.Ends.{field_as, many_refused, tables_refused, closed_refused, crosses_refused, end_refused, settings_read}
 use Rattle.config_image.proofs.read.read_settings.Goals as goal
 
 pub returns-in-Err-clause-refused : goal.returns-in-Err-clause-refused
@@ -15,17 +15,13 @@ returns-in-Err-clause-refused c =
 
 pub returns-in-Err-read_tables-clause-refused : goal.returns-in-Err-read_tables-clause-refused
 returns-in-Err-read_tables-clause-refused c =
-    let m = c.args.shape.now in
-    let number = subst (λ z. IsField 2 (most_fault z) c.args.bytes.now c.args.start c.in-Ok.tables) c.tables.ensures.tables c.in-Ok.ensures.found in
-    let made : c.set_ticks.new.self.config ≡ with_ticks (cleared m) c.args.ticks = ap (λ r. r.config) c.set_ticks.ensures ∙ ap (λ z. with_ticks z c.args.ticks) c.in-Ok-with_room.ensures.cleared in
-    tables_refused m c.args.bytes.now c.args.start c.args.ticks c.in-Ok.tables number c.set_ticks.new.self.config made c.in-Err-read_tables.fault c.in-Err-read_tables.ensures.refused
+    let made : c.set_ticks.new.self.config ≡ with_ticks (cleared c.args.shape.now) c.args.ticks = ap (λ r. r.config) c.set_ticks.ensures ∙ ap (λ z. with_ticks z c.args.ticks) c.in-Ok-with_room.ensures.cleared in
+    tables_refused c.args.shape.now c.args.bytes.now c.args.start c.args.ticks c.in-Ok.tables (field_as c.tables.ensures.tables c.in-Ok.ensures.found) c.set_ticks.new.self.config made c.in-Err-read_tables.fault c.in-Err-read_tables.ensures.refused
 
 pub returns-in-Err-how_many_closed-clause-refused : goal.returns-in-Err-how_many_closed-clause-refused
 returns-in-Err-how_many_closed-clause-refused c =
-    let m = c.args.shape.now in
-    let number = subst (λ z. IsField 2 (most_fault z) c.args.bytes.now c.args.start c.in-Ok.tables) c.tables.ensures.tables c.in-Ok.ensures.found in
-    let made : c.set_ticks.new.self.config ≡ with_ticks (cleared m) c.args.ticks = ap (λ r. r.config) c.set_ticks.ensures ∙ ap (λ z. with_ticks z c.args.ticks) c.in-Ok-with_room.ensures.cleared in
-    closed_refused m c.args.bytes.now c.args.start c.args.ticks c.in-Ok.tables number c.set_ticks.new.self.config made c.read_tables.new.at c.read_tables.new.config.config c.in_default-read_tables.ensures.found c.in_default-read_tables.ensures.kept
+    let made : c.set_ticks.new.self.config ≡ with_ticks (cleared c.args.shape.now) c.args.ticks = ap (λ r. r.config) c.set_ticks.ensures ∙ ap (λ z. with_ticks z c.args.ticks) c.in-Ok-with_room.ensures.cleared in
+    closed_refused c.args.shape.now c.args.bytes.now c.args.start c.args.ticks c.in-Ok.tables (field_as c.tables.ensures.tables c.in-Ok.ensures.found) c.set_ticks.new.self.config made c.read_tables.new.at c.read_tables.new.config.config c.in_default-read_tables.ensures.found c.in_default-read_tables.ensures.kept
     c.in-Err-how_many_closed.fault (subst (λ z. IsRefusedField 4 (closed_fault z) c.args.bytes.now c.read_tables.new.at c.in-Err-how_many_closed.fault) c.crosses.ensures.crosses c.in-Err-how_many_closed.ensures.refused)
 
 pub read_crosses-requires-clause-open_all : goal.read_crosses-requires-clause-open_all
@@ -40,28 +36,22 @@ read_crosses-requires-clause-none c =
 
 pub returns-in-Err-read_crosses-clause-refused : goal.returns-in-Err-read_crosses-clause-refused
 returns-in-Err-read_crosses-clause-refused c =
-    let m = c.args.shape.now in
-    let number = subst (λ z. IsField 2 (most_fault z) c.args.bytes.now c.args.start c.in-Ok.tables) c.tables.ensures.tables c.in-Ok.ensures.found in
-    let made : c.set_ticks.new.self.config ≡ with_ticks (cleared m) c.args.ticks = ap (λ r. r.config) c.set_ticks.ensures ∙ ap (λ z. with_ticks z c.args.ticks) c.in-Ok-with_room.ensures.cleared in
+    let made : c.set_ticks.new.self.config ≡ with_ticks (cleared c.args.shape.now) c.args.ticks = ap (λ r. r.config) c.set_ticks.ensures ∙ ap (λ z. with_ticks z c.args.ticks) c.in-Ok-with_room.ensures.cleared in
     let closed = subst (λ z. IsField 4 (closed_fault z) c.args.bytes.now c.read_tables.new.at c.in-Ok-how_many_closed.closed) c.crosses.ensures.crosses c.in-Ok-how_many_closed.ensures.found in
-    crosses_refused m c.args.bytes.now c.args.start c.args.ticks c.in-Ok.tables number c.set_ticks.new.self.config made c.read_tables.new.at c.read_tables.new.config.config c.in_default-read_tables.ensures.found c.in_default-read_tables.ensures.kept
+    crosses_refused c.args.shape.now c.args.bytes.now c.args.start c.args.ticks c.in-Ok.tables (field_as c.tables.ensures.tables c.in-Ok.ensures.found) c.set_ticks.new.self.config made c.read_tables.new.at c.read_tables.new.config.config c.in_default-read_tables.ensures.found c.in_default-read_tables.ensures.kept
     c.in-Ok-how_many_closed.closed closed c.in-Err-read_crosses.fault c.in-Err-read_crosses.ensures.refused
 
 pub returns-then-at-bytes-clause-refused : goal.returns-then-at-bytes-clause-refused
 returns-then-at-bytes-clause-refused c =
-    let m = c.args.shape.now in
-    let number = subst (λ z. IsField 2 (most_fault z) c.args.bytes.now c.args.start c.in-Ok.tables) c.tables.ensures.tables c.in-Ok.ensures.found in
-    let made : c.set_ticks.new.self.config ≡ with_ticks (cleared m) c.args.ticks = ap (λ r. r.config) c.set_ticks.ensures ∙ ap (λ z. with_ticks z c.args.ticks) c.in-Ok-with_room.ensures.cleared in
+    let made : c.set_ticks.new.self.config ≡ with_ticks (cleared c.args.shape.now) c.args.ticks = ap (λ r. r.config) c.set_ticks.ensures ∙ ap (λ z. with_ticks z c.args.ticks) c.in-Ok-with_room.ensures.cleared in
     let closed = subst (λ z. IsField 4 (closed_fault z) c.args.bytes.now c.read_tables.new.at c.in-Ok-how_many_closed.closed) c.crosses.ensures.crosses c.in-Ok-how_many_closed.ensures.found in
-    end_refused m c.args.bytes.now c.args.start c.args.ticks c.in-Ok.tables number c.set_ticks.new.self.config made c.read_tables.new.at c.read_tables.new.config.config c.in_default-read_tables.ensures.found c.in_default-read_tables.ensures.kept
+    end_refused c.args.shape.now c.args.bytes.now c.args.start c.args.ticks c.in-Ok.tables (field_as c.tables.ensures.tables c.in-Ok.ensures.found) c.set_ticks.new.self.config made c.read_tables.new.at c.read_tables.new.config.config c.in_default-read_tables.ensures.found c.in_default-read_tables.ensures.kept
     c.in-Ok-how_many_closed.closed closed c.read_crosses.new.at c.read_crosses.new.config.config c.in_default-read_crosses.ensures.found c.in_default-read_crosses.ensures.kept
     c.fault_at.result (omega (arith, c.if-at-bytes.true)) c.fault_at.ensures
 
 pub returns-clause-found : goal.returns-clause-found
 returns-clause-found c =
-    let m = c.args.shape.now in
-    let number = subst (λ z. IsField 2 (most_fault z) c.args.bytes.now c.args.start c.in-Ok.tables) c.tables.ensures.tables c.in-Ok.ensures.found in
-    let made : c.set_ticks.new.self.config ≡ with_ticks (cleared m) c.args.ticks = ap (λ r. r.config) c.set_ticks.ensures ∙ ap (λ z. with_ticks z c.args.ticks) c.in-Ok-with_room.ensures.cleared in
+    let made : c.set_ticks.new.self.config ≡ with_ticks (cleared c.args.shape.now) c.args.ticks = ap (λ r. r.config) c.set_ticks.ensures ∙ ap (λ z. with_ticks z c.args.ticks) c.in-Ok-with_room.ensures.cleared in
     let closed = subst (λ z. IsField 4 (closed_fault z) c.args.bytes.now c.read_tables.new.at c.in-Ok-how_many_closed.closed) c.crosses.ensures.crosses c.in-Ok-how_many_closed.ensures.found in
-    settings_read m c.args.bytes.now c.args.start c.args.ticks c.in-Ok.tables number c.set_ticks.new.self.config made c.read_tables.new.at c.read_tables.new.config.config c.in_default-read_tables.ensures.found c.in_default-read_tables.ensures.kept
+    settings_read c.args.shape.now c.args.bytes.now c.args.start c.args.ticks c.in-Ok.tables (field_as c.tables.ensures.tables c.in-Ok.ensures.found) c.set_ticks.new.self.config made c.read_tables.new.at c.read_tables.new.config.config c.in_default-read_tables.ensures.found c.in_default-read_tables.ensures.kept
     c.in-Ok-how_many_closed.closed closed c.read_crosses.new.at c.read_crosses.new.config.config c.in_default-read_crosses.ensures.found c.in_default-read_crosses.ensures.kept (omega (arith, c.if-at-bytes.false))
