@@ -1,8 +1,8 @@
 -- What a board comes to, and what is found at one node.
-use Rattle.std.proofs.Common.{◌≡◌, ℕ, ◌<◌, ◌≤◌, Bool, true, List, [], ◌∷◌, ◌++◌, length, get_or, map, ◌⊎◌, inl, inr, refl, ap, ◌∙◌, subst}
+use Rattle.std.proofs.Common.{◌≡◌, ℕ, ◌<◌, ◌≤◌, Bool, true, List, [], ◌∷◌, ◌++◌, length, get_or, map, ◌⊎◌, inl, inr, refl, sym, ap, ◌∙◌, subst}
 use Rattle.std.specs.List.{All, Contains, range_with_len}
 use Rattle.std.proofs.lemmas.List.Elements.{All-contains, All-weaker, All-get_or, All-contains_itself}
-use Rattle.std.proofs.lemmas.List.{get_or_past}
+use Rattle.std.proofs.lemmas.List.{get_or_past, get_or_read}
 use Rattle.std.proofs.lemmas.Bool.{cases_lt}
 use Rattle.place.proofs.Those.{not_in_nil}
 use Rattle.hierarchy.specs.declared.Shape.{Shape}
@@ -12,10 +12,11 @@ use Rattle.hierarchy.specs.Laws.{HasTaps, HasParents}
 use Rattle.defect_db.specs.Lists.{DefectList}
 use Rattle.place.specs.declared.board.Board.{Board}
 use Rattle.place.specs.declared.search.Ask.{Ask}
+use Rattle.place.specs.declared.search.Assigned.{Assigned}
 use Rattle.place.specs.declared.search.Hold.{Hold}
 use Rattle.place.specs.declared.short.Visit.{Visit}
 use Rattle.place.specs.declared.tree.Strand.TheVariants.{Own, Child, Outside}
-use Rattle.place.specs.Choices.{AreWires, IsSite, IsAssignment, IsShort, serves_by}
+use Rattle.place.specs.Choices.{AreWires, IsAnswer, IsSite, IsAssignment, IsShort, serves_by}
 use Rattle.place.specs.Layouts.{IsBoardOf, visit_of, visit_by, pick_of, GoOn}
 use Rattle.place.specs.Lists.{AreThose, AreLists}
 use Rattle.place.specs.Room.{HasTerminal}
@@ -30,6 +31,18 @@ board_is D nets b is = record { crossing_are = is.crossing; ports_are = is.ports
 
 pub lists_ascend : (count : ℕ) (P : ℕ → ℕ → Type 0) (lists : List (List ℕ)) → AreLists count P lists → AreAscending count lists
 lists_ascend count P lists are n lt = (are.those n lt).ascending
+
+-- what is read of such lists at a node
+pub those_at : (count : ℕ) (P : ℕ → ℕ → Type 0) (lists : List (List ℕ)) (n : ℕ) (found slice : List ℕ) → AreLists count P lists → n < count → found ≡ get_or lists n found → slice ≡ found → AreThose (P n) slice
+those_at count P lists n found slice are lt at e =
+    let l : n < length lists = subst (λ z. n < z) (sym are.sized) lt in
+    subst (AreThose (P n)) (sym (e ∙ get_or_read lists n found l at [])) (are.those n lt)
+
+-- the answer to the same asks over the same lines
+pub answer_on : (D : DefectList) (given asks : List Ask) (slice lines : List ℕ) (a b : Assigned) → given ≡ asks → slice ≡ lines → a ≡ b → IsAnswer (serves_by D given) (range_with_len 0 (length given)) slice a → IsAnswer (serves_by D asks) (range_with_len 0 (length asks)) lines b
+answer_on D given asks slice lines a b e f g is = subst (IsAnswer (serves_by D asks) (range_with_len 0 (length asks)) lines) g
+    (subst (λ (z : List ℕ). IsAnswer (serves_by D asks) (range_with_len 0 (length asks)) z a) f
+    (subst (λ (z : List Ask). IsAnswer (serves_by D z) (range_with_len 0 (length z)) slice a) e is))
 
 -- the same asks, by equal boards
 pub asks_on : (s m : Shape) (nets x y p q : List (List ℕ)) (n : ℕ) (asks : List Ask) → s ≡ m → x ≡ y → p ≡ q → AreAsks s nets x p n asks → AreAsks m nets y q n asks

@@ -1,5 +1,5 @@
 -- The nets that cross a node, of those that have a terminal inside.
-use Rattle.std.proofs.Common.{◌≡◌, ℕ, ◌<◌, ◌≤◌, Bool, true, false, List, [], ◌∷◌, ◌++◌, if◌then◌else◌, length, sym, subst, arith}
+use Rattle.std.proofs.Common.{ℕ, ◌<◌, ◌≤◌, Bool, true, false, List, [], ◌∷◌, ◌++◌, if◌then◌else◌, length, sym, subst, arith}
 use Rattle.std.specs.List.{All}
 use Rattle.std.proofs.lemmas.List.Elements.{All-contains, All-push}
 use Rattle.hierarchy.specs.declared.Shape.{Shape}
@@ -28,9 +28,6 @@ module _ (m : Shape) (nets : List (List ℕ)) (n : ℕ) where
   pub crossing_end : (touched ys : List ℕ) (k : ℕ) → length touched ≤ k → k ≤ length touched → AreThose (TouchesOf m nets (length nets) n) touched → AreThose (IsAmongFirst (nth_of touched) k (CrossesIn m nets n)) ys → AreThose (CrossesAt m (length nets) (HasTerminal nets) n) ys
   crossing_end touched ys k ge le all are = elements_end touched (CrossesIn m nets n) (TouchesOf m nets (length nets) n) (CrossesAt m (length nets) (HasTerminal nets) n) k ys ge le all
       (λ w t x. (t.0, x)) (λ w r. ((r.0, touches_by w r.1), r.1)) are
-
-pub not_both : (b : Bool) → b ≡ false → b ≡ true → ⊥
-not_both b e f = cc
 
 pub ports_end : (m : Shape) (sites : HasSites m) (d : Defects) (n : ℕ) (ys : List ℕ) (k : ℕ) → own_ports_of m n ≤ k → k ≤ own_ports_of m n → n < nodes_of m → AreThose (IsAmongFirst (port_at m n) k (IsFreeWire d)) ys → AreThose (IsFreePort m d n) ys
 ports_end m sites d n ys k ge le lt are = those_same (IsAmongFirst (port_at m n) k (IsFreeWire d)) (IsFreePort m d n) ys are

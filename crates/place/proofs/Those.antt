@@ -1,5 +1,5 @@
 -- Ascending lists of just those numbers that have a property.
-use Rattle.std.proofs.Common.{◌≡◌, ℕ, zero, suc, ◌<◌, List, [], ◌∷◌, ◌++◌, get_or, ◌⊎◌, inl, inr, refl, sym, ◌∙◌, subst, arith}
+use Rattle.std.proofs.Common.{◌≡◌, ◌≢◌, ℕ, zero, suc, ◌<◌, List, [], ◌∷◌, ◌++◌, length, get_or, ◌⊎◌, inl, inr, refl, sym, ◌∙◌, subst, arith}
 use Rattle.std.specs.List.{AllPairs, Contains}
 use Rattle.std.proofs.lemmas.Bool.{cases_order}
 use Rattle.std.proofs.lemmas.List.Elements.{All-push, All-weaker, All-contains, All-nil, Contains-push, Contains-append_left}
@@ -91,3 +91,12 @@ same_place xs i j k up a b = by (cases_order i j)
     by (inl e) = e
     by (inr (inl l)) = absurd (differ (get_or xs i 0) (get_or xs j 0) (up i j 0 l b.0) a.1 b.1)
     by (inr (inr l)) = absurd (differ (get_or xs j 0) (get_or xs i 0) (up j i 0 l a.0) b.1 a.1)
+
+-- at one place of a list whose elements differ
+pub different_at : (xs : List ℕ) → AllPairs (λ t u. t ≢ u) xs → (i j : ℕ) → i < length xs → j < length xs → get_or xs i 0 ≡ get_or xs j 0 → i ≡ j
+different_at xs all i j h l e = by (cases_order i j)
+  where
+    by : (i ≡ j) ⊎ ((i < j) ⊎ (j < i)) → i ≡ j
+    by (inl s) = s
+    by (inr (inl s)) = absurd (all i j 0 s l e)
+    by (inr (inr s)) = absurd (all j i 0 s h (sym e))

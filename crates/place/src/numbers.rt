@@ -33,7 +33,7 @@ pub fn push_last(numbers: &mut Items<u32>, number: u32) -> Result<(), AllocError
 }
 
 /// So many empty lists.
-pub fn empty_lists(alloc: Global, count: u32) -> Result<Vec<Items<u32>>, AllocError>
+pub fn empty_lists(alloc: Global, count: usize) -> Result<Vec<Items<u32>>, AllocError>
     ensures { IfOk result (λ lists. lists.items ≡ replicate count []) }
 {
     let mut lists = Vec::new(alloc);

@@ -154,7 +154,7 @@ fn grouped(alloc: Global, count: u32, terminals: &[Terminal]) -> Result<Vec<Item
     requires { All (λ t. t.net < count) terminals.now }
     ensures { IfOk result (λ nets. AreGrouped count terminals.now nets.items) }
 {
-    let mut nets = empty_lists(alloc, count)?;
+    let mut nets = empty_lists(alloc, count as usize)?;
     for terminal in terminals {
         add(&mut nets, *terminal)?;
     }

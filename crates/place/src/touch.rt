@@ -62,7 +62,7 @@ pub fn touched_by(
     ensures { IfOk result (λ touched. AreTouched tree.now.shape nets.now (length nets.now) touched.items) }
 {
     hierarchy::the_numbering_is_sound();
-    let mut touched = empty_lists(alloc, tree.shape.nodes())?;
+    let mut touched = empty_lists(alloc, tree.shape.nodes() as usize)?;
     for k in 0..nets.len() {
         touch_net(tree, &mut touched, nets[k].as_slice(), k as u32)?;
     }

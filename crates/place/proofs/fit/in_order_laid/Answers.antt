@@ -63,11 +63,7 @@ returns-in-Out-clause-plan c =
 pub returns-in-Out-clause-layout : goal.returns-in-Out-clause-layout
 returns-in-Out-clause-layout c =
     let D = c.args.defects.now in
-    let m = D.shape in
-    let n = c.args.network.now in
-    let p = c.in_ok-plan.plan in
-    let t = c.tables_wanted-tables.result in
-    let q = c.pins_wanted-pins.result in
-    let is : IsLaid m D.list n p t q c.in_ok-layout.field-0 = c.in_ok-layout.ensures in
-    let out : IsLaid m D.list n p t q (laid.Out c.in-Out.layout) = subst (IsLaid m D.list n p t q) c.in-Out.is is in
+    let L = IsLaid D.shape D.list c.args.network.now c.in_ok-plan.plan c.tables_wanted-tables.result c.pins_wanted-pins.result in
+    let is : L c.in_ok-layout.field-0 = c.in_ok-layout.ensures in
+    let out : L (laid.Out c.in-Out.layout) = subst L c.in-Out.is is in
     out.1

@@ -21,12 +21,10 @@ returns-in-Some c =
 pub loop-n-preserved : goal.loop-n-preserved
 loop-n-preserved c =
     let D = c.args.defects.now in
-    let m = D.shape in
     let nets : List (List ℕ) = c.args.nets.now in
-    let n : ℕ = c.loop-n.n in
-    let R = IsRoomAt m D.list (length nets) (HasTerminal nets) n c.loop-n.ports.items c.loop-n.visits.items c.node_room.new.held.items c.node_room.new.visits.items in
+    let R = IsRoomAt D.shape D.list (length nets) (HasTerminal nets) c.loop-n.n c.loop-n.ports.items c.loop-n.visits.items c.node_room.new.held.items c.node_room.new.visits.items in
     let none : IfNone c.in_ok-short.field-0 R = c.in_ok-short.ensures.enough in
-    enough_more m D.list (length nets) (HasTerminal nets) n c.loop-n.ports.items c.node_room.new.held.items c.loop-n.visits.items c.node_room.new.visits.items c.loop-n.invariant (at_none c.in_ok-short.field-0 R c.in_default.not-Some none)
+    enough_more D.shape D.list (length nets) (HasTerminal nets) c.loop-n.n c.loop-n.ports.items c.node_room.new.held.items c.loop-n.visits.items c.node_room.new.visits.items c.loop-n.invariant (at_none c.in_ok-short.field-0 R c.in_default.not-Some none)
 
 pub returns : goal.returns
 returns c =

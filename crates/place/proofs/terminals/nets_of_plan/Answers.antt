@@ -2,34 +2,38 @@ use Rattle.std.proofs.Common.{◌≡◌, ◌<◌, ◌≤◌, ◌+◌, ◌^◌, L
 use Rattle.std.specs.List.{All}
 use Rattle.hierarchy.specs.declared.Shape.{Shape}
 use Rattle.hierarchy.specs.Shape.{tables_of, pins_of}
+use Rattle.defect_db.specs.Lists.{DefectList}
+use Rattle.table_map.specs.declared.network.Network.{Network}
 use Rattle.table_map.specs.declared.network.NetTable.{NetTable}
+use Rattle.table_map.specs.Networks.{IsNetwork}
+use Rattle.place.specs.declared.plan.Plan.{Plan}
 use Rattle.place.specs.declared.terminals.Terminal.{Terminal}
-use Rattle.place.specs.Plans.{nets_in}
-use Rattle.place.specs.Terminals.{IsSized, AreGrouped, all_terminals}
+use Rattle.place.specs.Plans.{IsPlan, nets_in}
+use Rattle.place.specs.Terminals.{IsSized, all_terminals}
 use Rattle.place.proofs.PlanNets.{sized_is, nets_small, plan_nets}
 use Rattle.place.proofs.terminals.nets_of_plan.Goals as goal
 
-sizes : (s m : Shape) → s ≡ m → tables_of s ≤ 4096 → pins_of s ≤ 16384 → (tables_of m ≤ 4096) × (pins_of m ≤ 16384)
-sizes s m e a b = (subst (λ (z : Shape). tables_of z ≤ 4096) e a, subst (λ (z : Shape). pins_of z ≤ 16384) e b)
+-- what is few on an equal machine is few here, so the plan has its sizes
+sized_on : (D : DefectList) (n : Network) (p : Plan) (s : Shape) → IsNetwork n → IsPlan D.shape D.list n p → s ≡ D.shape → tables_of s ≤ 4096 → pins_of s ≤ 16384 → IsSized D.shape n p
+sized_on D n p s network plan e tables pins = sized_is D.shape D.list n p network plan (subst (λ (z : Shape). tables_of z ≤ 4096) e tables) (subst (λ (z : Shape). pins_of z ≤ 16384) e pins)
+
+-- these are the terminals on an equal machine
+all_on : (m : Shape) (n : Network) (p : Plan) (s : Shape) (given made : List Terminal) → s ≡ m → given ≡ made → made ≡ all_terminals s n p → given ≡ all_terminals m n p
+all_on m n p s given made e f is = f ∙ is ∙ ap (λ (z : Shape). all_terminals z n p) e
 
 pub terminals_of-requires : goal.terminals_of-requires
 terminals_of-requires c =
-    let D = c.args.defects.now in
     let n = c.args.network.now in
     let p = c.args.plan.now in
-    let few = sizes c.shape-shape.result D.shape c.shape-shape.ensures.shape c.places_are_few.ensures.tables c.places_are_few.ensures.pins in
-    subst (λ (z : Shape). IsSized z n p) (sym c.shape-shape.ensures.shape) (sized_is D.shape D.list n p c.requires.network c.requires.plan few.0 few.1)
+    subst (λ (z : Shape). IsSized z n p) (sym c.shape-shape.ensures.shape) (sized_on c.args.defects.now n p c.shape-shape.result c.requires.network c.requires.plan c.shape-shape.ensures.shape c.places_are_few.ensures.tables c.places_are_few.ensures.pins)
 
 pub overflow_add-count : goal.overflow_add-count
 overflow_add-count c =
-    let D = c.args.defects.now in
     let n = c.args.network.now in
-    let p = c.args.plan.now in
-    let few = sizes c.shape-shape.result D.shape c.shape-shape.ensures.shape c.places_are_few.ensures.tables c.places_are_few.ensures.pins in
-    let s : IsSized D.shape n p = sized_is D.shape D.list n p c.requires.network c.requires.plan few.0 few.1 in
+    let s : IsSized c.args.defects.now.shape n c.args.plan.now = sized_on c.args.defects.now n c.args.plan.now c.shape-shape.result c.requires.network c.requires.plan c.shape-shape.ensures.shape c.places_are_few.ensures.tables c.places_are_few.ensures.pins in
     let l : length c.as_slice.result.now ≡ length n.tables = ap (λ (z : List NetTable). length z) c.as_slice.ensures in
-    let a : n.inputs + length p.tables < 2 ^ 32 = s.numbers in
-    let b : length n.tables ≡ length p.tables = s.tables in
+    let a : n.inputs + length c.args.plan.now.tables < 2 ^ 32 = s.numbers in
+    let b : length n.tables ≡ length c.args.plan.now.tables = s.tables in
     omega arith
 
 pub grouped-requires : goal.grouped-requires
@@ -38,8 +42,7 @@ grouped-requires c =
     let n = c.args.network.now in
     let p = c.args.plan.now in
     let l : n.inputs + length c.as_slice.result.now ≡ nets_in n = ap (λ (z : List NetTable). n.inputs + length z) c.as_slice.ensures in
-    let made : c.in_ok-terminals.terminals.items ≡ all_terminals c.shape-shape.result n p = c.in_ok-terminals.ensures in
-    let e : c.deref.result.now ≡ all_terminals D.shape n p = c.deref.ensures.value ∙ made ∙ ap (λ (z : Shape). all_terminals z n p) c.shape-shape.ensures.shape in
+    let e : c.deref.result.now ≡ all_terminals D.shape n p = all_on D.shape n p c.shape-shape.result _ _ c.shape-shape.ensures.shape c.deref.ensures.value c.in_ok-terminals.ensures in
     subst (λ z. All (λ (t : Terminal). t.net < z) c.deref.result.now) (sym l) (nets_small D.shape D.list n p c.requires.network c.requires.plan (c.the_numbering_is_sound.ensures.numbered D.shape) c.deref.result.now e)
 
 pub returns : goal.returns
@@ -47,13 +50,9 @@ returns c =
     let D = c.args.defects.now in
     let n = c.args.network.now in
     let p = c.args.plan.now in
-    let l : n.inputs + length c.as_slice.result.now ≡ nets_in n = ap (λ (z : List NetTable). n.inputs + length z) c.as_slice.ensures in
-    let made : c.in_ok-terminals.terminals.items ≡ all_terminals c.shape-shape.result n p = c.in_ok-terminals.ensures in
-    let e : c.deref.result.now ≡ all_terminals D.shape n p = c.deref.ensures.value ∙ made ∙ ap (λ (z : Shape). all_terminals z n p) c.shape-shape.ensures.shape in
-    let are : AreGrouped (n.inputs + length c.as_slice.result.now) c.deref.result.now c.in_ok-nets.nets.items = c.in_ok-nets.ensures in
-    let few = sizes c.shape-shape.result D.shape c.shape-shape.ensures.shape c.places_are_few.ensures.tables c.places_are_few.ensures.pins in
-    let s : IsSized D.shape n p = sized_is D.shape D.list n p c.requires.network c.requires.plan few.0 few.1 in
-    let b : length n.tables ≡ length p.tables = s.tables in
-    let a : n.inputs + length p.tables < 2 ^ 32 = s.numbers in
-    let lt : n.inputs + length c.as_slice.result.now < 2 ^ 32 = omega arith in
-    plan_nets D.shape D.list n p c.requires.network c.requires.plan (c.the_numbering_is_sound.ensures.numbered D.shape) c.deref.result.now c.in_ok-nets.nets.items (n.inputs + length c.as_slice.result.now) e l lt are
+    let count = n.inputs + length c.as_slice.result.now in
+    let s : IsSized D.shape n p = sized_on D n p c.shape-shape.result c.requires.network c.requires.plan c.shape-shape.ensures.shape c.places_are_few.ensures.tables c.places_are_few.ensures.pins in
+    let l : count ≡ nets_in n = ap (λ (z : List NetTable). n.inputs + length z) c.as_slice.ensures in
+    let few : count < 2 ^ 32 = let b : length n.tables ≡ length p.tables = s.tables in let a : n.inputs + length p.tables < 2 ^ 32 = s.numbers in omega arith in
+    let e : c.deref.result.now ≡ all_terminals D.shape n p = all_on D.shape n p c.shape-shape.result _ _ c.shape-shape.ensures.shape c.deref.ensures.value c.in_ok-terminals.ensures in
+    plan_nets D.shape D.list n p c.requires.network c.requires.plan (c.the_numbering_is_sound.ensures.numbered D.shape) c.deref.result.now c.in_ok-nets.nets.items count e l few c.in_ok-nets.ensures
