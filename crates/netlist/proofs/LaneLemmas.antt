@@ -25,23 +25,20 @@ all-bits j lj = ap (λ b. b == 1) (bit_at_ones 64 j lj)
 pub lane-at : (words : List ℕ) (j s : ℕ) → bit_at (lane_bits words j) s ≡ is_bit (number_at words s) j
 lane-at words j s = subst (λ (d : Bool). get_or (lane_bits words j) s d ≡ is_bit (number_at words s) j) (no-bit j) (get_or-map (λ w. is_bit w j) words s 0)
 
+-- what holds at each two bits holds at any
+of_two : (f : ℕ → ℕ → ℕ) (g : Bool → Bool → Bool) → (f 0 0 == 1) ≡ g false false → (f 0 1 == 1) ≡ g false true → (f 1 0 == 1) ≡ g true false → (f 1 1 == 1) ≡ g true true → (a b : ℕ) → a < 2 → b < 2 → (f a b == 1) ≡ g (a == 1) (b == 1)
+of_two f g oo ol lo ll zero zero la lb = oo
+of_two f g oo ol lo ll zero (suc zero) la lb = ol
+of_two f g oo ol lo ll (suc zero) zero la lb = lo
+of_two f g oo ol lo ll (suc zero) (suc zero) la lb = ll
+of_two f g oo ol lo ll a (suc (suc b)) la lb = absurd (omega arith)
+of_two f g oo ol lo ll (suc (suc a)) b la lb = absurd (omega arith)
+
 least : (a b : ℕ) → a < 2 → b < 2 → (min a b == 1) ≡ ((a == 1) && (b == 1))
-least zero zero la lb = refl
-least zero (suc zero) la lb = refl
-least zero (suc (suc b)) la lb = absurd (omega arith)
-least (suc zero) zero la lb = refl
-least (suc zero) (suc zero) la lb = refl
-least (suc zero) (suc (suc b)) la lb = absurd (omega arith)
-least (suc (suc a)) b la lb = absurd (omega arith)
+least = of_two min (λ x y. x && y) refl refl refl refl
 
 most : (a b : ℕ) → a < 2 → b < 2 → (max a b == 1) ≡ ((a == 1) || (b == 1))
-most zero zero la lb = refl
-most zero (suc zero) la lb = refl
-most zero (suc (suc b)) la lb = absurd (omega arith)
-most (suc zero) zero la lb = refl
-most (suc zero) (suc zero) la lb = refl
-most (suc zero) (suc (suc b)) la lb = absurd (omega arith)
-most (suc (suc a)) b la lb = absurd (omega arith)
+most = of_two max (λ x y. x || y) refl refl refl refl
 
 turned : (a : ℕ) → a < 2 → ((1 - a) == 1) ≡ not (a == 1)
 turned zero la = refl

@@ -15,7 +15,7 @@ any_below n q (x ∷ xs) h e = by (eqb q x) refl e (λ g. any_below n q xs (λ k
     by true f g later = let s : q ≡ x = eqb-true q x f in let l : x < n = h 0 (omega arith) in omega arith
     by false f g later = later g
 
-not_equal : (a b : ℕ) → (a ≡ b → ⊥) → eqb a b ≡ false
+pub not_equal : (a b : ℕ) → (a ≡ b → ⊥) → eqb a b ≡ false
 not_equal a b h = by (eqb a b) refl
   where
     by : (c : Bool) → eqb a b ≡ c → c ≡ false

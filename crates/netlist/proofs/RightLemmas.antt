@@ -2,7 +2,7 @@
 use Rattle.std.proofs.Common.{◌≡◌, ◌⊎◌, ℕ, zero, suc, ◌+◌, ◌-◌, ◌<◌, ◌≤◌, Bool, true, false, cond, List, [], ◌∷◌, ◌++◌, length, get_or, map, refl, sym, ap, subst, ◌∙◌, inl, inr, arith}
 use Rattle.std.specs.List.{All, Contains}
 use Rattle.std.proofs.Math.Dec.{eqb}
-use Rattle.std.proofs.lemmas.Bool.{cases_lt, eqb-true, eq-eqb}
+use Rattle.std.proofs.lemmas.Bool.{cases_lt, eq-eqb}
 use Rattle.std.proofs.lemmas.List.{get_or-map, get_or_append_left, get_or-append-add, length-map, length-append}
 use Rattle.netlist.specs.declared.draft.Cover.{Cover}
 use Rattle.netlist.specs.declared.draft.Draft.{Draft}
@@ -13,15 +13,15 @@ use Rattle.netlist.specs.Drafts.{word, signal_at, cover_drive, latch_drive, driv
 use Rattle.netlist.specs.Valuations.{IsSettled}
 use Rattle.netlist.specs.Checks.{IsChecked}
 use Rattle.netlist.specs.Rows.{IsRightValuation, HasOneRight, RowsFrom, outputs_in, next_state}
-use Rattle.netlist.proofs.ListLemmas.{stands_or}
+use Rattle.netlist.proofs.ListLemmas.{not_equal, stands_or}
 use Rattle.netlist.proofs.CheckLemmas.{cover_place, cover_signal, outs_apart}
 use Rattle.netlist.proofs.ValuationLemmas.{one_valuation}
 
-map_each : {X : Type 0} (f g : X → Bool) (d : X) (xs : List X) → ((k : ℕ) → k < length xs → f (get_or xs k d) ≡ g (get_or xs k d)) → map f xs ≡ map g xs
+pub map_each : {X : Type 0} (f g : X → Bool) (d : X) (xs : List X) → ((k : ℕ) → k < length xs → f (get_or xs k d) ≡ g (get_or xs k d)) → map f xs ≡ map g xs
 map_each f g d [] h = refl
 map_each f g d (x ∷ xs) h = ap (λ b. b ∷ map f xs) (h 0 (omega arith)) ∙ ap (λ bs. g x ∷ bs) (map_each f g d xs (λ k lk. h (suc k) (omega arith)))
 
-map_is : {X : Type 0} (f : X → Bool) (d : X) (xs : List X) (bs : List Bool) → length bs ≡ length xs → ((k : ℕ) → k < length xs → f (get_or xs k d) ≡ get_or bs k false) → map f xs ≡ bs
+pub map_is : {X : Type 0} (f : X → Bool) (d : X) (xs : List X) (bs : List Bool) → length bs ≡ length xs → ((k : ℕ) → k < length xs → f (get_or xs k d) ≡ get_or bs k false) → map f xs ≡ bs
 map_is f d [] [] e h = refl
 map_is f d [] (b ∷ bs) e h = absurd (omega arith)
 map_is f d (x ∷ xs) [] e h = absurd (omega arith)
@@ -42,26 +42,19 @@ first_bit [] bs s = false
 first_bit (x ∷ xs) [] s = false
 first_bit (x ∷ xs) (b ∷ bs) s = cond (eqb x s) b (first_bit xs bs s)
 
-not_same : (a b : ℕ) → (a ≡ b → ⊥) → eqb a b ≡ false
-not_same a b h = by (eqb a b) refl
-  where
-    by : (c : Bool) → eqb a b ≡ c → c ≡ false
-    by true e = absurd (h (eqb-true a b e))
-    by false e = refl
-
 first_bit_at : (xs : List ℕ) (bs : List Bool) (k : ℕ) → k < length xs → length bs ≡ length xs → ((j : ℕ) → j < k → get_or xs j 0 ≡ get_or xs k 0 → ⊥) → first_bit xs bs (get_or xs k 0) ≡ get_or bs k false
 unfolding first_bit
 first_bit_at [] bs k lk e h = absurd (omega arith)
 first_bit_at (x ∷ xs) [] k lk e h = absurd (omega arith)
 first_bit_at (x ∷ xs) (b ∷ bs) zero lk e h = ap (λ c. cond c b (first_bit xs bs x)) (eq-eqb x x refl)
 first_bit_at (x ∷ xs) (b ∷ bs) (suc k) lk e h =
-    ap (λ c. cond c b (first_bit xs bs (get_or xs k 0))) (not_same x (get_or xs k 0) (h 0 (omega arith))) ∙ first_bit_at xs bs k (omega arith) (omega arith) (λ j lj. h (suc j) (omega arith))
+    ap (λ c. cond c b (first_bit xs bs (get_or xs k 0))) (not_equal x (get_or xs k 0) (h 0 (omega arith))) ∙ first_bit_at xs bs k (omega arith) (omega arith) (λ j lj. h (suc j) (omega arith))
 
 first_bit_none : (xs : List ℕ) (bs : List Bool) (s : ℕ) → ((k : ℕ) → k < length xs → get_or xs k 0 ≡ s → ⊥) → first_bit xs bs s ≡ false
 unfolding first_bit
 first_bit_none [] bs s h = refl
 first_bit_none (x ∷ xs) [] s h = refl
-first_bit_none (x ∷ xs) (b ∷ bs) s h = ap (λ c. cond c b (first_bit xs bs s)) (not_same x s (h 0 (omega arith))) ∙ first_bit_none xs bs s (λ k lk. h (suc k) (omega arith))
+first_bit_none (x ∷ xs) (b ∷ bs) s h = ap (λ c. cond c b (first_bit xs bs s)) (not_equal x s (h 0 (omega arith))) ∙ first_bit_none xs bs s (λ k lk. h (suc k) (omega arith))
 
 module _ (d : Draft) where
   inputs_covers : List PortDef

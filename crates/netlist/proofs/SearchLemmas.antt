@@ -60,6 +60,30 @@ module _ (covers : List Cover) (states : List State) (path : List ℕ) (groups :
       by q v (is_waiting w lw h b) = is_waiting w lw h b
       by q v (is_spare h) = is_done k (ap (λ x. state_at states x) h ∙ e)
 
+  -- other groups and others that wait, over the same path
+  regrouped : (groups' : List Group) (waiting' : List ℕ) →
+      ((q : ℕ) → q < length path → (i : ℕ) × (i < length groups') × (start_at groups' i ≤ q) × Reaches covers (number_at path q) (number_at path (start_at groups' i))) →
+      ((i j : ℕ) → i < j → j < length groups' → (start_at groups' i < start_at groups' j) × (waits_at groups' i ≤ waits_at groups' j)) →
+      ((i : ℕ) → i < length groups' → start_at groups' i < length path) →
+      ((i : ℕ) → i < length groups' → waits_at groups' i ≤ length waiting') →
+      ((w : ℕ) → w < length waiting' → (q : ℕ) × IsSource covers path groups' (number_at waiting' w) w q) →
+      IsSearch covers states path groups' waiting' count
+  regrouped groups' waiting' rooted sorted starts waits sources = record {
+    len = s.len;
+    within = s.within;
+    opens = s.opens;
+    opened = s.opened;
+    dones = s.dones;
+    closed = s.closed;
+    together = s.together;
+    along = s.along;
+    rooted = rooted;
+    sorted = sorted;
+    starts = starts;
+    waits = waits;
+    sources = sources;
+  }
+
   -- the last one that waits is taken
   module _ (rest : List ℕ) (t : ℕ) (more : length rest + 1 ≡ length waiting) (old : (w : ℕ) → w < length rest → number_at rest w ≡ number_at waiting w) (at : number_at waiting (length rest) ≡ t) (some : 0 < length groups) (last : waits_at groups (length groups - 1) ≤ length rest) where
     pub taken_source : (q : ℕ) × (q < length path) × (start_at groups (length groups - 1) ≤ q) × Reads covers (number_at path q) t
@@ -68,21 +92,9 @@ module _ (covers : List Cover) (states : List State) (path : List ℕ) (groups :
         (r.0, r.1.within, r.1.below (length groups - 1) (omega arith) last, subst (λ v. Reads covers (number_at path r.0) v) at r.1.reads)
 
     pub taken : IsSearch covers states path groups rest count
-    taken = record {
-      len = s.len;
-      within = s.within;
-      opens = s.opens;
-      opened = s.opened;
-      dones = s.dones;
-      closed = s.closed;
-      together = s.together;
-      along = s.along;
-      rooted = s.rooted;
-      sorted = s.sorted;
-      starts = s.starts;
-      waits = λ i li. (let h : waits_at groups i ≤ waits_at groups (length groups - 1) = waits_rise i (length groups - 1) (omega arith) (omega arith) in omega arith);
-      sources = λ w lw. (let r = s.sources w (omega arith) in (r.0, record { within = r.1.within; reads = subst (λ v. Reads covers (number_at path r.0) v) (sym (old w lw)) r.1.reads; below = r.1.below; above = r.1.above }));
-    }
+    taken = regrouped groups rest s.rooted s.sorted s.starts
+        (λ i li. (let h : waits_at groups i ≤ waits_at groups (length groups - 1) = waits_rise i (length groups - 1) (omega arith) (omega arith) in omega arith))
+        (λ w lw. (let r = s.sources w (omega arith) in (r.0, record { within = r.1.within; reads = subst (λ v. Reads covers (number_at path r.0) v) (sym (old w lw)) r.1.reads; below = r.1.below; above = r.1.above })))
 
     pub taken_handled : AreHandled covers states path groups waiting (length covers) → AreHandled covers states path groups rest t
     taken_handled all = λ q v lq r. by q v r.driver (all q v lq r)
@@ -124,29 +136,19 @@ module _ (covers : List Cover) (states : List State) (path : List ℕ) (groups :
             (n - 1, rw front.len (omega arith), rw same (omega arith), rw same (and_on one (and_on two three)))
 
     pub joined : IsSearch covers states path fewer waiting count
-    joined = record {
-      len = s.len;
-      within = s.within;
-      opens = s.opens;
-      opened = s.opened;
-      dones = s.dones;
-      closed = s.closed;
-      together = s.together;
-      along = s.along;
-      rooted = joined_rooted;
-      sorted = λ i j lt lj. (let l : j < n = rw front.len at lj in let r = s.sorted i j lt (omega (arith, kept.within)) in (rw (start_same i (omega arith), start_same j l) r.0, rw (waits_same i (omega arith), waits_same j l) r.1));
-      starts = λ i li. (let l : i < n = rw front.len at li in rw (start_same i l) (s.starts i (omega (arith, kept.within))));
-      waits = λ i li. (let l : i < n = rw front.len at li in rw (waits_same i l) (s.waits i (omega (arith, kept.within))));
-      sources = λ w lw. (let r = s.sources w lw in (
-        r.0,
-        record {
-          within = r.1.within;
-          reads = r.1.reads;
-          below = λ i li h. (let l : i < n = rw front.len at li in rw (start_same i l) (r.1.below i (omega (arith, kept.within)) (rw (waits_same i l) at h)));
-          above = λ i li h. (let l : i < n = rw front.len at li in rw (waits_same i l) (r.1.above i (omega (arith, kept.within)) (rw (start_same i l) at h)));
-        },
-      ));
-    }
+    joined = regrouped fewer waiting joined_rooted
+        (λ i j lt lj. (let l : j < n = rw front.len at lj in let r = s.sorted i j lt (omega (arith, kept.within)) in (rw (start_same i (omega arith), start_same j l) r.0, rw (waits_same i (omega arith), waits_same j l) r.1)))
+        (λ i li. (let l : i < n = rw front.len at li in rw (start_same i l) (s.starts i (omega (arith, kept.within)))))
+        (λ i li. (let l : i < n = rw front.len at li in rw (waits_same i l) (s.waits i (omega (arith, kept.within)))))
+        (λ w lw. (let r = s.sources w lw in (
+          r.0,
+          record {
+            within = r.1.within;
+            reads = r.1.reads;
+            below = λ i li h. (let l : i < n = rw front.len at li in rw (start_same i l) (r.1.below i (omega (arith, kept.within)) (rw (waits_same i l) at h)));
+            above = λ i li h. (let l : i < n = rw front.len at li in rw (waits_same i l) (r.1.above i (omega (arith, kept.within)) (rw (start_same i l) at h)));
+          },
+        )))
 
     pub joined_handled : AreHandled covers states path groups waiting spare → AreHandled covers states path fewer waiting (length covers)
     joined_handled all = λ q v lq r. by q v (all q v lq r)

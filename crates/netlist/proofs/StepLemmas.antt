@@ -199,6 +199,37 @@ module _ (covers : List Cover) (drivers : List (Option ℕ)) (are : AreDrivers c
       let g : length groups' ≡ length groups + 1 = opening.groups_len in
       omega arith
 
+-- all that the opening of a cover keeps and does
+pub record HasOpened (covers : List Cover) (order : List ℕ) (c : ℕ) (states states' : List State) (path' : List ℕ) (groups groups' : List Group) (waiting waiting' : List ℕ) : Type 0 where
+  pub keeps : IsSearch covers states' path' groups' waiting' (length order)
+  pub handled : AreHandled covers states' path' groups' waiting' (length covers)
+  pub listed : IsListed covers states' order
+  pub less : work states' covers + length waiting' + length groups' < work states covers + length waiting + length groups
+  pub seen : (u : ℕ) → state_at states' u ≡ New → state_at states u ≡ New
+  pub itself : state_at states' c ≡ New → ⊥
+
+pub has_opened : (covers : List Cover) (drivers : List (Option ℕ)) (states : List State) (path : List ℕ) (groups : List Group) (waiting order : List ℕ) (c : ℕ) (states' : List State) (path' : List ℕ) (groups' : List Group) (waiting' : List ℕ) (start waits : ℕ) (cover : Cover) (ins : List ℕ) →
+    AreDrivers covers drivers → IsSearch covers states path groups waiting (length order) → AreHandled covers states path groups waiting c → IsListed covers states order → c < length covers → state_at states c ≡ New → LeadsTo covers path c →
+    start ≡ length path → waits ≡ length waiting → cover ≡ cover_at covers c → ins ≡ cover.ins →
+    states' ≡ slice_set states c (Open start) → path' ≡ path ++ c ∷ [] → groups' ≡ groups ++ record { start = start; waits = waits } ∷ [] → waiting' ≡ waiting ++ targets drivers ins → HasOpened covers order c states states' path' groups groups' waiting waiting'
+has_opened covers drivers states path groups waiting order c states' path' groups' waiting' start waits cover ins are s all li lc fresh led pi wi ci ii se pe ge we = record {
+  keeps = open_keeps covers drivers are states path groups waiting (length order) s c all lc fresh led states' path' groups' waiting' se' pe ge' we';
+  handled = open_handled covers drivers are states path groups waiting (length order) s c all lc fresh led states' path' groups' waiting' se' pe ge' we';
+  listed = open_listed covers drivers are states path groups waiting (length order) s c all lc fresh led states' path' groups' waiting' se' pe ge' we' order li;
+  less = open_less covers drivers are states path groups waiting (length order) s c all lc fresh led states' path' groups' waiting' se' pe ge' we';
+  seen = open_seen covers drivers are states path groups waiting (length order) s c all lc fresh led states' path' groups' waiting' se' pe ge' we';
+  itself = open_itself covers drivers are states path groups waiting (length order) s c all lc fresh led states' path' groups' waiting' se' pe ge' we';
+}
+  where
+    se' : states' ≡ slice_set states c (Open (length path))
+    se' = se ∙ ap (λ x. slice_set states c (Open x)) pi
+
+    ge' : groups' ≡ groups ++ record { start = length path; waits = length waiting } ∷ []
+    ge' = ge ∙ ap (λ x. groups ++ record { start = x; waits = waits } ∷ []) pi ∙ ap (λ x. groups ++ record { start = length path; waits = x } ∷ []) wi
+
+    we' : waiting' ≡ waiting ++ targets drivers (cover_at covers c).ins
+    we' = we ∙ ap (λ x. waiting ++ targets drivers x) (ii ∙ ap (λ (x : Cover). x.ins) ci)
+
 pub none_yet : (covers : List Cover) (states : List State) → length states ≡ length covers → ((u : ℕ) → state_at states u ≡ New) → IsSearch covers states [] [] [] 0
 none_yet covers states e new = record {
   len = e;

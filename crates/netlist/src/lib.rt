@@ -30,5 +30,6 @@ pub use fault::{DesignFault, DesignKind};
 pub use groups::groups_of;
 pub use names::Names;
 pub use netlist::Netlist;
+pub use reads::nearer;
 pub use shared::{Beginning, Shared};
 pub use word_truth::cover_word;

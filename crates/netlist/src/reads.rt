@@ -4,18 +4,14 @@ ghost use Rattle.std.specs.Prelude.{◌≡◌, ◌<◌, ℕ, length, map, fold, 
 ghost use Rattle.std.specs.List.{flat_map};
 ghost use Rattle.netlist.specs.Covers.{cover_at, IsCoverOver};
 ghost use Rattle.netlist.specs.Drafts.{cover_reads, latch_read, reads_of};
-ghost use Rattle.netlist.specs.Words.{sooner, AreWithin};
+ghost use Rattle.netlist.specs.Words.{nearer, sooner, AreWithin};
 
 use crate::draft::{Cover, Draft, LatchDef, PortDef};
 
-/// The word that was found, or one that nothing drives and that is on an earlier line.
-fn sooner(firsts: &[Option<usize>], found: Option<PortDef>, word: PortDef) -> Option<PortDef>
-    requires { word.signal < length firsts.now }
-    ensures { result ≡ sooner firsts.now found word }
+/// The word that was found, or another one on an earlier line.
+pub fn nearer(found: Option<PortDef>, word: PortDef) -> Option<PortDef>
+    ensures { result ≡ nearer found word }
 {
-    if firsts[word.signal as usize].is_some() {
-        return found;
-    }
     match found {
         None => Some(word),
         Some(other) => {
@@ -26,6 +22,17 @@ fn sooner(firsts: &[Option<usize>], found: Option<PortDef>, word: PortDef) -> Op
             }
         }
     }
+}
+
+/// The word that was found, or one that nothing drives and that is on an earlier line.
+fn sooner(firsts: &[Option<usize>], found: Option<PortDef>, word: PortDef) -> Option<PortDef>
+    requires { word.signal < length firsts.now }
+    ensures { result ≡ sooner firsts.now found word }
+{
+    if firsts[word.signal as usize].is_some() {
+        return found;
+    }
+    nearer(found, word)
 }
 
 fn among_ports(
