@@ -1,12 +1,15 @@
 -- Bits of words, lane by lane.
-use Rattle.std.proofs.Common.{◌≡◌, ℕ, zero, suc, ◌<◌, ◌^◌, ◌-◌, ◌&&◌, ◌||◌, ◌==◌, min, max, Bool, true, false, List, [], ◌∷◌, length, take, get_or, map, refl, ap, subst, ◌∙◌, arith}
+use Rattle.std.proofs.Common.{◌≡◌, ℕ, zero, suc, ◌<◌, ◌^◌, ◌-◌, ◌&&◌, ◌||◌, ◌==◌, min, max, Bool, true, false, List, [], ◌∷◌, length, take, get_or, map, refl, sym, ap, subst, ◌∙◌, arith}
 use Rattle.std.specs.Prelude.{not, if◌then◌else◌, slice_set}
 use Rattle.std.specs.Int.{w64, bit_not}
+use Rattle.std.specs.List.{range_with_len}
 use Rattle.std.specs.Int.Bits.{bit_and}
 use Rattle.std.specs.Int.RustNames.{bit_or}
 use Rattle.std.proofs.lemmas.List.{map-set}
+use Rattle.std.proofs.lemmas.List.FromFn.{get_or-map-range_with_len}
 use Rattle.std.proofs.Math.ListN.{get_or-map}
 use Rattle.std.proofs.lemmas.Nat.Bits.{bit_at_and, bit_at_or, bit_at_not, bit_at_ones, bit_at-zero, bit_at-lt}
+use Rattle.netlist.proofs.BitLemmas.{two_bits, six_places}
 use Rattle.netlist.specs.declared.draft.Lit.{Lit}
 use Rattle.netlist.specs.declared.draft.Lit.TheVariants.{Zero}
 use Rattle.netlist.specs.Covers.{fits, matches, some_matches}
@@ -25,20 +28,11 @@ all-bits j lj = ap (λ b. b == 1) (bit_at_ones 64 j lj)
 pub lane-at : (words : List ℕ) (j s : ℕ) → bit_at (lane_bits words j) s ≡ is_bit (number_at words s) j
 lane-at words j s = subst (λ (d : Bool). get_or (lane_bits words j) s d ≡ is_bit (number_at words s) j) (no-bit j) (get_or-map (λ w. is_bit w j) words s 0)
 
--- what holds at each two bits holds at any
-of_two : (f : ℕ → ℕ → ℕ) (g : Bool → Bool → Bool) → (f 0 0 == 1) ≡ g false false → (f 0 1 == 1) ≡ g false true → (f 1 0 == 1) ≡ g true false → (f 1 1 == 1) ≡ g true true → (a b : ℕ) → a < 2 → b < 2 → (f a b == 1) ≡ g (a == 1) (b == 1)
-of_two f g oo ol lo ll zero zero la lb = oo
-of_two f g oo ol lo ll zero (suc zero) la lb = ol
-of_two f g oo ol lo ll (suc zero) zero la lb = lo
-of_two f g oo ol lo ll (suc zero) (suc zero) la lb = ll
-of_two f g oo ol lo ll a (suc (suc b)) la lb = absurd (omega arith)
-of_two f g oo ol lo ll (suc (suc a)) b la lb = absurd (omega arith)
-
 least : (a b : ℕ) → a < 2 → b < 2 → (min a b == 1) ≡ ((a == 1) && (b == 1))
-least = of_two min (λ x y. x && y) refl refl refl refl
+least = two_bits (λ a b. (min a b == 1) ≡ ((a == 1) && (b == 1))) refl refl refl refl
 
 most : (a b : ℕ) → a < 2 → b < 2 → (max a b == 1) ≡ ((a == 1) || (b == 1))
-most = of_two max (λ x y. x || y) refl refl refl refl
+most = two_bits (λ a b. (max a b == 1) ≡ ((a == 1) || (b == 1))) refl refl refl refl
 
 turned : (a : ℕ) → a < 2 → ((1 - a) == 1) ≡ not (a == 1)
 turned zero la = refl
@@ -82,3 +76,18 @@ some-more (r ∷ rs) bits (suc k) lk = ap (λ b. if matches r bits then true els
     by : (a b c : Bool) → (if a then true else (b || c)) ≡ ((if a then true else b) || c)
     by true b c = refl
     by false b c = refl
+
+-- ---- words whose bits are those of their lanes' numbers
+
+abbrev place_words : List ℕ
+place_words = 12297829382473034410 ∷ 14757395258967641292 ∷ 17361641481138401520 ∷ 18374966859414961920 ∷ 18446462603027742720 ∷ 18446744069414584320 ∷ []
+
+-- each word in all lanes
+place_lanes : (p : ℕ) → p < 6 → map (λ a. is_bit (get_or place_words p 0) a) (range_with_len 0 64) ≡ map (λ a. is_bit a p) (range_with_len 0 64)
+place_lanes = six_places (λ p. map (λ a. is_bit (get_or place_words p 0) a) (range_with_len 0 64) ≡ map (λ a. is_bit a p) (range_with_len 0 64)) refl refl refl refl refl refl
+
+pub place_gives : (p : ℕ) → p < 6 → (a : ℕ) → a < 64 → is_bit (get_or place_words p 0) a ≡ is_bit a p
+place_gives p lp a la =
+    sym (get_or-map-range_with_len (λ a. is_bit (get_or place_words p 0) a) 0 64 a a false la (omega arith))
+    ∙ ap (λ bs. get_or bs a false) (place_lanes p lp)
+    ∙ get_or-map-range_with_len (λ a. is_bit a p) 0 64 a a false la (omega arith)

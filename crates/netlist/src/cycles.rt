@@ -6,7 +6,7 @@ ghost use Rattle.netlist.specs.Drivers.{AreDrivers};
 ghost use Rattle.netlist.specs.Covers.{IsOnCycle, cover_line};
 ghost use Rattle.netlist.specs.Orders.{IsFirst, is_sooner};
 ghost use Rattle.netlist.specs.Sorts.{AreSorted};
-ghost use Rattle.netlist.specs.Searches.{AreNumbered, search_number};
+ghost use Rattle.netlist.specs.Searches.{AreNumbered};
 
 use crate::draft::Cover;
 use crate::search::{State, number_covers, number_of};

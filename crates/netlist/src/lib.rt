@@ -32,4 +32,4 @@ pub use names::Names;
 pub use netlist::Netlist;
 pub use reads::nearer;
 pub use shared::{Beginning, Shared};
-pub use word_truth::cover_word;
+pub use word_truth::{cover_word, lane_word};

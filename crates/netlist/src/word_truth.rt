@@ -8,6 +8,24 @@ ghost use Rattle.netlist.specs.Words.{AreBelow};
 
 use crate::draft::{Cover, Cube, Lit};
 
+/// At each of six places the word that has the bits of its lanes' numbers there.
+const PLACES: [u64; 6] = [
+    0xAAAA_AAAA_AAAA_AAAA,
+    0xCCCC_CCCC_CCCC_CCCC,
+    0xF0F0_F0F0_F0F0_F0F0,
+    0xFF00_FF00_FF00_FF00,
+    0xFFFF_0000_FFFF_0000,
+    0xFFFF_FFFF_0000_0000,
+];
+
+/// The word that has in each lane the bit of the lane's number at the place.
+pub fn lane_word(place: usize) -> u64
+    requires { place < 6 }
+    ensures { (lane : ℕ) → lane < 64 → is_bit result lane ≡ is_bit lane place }
+{
+    PLACES[place]
+}
+
 /// The lanes in which the input fits the literal.
 fn fits_word(lit: Lit, word: u64) -> u64
     ensures { (j : ℕ) → j < 64 → is_bit result j ≡ fits lit (is_bit word j) }
