@@ -20,7 +20,7 @@ use Rattle.flatten.specs.Clocks.{same_control, clocked_in, control_in, number_in
 use Rattle.flatten.proofs.FirstLemmas.{before_before, before_to, first_to}
 use Rattle.flatten.proofs.KnownLemmas.{same_self, place_stays}
 use Rattle.flatten.proofs.NameLemmas.{name_is, same_name}
-use Rattle.flatten.proofs.UseLemmas.{swapped}
+use Rattle.flatten.proofs.UseLemmas.{added_lookup}
 
 -- ---- places of names
 
@@ -52,16 +52,8 @@ place_push xs y w = ap (λ b. cond b (Some (position_or_len (bytes_eq w) (xs ++ 
     by false true d e = ap Some (place_new (bytes_eq w) xs y d e)
     by false false d e = refl
 
-or_none : (o : Option ℕ) → option_or o None ≡ o
-or_none None = refl
-or_none (Some k) = refl
-
 pub added_place : (old : List ℕ → Option ℕ) (new : Option ℕ) (name w : List ℕ) (k : ℕ) → old name ≡ None → new ≡ cond (bytes_eq name w) (Some k) (old w) → new ≡ option_or (old w) (cond (bytes_eq w name) (Some k) None)
-added_place old new name w k none e = e ∙ by (bytes_eq name w) refl (swapped name w)
-  where
-    by : (b : Bool) → bytes_eq name w ≡ b → b ≡ bytes_eq w name → cond b (Some k) (old w) ≡ option_or (old w) (cond (bytes_eq w name) (Some k) None)
-    by true d s = rw (← s) (sym (ap (λ o. option_or o (Some k)) (ap old (sym (name_is name w d)) ∙ none)))
-    by false d s = rw (← s) (sym (or_none (old w)))
+added_place = added_lookup
 
 pub absent_place : (o : Option ℕ) → is_some o ≡ false → o ≡ None
 absent_place None h = refl

@@ -146,24 +146,26 @@ module _ (signals : List Signal) (s : ℕ) where
   abbrev latches : List (Line Signal) → List LatchDef
   latches lines = flat_map (latch_on signals) lines
 
-  drives_are : (lines : List (Line Signal)) → count s (inputs lines) + (count s (map cover_drive (covers lines)) + count s (map latch_drive (latches lines))) ≡ count s (flat_map (drive_on signals) lines)
+  -- words of ports, of covers and of latches are as many as those on the lines
+  abbrev AreCounted : (List (Line Signal) → List PortDef) → (List Cover → List PortDef) → (List LatchDef → List PortDef) → (Line Signal → List PortDef) → List (Line Signal) → Type 0
+  AreCounted of_ports of_covers of_latches on lines = count s (of_ports lines) + (count s (of_covers (covers lines)) + count s (of_latches (latches lines))) ≡ count s (flat_map on lines)
+
+  drives_are : (lines : List (Line Signal)) → AreCounted inputs (map cover_drive) (map latch_drive) (drive_on signals) lines
   drives_are [] = omega arith
   drives_are (l ∷ lines) = by l.part (drives_are lines)
     where
-      by : (p : Part Signal) → count s (inputs lines) + (count s (map cover_drive (covers lines)) + count s (map latch_drive (latches lines))) ≡ count s (flat_map (drive_on signals) lines)
-          → let k = record { number = l.number; part = p } ∷ lines in count s (inputs k) + (count s (map cover_drive (covers k)) + count s (map latch_drive (latches k))) ≡ count s (flat_map (drive_on signals) k)
+      by : (p : Part Signal) → AreCounted inputs (map cover_drive) (map latch_drive) (drive_on signals) lines → AreCounted inputs (map cover_drive) (map latch_drive) (drive_on signals) (record { number = l.number; part = p } ∷ lines)
       by (InputPart t) e = omega arith
       by (OutputPart t) e = e
       by (CoverPart out ins rows off) e = omega arith
       by (LatchPart from out init control) e = omega arith
       by (UsePart m pairs way) e = e
 
-  reads_are : (lines : List (Line Signal)) → count s (outputs lines) + (count s (flat_map cover_reads (covers lines)) + count s (map latch_read (latches lines))) ≡ count s (flat_map (read_on signals) lines)
+  reads_are : (lines : List (Line Signal)) → AreCounted outputs (flat_map cover_reads) (map latch_read) (read_on signals) lines
   reads_are [] = omega arith
   reads_are (l ∷ lines) = by l.part (reads_are lines)
     where
-      by : (p : Part Signal) → count s (outputs lines) + (count s (flat_map cover_reads (covers lines)) + count s (map latch_read (latches lines))) ≡ count s (flat_map (read_on signals) lines)
-          → let k = record { number = l.number; part = p } ∷ lines in count s (outputs k) + (count s (flat_map cover_reads (covers k)) + count s (map latch_read (latches k))) ≡ count s (flat_map (read_on signals) k)
+      by : (p : Part Signal) → AreCounted outputs (flat_map cover_reads) (map latch_read) (read_on signals) lines → AreCounted outputs (flat_map cover_reads) (map latch_read) (read_on signals) (record { number = l.number; part = p } ∷ lines)
       by (InputPart t) e = e
       by (OutputPart t) e = omega arith
       by (CoverPart out ins rows off) e = omega (
@@ -175,28 +177,20 @@ module _ (signals : List Signal) (s : ℕ) where
       by (LatchPart from out init control) e = omega arith
       by (UsePart m pairs way) e = e
 
+-- words in three lists are as many as in the one list
+in_three : (s : ℕ) (all xs ys zs words : List PortDef) → all ≡ (xs ++ ys) ++ zs → count s xs + (count s ys + count s zs) ≡ count s words → count s all ≡ count s words
+in_three s all xs ys zs words e h = omega (arith, ap (count s) e, count-append s (xs ++ ys) zs, count-append s xs ys, h)
+
 module _ (ms : List Model) (lines : List (Line Signal)) (d : Draft) (h : IsReadFrom ms lines d) where
   abbrev S : List Signal
   S = signals_of lines
 
   pub drives_as_many : AreAsMany (drive_words d) (drives_in lines)
   drives_as_many s =
-      let e : count s (drive_words d) ≡ count s ((inputs S s lines ++ map cover_drive (covers S s lines)) ++ map latch_drive (latches S s lines)) = λ i. count s ((h.inputs i ++ map cover_drive (h.covers i)) ++ map latch_drive (h.latches i)) in
-      omega (
-        arith,
-        e,
-        count-append s (inputs S s lines ++ map cover_drive (covers S s lines)) (map latch_drive (latches S s lines)),
-        count-append s (inputs S s lines) (map cover_drive (covers S s lines)),
-        drives_are S s lines,
-      )
+      in_three s (drive_words d) (inputs S s lines) (map cover_drive (covers S s lines)) (map latch_drive (latches S s lines)) (drives_in lines)
+      (λ i. (h.inputs i ++ map cover_drive (h.covers i)) ++ map latch_drive (h.latches i)) (drives_are S s lines)
 
   pub reads_as_many : AreAsMany (reads_of d) (reads_in lines)
   reads_as_many s =
-      let e : count s (reads_of d) ≡ count s ((outputs S s lines ++ flat_map cover_reads (covers S s lines)) ++ map latch_read (latches S s lines)) = λ i. count s ((h.outputs i ++ flat_map cover_reads (h.covers i)) ++ map latch_read (h.latches i)) in
-      omega (
-        arith,
-        e,
-        count-append s (outputs S s lines ++ flat_map cover_reads (covers S s lines)) (map latch_read (latches S s lines)),
-        count-append s (outputs S s lines) (flat_map cover_reads (covers S s lines)),
-        reads_are S s lines,
-      )
+      in_three s (reads_of d) (outputs S s lines) (flat_map cover_reads (covers S s lines)) (map latch_read (latches S s lines)) (reads_in lines)
+      (λ i. (h.outputs i ++ flat_map cover_reads (h.covers i)) ++ map latch_read (h.latches i)) (reads_are S s lines)

@@ -10,6 +10,7 @@ use Rattle.flatten.specs.declared.model.Piece.TheVariants as piece
 use Rattle.flatten.specs.declared.model.Signal.{Signal}
 use Rattle.flatten.specs.InOrder.{put_in_order, in_order}
 use Rattle.flatten.specs.Lines.{Part, InputPart, OutputPart, CoverPart, LatchPart, UsePart, Line, input_line, output_line, piece_line, ordered_lines, number_of_line, with_place, next_place, with_places, lines_of_model, is_port, RowsFit, PiecesFit, HaveRightRows}
+use Rattle.flatten.proofs.OrderLemmas.{Each, each_in_order}
 use Rattle.flatten.specs.Substitution.{ModelPlace, given, becomes, through, part_through, lines_at, without_ports, first_model, model_named, replace, replace_first, at_first, after}
 
 -- ---- rows
@@ -19,27 +20,14 @@ PartFits (CoverPart out ins rows off) = RowsFit (length ins) rows
 PartFits _ = Unit {0}
 
 abbrev pub LinesFit : {S : Type 0} → List (Line S) → Type 0
-LinesFit [] = Unit {0}
-LinesFit (l ∷ lines) = PartFits l.part × LinesFit lines
+LinesFit lines = Each (λ l. PartFits l.part) lines
 
 fit_append : {S : Type 0} (xs ys : List (Line S)) → LinesFit xs → LinesFit ys → LinesFit (xs ++ ys)
 fit_append [] ys h k = k
 fit_append (x ∷ xs) ys h k = (h.0, fit_append xs ys h.1 k)
 
-abbrev n : Line ℕ → ℕ
-n = number_of_line
-
-fit_put : (x : Line ℕ) (ys : List (Line ℕ)) → PartFits x.part → LinesFit ys → LinesFit (put_in_order n x ys)
-fit_put x [] h k = (h, tt)
-fit_put x (y ∷ ys) h k = by (nat_lt (n y) (n x)) (fit_put x ys h k.1)
-  where
-    by : (b : Bool) → LinesFit (put_in_order n x ys) → LinesFit (cond b (y ∷ put_in_order n x ys) (x ∷ y ∷ ys))
-    by true later = (k.0, later)
-    by false later = (h, k)
-
-fit_in_order : (xs : List (Line ℕ)) → LinesFit xs → LinesFit (in_order n xs)
-fit_in_order [] h = tt
-fit_in_order (x ∷ xs) h = fit_put x (in_order n xs) h.0 (fit_in_order xs h.1)
+fit_in_order : (xs : List (Line ℕ)) → LinesFit xs → LinesFit (in_order number_of_line xs)
+fit_in_order = each_in_order (λ l. PartFits l.part) number_of_line
 
 fit_inputs : (ps : List PortDef) → LinesFit (map input_line ps)
 fit_inputs [] = tt
@@ -139,17 +127,17 @@ outputs-append : {S : Type 0} (xs ys : List (Line S)) → count_outputs (xs ++ y
 outputs-append [] ys = omega arith
 outputs-append (x ∷ xs) ys = omega (arith, outputs-append xs ys)
 
-outputs-put : (x : Line ℕ) (ys : List (Line ℕ)) → count_outputs (put_in_order n x ys) ≡ one_output x.part + count_outputs ys
+outputs-put : (x : Line ℕ) (ys : List (Line ℕ)) → count_outputs (put_in_order number_of_line x ys) ≡ one_output x.part + count_outputs ys
 outputs-put x [] = refl
-outputs-put x (y ∷ ys) = by (nat_lt (n y) (n x)) (outputs-put x ys)
+outputs-put x (y ∷ ys) = by (nat_lt y.number x.number) (outputs-put x ys)
   where
-    by : (b : Bool) → count_outputs (put_in_order n x ys) ≡ one_output x.part + count_outputs ys → count_outputs (cond b (y ∷ put_in_order n x ys) (x ∷ y ∷ ys)) ≡ one_output x.part + (one_output y.part + count_outputs ys)
+    by : (b : Bool) → count_outputs (put_in_order number_of_line x ys) ≡ one_output x.part + count_outputs ys → count_outputs (cond b (y ∷ put_in_order number_of_line x ys) (x ∷ y ∷ ys)) ≡ one_output x.part + (one_output y.part + count_outputs ys)
     by true later = omega (arith, later)
     by false later = refl
 
-outputs-in_order : (xs : List (Line ℕ)) → count_outputs (in_order n xs) ≡ count_outputs xs
+outputs-in_order : (xs : List (Line ℕ)) → count_outputs (in_order number_of_line xs) ≡ count_outputs xs
 outputs-in_order [] = refl
-outputs-in_order (x ∷ xs) = outputs-put x (in_order n xs) ∙ ap (λ k. one_output x.part + k) (outputs-in_order xs)
+outputs-in_order (x ∷ xs) = outputs-put x (in_order number_of_line xs) ∙ ap (λ k. one_output x.part + k) (outputs-in_order xs)
 
 no_outputs-inputs : (ps : List PortDef) → count_outputs (map input_line ps) ≡ 0
 no_outputs-inputs [] = refl

@@ -1,5 +1,5 @@
 -- Models of which each line gives no more than is needed have the same substituted design.
-use Rattle.std.proofs.Common.{◌≡◌, ℕ, zero, suc, ◌+◌, Bool, true, false, cond, nat_lt, List, [], ◌∷◌, ◌++◌, Option, Some, None, option_map, map, refl, ap, sym, ◌∙◌, subst, ◌||◌, get_or}
+use Rattle.std.proofs.Common.{◌≡◌, ℕ, zero, suc, ◌+◌, Bool, true, false, cond, List, [], ◌∷◌, ◌++◌, Option, Some, None, option_map, map, refl, ap, sym, ◌∙◌, subst, ◌||◌, get_or}
 use Rattle.std.specs.List.{filter, flat_map}
 use Rattle.std.specs.Option.{option_or, unwrap_or}
 use Rattle.std.specs.Str.{bytes_eq}
@@ -15,7 +15,7 @@ use Rattle.flatten.specs.declared.refusal.Refusal.{Refusal}
 use Rattle.flatten.specs.declared.refusal.Refusal.TheVariants.{Memory, Limit}
 use Rattle.flatten.specs.declared.work.Substituted.{Substituted}
 use Rattle.flatten.specs.declared.work.Origin.{Origin as Kept}
-use Rattle.flatten.specs.InOrder.{put_in_order, in_order}
+use Rattle.flatten.specs.InOrder.{in_order}
 use Rattle.flatten.specs.Lines.{Control, GivenControl, NamedControl, Pair, Part, InputPart, OutputPart, CoverPart, LatchPart, UsePart, Line, is_use, pair_of, input_line, output_line, piece_line, ordered_lines, number_of_line, with_place, next_place, with_places}
 use Rattle.flatten.specs.Substitution.{given, ModelPlace, becomes, control_becomes, pair_through, through, part_through, lines_at, at_first, first_model, without_ports, model_named, replace_first, after, is_left}
 use Rattle.flatten.specs.Uses.{is_among}
@@ -27,6 +27,7 @@ use Rattle.flatten.specs.Needs.{names_on, names_within, is_needed, lean_part, le
 use Rattle.flatten.proofs.NameLemmas.{name_is, same_name}
 use Rattle.flatten.proofs.FrameLemmas.{pieces_at}
 use Rattle.flatten.proofs.OrderLemmas.{in_order-map}
+use Rattle.flatten.proofs.OrderLemmas.{Each, each_in_order}
 
 abbrev line_at : {S : Type 0} → ℕ → Part S → Line S
 line_at n p = record { number = n; part = p }
@@ -199,8 +200,7 @@ module _ (ms : List Model) (used : ℕ) (way : List ℕ) (one other : List ℕ �
           ap (λ ps. UsePart m ps (way ++ w)) (filter-through (is_needed ms m) (becomes A names) pairs ∙ ap (filter (λ p. is_needed ms m p.formal)) (same_pairs pairs h))
 
   abbrev LinesSame : List (Line ℕ) → Type 0
-  LinesSame [] = Unit {0}
-  LinesSame (l ∷ ls) = PartSame l.part × LinesSame ls
+  LinesSame ls = Each (λ l. PartSame l.part) ls
 
   same_placed : (k : ℕ) (p : Part ℕ) → PartSame p → PartSame (with_place k p)
   same_placed k (InputPart s) h = h
@@ -214,17 +214,8 @@ module _ (ms : List Model) (used : ℕ) (way : List ℕ) (one other : List ℕ �
   lean_lines_through k (l ∷ ls) h =
       λ i. lean_through (line_at l.number (with_place k l.part)) (same_placed k l.part h.0) i ∷ lean_lines_through (next_place k l.part) ls h.1 i
 
-  same_put : (l : Line ℕ) (ls : List (Line ℕ)) → PartSame l.part → LinesSame ls → LinesSame (put_in_order number_of_line l ls)
-  same_put l [] first all = (first, tt)
-  same_put l (x ∷ ls) first all = by (nat_lt x.number l.number) (same_put l ls first all.1)
-    where
-      by : (b : Bool) → LinesSame (put_in_order number_of_line l ls) → LinesSame (cond b (x ∷ put_in_order number_of_line l ls) (l ∷ x ∷ ls))
-      by true rest = (all.0, rest)
-      by false rest = (first, all)
-
   same_order : (ls : List (Line ℕ)) → LinesSame ls → LinesSame (in_order number_of_line ls)
-  same_order [] h = tt
-  same_order (l ∷ ls) h = same_put l (in_order number_of_line ls) h.0 (same_order ls h.1)
+  same_order = each_in_order (λ l. PartSame l.part) number_of_line
 
   -- ---- by the names on the lines
 

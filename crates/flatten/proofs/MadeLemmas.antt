@@ -48,45 +48,24 @@ module _ (S : List Signal) where
   words_below line [] h = All-nil Below
   words_below line (s ∷ ins) h = All-cons Below (word line (signal_number S s)) (map (λ s. word line (signal_number S s)) ins) (number_below S s h.0) (words_below line ins h.1)
 
-  drive_below : (l : Line Signal) → AreKnown S (words_on l) → All Below (drive_on S l)
-  drive_below l = by l.part
+  drive_and_read_below : (l : Line Signal) → AreKnown S (words_on l) → All Below (drive_on S l) × All Below (read_on S l)
+  drive_and_read_below l = by l.part
     where
-      by : (p : Part Signal) → AreKnown S (words_in p) → All Below (drive_on S (record { number = l.number; part = p }))
-      by (InputPart s) known = one_word l.number s known.0
-      by (OutputPart s) known = All-nil Below
-      by (CoverPart out ins rows off) known = one_word l.number out (known_split S ins (out ∷ []) known).1.0
-      by (LatchPart from out init control) known = one_word l.number out known.1.0
-      by (UsePart m pairs way) known = All-nil Below
+      by : (p : Part Signal) → AreKnown S (words_in p) → All Below (drive_on S (record { number = l.number; part = p })) × All Below (read_on S (record { number = l.number; part = p }))
+      by (InputPart s) known = (one_word l.number s known.0, All-nil Below)
+      by (OutputPart s) known = (All-nil Below, one_word l.number s known.0)
+      by (CoverPart out ins rows off) known = let k = known_split S ins (out ∷ []) known in (one_word l.number out k.1.0, words_below l.number ins k.0)
+      by (LatchPart from out init control) known = (one_word l.number out known.1.0, one_word l.number from known.0)
+      by (UsePart m pairs way) known = (All-nil Below, All-nil Below)
 
-  read_below : (l : Line Signal) → AreKnown S (words_on l) → All Below (read_on S l)
-  read_below l = by l.part
+  -- ports drive and are read
+  ports_below : (l : Line Signal) → AreKnown S (words_on l) → All Below (input_on S l) × All Below (output_on S l)
+  ports_below l known = by l.part (drive_and_read_below l known)
     where
-      by : (p : Part Signal) → AreKnown S (words_in p) → All Below (read_on S (record { number = l.number; part = p }))
-      by (InputPart s) known = All-nil Below
-      by (OutputPart s) known = one_word l.number s known.0
-      by (CoverPart out ins rows off) known = words_below l.number ins (known_split S ins (out ∷ []) known).0
-      by (LatchPart from out init control) known = one_word l.number from known.0
-      by (UsePart m pairs way) known = All-nil Below
-
-  input_below : (l : Line Signal) → AreKnown S (words_on l) → All Below (input_on S l)
-  input_below l = by l.part
-    where
-      by : (p : Part Signal) → AreKnown S (words_in p) → All Below (input_on S (record { number = l.number; part = p }))
-      by (InputPart s) known = one_word l.number s known.0
-      by (OutputPart s) known = All-nil Below
-      by (CoverPart out ins rows off) known = All-nil Below
-      by (LatchPart from out init control) known = All-nil Below
-      by (UsePart m pairs way) known = All-nil Below
-
-  output_below : (l : Line Signal) → AreKnown S (words_on l) → All Below (output_on S l)
-  output_below l = by l.part
-    where
-      by : (p : Part Signal) → AreKnown S (words_in p) → All Below (output_on S (record { number = l.number; part = p }))
-      by (InputPart s) known = All-nil Below
-      by (OutputPart s) known = one_word l.number s known.0
-      by (CoverPart out ins rows off) known = All-nil Below
-      by (LatchPart from out init control) known = All-nil Below
-      by (UsePart m pairs way) known = All-nil Below
+      by : (p : Part Signal) → let k : Line Signal = record { number = l.number; part = p } in All Below (drive_on S k) × All Below (read_on S k) → All Below (input_on S k) × All Below (output_on S k)
+      by (InputPart s) below = below
+      by (OutputPart s) below = below
+      by _ below = (All-nil Below, All-nil Below)
 
   abbrev IsOver : Cover → Type 0
   IsOver c = IsCoverOver c (length S)
@@ -160,10 +139,10 @@ size_within : (lines : List (Line Signal)) → is_over lines ≡ false → size_
 size_within lines h = ltb-false 16777216 (size_of lines) (or_parts (nat_lt 65535 (length (signals_of lines))) (nat_lt 16777216 (size_of lines)) h).1
 
 pub drives_below : (lines : List (Line Signal)) → All (Below (signals_of lines)) (drives_in lines)
-drives_below lines = let S = signals_of lines in each_known S (Below S) (drive_on S) (drive_below S) lines (lines_known lines)
+drives_below lines = let S = signals_of lines in each_known S (Below S) (drive_on S) (λ l known. (drive_and_read_below S l known).0) lines (lines_known lines)
 
 pub reads_below : (lines : List (Line Signal)) → All (Below (signals_of lines)) (reads_in lines)
-reads_below lines = let S = signals_of lines in each_known S (Below S) (read_on S) (read_below S) lines (lines_known lines)
+reads_below lines = let S = signals_of lines in each_known S (Below S) (read_on S) (λ l known. (drive_and_read_below S l known).1) lines (lines_known lines)
 
 module _ (ms : List Model) (right : HaveRightRows ms) (lines : List (Line Signal)) (within : IsWithin ms lines) where
   abbrev S : List Signal
@@ -176,8 +155,8 @@ module _ (ms : List Model) (right : HaveRightRows ms) (lines : List (Line Signal
   well_made d h few =
       let len : length S ≡ length d.names = sym (ap length h.names ∙ length-map S (printed ms)) in
       let covers = subst (All (IsOver S)) (sym h.covers) (each S (IsOver S) (cover_on S) (cover_below S) lines (lines_known lines) fit) in
-      let inputs = subst (All (Below S)) (sym h.inputs) (each_known S (Below S) (input_on S) (input_below S) lines (lines_known lines)) in
-      let outputs = subst (All (Below S)) (sym h.outputs) (each_known S (Below S) (output_on S) (output_below S) lines (lines_known lines)) in
+      let inputs = subst (All (Below S)) (sym h.inputs) (each_known S (Below S) (input_on S) (λ l known. (ports_below S l known).0) lines (lines_known lines)) in
+      let outputs = subst (All (Below S)) (sym h.outputs) (each_known S (Below S) (output_on S) (λ l known. (ports_below S l known).1) lines (lines_known lines)) in
       let latches = subst (All (IsLatchBelow S)) (sym h.latches) (each_known S (IsLatchBelow S) (latch_on S) (latch_below S) lines (lines_known lines)) in
       made_of d
       (λ i li. subst (λ m. IsCoverOver (cover_at d.covers i) m) len (covers i no_cover li))

@@ -5,6 +5,24 @@ use Rattle.std.proofs.lemmas.Bool.Decides.{nat_tests}
 use Rattle.std.specs.List.Sorted.{ties, IsNonDecreasingBy, IsStableByKey}
 use Rattle.flatten.specs.InOrder.{put_in_order, in_order}
 
+-- each element is so
+abbrev pub Each : {X : Type 0} (P : X → Type 0) → List X → Type 0
+Each P [] = Unit {0}
+Each P (x ∷ xs) = P x × Each P xs
+
+module _ {X : Type 0} (P : X → Type 0) (n : X → ℕ) where
+  each_put : (x : X) (ys : List X) → P x → Each P ys → Each P (put_in_order n x ys)
+  each_put x [] first all = (first, tt)
+  each_put x (y ∷ ys) first all = by (nat_lt (n y) (n x)) (each_put x ys first all.1)
+    where
+      by : (b : Bool) → Each P (put_in_order n x ys) → Each P (cond b (y ∷ put_in_order n x ys) (x ∷ y ∷ ys))
+      by true later = (all.0, later)
+      by false later = (first, all)
+
+  pub each_in_order : (xs : List X) → Each P xs → Each P (in_order n xs)
+  each_in_order [] all = tt
+  each_in_order (x ∷ xs) all = each_put x (in_order n xs) all.0 (each_in_order xs all.1)
+
 ties_at : (m n : ℕ) → (ties (λ x y. is_lt (nat_cmp x y)) m n ≡ true → m ≡ n) × (m ≡ n → ties (λ x y. is_lt (nat_cmp x y)) m n ≡ true)
 ties_at m n = (λ h. grind (arith, nat_tests), λ h. grind (arith, nat_tests))
 

@@ -24,7 +24,7 @@ first_listed us P n found e h = first_all (number_at (map use_in us)) P (length 
 
 -- ---- what is kept at a name
 
-or_none : (o : Option Known) → option_or o None ≡ o
+or_none : {X : Type 0} (o : Option X) → option_or o None ≡ o
 or_none None = refl
 or_none (Some k) = refl
 
@@ -37,7 +37,7 @@ swapped v w = by (bytes_eq v w) (bytes_eq w v) refl refl
     by true false d e = absurd (let f : true ≡ false = sym (same_name v) ∙ ap (bytes_eq v) (name_is v w d) ∙ ap (λ x. bytes_eq x w) (name_is v w d) ∙ ap (bytes_eq w) (sym (name_is v w d)) ∙ e in cc)
     by false true d e = absurd (let f : false ≡ true = sym d ∙ ap (λ x. bytes_eq x w) (sym (name_is w v e)) ∙ same_name w in cc)
 
-pub added_lookup : (old : List ℕ → Option Known) (new : Option Known) (name w : List ℕ) (k : Known) → old name ≡ None → new ≡ cond (bytes_eq name w) (Some k) (old w) → new ≡ option_or (old w) (cond (bytes_eq w name) (Some k) None)
+pub added_lookup : {X : Type 0} (old : List ℕ → Option X) (new : Option X) (name w : List ℕ) (k : X) → old name ≡ None → new ≡ cond (bytes_eq name w) (Some k) (old w) → new ≡ option_or (old w) (cond (bytes_eq w name) (Some k) None)
 added_lookup old new name w k none e = e ∙ by (bytes_eq name w) refl (swapped name w)
   where
     by : (b : Bool) → bytes_eq name w ≡ b → b ≡ bytes_eq w name → cond b (Some k) (old w) ≡ option_or (old w) (cond (bytes_eq w name) (Some k) None)

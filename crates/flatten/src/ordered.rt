@@ -75,13 +75,21 @@ fn push_pieces<'a>(lines: &mut Vec<Ordered<'a>>, pieces: &'a [Piece]) -> Result<
     Ok(())
 }
 
+// Sorts lines by number, and for one number as they stand.
+fn sort(lines: &mut Vec<Ordered<'_>>) -> Result<(), AllocError>
+    ensures { OnOk result (map line_in lines.new.items ≡ in_order number_of_line (map line_in lines.old.items)) }
+{
+    lines.sort_by_key(|line| line.number)?;
+    Ok(())
+}
+
 /// The pieces of a model by line number, and for one number as they stand.
 pub fn pieces_in_order(alloc: Global, model: &Model) -> Result<Vec<Ordered<'_>>, AllocError>
     ensures { IfOk result (λ v. map line_in v.items ≡ in_order number_of_line (map piece_line model.now.pieces)) }
 {
     let mut lines = Vec::new(alloc);
     push_pieces(&mut lines, model.pieces.as_slice())?;
-    lines.sort_by_key(|line| line.number)?;
+    sort(&mut lines)?;
     Ok(lines)
 }
 
@@ -93,6 +101,6 @@ pub fn in_order(alloc: Global, model: &Model) -> Result<Vec<Ordered<'_>>, AllocE
     push_inputs(&mut lines, model.inputs.as_slice())?;
     push_outputs(&mut lines, model.outputs.as_slice())?;
     push_pieces(&mut lines, model.pieces.as_slice())?;
-    lines.sort_by_key(|line| line.number)?;
+    sort(&mut lines)?;
     Ok(lines)
 }

@@ -1,18 +1,11 @@
-use Rattle.std.proofs.Common.{◌≡◌, ◌∙◌, ap, refl, rules, map}
-use Rattle.std.proofs.lemmas.List.Sorted.{answers_always, IsNonDecreasingBy-from_sort}
+use Rattle.std.proofs.Common.{◌≡◌, ◌∙◌, ap, refl, map}
 use Rattle.flatten.specs.Lines.{number_of_line, piece_line}
 use Rattle.flatten.specs.InOrder.{in_order}
 use Rattle.flatten.specs.Ordered.{line_in}
-use Rattle.flatten.proofs.OrderLemmas.{in_order-from_sort, in_order-map}
 use Rattle.flatten.proofs.ordered.pieces_in_order.Goals as goal
 
 pub returns : goal.returns
 returns c =
-    let m = c.args.model.now in
-    let keys = answers_always _ _ _ (λ f a r next called. search rules) in
-    let stable = c.sort_by_key.ensures.stable (λ o. o.number) keys in
-    let sorted = c.in_ok-sort_by_key.ensures.sorted (λ o. o.number) keys in
-    let is = in_order-from_sort (λ o. o.number) _ _ (IsNonDecreasingBy-from_sort (λ o. o.number) _ sorted) stable in
-    let lists : map line_in c.push_pieces.new.lines.items ≡ map piece_line m.pieces =
+    let lists : map line_in c.push_pieces.new.lines.items ≡ map piece_line c.args.model.now.pieces =
     c.in_ok-push_pieces.ensures ∙ rw (c.new-lines.ensures.items, c.as_slice.ensures) refl in
-    ap (map line_in) is ∙ in_order-map line_in (λ o. o.number) number_of_line (λ o. refl) c.push_pieces.new.lines.items ∙ ap (in_order number_of_line) lists
+    c.in_ok-sort.ensures ∙ ap (in_order number_of_line) lists
