@@ -143,13 +143,18 @@ impl<'a> Eval<'a> {
             vector,
             out,
         );
-        if busy {
-            self.unmarked = self.streak;
-            self.streak = longer(self.streak);
-        } else {
-            self.streak = 0;
-        }
+        plan_streak(&mut self.unmarked, &mut self.streak, busy);
     }
+}
+
+// After a vector that changed much some are evaluated without marks, and more of them each time.
+fn plan_streak(unmarked: &mut u32, streak: &mut u32, busy: bool) {
+    if !busy {
+        *streak = 0;
+        return;
+    }
+    *unmarked = *streak;
+    *streak = longer(*streak);
 }
 
 // The next streak of vectors that are evaluated without marks.
