@@ -10,11 +10,20 @@ use Rattle.blif_read.specs.Grammar.{Statement, Grouped, kind_of, grouped_behind,
 use Rattle.flatten.specs.declared.model.Piece.TheVariants.{Names}
 use Rattle.blif_read.specs.Faults.{IsNew}
 
+-- the last element is changed
+abbrev pub onto_last : {X : Type 0} → (X → X) → List X → List X
+onto_last f [] = []
+onto_last f (x ∷ []) = f x ∷ []
+onto_last f (x ∷ y ∷ xs) = x ∷ onto_last f (y ∷ xs)
+
+pub onto_last-at : {X : Type 0} (f : X → X) (x : X) (front : List X) → onto_last f (front ++ x ∷ []) ≡ front ++ f x ∷ []
+onto_last-at f x [] = refl
+onto_last-at f x (y ∷ []) = refl
+onto_last-at f x (y ∷ z ∷ front) = ap (λ xs. y ∷ xs) (onto_last-at f x (z ∷ front))
+
 -- a row goes to the last statement
 abbrev pub add_to_last : List Statement → LogicalLine → List Statement
-add_to_last [] l = []
-add_to_last (s ∷ []) l = record { head = s.head; rows = s.rows ++ l ∷ [] } ∷ []
-add_to_last (s ∷ t ∷ statements) l = s ∷ add_to_last (t ∷ statements) l
+add_to_last statements l = onto_last (λ s. record { head = s.head; rows = s.rows ++ l ∷ [] }) statements
 
 abbrev add_row : Grouped → LogicalLine → Grouped
 add_row g l = by g.statements
@@ -69,19 +78,17 @@ statements-new above l n = ap (λ g. g.statements) (grouped-new above l n)
 
 -- ---- the last statement
 
-pub last_split : (ss : List Statement) → (ss ≡ []) ⊎ ((front : List Statement) × (s : Statement) × (ss ≡ front ++ s ∷ []))
+pub last_split : {X : Type 0} (xs : List X) → (xs ≡ []) ⊎ ((front : List X) × (x : X) × (xs ≡ front ++ x ∷ []))
 last_split [] = inl refl
-last_split (s ∷ ss) = by (last_split ss)
+last_split {X} (x ∷ xs) = by (last_split xs)
   where
-    by : ((ss ≡ []) ⊎ ((front : List Statement) × (t : Statement) × (ss ≡ front ++ t ∷ []))) → (s ∷ ss ≡ []) ⊎ ((front : List Statement) × (t : Statement) × (s ∷ ss ≡ front ++ t ∷ []))
-    by (inl e) = inr ([], s, ap (λ x. s ∷ x) e)
-    by (inr h) = inr (s ∷ h.0, h.1, ap (λ x. s ∷ x) h.2)
+    by : ((xs ≡ []) ⊎ ((front : List X) × (y : X) × (xs ≡ front ++ y ∷ []))) → (x ∷ xs ≡ []) ⊎ ((front : List X) × (y : X) × (x ∷ xs ≡ front ++ y ∷ []))
+    by (inl e) = inr ([], x, ap (λ ys. x ∷ ys) e)
+    by (inr h) = inr (x ∷ h.0, h.1, ap (λ ys. x ∷ ys) h.2)
 
 module _ (s : Statement) where
   pub add_to_last-at : (front : List Statement) (l : LogicalLine) → add_to_last (front ++ s ∷ []) l ≡ front ++ record { head = s.head; rows = s.rows ++ l ∷ [] } ∷ []
-  add_to_last-at [] l = refl
-  add_to_last-at (t ∷ []) l = refl
-  add_to_last-at (t ∷ u ∷ front) l = ap (λ x. t ∷ x) (add_to_last-at (u ∷ front) l)
+  add_to_last-at front l = onto_last-at (λ s. record { head = s.head; rows = s.rows ++ l ∷ [] }) s front
 
   pub ended_by-at : (front : List Statement) → ended_by (front ++ s ∷ []) ≡ is_end (kind_of s.head)
   ended_by-at [] = refl

@@ -1,6 +1,6 @@
 -- A line after the others, in a text of models.
 use Rattle.flatten.specs.declared.model.Model.{Model}
-use Rattle.std.proofs.Common.{option_map, ◌≡◌, ℕ, Bool, true, false, cond, List, [], ◌∷◌, ◌++◌, Option, Some, None, map, refl, sym, ap, ◌∙◌, subst, inl, inr, ◌⊎◌}
+use Rattle.std.proofs.Common.{option_map, ◌≡◌, ℕ, Bool, true, false, cond, List, [], ◌∷◌, ◌++◌, Option, Some, None, Result, Ok, Err, map, refl, sym, ap, ◌∙◌, subst, inl, inr, ◌⊎◌}
 use Rattle.std.specs.Option.{option_to_list}
 use Rattle.std.proofs.lemmas.List.{append-nil, map_push}
 use Rattle.tm_text.specs.Lines.{LogicalLine, is_bad_line}
@@ -13,17 +13,15 @@ use Rattle.flatten.specs.declared.model.Piece.TheVariants.{Names}
 use Rattle.blif_read.specs.Seen.{Seen}
 use Rattle.blif_read.specs.Faults.{fault_of, head_fault, placed_fault}
 use Rattle.blif_read.specs.Steps.{State, after_head}
-use Rattle.blif_read.specs.Runs.{TextState, start, text_start, last_model, text_after_head, text_after, model_from, above_of}
+use Rattle.blif_read.specs.Runs.{TextState, start, text_start, last_model, text_after_head, text_after, model_from, above_of, run}
 use Rattle.blif_read.specs.Grammar.{statements_of, kind_of, names_of, inputs_of, outputs_of, parts_of, spelled, ModelText, Parted, onto, parted, models_of, model_lines, name_of, spelled_model, is_some_model, last_lines, above_by}
-use Rattle.blif_read.proofs.GrammarLemmas.{parts_by_last}
+use Rattle.blif_read.proofs.GrammarLemmas.{onto_last, onto_last-at, last_split, parts_by_last}
 use Rattle.blif_read.proofs.StateLemmas.{IsState, seen_is, step, step_new}
 
 -- ---- the last model
 
 abbrev pub add_line : List ModelText → LogicalLine → List ModelText
-add_line [] l = []
-add_line (m ∷ []) l = record { first = m.first; rest = m.rest ++ l ∷ [] } ∷ []
-add_line (m ∷ n ∷ ms) l = m ∷ add_line (n ∷ ms) l
+add_line ms l = onto_last (λ m. record { first = m.first; rest = m.rest ++ l ∷ [] }) ms
 
 abbrev add_other : Parted → LogicalLine → Parted
 add_other p l = by p.models
@@ -71,14 +69,6 @@ models-model above l e = ap (λ p. p.models) (parted-model above l e)
 models-other : (above : List LogicalLine) (l : LogicalLine) → IsOther (kind_of l) → models_of (above ++ l ∷ []) ≡ add_line (models_of above) l
 models-other above l o = ap (λ p. p.models) (parted-other above l o) ∙ other_added (parted above) (models_of above) l
 
-split_last : (ms : List ModelText) → (ms ≡ []) ⊎ ((front : List ModelText) × (m : ModelText) × (ms ≡ front ++ m ∷ []))
-split_last [] = inl refl
-split_last (s ∷ ss) = by (split_last ss)
-  where
-    by : ((ss ≡ []) ⊎ ((front : List ModelText) × (t : ModelText) × (ss ≡ front ++ t ∷ []))) → (s ∷ ss ≡ []) ⊎ ((front : List ModelText) × (t : ModelText) × (s ∷ ss ≡ front ++ t ∷ []))
-    by (inl e) = inr ([], s, ap (λ x. s ∷ x) e)
-    by (inr h) = inr (s ∷ h.0, h.1, ap (λ x. s ∷ x) h.2)
-
 abbrev pub but_last_model : List ModelText → List ModelText
 but_last_model [] = []
 but_last_model (m ∷ []) = []
@@ -91,9 +81,7 @@ last_name (m ∷ n ∷ ms) = last_name (n ∷ ms)
 
 module _ (m : ModelText) where
   add_line-at : (front : List ModelText) (l : LogicalLine) → add_line (front ++ m ∷ []) l ≡ front ++ record { first = m.first; rest = m.rest ++ l ∷ [] } ∷ []
-  add_line-at [] l = refl
-  add_line-at (t ∷ []) l = refl
-  add_line-at (t ∷ u ∷ front) l = ap (λ x. t ∷ x) (add_line-at (u ∷ front) l)
+  add_line-at front l = onto_last-at (λ m. record { first = m.first; rest = m.rest ++ l ∷ [] }) m front
 
   but_last_model-at : (front : List ModelText) → but_last_model (front ++ m ∷ []) ≡ front
   but_last_model-at [] = refl
@@ -158,7 +146,7 @@ above_is ms t is = λ i. record { models = is.models i; this = seen_is (statemen
 -- all the models
 pub models_are : (ms : List ModelText) (t : TextState) → IsText ms t → t.done ++ last_model t ≡ map spelled_model ms
 models_are ms t is =
-    elim (split_last ms) [
+    elim (last_split ms) [
       | inl e ↦ none e
       | inr h ↦ some h.0 h.1 h.2
     ]
@@ -209,7 +197,7 @@ only_passed h e b seen words n p = absurd (by seen.ended (rw n at p))
 -- another line
 other_step : (ms : List ModelText) (t : TextState) (l : LogicalLine) (h : Head) → IsText ms t → kind_of l ≡ h → placed_fault t.this.seen h l.words ≡ None → IsText (add_line ms l) (record t { this = after_head t.this h l.number l.words })
 other_step ms t l h is k p =
-    elim (split_last ms) [
+    elim (last_split ms) [
       | inl e ↦
           let passed : h ≡ head.Passed = only_passed h false false t.this.seen l.words (is.begun ∙ ap is_some_model e) p in
           let same : add_line ms l ≡ ms = ap (λ x. add_line x l) e ∙ sym e in
@@ -239,3 +227,17 @@ text_step above t l is none = by_kind (kind_of l) refl (not_bad (is_bad_line l) 
     by_kind : (h : Head) → kind_of l ≡ h → head_fault (above_of t) h l.words ≡ None → IsText (models_of (above ++ l ∷ [])) (text_after_head t h l.number l.words)
     by_kind head.Model k p = rw (models-model above l k) (model_step (models_of above) t l is k)
     by_kind h k p = rw (models-other above l (subst IsOther (sym k) tt)) (other_step (models_of above) t l h is k p)
+
+-- what holds of no lines, and of a line without a fault before others, holds of all that are run
+pub run_by : (P : TextState → List LogicalLine → TextState → Type 0) → ((t : TextState) → P t [] t) → ((t u : TextState) (l : LogicalLine) (lines : List LogicalLine) → fault_of (above_of t) l ≡ None → P (text_after t l) lines u → P t (l ∷ lines) u) →
+    (lines : List LogicalLine) (t u : TextState) → run t lines ≡ Ok u → P t lines u
+unfolding run
+run_by P none more [] t u e = let same : t ≡ u = cc in subst (P t []) same (none t)
+run_by P none more (l ∷ lines) t u e = by (fault_of (above_of t) l) refl (run_by P none more lines (text_after t l) u)
+  where
+    by : (f : Option DesignKind) → fault_of (above_of t) l ≡ f → (run (text_after t l) lines ≡ Ok u → P (text_after t l) lines u) → P t (l ∷ lines) u
+    by None free below = more t u l lines free (below (rw free at e))
+    by (Some k) some below =
+        let f : ℕ × DesignKind = (l.number, k) in
+        let h : Err f ≡ Ok u = rw some at e in
+        absurd cc

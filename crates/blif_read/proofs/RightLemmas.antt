@@ -231,6 +231,9 @@ module _ (seen : Seen) (words : List (List ℕ)) where
   placed_free fault said h =
       if_none seen.ended kind.Word (cond (not seen.begun) (Some kind.NoModel) fault) h.1 (if_none (not seen.begun) kind.NoModel fault (is_not seen.begun h.0) (said h.2))
 
+  placed_right : (fault : Option DesignKind) {P : Type 0} → (fault ≡ None → P) → (P → fault ≡ None) → (placed fault ≡ None → (seen.begun ≡ true) × (seen.ended ≡ false) × P) × ((seen.begun ≡ true) × (seen.ended ≡ false) × P → placed fault ≡ None)
+  placed_right fault says said = (in_place fault says, placed_free fault said)
+
 abbrev IsOther : List ℕ → List ℕ → Type 0
 IsOther w name = name ≡ w → ⊥
 
@@ -275,41 +278,28 @@ module _ (above : Above) (words : List (List ℕ)) where
   abbrev fault_on : Head → Option DesignKind
   fault_on h = line_fault above.this h words
 
-  head_right : (h : Head) → head_fault above h words ≡ None → AreRightWords above h words
-  head_right head.Model f = model_right f
-  head_right head.Passed f = tt
-  head_right head.Inputs f = in_place above.this words (fault_on head.Inputs) (signals_right above.this.names (drop 1 words)) f
-  head_right head.Outputs f = in_place above.this words (fault_on head.Outputs) (signals_right above.this.names (drop 1 words)) f
-  head_right head.Names f = in_place above.this words (fault_on head.Names) (names_right above.this.names words) f
-  head_right head.Row f = in_place above.this words (fault_on head.Row) (row_says above.this.begun above.this.ended above.this.names above.this.current above.this.control words) f
-  head_right head.Latch f = in_place above.this words (fault_on head.Latch) (latch_right above.this words) f
-  head_right head.Subckt f = in_place above.this words (fault_on head.Subckt) (subckt_right above.this.names words) f
-  head_right head.Clock f = in_place above.this words (fault_on head.Clock) (λ _. tt) f
-  head_right head.End f = in_place above.this words (fault_on head.End) (end_right words) f
-  head_right head.LeftOut f = in_place above.this words (fault_on head.LeftOut) (λ no-fault. absurd cc) f
-  head_right head.Unknown f = in_place above.this words (fault_on head.Unknown) (λ no-fault. absurd cc) f
-
-  head_free : (h : Head) → AreRightWords above h words → head_fault above h words ≡ None
-  head_free head.Model r = model_free r
-  head_free head.Passed r = refl
-  head_free head.Inputs r = placed_free above.this words (fault_on head.Inputs) (signals_free above.this.names (drop 1 words)) r
-  head_free head.Outputs r = placed_free above.this words (fault_on head.Outputs) (signals_free above.this.names (drop 1 words)) r
-  head_free head.Names r = placed_free above.this words (fault_on head.Names) (names_free above.this.names words) r
-  head_free head.Row r = placed_free above.this words (fault_on head.Row) (row_said above.this.begun above.this.ended above.this.names above.this.current above.this.control words) r
-  head_free head.Latch r = placed_free above.this words (fault_on head.Latch) (latch_free above.this words) r
-  head_free head.Subckt r = placed_free above.this words (fault_on head.Subckt) (subckt_free above.this.names words) r
-  head_free head.Clock r = placed_free above.this words (fault_on head.Clock) (λ _. refl) r
-  head_free head.End r = placed_free above.this words (fault_on head.End) (end_free words) r
-  head_free head.LeftOut r = absurd r.2
-  head_free head.Unknown r = absurd r.2
+  -- words of a head are right exactly where they have no fault
+  right_words : (h : Head) → (head_fault above h words ≡ None → AreRightWords above h words) × (AreRightWords above h words → head_fault above h words ≡ None)
+  right_words head.Model = (model_right, model_free)
+  right_words head.Passed = (λ f. tt, λ r. refl)
+  right_words head.Inputs = placed_right above.this words (fault_on head.Inputs) (signals_right above.this.names (drop 1 words)) (signals_free above.this.names (drop 1 words))
+  right_words head.Outputs = placed_right above.this words (fault_on head.Outputs) (signals_right above.this.names (drop 1 words)) (signals_free above.this.names (drop 1 words))
+  right_words head.Names = placed_right above.this words (fault_on head.Names) (names_right above.this.names words) (names_free above.this.names words)
+  right_words head.Row = placed_right above.this words (fault_on head.Row) (row_says above.this.begun above.this.ended above.this.names above.this.current above.this.control words) (row_said above.this.begun above.this.ended above.this.names above.this.current above.this.control words)
+  right_words head.Latch = placed_right above.this words (fault_on head.Latch) (latch_right above.this words) (latch_free above.this words)
+  right_words head.Subckt = placed_right above.this words (fault_on head.Subckt) (subckt_right above.this.names words) (subckt_free above.this.names words)
+  right_words head.Clock = placed_right above.this words (fault_on head.Clock) (λ _. tt) (λ _. refl)
+  right_words head.End = placed_right above.this words (fault_on head.End) (end_right words) (end_free words)
+  right_words head.LeftOut = placed_right above.this words (fault_on head.LeftOut) (λ no-fault. absurd cc) (λ no-words. absurd no-words)
+  right_words head.Unknown = placed_right above.this words (fault_on head.Unknown) (λ no-fault. absurd cc) (λ no-words. absurd no-words)
 
 line_right : (above : Above) (l : LogicalLine) → fault_of above l ≡ None → IsRightLine above l
 line_right above l h =
     let p = none_if (is_bad_line l) kind.Byte (head_fault above (head_of (nth_word 0 l.words)) l.words) h in
-    (p.0, head_right above l.words (head_of (nth_word 0 l.words)) p.1)
+    (p.0, (right_words above l.words (head_of (nth_word 0 l.words))).0 p.1)
 
 line_free : (above : Above) (l : LogicalLine) → IsRightLine above l → fault_of above l ≡ None
-line_free above l h = if_none (is_bad_line l) kind.Byte (head_fault above (head_of (nth_word 0 l.words)) l.words) h.0 (head_free above l.words (head_of (nth_word 0 l.words)) h.1)
+line_free above l h = if_none (is_bad_line l) kind.Byte (head_fault above (head_of (nth_word 0 l.words)) l.words) h.0 ((right_words above l.words (head_of (nth_word 0 l.words))).1 h.1)
 
 -- ---- texts
 

@@ -22,7 +22,7 @@ use Rattle.blif_read.specs.Parts.{nth_word, lit_of, pattern, row_words, is_right
 use Rattle.blif_read.specs.Faults.{row_fault, placed_fault, fault_of, head_fault}
 use Rattle.blif_read.specs.Steps.{State, after_head, closed_pieces}
 use Rattle.blif_read.specs.Runs.{Gives, TextState, text_start, text_after_head, text_after, above_of, last_model, model_from, run, ended, whole}
-use Rattle.blif_read.proofs.ModelsLemmas.{not_bad}
+use Rattle.blif_read.proofs.ModelsLemmas.{not_bad, run_by}
 use Rattle.blif_read.proofs.StateLemmas.{placed_row}
 
 abbrev CurrentFits : Option Cover → Type 0
@@ -105,16 +105,7 @@ text_fits_after t l is none = by (head_of (nth_word 0 l.words)) (not_bad (is_bad
     by h p = record { done = is.done; this = fits_after t.this h l.number l.words is.this p }
 
 run_fits : (lines : List LogicalLine) (t u : TextState) → TextFits t → run t lines ≡ Ok u → TextFits u
-unfolding run
-run_fits [] t u is e = let same : t ≡ u = cc in subst TextFits same is
-run_fits (l ∷ lines) t u is e = by (fault_of (above_of t) l) refl (run_fits lines (text_after t l) u)
-  where
-    by : (f : Option DesignKind) → fault_of (above_of t) l ≡ f → (TextFits (text_after t l) → run (text_after t l) lines ≡ Ok u → TextFits u) → TextFits u
-    by None none below = below (text_fits_after t l is none) (rw none at e)
-    by (Some k) some below =
-        let f : ℕ × DesignKind = (l.number, k) in
-        let h : Err f ≡ Ok u = rw some at e in
-        absurd cc
+run_fits lines t u is e = run_by (λ t lines u. TextFits t → TextFits u) (λ t is. is) (λ t u l lines none below is. below (text_fits_after t l is none)) lines t u e is
 
 abbrev no_line : ℕ × DesignKind
 no_line = (0, kind.NoModel)

@@ -22,6 +22,7 @@ use Rattle.blif_read.specs.Parts.{nth_word, port_defs}
 use Rattle.blif_read.specs.Faults.{fault_of}
 use Rattle.blif_read.specs.Steps.{State, after_head}
 use Rattle.blif_read.specs.Runs.{Gives, TextState, text_start, text_after_head, text_after, above_of, last_model, model_from, run, ended, whole}
+use Rattle.blif_read.proofs.ModelsLemmas.{run_by}
 
 -- ---- words of a text
 
@@ -180,16 +181,7 @@ text_few t l = by (head_of (nth_word 0 l.words))
     by head.Row = omega (arith, after_few t.this head.Row l.number l.words)
 
 run_few : (lines : List LogicalLine) (t u : TextState) → run t lines ≡ Ok u → total u ≤ total t + words_total lines
-unfolding run
-run_few [] t u e = let same : t ≡ u = cc in omega (arith, ap total same)
-run_few (l ∷ lines) t u e = by (fault_of (above_of t) l) refl (run_few lines (text_after t l) u)
-  where
-    by : (f : Option DesignKind) → fault_of (above_of t) l ≡ f → (run (text_after t l) lines ≡ Ok u → total u ≤ total (text_after t l) + words_total lines) → total u ≤ total t + words_total (l ∷ lines)
-    by None none below = omega (arith, below (rw none at e), text_few t l)
-    by (Some k) some below =
-        let f : ℕ × DesignKind = (l.number, k) in
-        let h : Err f ≡ Ok u = rw some at e in
-        absurd cc
+run_few = run_by (λ t lines u. total u ≤ total t + words_total lines) (λ t. omega arith) (λ t u l lines none below. omega (arith, below, text_few t l))
 
 abbrev no_line : ℕ × DesignKind
 no_line = (0, kind.NoModel)
