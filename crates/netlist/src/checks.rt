@@ -88,26 +88,23 @@ pub fn check(alloc: Global, draft: Draft) -> Result<Netlist, DesignFault>
     match look(alloc, &draft)? {
         Found::Doubled(word) => {
             let name = name_of(alloc, &draft, word.signal)?;
-            let kind = DesignKind::Doubled { name };
             Err(DesignFault::At {
                 line: word.line,
-                kind,
+                kind: DesignKind::Doubled { name },
             })
         }
         Found::Undriven(word) => {
             let name = name_of(alloc, &draft, word.signal)?;
-            let kind = DesignKind::Undriven { name };
             Err(DesignFault::At {
                 line: word.line,
-                kind,
+                kind: DesignKind::Undriven { name },
             })
         }
         Found::Cyclic(word) => {
             let name = name_of(alloc, &draft, word.signal)?;
-            let kind = DesignKind::Cyclic { name };
             Err(DesignFault::At {
                 line: word.line,
-                kind,
+                kind: DesignKind::Cyclic { name },
             })
         }
         Found::Order(order) => Ok(Netlist::new(draft, order)),
