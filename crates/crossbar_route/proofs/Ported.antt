@@ -18,23 +18,23 @@ use Rattle.place.proofs.Those.{those_unique, same_place}
 use Rattle.crossbar_route.specs.Owners.{HasLine}
 
 module _ (m : Shape) (d : Defects) (count : ℕ) (terminal : ℕ → ℕ → Type 0) where
+  -- the ports of a node and the nets that cross it are the same each time
+  alike : (n k l v w : ℕ) (p : HasPort m d count terminal n k v) (q : HasPort m d count terminal n l w) → (p.ports ≡ q.ports) × (p.crossing ≡ q.crossing)
+  alike n k l v w p q = (those_unique (IsFreePort m d n) p.ports q.ports p.are_ports q.are_ports, those_unique (CrossesAt m count terminal n) p.crossing q.crossing p.are_crossing q.are_crossing)
+
   -- a port of a node is of one net
   pub port_of_one : (n k l w : ℕ) → HasPort m d count terminal n k w → HasPort m d count terminal n l w → k ≡ l
   port_of_one n k l w p q =
-      let ports : p.ports ≡ q.ports = those_unique (IsFreePort m d n) p.ports q.ports p.are_ports q.are_ports in
-      let crossing : p.crossing ≡ q.crossing = those_unique (CrossesAt m count terminal n) p.crossing q.crossing p.are_crossing q.are_crossing in
-      let at : IsNth q.ports p.place w = subst (λ xs. IsNth xs p.place w) ports p.port_is in
-      let same : p.place ≡ q.place = same_place q.ports p.place q.place w q.are_ports.ascending at q.port_is in
-      sym p.net_is.1 ∙ (λ i. get_or (crossing i) (same i) 0) ∙ q.net_is.1
+      let lists = alike n k l w w p q in
+      let same : p.place ≡ q.place = same_place q.ports p.place q.place w q.are_ports.ascending (subst (λ xs. IsNth xs p.place w) lists.0 p.port_is) q.port_is in
+      sym p.net_is.1 ∙ (λ i. get_or (lists.1 i) (same i) 0) ∙ q.net_is.1
 
   -- a net has one port of a node
   pub same_port : (n k v w : ℕ) → HasPort m d count terminal n k v → HasPort m d count terminal n k w → v ≡ w
   same_port n k v w p q =
-      let ports : p.ports ≡ q.ports = those_unique (IsFreePort m d n) p.ports q.ports p.are_ports q.are_ports in
-      let crossing : p.crossing ≡ q.crossing = those_unique (CrossesAt m count terminal n) p.crossing q.crossing p.are_crossing q.are_crossing in
-      let at : IsNth q.crossing p.place k = subst (λ xs. IsNth xs p.place k) crossing p.net_is in
-      let same : p.place ≡ q.place = same_place q.crossing p.place q.place k q.are_crossing.ascending at q.net_is in
-      sym p.port_is.1 ∙ (λ i. get_or (ports i) (same i) 0) ∙ q.port_is.1
+      let lists = alike n k k v w p q in
+      let same : p.place ≡ q.place = same_place q.crossing p.place q.place k q.are_crossing.ascending (subst (λ xs. IsNth xs p.place k) lists.1 p.net_is) q.net_is in
+      sym p.port_is.1 ∙ (λ i. get_or (lists.0 i) (same i) 0) ∙ q.port_is.1
 
   pub port_is_port : (n k w : ℕ) → HasPort m d count terminal n k w → IsPort m n w
   port_is_port n k w p = subst (IsPort m n) p.port_is.1 (p.are_ports.only p.place 0 p.port_is.0).0
@@ -64,18 +64,10 @@ module _ (vs : List Visit) (apart : AllPairs (λ v u. v.node ≡ u.node → (v.n
           inr (swap (subst (λ (a : Visit). a.node ≡ v.node → (a.net ≢ v.net) × (a.line ≢ v.line)) first (subst (λ (b : Visit). (get_or vs q.0 u).node ≡ b.node → ((get_or vs q.0 u).net ≢ b.net) × ((get_or vs q.0 u).line ≢ b.line)) second r) (sym node)))
 
   pub line_of_one : (n k l w : ℕ) → HasLine vs n k w → HasLine vs n l w → k ≡ l
-  line_of_one n k l w p q = by (same_at (record { node = n; net = k; line = w }) (record { node = n; net = l; line = w }) refl p q)
-    where
-      by : (◌≡◌ {A = Visit} (record { node = n; net = k; line = w }) (record { node = n; net = l; line = w })) ⊎ ((k ≢ l) × (w ≢ w)) → k ≡ l
-      by (inl e) = ap (λ (v : Visit). v.net) e
-      by (inr r) = absurd (r.1 refl)
+  line_of_one n k l w p q = elim (same_at (record { node = n; net = k; line = w }) (record { node = n; net = l; line = w }) refl p q) [ inl e ↦ ap (λ (v : Visit). v.net) e | inr r ↦ absurd (r.1 refl) ]
 
   pub net_of_one : (n k w u : ℕ) → HasLine vs n k w → HasLine vs n k u → w ≡ u
-  net_of_one n k w u p q = by (same_at (record { node = n; net = k; line = w }) (record { node = n; net = k; line = u }) refl p q)
-    where
-      by : (◌≡◌ {A = Visit} (record { node = n; net = k; line = w }) (record { node = n; net = k; line = u })) ⊎ ((k ≢ k) × (w ≢ u)) → w ≡ u
-      by (inl e) = ap (λ (v : Visit). v.line) e
-      by (inr r) = absurd (r.0 refl)
+  net_of_one n k w u p q = elim (same_at (record { node = n; net = k; line = w }) (record { node = n; net = k; line = u }) refl p q) [ inl e ↦ ap (λ (v : Visit). v.line) e | inr r ↦ absurd (r.0 refl) ]
 
 -- ---- nodes and crosspoints
 

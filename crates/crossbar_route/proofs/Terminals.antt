@@ -1,8 +1,7 @@
 -- The terminals of a network's nets on a plan.
-use Rattle.std.proofs.Common.{◌≡◌, ◌≢◌, ◌⊎◌, ℕ, ◌+◌, ◌<◌, ◌≤◌, cond, eqb, List, ◌++◌, length, get_or, map, refl, sym, ap, ◌∙◌, subst, inl, inr, arith}
-use Rattle.std.specs.Prelude.{AllPairs}
+use Rattle.std.proofs.Common.{◌≡◌, ◌⊎◌, ℕ, ◌+◌, ◌<◌, ◌≤◌, cond, eqb, List, ◌++◌, length, get_or, map, refl, sym, ap, ◌∙◌, subst, inl, inr, arith}
 use Rattle.std.specs.List.{range_with_len}
-use Rattle.std.proofs.lemmas.Bool.{cases_order, ne_eqb}
+use Rattle.std.proofs.lemmas.Bool.{ne_eqb}
 use Rattle.std.proofs.lemmas.List.{get_or_append_left, get_or-append-add, length-append, length-map, get_or_default}
 use Rattle.std.proofs.lemmas.List.FromFn.{get_or-map-range_with_len, length-map-range_with_len}
 use Rattle.hierarchy.specs.declared.Shape.{Shape}
@@ -14,16 +13,9 @@ use Rattle.table_map.specs.declared.network.Network.{Network}
 use Rattle.table_map.specs.Networks.{IsNetwork, no_table, table_at}
 use Rattle.place.specs.declared.plan.Plan.{Plan}
 use Rattle.place.specs.Plans.{place_of, places, number_of, net_of, IsTerminal, drives, reads, shows, IsPlan}
+use Rattle.place.proofs.Those.{different_at}
 use Rattle.crossbar_route.specs.Layouts.{reader_of}
 use Rattle.crossbar_route.specs.Trees.{AreTerminals}
-
-different_at : (xs : List ℕ) → AllPairs (λ t u. t ≢ u) xs → (i j : ℕ) → i < length xs → j < length xs → get_or xs i 0 ≡ get_or xs j 0 → i ≡ j
-different_at xs all i j h l e = by (cases_order i j)
-  where
-    by : (i ≡ j) ⊎ ((i < j) ⊎ (j < i)) → i ≡ j
-    by (inl s) = s
-    by (inr (inl s)) = absurd (all i j 0 s l e)
-    by (inr (inr s)) = absurd (all j i 0 s h (sym e))
 
 -- the wire is a pin of the machine, or one of a table's pins
 abbrev pub Wired : Shape → ℕ → Type 0

@@ -34,7 +34,8 @@ none_some e f = cc
 none_is_some : {X : Type 0} {o : Option X} → o ≡ None → IsSome o → ⊥
 none_is_some e h = cc
 
-none_at : (none : Option Setting) (n t : ℕ) → get_or (replicate n none) t none ≡ none
+-- a table of which nothing is set is off
+pub none_at : (none : Option Setting) (n t : ℕ) → get_or (replicate n none) t none ≡ none
 none_at o zero t = refl
 none_at o (suc n) zero = refl
 none_at o (suc n) (suc t) = none_at o n t

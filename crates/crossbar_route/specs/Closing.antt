@@ -26,6 +26,12 @@ pub record Closes (joint : ℕ → Type 0) (most : ℕ) (old new : Configuration
 abbrev pub AreLinesOf : Shape → BTreeMap (ℕ × ℕ) ℕ → Type 0
 AreLinesOf m lines = (n k w : ℕ) → line_in lines n k ≡ Some w → w < wires_of m
 
+-- the configuration, the lines and the wire are of one machine
+pub record MayJoin (m : Shape) (lines : BTreeMap (ℕ × ℕ) ℕ) (g : Configuration) (w : ℕ) : Type 0 where
+  pub shape : g.shape ≡ m
+  pub lines_are : AreLinesOf m lines
+  pub wire : w < wires_of m
+
 -- the crosspoint is that of the wire and the net's line at the node
 abbrev pub IsJoint : Shape → BTreeMap (ℕ × ℕ) ℕ → ℕ → ℕ → ℕ → ℕ → Type 0
 IsJoint m lines n k t x = (w : ℕ) × (line_in lines n k ≡ Some w) × (x < crosses_of m) × (ends_of m x ≡ (t, w))

@@ -1,7 +1,7 @@
 //! Closes the crosspoints of each net's lines and its taps, and switches tables on.
 ghost use Rattle.std.specs.Prelude.{◌≡◌, ◌≢◌, ◌<◌, ◌*◌, OnOk, All, AllPairs, length};
 ghost use Rattle.hierarchy.specs.Shape.{wires_of, tables_of};
-ghost use Rattle.crossbar_route.specs.Closing.{AreLinesOf, Closes, IsJoint, IsJointAt, IsOwnedJoint, IsWireJoint, SwitchesOn};
+ghost use Rattle.crossbar_route.specs.Closing.{AreLinesOf, Closes, IsJoint, IsJointAt, IsOwnedJoint, IsWireJoint, MayJoin, SwitchesOn};
 
 use crate::lines::line_of;
 use config_set::{Config, Setting};
@@ -19,9 +19,7 @@ fn join(
     net: u32,
     wire: u32,
 ) -> Result<(), AllocError>
-    requires shape { config.old.config.shape ≡ shape }
-    requires lines { AreLinesOf shape lines.now }
-    requires wire { wire < wires_of shape }
+    requires { MayJoin shape lines.now config.old.config wire }
     ensures { OnOk result (Closes (IsJoint shape lines.now node net wire) 1 config.old.config config.new.config) }
 {
     hierarchy::the_crosspoints_are_sound();
@@ -42,9 +40,7 @@ fn join_wire(
     net: u32,
     wire: u32,
 ) -> Result<(), AllocError>
-    requires shape { config.old.config.shape ≡ shape }
-    requires lines { AreLinesOf shape lines.now }
-    requires wire { wire < wires_of shape }
+    requires { MayJoin shape lines.now config.old.config wire }
     ensures { OnOk result (Closes (IsWireJoint shape lines.now net wire) 2 config.old.config config.new.config) }
 {
     let node = shape.node_of(Wire(wire));
@@ -63,10 +59,8 @@ fn join_owned(
     owners: &[Option<u32>],
     wire: u32,
 ) -> Result<(), AllocError>
-    requires shape { config.old.config.shape ≡ shape }
-    requires lines { AreLinesOf shape lines.now }
+    requires joins { MayJoin shape lines.now config.old.config wire }
     requires owners { length owners.now ≡ wires_of shape }
-    requires wire { wire < wires_of shape }
     ensures { OnOk result (Closes (IsJointAt shape lines.now owners.now wire) 2 config.old.config config.new.config) }
 {
     match owners[wire as usize] {

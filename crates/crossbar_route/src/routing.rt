@@ -23,10 +23,9 @@ use config_image::Image;
 use config_set::Config;
 use defect_db::Defects;
 use hierarchy::Shape;
-use place::{Layout, Plan, Port, Visit, lay_out};
+use place::{Layout, Plan, lay_out};
 use std::alloc::{AllocError, Global};
 use table_map::Network;
-use tm_items::Items;
 
 // A machine has few tables, pins and wires, as the counts of its shape say.
 fn counts_are_few(shape: &Shape)
@@ -39,44 +38,38 @@ fn counts_are_few(shape: &Shape)
     let _wires = shape.wires();
 }
 
-/// A configuration with the crosspoints of the nets' lines and taps closed, and no table on.
+/// A configuration with the crosspoints of a layout's lines and taps closed, and no table on.
 ///
 /// # Errors
 ///
 /// Want of memory.
-pub fn join_nets(
-    alloc: Global,
-    shape: Shape,
-    nets: &[Items<u32>],
-    ports: &[Port],
-    visits: &[Visit],
-) -> Result<Config, AllocError>
-    requires few { length nets.now < 4294967296 }
-    requires wires { AreWiresOf shape nets.now ports.now visits.now }
-    ensures { IfOk result (λ g. IsJoined shape nets.now ports.now visits.now g.config) }
+pub fn join_nets(alloc: Global, shape: Shape, layout: &Layout) -> Result<Config, AllocError>
+    requires few { length layout.now.nets.items < 4294967296 }
+    requires wires { AreWiresOf shape layout.now.nets.items layout.now.ports.items layout.now.visits.items }
+    ensures { IfOk result (λ g. IsJoined shape layout.now.nets.items layout.now.ports.items layout.now.visits.items g.config) }
 {
-    let lines = lines_of(alloc, visits)?;
-    let owners = owners_of(alloc, shape, nets, ports)?;
+    let lines = lines_of(alloc, &layout.visits)?;
+    let owners = owners_of(alloc, shape, &layout.nets, &layout.ports)?;
     let mut config = Config::with_room(alloc, shape, 0)?;
     join_all(&mut config, shape, &lines, &owners)?;
     Ok(config)
 }
 
-// The configuration of a network whose nets have these terminals, ports and lines.
+// The configuration of a network on a plan with this layout.
 fn configure(
     alloc: Global,
     network: &Network,
     plan: &Plan,
+    layout: &Layout,
     defects: &Defects,
-    nets: &[Items<u32>],
-    ports: &[Port],
-    visits: &[Visit],
 ) -> Result<Config, AllocError>
     requires network { IsNetwork network.now }
     requires plan { IsPlan defects.now.shape defects.now.list network.now plan.now }
-    requires laid { IsLaidBy defects.now.shape defects.now.list network.now plan.now nets.now ports.now visits.now }
+    requires laid { IsLaidBy defects.now.shape defects.now.list network.now plan.now
+        layout.now.nets.items layout.now.ports.items layout.now.visits.items }
     ensures ticks { IfOk result (λ g. AreTicks network.now g.config.ticks) }
-    ensures routed { IfOk result (λ g. IsRouted defects.now.shape defects.now.list network.now plan.now ports.now visits.now g.config) }
+    ensures routed { IfOk result (λ g. IsRouted defects.now.shape defects.now.list network.now plan.now
+        layout.now.ports.items layout.now.visits.items g.config) }
 {
     hierarchy::the_numbering_is_sound();
     hierarchy::the_crosspoints_are_sound();
@@ -84,7 +77,7 @@ fn configure(
     let shape = defects.shape();
     counts_are_few(&shape);
     let ticks = ticks_of(alloc, network)?;
-    let mut config = join_nets(alloc, shape, nets, ports, visits)?;
+    let mut config = join_nets(alloc, shape, layout)?;
     switch_all_on(
         &mut config,
         plan.tables.as_slice(),
@@ -108,24 +101,23 @@ fn image_of(alloc: Global, plan: &Plan, config: Config) -> Result<Image, AllocEr
     Ok(Image::new(config, inputs, outputs))
 }
 
-// The image of a network whose nets have these terminals, ports and lines.
+// The image of a network on a plan with this layout.
 fn draw(
     alloc: Global,
     network: &Network,
     plan: &Plan,
+    layout: &Layout,
     defects: &Defects,
-    nets: &[Items<u32>],
-    ports: &[Port],
-    visits: &[Visit],
 ) -> Result<Image, AllocError>
     requires network { IsNetwork network.now }
     requires plan { IsPlan defects.now.shape defects.now.list network.now plan.now }
-    requires laid { IsLaidBy defects.now.shape defects.now.list network.now plan.now nets.now ports.now visits.now }
+    requires laid { IsLaidBy defects.now.shape defects.now.list network.now plan.now
+        layout.now.nets.items layout.now.ports.items layout.now.visits.items }
     ensures { IfOk result (IsRouteOf defects.now.shape defects.now.list network.now plan.now) }
 {
     let shape = defects.shape();
     counts_are_few(&shape);
-    let config = configure(alloc, network, plan, defects, nets, ports, visits)?;
+    let config = configure(alloc, network, plan, layout, defects)?;
     let image = image_of(alloc, plan, config)?;
     Ok(image)
 }
@@ -159,15 +151,7 @@ pub fn route_laid(
         Covers defects.now.shape defects.now.list f → IsRightImage f i netlist) }
 {
     hierarchy::the_numbering_is_sound();
-    draw(
-        alloc,
-        network,
-        plan,
-        defects,
-        &layout.nets,
-        &layout.ports,
-        &layout.visits,
-    )
+    draw(alloc, network, plan, layout, defects)
 }
 
 /// The image of a network on a plan that fits, as [`route_laid`] makes it.
