@@ -2,6 +2,7 @@
 pub mod Driven
 pub mod FreeWires
 pub mod Keyed
+pub mod Touching
 -- For the proofs of this crate alone.
 mod Bytes
 mod Wrong
@@ -14,5 +15,4 @@ mod Whole
 mod Faultless
 mod Ends
 mod Written
-mod Touching
 mod Alike
