@@ -16,8 +16,8 @@ use Rattle.repair.specs.declared.plan.Plan.{Plan}
 use Rattle.repair.specs.Marks.{HasMark}
 use Rattle.repair.specs.Nets.{HasWire}
 use Rattle.repair.specs.Making.{IsAdded, IsNetWire, IsMovedTo, IsPinTerminal, IsFirstPinTerminal, IsTablePinTerminal, IsFirstTableTerminal, IsTableTerminal, AreTerminalsOf, no_table}
-use Rattle.config_image.proofs.Keyed.{of_list, listed}
-use Rattle.repair.proofs.Using.{on_is, is_on}
+use Rattle.config_image.proofs.Keyed.{listed}
+use Rattle.repair.proofs.Using.{is_on, listed_on}
 
 pub added_none : (claims : ℕ → ℕ → Type 0) (lists : List (List ℕ)) → ((k w : ℕ) → claims k w → ⊥) → IsAdded claims lists lists
 added_none claims lists never = record { sized = refl; only = λ k w t. inl t; each = λ k w c. absurd (never k w c); kept = λ k w t. t }
@@ -122,7 +122,7 @@ module _ (g : Configuration) (p : Plan) where
   pub tables_all : (tables : List Table) → ((t : ℕ) → count_by (λ (c : Table). c.0 == t) tables ≡ (if is_some (setting_of g t) then 1 else 0)) → (n : ℕ) → length tables ≤ n → n ≤ length tables → (old new : List (List ℕ)) →
       IsAdded (IsFirstTableTerminal g p tables n) old new → IsAdded (IsTableTerminal g p) old new
   tables_all tables counts n ge le old new a = added_same (IsFirstTableTerminal g p tables n) (IsTableTerminal g p) old new a
-      (λ k w c. ((get_or tables c.0 no_table).0, on_is (setting_of g (get_or tables c.0 no_table).0) (of_list (λ (x : Table). x.0) tables (λ t. is_some (setting_of g t)) counts c.0 no_table (omega (arith, c.1, le))), c.2))
+      (λ k w c. ((get_or tables c.0 no_table).0, listed_on g tables counts c.0 (omega (arith, c.1, le)), c.2))
       (λ k w c. let r = listed (λ (x : Table). x.0) tables (λ t. is_some (setting_of g t)) counts c.0 no_table (is_on (setting_of g c.0) c.1) in
       (r.0, omega (arith, r.1, ge), subst (λ t. IsTablePinTerminal g p t (nth_of p.tables.items t) 7 k w) (sym r.2) c.2))
 

@@ -19,8 +19,8 @@ use Rattle.config_image.specs.Images.{ImageValue, IsImage, drive_of, image_row}
 use Rattle.config_image.specs.Parts.{IsFreeImage}
 use Rattle.config_image.proofs.Driven.{drive_pin, drive_low, number_below, same_map, tick_of, edge_of, first_of}
 use Rattle.config_image.proofs.FreeWires.{IsGood, IsOff}
+use Rattle.place.proofs.Those.{different_at}
 use Rattle.repair.proofs.Pulled.{good_pin_at, good_pin, table_on, low_pulled, pulled_low}
-use Rattle.repair.proofs.Seating.{different_at}
 
 -- an image on free parts, under faults that a list covers
 pub record IsFreeUnder (d : Defects) (i : ImageValue) (f : Faults) : Type 0 where

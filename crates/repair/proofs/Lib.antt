@@ -6,7 +6,6 @@ mod Placed
 mod Sieving
 mod Numbering
 mod Sparing
-mod Pins
 mod Using
 mod Unbroken
 mod Placing

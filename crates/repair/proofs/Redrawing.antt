@@ -14,6 +14,10 @@ use Rattle.place.specs.Lists.{nth_of}
 use Rattle.repair.specs.declared.plan.Plan.{Plan}
 use Rattle.repair.specs.Making.{AreSizedFor, ArePinsApart, IsDrawn}
 
+-- pins that were moved by equal places, out of an equal list
+pub moved_as : (places others pins more moved : List ℕ) → places ≡ others → pins ≡ more → moved ≡ map (nth_of places) pins → moved ≡ map (nth_of others) more
+moved_as places others pins more moved e f is = is ∙ (λ z. map (nth_of (e z)) (f z))
+
 module _ (i : ImageValue) (p : Plan) (ins outs : List ℕ) (ins_are : ins ≡ map (nth_of p.pins.items) i.inputs) (outs_are : outs ≡ map (nth_of p.pins.items) i.outputs) where
   together : ins ++ outs ≡ map (nth_of p.pins.items) (i.inputs ++ i.outputs)
   together = (λ z. ins_are z ++ outs_are z) ∙ sym (map-append (nth_of p.pins.items) i.inputs i.outputs)

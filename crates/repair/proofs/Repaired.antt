@@ -27,6 +27,7 @@ use Rattle.place.specs.declared.short.Room.{Room}
 use Rattle.place.specs.Layouts.{AreHeld, AreVisits, IsRoom}
 use Rattle.place.specs.Lists.{nth_of}
 use Rattle.place.specs.Room.{HasTerminal, CrossesAt, Suffices, IsShortOf, IsFirstShort, IsMet}
+use Rattle.place.proofs.Those.{different_at}
 use Rattle.crossbar_route.specs.Routed.{AreWiresOf}
 use Rattle.crossbar_route.proofs.Drawn.{Numbering, held}
 use Rattle.crossbar_route.proofs.Ported.{same_port}
@@ -40,7 +41,7 @@ use Rattle.repair.proofs.Alike.{Moved, pin_at, table_at, Correspond, run_alike}
 use Rattle.repair.proofs.Hanging.{are_numbered}
 use Rattle.repair.proofs.Placed.{on_within}
 use Rattle.repair.proofs.Owning.{Spot, pin_spot, table_spot, drawn_by, draw_wires, hang_on, hung_before, crossing_within, terminals_joined, closed_for, port_joined, port_only, closed_free}
-use Rattle.repair.proofs.Seating.{table_sits_at, pin_sits_at, one_table_place, one_table_owner, one_pin_place, one_pin_owner, table_place_free, pin_place_free, different_at, search_gone}
+use Rattle.repair.proofs.Seating.{table_sits_at, pin_sits_at, one_table_place, one_table_owner, one_pin_place, one_pin_owner, table_place_free, pin_place_free, search_gone}
 
 none_is_some : {X : Type 0} {o : Option X} → o ≡ None → IsSome o → ⊥
 none_is_some e h = cc
@@ -127,9 +128,6 @@ module _ (d : Defects) (i : ImageValue) (is : IsImage i) (laws : Numbering i.con
     -- what the search for room asks for
     pub lists_within : All (AreWires m) lists
     lists_within k d l j e h = wire_in k (get_or (get_or lists k d) j e) (subst (λ xs. Contains xs (get_or (get_or lists k d) j e)) (get_or_default lists k d [] l) (Contains-get_or (get_or lists k d) j e h))
-
-    pub lists_few : wires_of m ≤ 16384 → length lists < 4294967296
-    lists_few few = (let e = terms.sized in let l = plan.nets_are.few in omega (arith, e, l, few))
 
     staying_kept : (w : ℕ) → HasStayingWire g p w → IsKeptWire i (record { lowest = p.nets.lowest; moves = p.moves.items; terminals = lists; rest = rest.list }) w
     staying_kept w (k, stays, wire) = (k, (wire.0, stays), wire)
@@ -377,19 +375,21 @@ module _ (d : Defects) (i : ImageValue) (is : IsImage i) (laws : Numbering i.con
       repaired_rows new drawn = same_rows lists_within ports visits all_held all_visited new drawn.right drawn
 
 -- the same room, by other names of its parts
-pub room_as : (m k : Shape) (d : Defects) (lists others : List (List ℕ)) (tables more pins rest : Need) (r : Room) → m ≡ k → lists ≡ others → tables ≡ more → pins ≡ rest → IsRoom m d (length lists) (HasTerminal lists) tables pins r → IsRoom k d (length others) (HasTerminal others) more rest r
-room_as m k d lists others tables more pins rest r a b e f is =
+-- a machine of few wires has few nets
+pub few_lists : (d : Defects) (i : ImageValue) (s : Seats) (p : Plan) (lists given : List (List ℕ)) (m : Shape) (wires : ℕ) → given ≡ lists → wires ≡ wires_of m → m ≡ i.config.shape → wires ≤ 16384 → IsPlanOf d i s p → AreTerminalsOf i p lists → length given < 4294967296
+few_lists d i s p lists given m wires e w shape few plan terms =
+    let here : wires_of i.config.shape ≤ 16384 = subst (λ k. k ≤ 16384) (w ∙ ap wires_of shape) few in
+    let given_are : length given ≡ length lists = ap length e in
+    let sized = terms.sized in
+    let nets = plan.nets_are.few in
+    omega (arith, here, given_are, sized, nets)
+
+pub room_as : (m k : Shape) (d : Defects) (lists others : List (List ℕ)) (tables more pins rest : Need) (q r : Room) → m ≡ k → lists ≡ others → tables ≡ more → pins ≡ rest → q ≡ r → IsRoom m d (length lists) (HasTerminal lists) tables pins q → IsRoom k d (length others) (HasTerminal others) more rest r
+room_as m k d lists others tables more pins rest q r a b e f same is =
     subst (λ z. IsRoom z d (length others) (HasTerminal others) more rest r) a
     (subst (λ z. IsRoom m d (length z) (HasTerminal z) more rest r) b
-    (subst (λ z. IsRoom m d (length lists) (HasTerminal lists) z rest r) e (subst (λ z. IsRoom m d (length lists) (HasTerminal lists) tables z r) f is)))
-
-pub redrawn_as : (i : ImageValue) (p : Plan) (lists others : List (List ℕ)) (ports over : List Port) (visits more : List Visit) (new : ImageValue) → lists ≡ others → ports ≡ over → visits ≡ more → IsRedrawn i p lists ports visits new → IsRedrawn i p others over more new
-redrawn_as i p lists others ports over visits more new a b e is =
-    subst (λ z. IsRedrawn i p z over more new) a (subst (λ z. IsRedrawn i p lists z more new) b (subst (λ z. IsRedrawn i p lists ports z new) e is))
-
-pub wires_as : (m : Shape) (lists others : List (List ℕ)) (ports over : List Port) (visits more : List Visit) → lists ≡ others → ports ≡ over → visits ≡ more → AreWiresOf m lists ports visits → AreWiresOf m others over more
-wires_as m lists others ports over visits more a b e is =
-    subst (λ z. AreWiresOf m z over more) a (subst (λ z. AreWiresOf m lists z more) b (subst (λ z. AreWiresOf m lists ports z) e is))
+    (subst (λ z. IsRoom m d (length lists) (HasTerminal lists) z rest r) e
+    (subst (λ z. IsRoom m d (length lists) (HasTerminal lists) tables z r) f (subst (IsRoom m d (length lists) (HasTerminal lists) tables pins) same is))))
 
 -- ---- what is short before a net is looked at
 

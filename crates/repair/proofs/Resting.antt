@@ -122,20 +122,23 @@ module _ (d old : DefectList) where
       none : (x : ℕ) → x < 0 → ⊥
       none x l = omega arith
 
+  -- a listed crosspoint, by one that was listed before or is among the first
+  abbrev IsListed : ℕ → ℕ → Type 0
+  IsListed n x = (set.contains old.list.crosses x ≡ true) ⊎ ((x < n) × (¬ IsFreeCross d.shape d.list x) × IsFreeWire old.list (ends_of d.shape x).0 × IsFreeWire old.list (ends_of d.shape x).1)
+
+  so_far : (n x : ℕ) → IsListed n x → IsListed (n + 1) x
+  so_far n x (inl h) = inl h
+  so_far n x (inr r) = inr (omega (arith, r.0), r.1, r.2, r.3)
+
   more_kept : (n : ℕ) (cur new : DefectList) → IsCrossRest d old n cur → (¬ IsFreeCross d.shape d.list n → IsFreeWire old.list (ends_of d.shape n).0 → IsFreeWire old.list (ends_of d.shape n).1 → ⊥) → new ≡ cur → IsCrossRest d old (n + 1) new
   more_kept n cur new rest never e = subst (IsCrossRest d old (n + 1)) (sym e) (record {
     shape = rest.shape;
     wires = rest.wires;
     tables = rest.tables;
-    only = λ x has. by x (rest.only x has);
+    only = λ x has. so_far n x (rest.only x has);
     each = λ x l unfree tap line. each x l unfree tap line (cases_eq x n);
   })
     where
-      by : (x : ℕ) → (set.contains old.list.crosses x ≡ true) ⊎ ((x < n) × (¬ IsFreeCross d.shape d.list x) × IsFreeWire old.list (ends_of d.shape x).0 × IsFreeWire old.list (ends_of d.shape x).1) →
-          (set.contains old.list.crosses x ≡ true) ⊎ ((x < n + 1) × (¬ IsFreeCross d.shape d.list x) × IsFreeWire old.list (ends_of d.shape x).0 × IsFreeWire old.list (ends_of d.shape x).1)
-      by x (inl h) = inl h
-      by x (inr r) = inr (omega (arith, r.0), r.1, r.2, r.3)
-
       each : (x : ℕ) → x < n + 1 → ¬ IsFreeCross d.shape d.list x → IsFreeWire old.list (ends_of d.shape x).0 → IsFreeWire old.list (ends_of d.shape x).1 → (x ≡ n) ⊎ (x ≢ n) → set.contains cur.list.crosses x ≡ true
       each x l unfree tap line (inl q) = absurd (never (subst (λ z. ¬ IsFreeCross d.shape d.list z) q unfree) (subst (λ z. IsFreeWire old.list (ends_of d.shape z).0) q tap) (subst (λ z. IsFreeWire old.list (ends_of d.shape z).1) q line))
       each x l unfree tap line (inr ne) = rest.each x (omega (arith, l, ne)) unfree tap line
@@ -173,17 +176,12 @@ module _ (d old : DefectList) where
         each = λ x l unfree_x tap line. each x l unfree_x tap line (cases_eq x n);
       }
         where
-          before : (x : ℕ) → (set.contains old.list.crosses x ≡ true) ⊎ ((x < n) × (¬ IsFreeCross d.shape d.list x) × IsFreeWire old.list (ends_of d.shape x).0 × IsFreeWire old.list (ends_of d.shape x).1) →
-              (set.contains old.list.crosses x ≡ true) ⊎ ((x < n + 1) × (¬ IsFreeCross d.shape d.list x) × IsFreeWire old.list (ends_of d.shape x).0 × IsFreeWire old.list (ends_of d.shape x).1)
-          before x (inl h) = inl h
-          before x (inr r) = inr (omega (arith, r.0), r.1, r.2, r.3)
-
           here : (n < n + 1) × (¬ IsFreeCross d.shape d.list n) × IsFreeWire old.list (ends_of d.shape n).0 × IsFreeWire old.list (ends_of d.shape n).1
           here = let r = ends_free e in (omega arith, unfree, r.0, r.1)
 
-          only : (x : ℕ) → (x ≡ n) ⊎ (set.contains cur.list.crosses x ≡ true) → (set.contains old.list.crosses x ≡ true) ⊎ ((x < n + 1) × (¬ IsFreeCross d.shape d.list x) × IsFreeWire old.list (ends_of d.shape x).0 × IsFreeWire old.list (ends_of d.shape x).1)
+          only : (x : ℕ) → (x ≡ n) ⊎ (set.contains cur.list.crosses x ≡ true) → IsListed (n + 1) x
           only x (inl q) = inr (subst (λ z. (z < n + 1) × (¬ IsFreeCross d.shape d.list z) × IsFreeWire old.list (ends_of d.shape z).0 × IsFreeWire old.list (ends_of d.shape z).1) (sym q) here)
-          only x (inr h) = before x (rest.only x h)
+          only x (inr h) = so_far n x (rest.only x h)
 
           each : (x : ℕ) → x < n + 1 → ¬ IsFreeCross d.shape d.list x → IsFreeWire old.list (ends_of d.shape x).0 → IsFreeWire old.list (ends_of d.shape x).1 → (x ≡ n) ⊎ (x ≢ n) → set.contains (set.insert cur.list.crosses n) x ≡ true
           each x l unfree_x tap line (inl q) = subst (λ z. set.contains (set.insert cur.list.crosses n) z ≡ true) (sym q) (insert_has cur.list.crosses n)

@@ -3,7 +3,7 @@ use Rattle.std.proofs.Common.{◌≡◌, ◌≢◌, ◌⊎◌, ℕ, zero, suc, �
 use Rattle.std.specs.Prelude.{IsSome, None, Option, ◌↔◌}
 use Rattle.std.specs.List.{AllPairs, Contains, filter}
 use Rattle.std.specs.FinSet as set
-use Rattle.std.proofs.lemmas.Bool.{false≢true, cases_order, cases_eq}
+use Rattle.std.proofs.lemmas.Bool.{false≢true, cases_eq}
 use Rattle.std.proofs.lemmas.List.{get_or_default}
 use Rattle.std.proofs.lemmas.List.Elements.{All-filter, filter_passes}
 use Rattle.std.proofs.lemmas.List.Kept.{AllPairs-filter}
@@ -17,7 +17,7 @@ use Rattle.config_image.specs.Images.{ImageValue, IsImage}
 use Rattle.config_image.specs.Parts.{Uses, at_pin}
 use Rattle.place.specs.Lists.{nth_of}
 use Rattle.place.specs.Plans.{IsFreePin}
-use Rattle.place.proofs.Those.{same_place}
+use Rattle.place.proofs.Those.{different_at, same_place}
 use Rattle.repair.specs.declared.seats.Moves.{Moves}
 use Rattle.repair.specs.declared.seats.Seats.{Seats}
 use Rattle.repair.specs.Plans.{is_gone_pin, AreSeats, SitsAt, stays, goes, TableSits, PinSits}
@@ -71,14 +71,6 @@ in_filter test (y ∷ ys) x (suc i, l, same) e = by (test y) (in_filter test ys 
 
 some_none : {o : Option Setting} → IsSome o → o ≡ None → ⊥
 some_none is e = cc
-
-pub different_at : (xs : List ℕ) → AllPairs (λ t u. t ≢ u) xs → (a b : ℕ) → a < length xs → b < length xs → get_or xs a 0 ≡ get_or xs b 0 → a ≡ b
-different_at xs all a b h l e = by (cases_order a b)
-  where
-    by : (a ≡ b) ⊎ ((a < b) ⊎ (b < a)) → a ≡ b
-    by (inl s) = s
-    by (inr (inl s)) = absurd (all a b 0 s l e)
-    by (inr (inr s)) = absurd (all b a 0 s h (sym e))
 
 -- what stands at a place of a list is among those that go, or not
 pub search_gone : (xs : List ℕ) (t : ℕ) → ((k : ℕ) × (k < length xs) × (nth_of xs k ≡ t)) ⊎ ((k : ℕ) → k < length xs → nth_of xs k ≢ t)

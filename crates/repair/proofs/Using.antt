@@ -1,5 +1,5 @@
 -- Which wires are used, by lists of what uses them.
-use Rattle.std.proofs.Common.{◌≡◌, ◌≢◌, ◌⊎◌, ℕ, ◌+◌, ◌≤◌, Bool, true, false, Some, None, Option, List, ◌++◌, length, get_or, refl, sym, ap, ◌∙◌, subst, inl, inr, arith}
+use Rattle.std.proofs.Common.{◌≡◌, ◌≢◌, ◌⊎◌, ℕ, ◌+◌, ◌<◌, ◌≤◌, Bool, true, false, Some, None, Option, List, ◌++◌, length, get_or, refl, sym, ap, ◌∙◌, subst, inl, inr, arith}
 use Rattle.std.specs.Prelude.{IsSome, is_some, ◌==◌, if◌then◌else◌, count_by}
 use Rattle.std.proofs.lemmas.Bool.{cases_eq, false≢true}
 use Rattle.std.proofs.lemmas.List.{get_or_default}
@@ -7,14 +7,16 @@ use Rattle.std.proofs.lemmas.List.Elements.{Contains-get_or, Contains-append_lef
 use Rattle.hierarchy.specs.declared.Cross.{Cross}
 use Rattle.hierarchy.specs.declared.Shape.{Shape}
 use Rattle.hierarchy.specs.declared.Table.{Table}
-use Rattle.hierarchy.specs.Shape.{pin_wire, table_wire, wires_of}
+use Rattle.hierarchy.specs.Shape.{pin_wire, table_wire, tables_of, wires_of}
 use Rattle.config_set.specs.declared.Setting.{Setting}
-use Rattle.config_set.specs.Configuration.{Configuration, is_closed, setting_of}
+use Rattle.config_set.specs.Configuration.{Configuration, IsConfiguration, is_closed, setting_of}
 use Rattle.config_image.specs.Images.{ImageValue}
+use Rattle.config_image.proofs.Keyed.{of_list}
 use Rattle.config_image.specs.Parts.{Uses, at_pin, at_tap, at_line, at_table}
 use Rattle.repair.specs.Making.{IsEndOf, IsPinOf, IsTablePin, IsOnPin, IsSeatPin, no_cross, no_table}
 use Rattle.repair.specs.Marks.{AreMarks, IsMarked, IsThis, IsOfFirst}
 use Rattle.repair.specs.Nets.{IsEnd, as_tap, as_line}
+use Rattle.repair.proofs.Placed.{on_within}
 use Rattle.repair.proofs.Marking.{marked_same, marked_then, marked_both, more_marks, first_all, all_first}
 
 pub on_is : (o : Option Setting) → is_some o ≡ true → IsSome o
@@ -24,6 +26,14 @@ on_is None e = e
 pub is_on : (o : Option Setting) → IsSome o → is_some o ≡ true
 is_on (Some s) e = refl
 is_on None e = e
+
+module _ (g : Configuration) (tables : List Table) (counts : (t : ℕ) → count_by (λ (c : Table). c.0 == t) tables ≡ (if is_some (setting_of g t) then 1 else 0)) (k : ℕ) (l : k < length tables) where
+  -- a listed table is on, and so one of the machine
+  pub listed_on : IsSome (setting_of g (get_or tables k no_table).0)
+  listed_on = on_is (setting_of g (get_or tables k no_table).0) (of_list (λ (c : Table). c.0) tables (λ t. is_some (setting_of g t)) counts k no_table l)
+
+  pub listed_within : IsConfiguration g → (get_or tables k no_table).0 < tables_of g.shape
+  listed_within right = on_within g right (get_or tables k no_table).0 listed_on
 
 module _ (g : Configuration) where
   pub ends_first : (s : Shape) → s ≡ g.shape → (xs : List Cross) → ((x : ℕ) → count_by (λ (c : Cross). c.0 == x) xs ≡ (if is_closed g x then 1 else 0)) → (k : ℕ) → length xs ≤ k → k ≤ length xs → (old new : List Bool) → IsMarked (IsOfFirst (λ (c : Cross). IsEndOf s c.0) no_cross xs k) old new → IsMarked (IsEnd g) old new

@@ -8,14 +8,13 @@ ghost use Rattle.crossbar_route.specs.Routed.{AreWiresOf};
 ghost use Rattle.place.specs.Lists.{nth_of};
 ghost use Rattle.repair.specs.Making.{AreApart, AreSeated, AreSizedFor, IsDrawn, IsKeptCross, IsKeptCrossOf, IsOn};
 
-use crate::nets::net_of;
 use crate::plan::Plan;
+use crate::rest::stays;
 use config_set::Config;
 use crossbar_route::join_nets;
 use hierarchy::{Cross, Table};
-use place::{Port, Visit};
+use place::Layout;
 use std::alloc::{AllocError, Global};
-use tm_items::Items;
 
 // Closes a crosspoint whose net stays.
 fn keep_cross(
@@ -29,18 +28,11 @@ fn keep_cross(
     requires within { cross.0 < crosses_of old.now.config.shape }
     ensures { OnOk result (Closes (IsKeptCrossOf old.now.config plan.now cross.0) 1 config.old.config config.new.config) }
 {
-    hierarchy::the_numbering_is_sound();
     let (tap, _) = old.shape().ends(cross);
-    match net_of(old, &plan.nets, tap) {
-        None => Ok(()),
-        Some(net) => {
-            let moves = plan.moves[net as usize];
-            if moves {
-                return Ok(());
-            }
-            config.close_cross(cross)
-        }
+    if !stays(old, plan, tap) {
+        return Ok(());
     }
+    config.close_cross(cross)
 }
 
 // Closes the crosspoints of all nets that stay.
@@ -92,22 +84,16 @@ fn seat_all(config: &mut Config, old: &Config, plan: &Plan)
     }
 }
 
-/// The configuration of a repair whose moving nets have these terminals, ports and lines.
-pub fn draw(
-    alloc: Global,
-    old: &Config,
-    plan: &Plan,
-    nets: &[Items<u32>],
-    ports: &[Port],
-    visits: &[Visit],
-) -> Result<Config, AllocError>
+/// The configuration of a repair whose moving nets have this layout.
+pub fn draw(alloc: Global, old: &Config, plan: &Plan, layout: &Layout) -> Result<Config, AllocError>
     requires plan { AreSizedFor old.now.config plan.now }
     requires apart { AreApart old.now.config plan.now }
-    requires few { length nets.now < 4294967296 }
-    requires wires { AreWiresOf old.now.config.shape nets.now ports.now visits.now }
-    ensures { IfOk result (λ g. IsDrawn old.now.config plan.now nets.now ports.now visits.now g.config) }
+    requires few { length layout.now.nets.items < 4294967296 }
+    requires wires { AreWiresOf old.now.config.shape layout.now.nets.items layout.now.ports.items layout.now.visits.items }
+    ensures { IfOk result (λ g. IsDrawn old.now.config plan.now
+        layout.now.nets.items layout.now.ports.items layout.now.visits.items g.config) }
 {
-    let mut config = join_nets(alloc, old.shape(), nets, ports, visits)?;
+    let mut config = join_nets(alloc, old.shape(), layout)?;
     keep_crosses(&mut config, old, plan)?;
     seat_all(&mut config, old, plan);
     let ticks = old.ticks();

@@ -1,5 +1,5 @@
 //! Repairs an image.
-ghost use Rattle.std.specs.Prelude.{◌≡◌, ◌≤◌, ◌<◌, [], IfOk, IfErr, length};
+ghost use Rattle.std.specs.Prelude.{◌≡◌, ◌≤◌, ◌<◌, IfOk, IfErr, length};
 ghost use Rattle.std.specs.FinSet as set;
 ghost use Rattle.config_image.specs.Parts.{IsFreeImage};
 ghost use Rattle.crossbar_route.specs.Routed.{AreWiresOf};
@@ -15,45 +15,23 @@ use crate::seats::{Seats, moved, need_of, seats_of};
 use crate::terminals::terminals_of;
 use config_image::Image;
 use defect_db::Defects;
-use hierarchy::Node;
-use place::{Need, PlaceFail, Port, Resource, Room, Short, Visit, look_for_room};
+use place::{Layout, PlaceFail, Resource, Room, look_for_room, short_of};
 use std::alloc::{AllocError, Global};
-use tm_items::Items;
 
-// That a resource of the root is short.
-fn short_of(alloc: Global, resource: Resource, need: Need) -> Short
-    ensures { result ≡ record { resource = resource; node = record { 0 = 0 }; need = need.need; have = need.have; nets = [] } }
-{
-    Short {
-        resource,
-        node: Node(0),
-        need: need.need,
-        have: need.have,
-        nets: Items::empty(alloc),
-    }
-}
-
-// The image that follows a plan and whose moving nets have these terminals, ports and lines.
-fn redraw(
-    alloc: Global,
-    image: &Image,
-    plan: &Plan,
-    nets: &[Items<u32>],
-    ports: &[Port],
-    visits: &[Visit],
-) -> Result<Image, AllocError>
+// The image that follows a plan and whose moving nets have this layout.
+fn redraw(alloc: Global, image: &Image, plan: &Plan, layout: &Layout) -> Result<Image, AllocError>
     requires few { set.len image.now.config.closed ≤ 1000000 }
     requires plan { AreSizedFor image.now.config plan.now }
     requires tables { AreApart image.now.config plan.now }
     requires pins { ArePinsApart image.now plan.now }
-    requires nets { length nets.now < 4294967296 }
-    requires wires { AreWiresOf image.now.config.shape nets.now ports.now visits.now }
-    ensures { IfOk result (IsRedrawn image.now plan.now nets.now ports.now visits.now) }
+    requires nets { length layout.now.nets.items < 4294967296 }
+    requires wires { AreWiresOf image.now.config.shape layout.now.nets.items layout.now.ports.items layout.now.visits.items }
+    ensures { IfOk result (IsRedrawn image.now plan.now layout.now.nets.items layout.now.ports.items layout.now.visits.items) }
 {
     let old = image.config();
     // Says that the machine has few wires.
     let _wires = old.shape().wires();
-    let config = draw(alloc, old, plan, nets, ports, visits)?;
+    let config = draw(alloc, old, plan, layout)?;
     let inputs = moved(alloc, &plan.pins, image.inputs())?;
     let outputs = moved(alloc, &plan.pins, image.outputs())?;
     Ok(Image::new(config, inputs, outputs))
@@ -91,7 +69,12 @@ fn laid(alloc: Global, image: &Image, defects: &Defects, seats: &Seats) -> Resul
     match room {
         Room::Lacks(short) => Err(PlaceFail::Short(short)),
         Room::Enough { ports, visits } => {
-            let repaired = redraw(alloc, image, &plan, &terminals, &ports, &visits)?;
+            let layout = Layout {
+                nets: terminals,
+                ports,
+                visits,
+            };
+            let repaired = redraw(alloc, image, &plan, &layout)?;
             Ok(repaired)
         }
     }

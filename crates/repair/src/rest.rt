@@ -12,8 +12,8 @@ use defect_db::Defects;
 use hierarchy::{Cross, Wire};
 use std::alloc::{AllocError, Global};
 
-// Whether a net that stays has the wire.
-fn stays(config: &Config, plan: &Plan, wire: Wire) -> bool
+/// Whether a net that stays has the wire.
+pub fn stays(config: &Config, plan: &Plan, wire: Wire) -> bool
     requires plan { AreSizedFor config.now.config plan.now }
     requires within { wire.0 < wires_of config.now.config.shape }
     ensures { IsTrue result ↔ HasStayingWire config.now.config plan.now wire.0 }

@@ -1,5 +1,5 @@
 //! The terminals of the nets that move, where they stand now.
-ghost use Rattle.std.specs.Prelude.{◌≡◌, ◌<◌, ◌++◌, ◌∷◌, OnOk, IfOk, All, length, replicate, [], slice_index_or, slice_set};
+ghost use Rattle.std.specs.Prelude.{◌≡◌, ◌<◌, ◌++◌, ◌∷◌, OnOk, IfOk, All, length, [], slice_index_or, slice_set};
 ghost use Rattle.hierarchy.specs.Shape.{wires_of, pins_of, tables_of};
 ghost use Rattle.repair.specs.Making.{AreSizedFor, AreTerminalsOf, IsAdded, IsMovedTo, IsPinTerminal, IsTablePinTerminal, IsTableTerminal};
 
@@ -8,6 +8,7 @@ use crate::plan::Plan;
 use config_image::Image;
 use config_set::Config;
 use hierarchy::{Shape, Table, Wire};
+use place::empty_lists;
 use std::alloc::{AllocError, Global};
 use tm_items::Items;
 
@@ -108,18 +109,6 @@ fn add_tables(lists: &mut [Items<u32>], config: &Config, plan: &Plan) -> Result<
         add_table(lists, config, plan, tables[k], Table(place))?;
     }
     Ok(())
-}
-
-// So many empty lists.
-fn empty_lists(alloc: Global, count: usize) -> Result<Vec<Items<u32>>, AllocError>
-    ensures { IfOk result (λ lists. lists.items ≡ replicate count []) }
-{
-    let mut lists = Vec::new(alloc);
-    for index in 0..count {
-        let _ = index;
-        lists.push(Items::empty(alloc))?;
-    }
-    Ok(lists)
 }
 
 /// For each net that moves its terminals, and nothing for the others.

@@ -5,16 +5,16 @@ use Rattle.crossbar_route.specs.Routed.{AreWiresOf, IsJoined}
 use Rattle.repair.proofs.drawing.draw.Goals as goal
 
 pub join_nets-requires-clause-wires : goal.join_nets-requires-clause-wires
-join_nets-requires-clause-wires c = subst (λ (m : Shape). AreWiresOf m c.args.nets.now c.args.ports.now c.args.visits.now) (sym c.shape.ensures.shape) c.requires.wires
+join_nets-requires-clause-wires c = subst (λ (m : Shape). AreWiresOf m c.args.layout.now.nets.items c.args.layout.now.ports.items c.args.layout.now.visits.items) (sym c.shape.ensures.shape) c.requires.wires
 
 pub keep_crosses-requires-clause-shape : goal.keep_crosses-requires-clause-shape
 keep_crosses-requires-clause-shape c =
-    let joined : IsJoined c.shape.result c.args.nets.now c.args.ports.now c.args.visits.now c.in_ok-config.config.config = c.in_ok-config.ensures in
+    let joined : IsJoined c.shape.result c.args.layout.now.nets.items c.args.layout.now.ports.items c.args.layout.now.visits.items c.in_ok-config.config.config = c.in_ok-config.ensures in
     ap (λ (g : Configuration). g.shape) joined.closed.rest ∙ c.shape.ensures.shape
 
 pub seat_all-requires-clause-shape : goal.seat_all-requires-clause-shape
 seat_all-requires-clause-shape c =
-    let joined : IsJoined c.shape.result c.args.nets.now c.args.ports.now c.args.visits.now c.in_ok-config.config.config = c.in_ok-config.ensures in
+    let joined : IsJoined c.shape.result c.args.layout.now.nets.items c.args.layout.now.ports.items c.args.layout.now.visits.items c.in_ok-config.config.config = c.in_ok-config.ensures in
     ap (λ (g : Configuration). g.shape) c.in_ok-keep_crosses.ensures.rest ∙ ap (λ (g : Configuration). g.shape) joined.closed.rest ∙ c.shape.ensures.shape
 
 pub set_ticks-requires-clause-some : goal.set_ticks-requires-clause-some
@@ -26,7 +26,7 @@ set_ticks-requires-clause-few c = subst (λ n. n ≤ 4096) (sym c.ticks-ticks.en
 pub returns : goal.returns
 returns c = record {
   moved = c.in_ok-config.config.config;
-  joined = subst (λ (m : Shape). IsJoined m c.args.nets.now c.args.ports.now c.args.visits.now c.in_ok-config.config.config) c.shape.ensures.shape c.in_ok-config.ensures;
+  joined = subst (λ (m : Shape). IsJoined m c.args.layout.now.nets.items c.args.layout.now.ports.items c.args.layout.now.visits.items c.in_ok-config.config.config) c.shape.ensures.shape c.in_ok-config.ensures;
   closed = c.keep_crosses.new.config.config;
   closes = c.in_ok-keep_crosses.ensures;
   seated = c.seat_all.new.config.config;

@@ -1,23 +1,16 @@
-use Rattle.std.proofs.Common.{ℕ, get_or, ◌∙◌, arith}
-use Rattle.std.specs.Prelude.{is_some}
+use Rattle.std.proofs.Common.{◌∙◌, arith}
 use Rattle.hierarchy.specs.declared.Table.{Table}
-use Rattle.config_set.specs.Configuration.{setting_of}
 use Rattle.repair.specs.Making.{IsBrokenHere, no_table}
 use Rattle.repair.proofs.Unbroken.{tables_first}
-use Rattle.config_image.proofs.Keyed.{of_list}
 use Rattle.repair.proofs.Marking.{marked_none, marked_more, first_none}
-use Rattle.repair.proofs.Placed.{on_within}
-use Rattle.repair.proofs.Using.{on_is}
+use Rattle.repair.proofs.Using.{listed_within}
 use Rattle.repair.proofs.keeping.mark_tables.Goals as goal
 
 pub mark_table-requires-clause-sized : goal.mark_table-requires-clause-sized
 mark_table-requires-clause-sized c = c.loop-k.invariant.sized ∙ c.requires.sized
 
 pub mark_table-requires-clause-within : goal.mark_table-requires-clause-within
-mark_table-requires-clause-within c =
-    let g = c.args.config.now.config in
-    let t : ℕ = (get_or c.tables_on-tables.result.now c.loop-k.k no_table).0 in
-    on_within g c.shape-shape.ensures.right t (on_is (setting_of g t) (of_list (λ (x : Table). x.0) c.tables_on-tables.result.now (λ q. is_some (setting_of g q)) c.tables_on-tables.ensures c.loop-k.k no_table c.loop-k-test.true))
+mark_table-requires-clause-within c = listed_within c.args.config.now.config c.tables_on-tables.result.now c.tables_on-tables.ensures c.loop-k.k c.loop-k-test.true c.shape-shape.ensures.right
 
 pub loop-k-init : goal.loop-k-init
 loop-k-init c = marked_none _ c.args.marks.now (first_none (λ (x : Table). IsBrokenHere c.args.defects.now.list c.args.config.now.config c.args.nets.now.lowest x.0) no_table c.tables_on-tables.result.now)

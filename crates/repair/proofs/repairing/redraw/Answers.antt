@@ -1,12 +1,11 @@
-use Rattle.std.proofs.Common.{◌≡◌, ◌<◌, ◌≤◌, All, length, map, refl, sym, ap, ◌∙◌, subst}
+use Rattle.std.proofs.Common.{◌≡◌, ◌<◌, ◌≤◌, All, length, refl, sym, ap, ◌∙◌, subst}
 use Rattle.hierarchy.specs.Shape.{pins_of, wires_of}
 use Rattle.config_set.specs.Configuration.{Configuration}
 use Rattle.config_image.specs.Images.{ImageValue, IsImage}
 use Rattle.crossbar_route.specs.Routed.{AreWiresOf}
-use Rattle.place.specs.Lists.{nth_of}
 use Rattle.repair.specs.Making.{AreApart, AreSizedFor, IsDrawn, IsRedrawn}
-use Rattle.repair.proofs.Pins.{inputs_within, outputs_within}
-use Rattle.repair.proofs.Redrawing.{drawn_shape, places_within, places_apart, few_closed}
+use Rattle.config_image.proofs.Touching.{inputs_within, outputs_within}
+use Rattle.repair.proofs.Redrawing.{moved_as, drawn_shape, places_within, places_apart, few_closed}
 use Rattle.repair.proofs.repairing.redraw.Goals as goal
 
 pub draw-requires-clause-plan : goal.draw-requires-clause-plan
@@ -16,7 +15,7 @@ pub draw-requires-clause-apart : goal.draw-requires-clause-apart
 draw-requires-clause-apart c = subst (λ (g : Configuration). AreApart g c.args.plan.now) (sym c.config-old.ensures.config) c.requires.tables
 
 pub draw-requires-clause-wires : goal.draw-requires-clause-wires
-draw-requires-clause-wires c = subst (λ (g : Configuration). AreWiresOf g.shape c.args.nets.now c.args.ports.now c.args.visits.now) (sym c.config-old.ensures.config) c.requires.wires
+draw-requires-clause-wires c = subst (λ (g : Configuration). AreWiresOf g.shape c.args.layout.now.nets.items c.args.layout.now.ports.items c.args.layout.now.visits.items) (sym c.config-old.ensures.config) c.requires.wires
 
 pub moved-requires : goal.moved-requires
 moved-requires c =
@@ -32,35 +31,27 @@ moved-requires-2 c =
 
 pub new-requires-clause-within : goal.new-requires-clause-within
 new-requires-clause-within c =
-    let i = c.args.image.now in
     let p = c.args.plan.now in
-    let ins : c.in_ok-inputs.inputs.items ≡ map (nth_of p.pins.items) i.inputs = c.in_ok-inputs.ensures ∙ (λ z. map (nth_of (c.deref.ensures.value z)) (c.inputs.ensures.pins z)) in
-    let outs : c.in_ok-outputs.outputs.items ≡ map (nth_of p.pins.items) i.outputs = c.in_ok-outputs.ensures ∙ (λ z. map (nth_of (c.deref-2.ensures.value z)) (c.outputs.ensures.pins z)) in
-    let shape = drawn_shape c.config-old.result.now.config p c.args.nets.now c.args.ports.now c.args.visits.now c.in_ok-config.config.config c.in_ok-config.ensures ∙ ap (λ (g : Configuration). g.shape) c.config-old.ensures.config in
-    places_within i p c.in_ok-inputs.inputs.items c.in_ok-outputs.outputs.items ins outs c.config-old.ensures.right c.requires.plan c.in_ok-config.config.config.shape shape
+    let shape = drawn_shape c.config-old.result.now.config p c.args.layout.now.nets.items c.args.layout.now.ports.items c.args.layout.now.visits.items c.in_ok-config.config.config c.in_ok-config.ensures ∙ ap (λ (g : Configuration). g.shape) c.config-old.ensures.config in
+    places_within c.args.image.now p c.in_ok-inputs.inputs.items c.in_ok-outputs.outputs.items (moved_as c.deref.result.now c.args.plan.now.pins.items c.inputs.result.now c.args.image.now.inputs c.in_ok-inputs.inputs.items c.deref.ensures.value c.inputs.ensures.pins c.in_ok-inputs.ensures) (moved_as c.deref-2.result.now c.args.plan.now.pins.items c.outputs.result.now c.args.image.now.outputs c.in_ok-outputs.outputs.items c.deref-2.ensures.value c.outputs.ensures.pins c.in_ok-outputs.ensures) c.config-old.ensures.right c.requires.plan c.in_ok-config.config.config.shape shape
 
 pub new-requires-clause-apart : goal.new-requires-clause-apart
-new-requires-clause-apart c =
-    let i = c.args.image.now in
-    let p = c.args.plan.now in
-    let ins : c.in_ok-inputs.inputs.items ≡ map (nth_of p.pins.items) i.inputs = c.in_ok-inputs.ensures ∙ (λ z. map (nth_of (c.deref.ensures.value z)) (c.inputs.ensures.pins z)) in
-    let outs : c.in_ok-outputs.outputs.items ≡ map (nth_of p.pins.items) i.outputs = c.in_ok-outputs.ensures ∙ (λ z. map (nth_of (c.deref-2.ensures.value z)) (c.outputs.ensures.pins z)) in
-    places_apart i p c.in_ok-inputs.inputs.items c.in_ok-outputs.outputs.items ins outs c.requires.pins
+new-requires-clause-apart c = places_apart c.args.image.now c.args.plan.now c.in_ok-inputs.inputs.items c.in_ok-outputs.outputs.items (moved_as c.deref.result.now c.args.plan.now.pins.items c.inputs.result.now c.args.image.now.inputs c.in_ok-inputs.inputs.items c.deref.ensures.value c.inputs.ensures.pins c.in_ok-inputs.ensures) (moved_as c.deref-2.result.now c.args.plan.now.pins.items c.outputs.result.now c.args.image.now.outputs c.in_ok-outputs.outputs.items c.deref-2.ensures.value c.outputs.ensures.pins c.in_ok-outputs.ensures) c.requires.pins
 
 pub new-requires-clause-few : goal.new-requires-clause-few
 new-requires-clause-few c =
     let i = c.args.image.now in
     let p = c.args.plan.now in
-    let drawn : IsDrawn i.config p c.args.nets.now c.args.ports.now c.args.visits.now c.in_ok-config.config.config = subst (λ (g : Configuration). IsDrawn g p c.args.nets.now c.args.ports.now c.args.visits.now c.in_ok-config.config.config) c.config-old.ensures.config c.in_ok-config.ensures in
+    let drawn : IsDrawn i.config p c.args.layout.now.nets.items c.args.layout.now.ports.items c.args.layout.now.visits.items c.in_ok-config.config.config = subst (λ (g : Configuration). IsDrawn g p c.args.layout.now.nets.items c.args.layout.now.ports.items c.args.layout.now.visits.items c.in_ok-config.config.config) c.config-old.ensures.config c.in_ok-config.ensures in
     let wires : wires_of i.config.shape ≤ 16384 = subst (λ n. n ≤ 16384) (c.wires-wires.ensures.wires ∙ ap wires_of (c.shape.ensures.shape ∙ ap (λ (g : Configuration). g.shape) c.config-old.ensures.config)) c.wires-wires.ensures.few in
-    few_closed i.config p c.args.nets.now c.args.ports.now c.args.visits.now c.in_ok-config.config.config drawn c.requires.few wires
+    few_closed i.config p c.args.layout.now.nets.items c.args.layout.now.ports.items c.args.layout.now.visits.items c.in_ok-config.config.config drawn c.requires.few wires
 
 pub returns : goal.returns
 returns c =
     let i = c.args.image.now in
     let p = c.args.plan.now in
-    let ins : c.in_ok-inputs.inputs.items ≡ map (nth_of p.pins.items) i.inputs = c.in_ok-inputs.ensures ∙ (λ z. map (nth_of (c.deref.ensures.value z)) (c.inputs.ensures.pins z)) in
-    let outs : c.in_ok-outputs.outputs.items ≡ map (nth_of p.pins.items) i.outputs = c.in_ok-outputs.ensures ∙ (λ z. map (nth_of (c.deref-2.ensures.value z)) (c.outputs.ensures.pins z)) in
-    let drawn : IsDrawn i.config p c.args.nets.now c.args.ports.now c.args.visits.now c.in_ok-config.config.config = subst (λ (g : Configuration). IsDrawn g p c.args.nets.now c.args.ports.now c.args.visits.now c.in_ok-config.config.config) c.config-old.ensures.config c.in_ok-config.ensures in
-    subst (λ (v : ImageValue). IsRedrawn i p c.args.nets.now c.args.ports.now c.args.visits.now v) (sym c.new.ensures.value)
+    let ins = moved_as c.deref.result.now c.args.plan.now.pins.items c.inputs.result.now c.args.image.now.inputs c.in_ok-inputs.inputs.items c.deref.ensures.value c.inputs.ensures.pins c.in_ok-inputs.ensures in
+    let outs = moved_as c.deref-2.result.now c.args.plan.now.pins.items c.outputs.result.now c.args.image.now.outputs c.in_ok-outputs.outputs.items c.deref-2.ensures.value c.outputs.ensures.pins c.in_ok-outputs.ensures in
+    let drawn : IsDrawn i.config p c.args.layout.now.nets.items c.args.layout.now.ports.items c.args.layout.now.visits.items c.in_ok-config.config.config = subst (λ (g : Configuration). IsDrawn g p c.args.layout.now.nets.items c.args.layout.now.ports.items c.args.layout.now.visits.items c.in_ok-config.config.config) c.config-old.ensures.config c.in_ok-config.ensures in
+    subst (λ (v : ImageValue). IsRedrawn i p c.args.layout.now.nets.items c.args.layout.now.ports.items c.args.layout.now.visits.items v) (sym c.new.ensures.value)
     (record { right = subst IsImage c.new.ensures.value c.new.ensures.right; drawn = drawn; inputs = ins; outputs = outs })

@@ -1,7 +1,7 @@
 use Rattle.std.proofs.Common.{◌++◌, ap, ◌∙◌}
 use Rattle.std.specs.List.{filter}
 use Rattle.repair.specs.Plans.{is_gone_pin}
-use Rattle.repair.proofs.Pins.{inputs_within, outputs_within}
+use Rattle.config_image.proofs.Touching.{inputs_within, outputs_within}
 use Rattle.repair.proofs.Placing.{filter_both}
 use Rattle.repair.proofs.seats.gone_pins.Goals as goal
 

@@ -1,45 +1,33 @@
-use Rattle.std.proofs.Common.{◌≡◌, ◌<◌, ℕ, length, get_or, sym, ◌∙◌, subst, arith}
-use Rattle.std.specs.Prelude.{is_some}
+use Rattle.std.proofs.Common.{◌≡◌, ◌<◌, ℕ, List, length, get_or, sym, ◌∙◌, subst, arith}
 use Rattle.std.proofs.lemmas.List.{get_or_read}
-use Rattle.hierarchy.specs.declared.Table.{Table}
 use Rattle.hierarchy.specs.Shape.{tables_of}
-use Rattle.config_set.specs.Configuration.{setting_of}
 use Rattle.place.specs.Lists.{nth_of}
 use Rattle.repair.specs.Making.{IsAdded, IsFirstTableTerminal, IsTablePinTerminal, no_table}
 use Rattle.repair.proofs.Adding.{added_none, no_tables, tables_more, tables_all}
-use Rattle.config_image.proofs.Keyed.{of_list}
-use Rattle.repair.proofs.Placed.{on_within}
-use Rattle.repair.proofs.Using.{on_is}
+use Rattle.repair.proofs.Using.{listed_within}
 use Rattle.repair.proofs.terminals.add_tables.Goals as goal
+
+-- the place of a table of the machine
+place_read : (places : List ℕ) (t count place : ℕ) → length places ≡ count → t < count → place ≡ get_or places t place → place ≡ nth_of places t
+place_read places t count place sized within at = get_or_read places t place (subst (λ n. t < n) (sym sized) within) at 0
 
 pub index-place-requires : goal.index-place-requires
 index-place-requires c =
-    let g = c.args.config.now.config in
-    let t : ℕ = (get_or c.tables_on-tables.result.now c.loop-k.k no_table).0 in
-    let on = on_is (setting_of g t) (of_list (λ (x : Table). x.0) c.tables_on-tables.result.now (λ q. is_some (setting_of g q)) c.tables_on-tables.ensures c.loop-k.k no_table c.loop-k-test.true) in
-    let within : t < tables_of g.shape = on_within g c.shape-shape.ensures.right t on in
-    let sized : length c.args.plan.now.tables.items ≡ tables_of g.shape = c.requires.plan.tables_sized in
+    let within = listed_within c.args.config.now.config c.tables_on-tables.result.now c.tables_on-tables.ensures c.loop-k.k c.loop-k-test.true c.shape-shape.ensures.right in
+    let sized : length c.args.plan.now.tables.items ≡ tables_of c.args.config.now.config.shape = c.requires.plan.tables_sized in
     omega (arith, sized, within)
 
 pub add_table-requires-clause-place : goal.add_table-requires-clause-place
 add_table-requires-clause-place c =
-    let g = c.args.config.now.config in
-    let p = c.args.plan.now in
-    let t : ℕ = (get_or c.tables_on-tables.result.now c.loop-k.k no_table).0 in
-    let on = on_is (setting_of g t) (of_list (λ (x : Table). x.0) c.tables_on-tables.result.now (λ q. is_some (setting_of g q)) c.tables_on-tables.ensures c.loop-k.k no_table c.loop-k-test.true) in
-    let here : t < tables_of g.shape = on_within g c.shape-shape.ensures.right t on in
-    let within : t < length p.tables.items = subst (λ n. t < n) (sym c.requires.plan.tables_sized) here in
-    let place : c.index-place.result.now ≡ nth_of p.tables.items t = get_or_read p.tables.items _ _ within c.index-place.ensures 0 in
-    subst (λ n. n < tables_of g.shape) (sym place) (c.requires.plan.tables_within t here)
+    let within = listed_within c.args.config.now.config c.tables_on-tables.result.now c.tables_on-tables.ensures c.loop-k.k c.loop-k-test.true c.shape-shape.ensures.right in
+    let place = place_read c.args.plan.now.tables.items _ _ c.index-place.result.now c.requires.plan.tables_sized within c.index-place.ensures in
+    subst (λ n. n < tables_of c.args.config.now.config.shape) (sym place) (c.requires.plan.tables_within _ within)
 
 pub add_table-requires-clause-sized : goal.add_table-requires-clause-sized
 add_table-requires-clause-sized c = c.loop-k.invariant.sized ∙ c.requires.sized
 
 pub add_table-requires-clause-table : goal.add_table-requires-clause-table
-add_table-requires-clause-table c =
-    let g = c.args.config.now.config in
-    let t : ℕ = (get_or c.tables_on-tables.result.now c.loop-k.k no_table).0 in
-    on_within g c.shape-shape.ensures.right t (on_is (setting_of g t) (of_list (λ (x : Table). x.0) c.tables_on-tables.result.now (λ q. is_some (setting_of g q)) c.tables_on-tables.ensures c.loop-k.k no_table c.loop-k-test.true))
+add_table-requires-clause-table c = listed_within c.args.config.now.config c.tables_on-tables.result.now c.tables_on-tables.ensures c.loop-k.k c.loop-k-test.true c.shape-shape.ensures.right
 
 pub loop-k-init : goal.loop-k-init
 loop-k-init c = added_none (IsFirstTableTerminal c.args.config.now.config c.args.plan.now c.tables_on-tables.result.now 0) c.args.lists.now (no_tables c.args.config.now.config c.args.plan.now c.tables_on-tables.result.now)
@@ -49,9 +37,7 @@ loop-k-preserved c =
     let g = c.args.config.now.config in
     let p = c.args.plan.now in
     let t : ℕ = (get_or c.tables_on-tables.result.now c.loop-k.k no_table).0 in
-    let on = on_is (setting_of g t) (of_list (λ (x : Table). x.0) c.tables_on-tables.result.now (λ q. is_some (setting_of g q)) c.tables_on-tables.ensures c.loop-k.k no_table c.loop-k-test.true) in
-    let within : t < length p.tables.items = subst (λ n. t < n) (sym c.requires.plan.tables_sized) (on_within g c.shape-shape.ensures.right t on) in
-    let place : c.index-place.result.now ≡ nth_of p.tables.items t = get_or_read p.tables.items _ _ within c.index-place.ensures 0 in
+    let place = place_read p.tables.items t _ c.index-place.result.now c.requires.plan.tables_sized (listed_within c.args.config.now.config c.tables_on-tables.result.now c.tables_on-tables.ensures c.loop-k.k c.loop-k-test.true c.shape-shape.ensures.right) c.index-place.ensures in
     tables_more g p c.tables_on-tables.result.now c.loop-k.k c.args.lists.now c.loop-k.lists c.add_table.new.lists c.loop-k.invariant
     (subst (λ u. IsAdded (IsTablePinTerminal g p t u 7) c.loop-k.lists c.add_table.new.lists) place c.in_ok-add_table.ensures)
 

@@ -3,7 +3,7 @@ use Rattle.std.proofs.lemmas.List.{take_at, length-replicate}
 use Rattle.config_set.specs.Configuration.{Configuration}
 use Rattle.repair.specs.Making.{AreSizedFor, AreTerminalsOf, IsAdded, IsPinTerminal, IsTableTerminal}
 use Rattle.repair.proofs.Adding.{terminals_made}
-use Rattle.repair.proofs.Pins.{inputs_within, outputs_within}
+use Rattle.config_image.proofs.Touching.{inputs_within, outputs_within}
 use Rattle.repair.proofs.terminals.terminals_of.Goals as goal
 
 pub add_pins-requires-clause-plan : goal.add_pins-requires-clause-plan

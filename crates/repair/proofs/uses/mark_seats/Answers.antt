@@ -4,7 +4,7 @@ use Rattle.config_set.specs.Configuration.{Configuration}
 use Rattle.repair.specs.Making.{IsOnPin, IsPinOf}
 use Rattle.repair.specs.Marks.{IsMarked}
 use Rattle.repair.proofs.Using.{seats_marked}
-use Rattle.repair.proofs.Pins.{inputs_within, outputs_within}
+use Rattle.config_image.proofs.Touching.{inputs_within, outputs_within}
 use Rattle.repair.proofs.uses.mark_seats.Goals as goal
 
 pub mark_pins-requires-clause-sized : goal.mark_pins-requires-clause-sized

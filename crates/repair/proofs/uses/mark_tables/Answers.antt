@@ -1,26 +1,18 @@
-use Rattle.std.proofs.Common.{◌<◌, ℕ, get_or, sym, ap, ◌∙◌, subst, arith}
-use Rattle.std.specs.Prelude.{is_some}
+use Rattle.std.proofs.Common.{◌<◌, get_or, sym, ap, ◌∙◌, subst, arith}
 use Rattle.hierarchy.specs.declared.Shape.{Shape}
 use Rattle.hierarchy.specs.declared.Table.{Table}
 use Rattle.hierarchy.specs.Shape.{wires_of, tables_of}
-use Rattle.config_set.specs.Configuration.{setting_of}
 use Rattle.repair.specs.Making.{IsTablePin, no_table}
 use Rattle.repair.specs.Marks.{IsOfFirst}
-use Rattle.config_image.proofs.Keyed.{of_list}
 use Rattle.repair.proofs.Marking.{marked_none, marked_more, first_none}
-use Rattle.repair.proofs.Using.{on_first, on_is}
-use Rattle.repair.proofs.Placed.{on_within}
+use Rattle.repair.proofs.Using.{listed_within, on_first}
 use Rattle.repair.proofs.uses.mark_tables.Goals as goal
 
 pub mark_table-requires-clause-sized : goal.mark_table-requires-clause-sized
 mark_table-requires-clause-sized c = c.loop-k.invariant.sized ∙ c.requires ∙ ap wires_of (sym c.shape-shape.ensures.shape)
 
 pub mark_table-requires-clause-within : goal.mark_table-requires-clause-within
-mark_table-requires-clause-within c =
-    let g = c.args.config.now.config in
-    let t : ℕ = (get_or c.tables_on-tables.result.now c.loop-k.k no_table).0 in
-    let on = of_list (λ (x : Table). x.0) c.tables_on-tables.result.now (λ q. is_some (setting_of g q)) c.tables_on-tables.ensures c.loop-k.k no_table c.loop-k-test.true in
-    subst (λ (s : Shape). t < tables_of s) (sym c.shape-shape.ensures.shape) (on_within g c.shape-shape.ensures.right t (on_is (setting_of g t) on))
+mark_table-requires-clause-within c = subst (λ (s : Shape). (get_or c.tables_on-tables.result.now c.loop-k.k no_table).0 < tables_of s) (sym c.shape-shape.ensures.shape) (listed_within c.args.config.now.config c.tables_on-tables.result.now c.tables_on-tables.ensures c.loop-k.k c.loop-k-test.true c.shape-shape.ensures.right)
 
 pub loop-k-init : goal.loop-k-init
 loop-k-init c = marked_none (IsOfFirst (λ (x : Table). IsTablePin c.shape-shape.result x.0 7) no_table c.tables_on-tables.result.now 0) c.args.marks.now (first_none (λ (x : Table). IsTablePin c.shape-shape.result x.0 7) no_table c.tables_on-tables.result.now)
