@@ -8,3 +8,4 @@ mod RunLemmas
 pub mod DesignLemmas
 mod RowLemmas
 mod SizeLemmas
+mod HeadLemmas

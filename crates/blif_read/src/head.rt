@@ -1,6 +1,6 @@
 //! What a line begins with.
 
-ghost use Rattle.std.specs.Prelude.{◌≡◌};
+ghost use Rattle.std.specs.Prelude.{◌≡◌, slice_index};
 ghost use Rattle.std.specs.List.{list_any};
 ghost use Rattle.std.specs.Str.{bytes_eq};
 ghost use Rattle.blif_read.specs.Heads.{head_of, left_out};
@@ -68,9 +68,9 @@ fn is_left_out(word: &[u8]) -> bool
     is_one_of(word, &LEFT_OUT)
 }
 
-/// The kind of line that begins with this word.
+/// The kind of line that begins with this word, looked up among all words.
 #[tactic(auto, unfolding(crate::specs::Heads::head_of))]
-pub fn head_of(word: &[u8]) -> Head
+fn known_head(word: &[u8]) -> Head
     ensures { result ≡ head_of word.now }
 {
     if word == b".model".as_slice() {
@@ -98,6 +98,26 @@ pub fn head_of(word: &[u8]) -> Head
         Head::LeftOut
     } else if word.first() == Some(&b'.') {
         Head::Unknown
+    } else {
+        Head::Row
+    }
+}
+
+fn first_byte(word: &[u8]) -> u8
+    ensures { result ≡ slice_index word.now 0 }
+{
+    match word.first() {
+        Some(byte) => *byte,
+        None => 0,
+    }
+}
+
+/// The kind of line that begins with this word. Most lines are rows, which no word has to be compared with.
+pub fn head_of(word: &[u8]) -> Head
+    ensures { result ≡ head_of word.now }
+{
+    if first_byte(word) == b'.' {
+        known_head(word)
     } else {
         Head::Row
     }
