@@ -19,5 +19,6 @@ mod MergeLemmas
 pub mod CompactLemmas
 mod ReaderLemmas
 mod AddressLemmas
+mod ComposeLemmas
 mod ReducedLemmas
 mod SpreadLemmas

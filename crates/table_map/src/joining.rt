@@ -1,14 +1,13 @@
 //! A table that is put into its reader.
 
-ghost use Rattle.std.specs.Prelude.{◌≡◌, ◌+◌, ◌<◌, ◌≤◌, ◌++◌, length, map, true, MatchOption, slice_index_or, if◌then◌else◌};
-ghost use Rattle.std.specs.List.{range_with_len};
+ghost use Rattle.std.specs.Prelude.{◌≡◌, ◌+◌, ◌<◌, ◌≤◌, ◌++◌, length, map, MatchOption, slice_index_or};
 ghost use Rattle.table_map.specs.declared.source.Source.TheVariants.{Input};
-ghost use Rattle.table_map.specs.Rows.{cell_at};
-ghost use Rattle.table_map.specs.Plain.{cells_where, distinct, pin_named, six_bits};
+ghost use Rattle.table_map.specs.Plain.{distinct};
 ghost use Rattle.table_map.specs.Cells.{is_among};
 ghost use Rattle.table_map.specs.Merging.{number, numbers_without};
-ghost use Rattle.table_map.specs.Joining.{address_by, bit_with, in_tables, joined_truth, IsJoined, MayPut};
+ghost use Rattle.table_map.specs.Joining.{in_tables, IsJoined, MayPut};
 
+use crate::composing::joined_cells;
 use crate::network::NetTable;
 use crate::source::{Source, Sources};
 use std::alloc::Global;
@@ -70,104 +69,6 @@ fn together(alloc: Global, table: u32, first: &[Source], second: &[Source]) -> O
         sources.push(source);
     }
     Some(sources)
-}
-
-fn cell(cells: u64, address: u64) -> bool
-    requires { address < 64 }
-    ensures { result ≡ cell_at cells address }
-{
-    (cells >> address) & 1 == 1
-}
-
-/// What a source gives at an address of a table with these inputs. One that is no input counts as 1.
-fn pin(ins: &[Source], address: u64, source: Source) -> bool
-    requires { length ins.now ≤ 6 }
-    ensures { result ≡ pin_named (map number ins.now) (six_bits address) (number source) }
-{
-    'ins: for k in 0..ins.len() {
-        if number(ins[k]) == number(source) {
-            return cell(address, k as u64);
-        }
-    }
-    true
-}
-
-/// What a source gives at an address of a table with these inputs, where another table gives this.
-fn bit(ins: &[Source], address: u64, table: u32, given: bool, source: Source) -> bool
-    requires { length ins.now ≤ 6 }
-    ensures { result ≡ bit_with (map number ins.now) (six_bits address) table given source }
-{
-    if number(source) == number(Source::Table(table)) {
-        given
-    } else {
-        pin(ins, address, source)
-    }
-}
-
-/// What the k-th pin of a table that reads these sources reads there.
-fn bit_at_pin(
-    ins: &[Source],
-    address: u64,
-    table: u32,
-    given: bool,
-    read: &[Source],
-    k: usize,
-) -> bool
-    requires { length ins.now ≤ 6 }
-    ensures { result ≡ slice_index_or (map (bit_with (map number ins.now) (six_bits address) table given) read.now) k true }
-{
-    if k < read.len() {
-        bit(ins, address, table, given, read[k])
-    } else {
-        true
-    }
-}
-
-fn one_if(bit: bool) -> u64
-    ensures { result ≡ (if bit then 1 else 0) }
-{
-    if bit { 1 } else { 0 }
-}
-
-/// The address of a table that reads these sources there.
-fn address_in(ins: &[Source], address: u64, table: u32, given: bool, read: &[Source]) -> u64
-    requires { length ins.now ≤ 6 }
-    ensures { result ≡ address_by (bit_with (map number ins.now) (six_bits address) table given) read.now }
-{
-    let mut found = 0;
-    'pins: for k in 0..6 {
-        found = one_if(bit_at_pin(ins, address, table, given, read, 5 - k)) + 2 * found;
-    }
-    found
-}
-
-/// What the reader gives at an address of a table with these inputs, where what the table gives is its input.
-fn joined_cell(
-    ins: &[Source],
-    table: u32,
-    inner: &NetTable,
-    reader: &NetTable,
-    address: u64,
-) -> bool
-    requires { length ins.now ≤ 6 }
-    ensures { result ≡ joined_truth (map number ins.now) table inner.now reader.now (six_bits address) }
-{
-    let inner_address = address_in(ins, address, table, true, inner.ins.as_slice());
-    let given = cell(inner.cells, inner_address);
-    let reader_address = address_in(ins, address, table, given, reader.ins.as_slice());
-    cell(reader.cells, reader_address)
-}
-
-/// The cells of the composed function.
-fn joined_cells(ins: &[Source], table: u32, inner: &NetTable, reader: &NetTable) -> u64
-    requires { length ins.now ≤ 6 }
-    ensures { result ≡ cells_where (joined_truth (map number ins.now) table inner.now reader.now) }
-{
-    let mut cells = 0;
-    'cells: for k in 0..64 {
-        cells = one_if(joined_cell(ins, table, inner, reader, 63 - k)) + 2 * cells;
-    }
-    cells
 }
 
 /// The reader with the table put into it, if they have at most six sources together.

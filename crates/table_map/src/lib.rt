@@ -14,6 +14,7 @@
 mod build;
 mod cells;
 mod compact;
+mod composing;
 mod copying;
 mod covers;
 mod drives;
