@@ -13,7 +13,7 @@ use Rattle.hierarchy.specs.Shape.{levels_of, wires_of, crosses_of, tables_of, no
 use Rattle.hierarchy.specs.Shape.Meaning.{Line}
 use Rattle.hierarchy.specs.Shape.Means.{is_line}
 use Rattle.defect_db.specs.Lists.{all_below, is_free_wire, has_free_ends, has_free_pins, with_cross, with_table}
-use Rattle.defect_db.specs.Kept.{Marks, AreRight, AreShutBy, listed_by, marked, is_barred, is_lost, is_clear_line, count_at, shut_at, clear_lines_at}
+use Rattle.defect_db.specs.Kept.{Marks, IsWide, AreRight, AreShutBy, listed_by, marked, is_barred, is_lost, is_clear_line, count_at, shut_at, clear_lines_at}
 use Rattle.defect_db.proofs.Marks.{in_marked, marked_more, put_again, all_each, all_same}
 use Rattle.defect_db.proofs.Counting.{how_many_less, how_many_same, how_many_some, how_many_at_most}
 use Rattle.defect_db.proofs.Sweeping.{count_set, set_here, set_there, shut_less, shut_elsewhere, ends_are}
@@ -21,6 +21,20 @@ use Rattle.defect_db.proofs.Sweeping.{count_set, set_here, set_there, shut_less,
 pub few_crosses : (m : Shape) → crosses_of m ≤ 4194304
 unfolding crosses_of levels_of
 few_crosses m = m.few_crosses
+
+-- lists of the lengths that they had
+still_wide : {k l : Marks} → IsWide k → l.shape ≡ k.shape → length l.wires ≡ length k.wires → length l.crosses ≡ length k.crosses → length l.tables ≡ length k.tables → length l.barred ≡ length k.barred → length l.lost ≡ length k.lost → length l.owners ≡ length k.owners → length l.shut ≡ length k.shut → length l.open_lines ≡ length k.open_lines → length l.free_ports ≡ length k.free_ports → IsWide l
+still_wide is shape wires crosses tables barred lost owners shut open_lines free_ports = record {
+  wires = wires ∙ is.wires ∙ ap wires_of (sym shape);
+  crosses = crosses ∙ is.crosses ∙ ap crosses_of (sym shape);
+  tables = tables ∙ is.tables ∙ ap tables_of (sym shape);
+  barred = barred ∙ is.barred ∙ ap crosses_of (sym shape);
+  lost = lost ∙ is.lost ∙ ap tables_of (sym shape);
+  owners = owners ∙ is.owners ∙ ap wires_of (sym shape);
+  shut = shut ∙ is.shut ∙ ap wires_of (sym shape);
+  open_lines = open_lines ∙ is.open_lines ∙ ap nodes_of (sym shape);
+  free_ports = free_ports ∙ is.free_ports ∙ ap nodes_of (sym shape);
+}
 
 -- ---- tables
 
@@ -59,17 +73,7 @@ module _ (k : Marks) (is : AreRight k) (t : ℕ) (lt : t < tables_of k.shape) wh
 
     pub table_right : AreRight with_listed_table
     table_right = record {
-      wide = record {
-        wires = is.wide.wires;
-        crosses = is.wide.crosses;
-        tables = length-set k.tables t true ∙ is.wide.tables;
-        barred = is.wide.barred;
-        lost = length-set k.lost t true ∙ is.wide.lost;
-        owners = is.wide.owners;
-        shut = is.wide.shut;
-        open_lines = is.wide.open_lines;
-        free_ports = is.wide.free_ports;
-      };
+      wide = still_wide is.wide refl refl refl (length-set k.tables t true) refl (length-set k.lost t true) refl refl refl refl;
       owners = is.owners;
       ends = is.ends;
       pins = λ u i lu on li. pins u i lu on li (ℕ_discrete u t);
@@ -237,23 +241,13 @@ module _ (k : Marks) (is : AreRight k) (x : ℕ) (lt : x < crosses_of k.shape) w
             let was = is.open_lines node (crosses.node x lt) in
             ap (λ b. if b then count_at k.open_lines node - 1 else count_at k.open_lines n) (eq-eqb n node g) ∙ (let h : count_at k.open_lines node - 1 ≡ clear_lines_at m k.wires shut_now node = omega (arith, less, was) in h) ∙ ap (clear_lines_at m k.wires shut_now) (sym g)
 
-    open_width : (b : Bool) → length (if b then set k.open_lines node (count_at k.open_lines node - 1) else k.open_lines) ≡ nodes_of m
-    open_width true = length-set k.open_lines node _ ∙ is.wide.open_lines
-    open_width false = is.wide.open_lines
+    open_width : (b : Bool) → length (if b then set k.open_lines node (count_at k.open_lines node - 1) else k.open_lines) ≡ length k.open_lines
+    open_width true = length-set k.open_lines node _
+    open_width false = refl
 
     pub cross_right : AreRight with_listed_cross
     cross_right = record {
-      wide = record {
-        wires = is.wide.wires;
-        crosses = length-set k.crosses x true ∙ is.wide.crosses;
-        tables = is.wide.tables;
-        barred = length-set k.barred x true ∙ is.wide.barred;
-        lost = is.wide.lost;
-        owners = is.wide.owners;
-        shut = length-set k.shut line _ ∙ is.wide.shut;
-        open_lines = open_width (count_at k.shut line == 0);
-        free_ports = is.wide.free_ports;
-      };
+      wide = still_wide is.wide refl refl (length-set k.crosses x true) refl (length-set k.barred x true) refl refl (length-set k.shut line _) (open_width (count_at k.shut line == 0)) refl;
       owners = is.owners;
       ends = λ y ly on. ends y ly on (ℕ_discrete y x);
       pins = is.pins;

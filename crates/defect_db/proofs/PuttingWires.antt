@@ -298,20 +298,7 @@ module _ (k : Marks) (is : AreRight k) (w : ℕ) (lw : w < wires_of k.shape) whe
         -- ---- all of it
         module _ (owner : Option Table) (own : get_or k.owners w None ≡ owner) (tables lost : List Bool) (free pins : ℕ) (loses : Loses owner k.tables k.lost k.free_tables tables lost free) (e_pins : pins ≡ free_pins_in m wires_now) where
           abbrev pub with_listed_wire : Marks
-          with_listed_wire = record {
-            shape = m;
-            wires = wires_now;
-            crosses = crosses;
-            tables = tables;
-            barred = barred;
-            lost = lost;
-            owners = k.owners;
-            shut = shut;
-            open_lines = lines;
-            free_ports = ports;
-            free_tables = free;
-            free_pins = pins;
-          }
+          with_listed_wire = record k { wires = wires_now; crosses = crosses; tables = tables; barred = barred; lost = lost; shut = shut; open_lines = lines; free_ports = ports; free_tables = free; free_pins = pins }
 
           pub wire_right : AreRight with_listed_wire
           wire_right =

@@ -26,8 +26,7 @@ overflow_add-count c = let h = count_at_most _ _ _ c.lines.invariant in omega (a
 
 pub returns : goal.returns
 returns c =
-    let m = c.args.shape.now in
-    let end : c.lines.i ≡ lines_of m c.args.n.0 = omega (arith, c.lines-test.false, c.lines-lines.ensures.lines) in
-    c.lines.invariant ∙ how_many_same _ (λ i. is_clear_line c.args.wires.now c.args.shut.now (line_at m c.args.n.0 i)) c.lines.i
-    (λ i li. ap (is_clear_line c.args.wires.now c.args.shut.now) (line_step m (c.crosspoints_stand_in_rows.ensures m) c.args.n.0 _ i c.line-first.ensures.wire))
-    ∙ ap (how_many (λ i. is_clear_line c.args.wires.now c.args.shut.now (line_at m c.args.n.0 i))) end
+    let end : c.lines.i ≡ lines_of c.args.shape.now c.args.n.0 = omega (arith, c.lines-test.false, c.lines-lines.ensures.lines) in
+    c.lines.invariant ∙ how_many_same _ (λ i. is_clear_line c.args.wires.now c.args.shut.now (line_at c.args.shape.now c.args.n.0 i)) c.lines.i
+    (λ i li. ap (is_clear_line c.args.wires.now c.args.shut.now) (line_step c.args.shape.now (c.crosspoints_stand_in_rows.ensures c.args.shape.now) c.args.n.0 _ i c.line-first.ensures.wire))
+    ∙ ap (how_many (λ i. is_clear_line c.args.wires.now c.args.shut.now (line_at c.args.shape.now c.args.n.0 i))) end

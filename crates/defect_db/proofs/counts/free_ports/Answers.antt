@@ -21,8 +21,7 @@ overflow_add-count c = let h = count_at_most _ _ _ c.ports.invariant in omega (a
 
 pub returns : goal.returns
 returns c =
-    let m = c.args.shape.now in
-    let end : c.ports.i ≡ own_ports_of m c.args.n.0 = omega (arith, c.ports-test.false, c.ports-ports.ensures) in
-    c.ports.invariant ∙ how_many_same _ (λ i. not (has_number c.args.wires.now (port_at m c.args.n.0 i))) c.ports.i
-    (λ i li. ap (λ w. not (has_number c.args.wires.now w)) (port_step m (c.crosspoints_stand_in_rows.ensures m) c.args.n.0 _ i c.port-first.ensures.wire))
-    ∙ ap (how_many (λ i. not (has_number c.args.wires.now (port_at m c.args.n.0 i)))) end
+    let end : c.ports.i ≡ own_ports_of c.args.shape.now c.args.n.0 = omega (arith, c.ports-test.false, c.ports-ports.ensures) in
+    c.ports.invariant ∙ how_many_same _ (λ i. not (has_number c.args.wires.now (port_at c.args.shape.now c.args.n.0 i))) c.ports.i
+    (λ i li. ap (λ w. not (has_number c.args.wires.now w)) (port_step c.args.shape.now (c.crosspoints_stand_in_rows.ensures c.args.shape.now) c.args.n.0 _ i c.port-first.ensures.wire))
+    ∙ ap (how_many (λ i. not (has_number c.args.wires.now (port_at c.args.shape.now c.args.n.0 i)))) end
