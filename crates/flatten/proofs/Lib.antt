@@ -4,6 +4,8 @@ pub mod SubstitutionLemmas
 mod FirstLemmas
 mod OrderLemmas
 mod SignalsLemmas
+mod NotedLemmas
+mod MarkLemmas
 mod UseLemmas
 mod FormalLemmas
 mod RuleLemmas

@@ -20,6 +20,7 @@ pub mod NameSets
 pub mod UseLines
 pub mod Links
 pub mod Needs
+pub mod Marks
 pub mod Bodies
 pub mod Frames
 pub mod Origins
