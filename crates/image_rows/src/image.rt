@@ -1,17 +1,13 @@
 //! The rows of an image.
 ghost use Rattle.std.specs.Prelude.{◌≡◌, ◌≤◌, ℕ, List, ◌∷◌, ◌++◌, [], Some, OnOk, IfOk, IfErr, IsSome, length};
-ghost use Rattle.tm_outside.specs.Store.{StoreState};
-ghost use Rattle.tm_outside.specs.Sink.{SinkState};
 ghost use Rattle.hierarchy.specs.Shape.{pins_of};
-ghost use Rattle.rig.specs.Rig.{shape_of, width_of};
 ghost use Rattle.loader.specs.Pins.{pins_in};
 ghost use Rattle.loader.specs.Run.{RunsRow};
 ghost use Rattle.vector_text.specs.Rows.{row_line};
 ghost use Rattle.steps.specs.Files.{IsBegun, file_of};
-ghost use Rattle.steps.specs.Outside.{StandsIn, outside, around};
+ghost use Rattle.steps.specs.Vocabulary.{StoreState, SinkState, shape_of, width_of, StandsIn, outside, around, Took, Follows};
 ghost use Rattle.steps.specs.Courses.{all_rows};
 ghost use Rattle.steps.specs.NextVectors.{WaitsOrPuts};
-ghost use Rattle.steps.specs.Took.{Took, Follows};
 ghost use Rattle.image_rows.specs.Rows.{RowsBegin, image_rows, image_course};
 ghost use Rattle.image_rows.specs.Running.{IsFitting, IsLoaded, Keeps, CycleGives, CycleStops, DriveStops, prepares, at_rows};
 

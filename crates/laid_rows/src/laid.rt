@@ -1,11 +1,8 @@
 //! What is laid on a machine, and run.
 ghost use Rattle.std.specs.Prelude.{◌≡◌, ◌≤◌, ℕ, List, ◌∷◌, [], Some};
-ghost use Rattle.tm_outside.specs.Store.{StoreState};
 ghost use Rattle.defect_db.specs.Lists.{DefectList};
 ghost use Rattle.config_image.specs.Images.{ImageValue};
-ghost use Rattle.rig.specs.Rig.{shape_of};
-ghost use Rattle.steps.specs.Outside.{Outside, outside, around, StandsIn};
-ghost use Rattle.steps.specs.Took.{Took, Follows};
+ghost use Rattle.steps.specs.Vocabulary.{StoreState, shape_of, Outside, outside, around, StandsIn, Took, Follows};
 ghost use Rattle.laid_rows.specs.Laid.{Laid, IsLaidOn};
 ghost use Rattle.laid_rows.specs.Runs.{RunBegin, machine_listed};
 

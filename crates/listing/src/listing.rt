@@ -1,12 +1,8 @@
 //! Lists of defects that are made and written.
 ghost use Rattle.std.specs.Prelude.{◌≡◌, [], ◌∷◌, Some};
-ghost use Rattle.tm_outside.specs.Store.{StoreState};
-ghost use Rattle.tm_outside.specs.Sink.{SinkState};
-ghost use Rattle.rig.specs.Rig.{shape_of};
 ghost use Rattle.diagnose.specs.Diagnosis.{TakesFewLoads};
-ghost use Rattle.steps.specs.Outside.{outside};
+ghost use Rattle.steps.specs.Vocabulary.{StoreState, SinkState, shape_of, outside, Took};
 ghost use Rattle.steps.specs.Texts.{AsksMachine, reads_machine};
-ghost use Rattle.steps.specs.Took.{Took};
 ghost use Rattle.listing.specs.Lists.{lists_machine, lists_now, WritesList};
 
 use defect_db::{Defects, defects_text};

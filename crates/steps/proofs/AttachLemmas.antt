@@ -1,5 +1,5 @@
 -- Machines that weren't attached.
-use Rattle.std.proofs.Common.{◌≡◌, ◌≤◌, [], Some, refl, sym, inl, inr, arith, append-nil}
+use Rattle.std.proofs.Common.{◌≡◌, ◌≤◌, [], Some, refl, inl, inr, arith}
 use Rattle.std.specs.Prelude.{Ok, Err}
 use Rattle.tm_outside.specs.Store.{StoreState}
 use Rattle.tm_outside.specs.Sink.{SinkState}
@@ -11,6 +11,7 @@ use Rattle.steps.specs.Outside.{outside, IsLater}
 use Rattle.steps.specs.Stops.{StepStops, IsCounted, stop_of_attach}
 use Rattle.steps.specs.Took.{Took}
 use Rattle.steps.specs.Texts.{attaches, MayAsk}
+use Rattle.steps.proofs.Making.{took-quietly, stopped-quietly}
 
 module _ (machine : Asked) (old new : RigState) where
   attach-stops : (fail : AttachFail) → IsDetached new → AttachFails fail machine old new → StepStops (attaches machine old new) (stop_of_attach fail)
@@ -34,23 +35,8 @@ module _ (machine : Asked) (old new : RigState) where
   rig-later store sink texts later = record { contents = refl; texts = texts; kind = refl; store = omega arith; rig = later; sink = omega arith }
 
   pub attach-took : (store : StoreState) (sink : SinkState) → new.machine.texts ≡ old.machine.texts → old.failures ≤ new.failures → new.machine.attached ≡ Some machine → Took [] (attaches machine old new) (Ok tt) (outside store old sink) (outside store new sink)
-  attach-took store sink texts later attached = record {
-    later = rig-later store sink texts later;
-    silent = refl;
-    asked = record { all = sym (append-nil store.asked); some = tt };
-    place = refl;
-    gives = attached;
-    stops = tt;
-    counted = tt;
-  }
+  attach-took store sink texts later attached = took-quietly (attaches machine old new) (rig-later store sink texts later) tt attached
 
   pub attach-taken : (store : StoreState) (sink : SinkState) (fail : AttachFail) → new.machine.texts ≡ old.machine.texts → old.failures ≤ new.failures → IsDetached new → AttachFails fail machine old new → Took [] (attaches machine old new) (Err (stop_of_attach fail)) (outside store old sink) (outside store new sink)
-  attach-taken store sink fail texts later none fails = record {
-    later = rig-later store sink texts later;
-    silent = refl;
-    asked = record { all = tt; some = refl };
-    place = refl;
-    gives = tt;
-    stops = attach-stops fail none fails;
-    counted = attach-counted fail store sink fails;
-  }
+  attach-taken store sink fail texts later none fails =
+      stopped-quietly (attaches machine old new) (rig-later store sink texts later) _ (attach-stops fail none fails) (attach-counted fail store sink fails)

@@ -24,14 +24,12 @@ nothing = record {
   sink = record { written = None; failures = 0; can_lack = false };
 }
 
--- the rig alone was used, and its machine is the same
-module _ {T : Type 0} (step : Step T) (old new : RigState) (store : StoreState) (sink : SinkState) (machine : new.machine ≡ old.machine) (later : old.failures ≤ new.failures) where
-  abbrev on-rig : IsLater (outside store old sink) (outside store new sink)
-  on-rig = record { contents = refl; texts = ap (λ (m : Machine). m.texts) machine; kind = refl; store = omega arith; rig = later; sink = omega arith }
-
-  pub rig-took : (x : T) → step.gives x → Took [] step (Ok x) (outside store old sink) (outside store new sink)
-  rig-took x gives = record {
-    later = on-rig;
+-- a step that leaves the store and the sink as they are
+module _ {T : Type 0} (step : Step T) {store : StoreState} {sink : SinkState} {old new : RigState} (later : IsLater (outside store old sink) (outside store new sink)) where
+  -- gives something
+  pub took-quietly : (x : T) → step.gives x → Took [] step (Ok x) (outside store old sink) (outside store new sink)
+  took-quietly x gives = record {
+    later = later;
     silent = refl;
     asked = record { all = sym (append-nil store.asked); some = tt };
     place = refl;
@@ -40,9 +38,10 @@ module _ {T : Type 0} (step : Step T) (old new : RigState) (store : StoreState) 
     counted = tt;
   }
 
-  pub rig-stopped : (stop : Stop) → StepStops step stop → IsCounted ⊥ stop (outside store old sink) (outside store new sink) → Took [] step (Err stop) (outside store old sink) (outside store new sink)
-  rig-stopped stop stops counted = record {
-    later = on-rig;
+  -- or it stops
+  pub stopped-quietly : (stop : Stop) → StepStops step stop → IsCounted ⊥ stop (outside store old sink) (outside store new sink) → Took [] step (Err stop) (outside store old sink) (outside store new sink)
+  stopped-quietly stop stops counted = record {
+    later = later;
     silent = refl;
     asked = record { all = tt; some = refl };
     place = refl;
@@ -50,3 +49,14 @@ module _ {T : Type 0} (step : Step T) (old new : RigState) (store : StoreState) 
     stops = stops;
     counted = counted;
   }
+
+-- the rig alone was used, and its machine is the same
+module _ {T : Type 0} (step : Step T) (old new : RigState) (store : StoreState) (sink : SinkState) (machine : new.machine ≡ old.machine) (later : old.failures ≤ new.failures) where
+  abbrev on-rig : IsLater (outside store old sink) (outside store new sink)
+  on-rig = record { contents = refl; texts = ap (λ (m : Machine). m.texts) machine; kind = refl; store = omega arith; rig = later; sink = omega arith }
+
+  pub rig-took : (x : T) → step.gives x → Took [] step (Ok x) (outside store old sink) (outside store new sink)
+  rig-took = took-quietly step on-rig
+
+  pub rig-stopped : (stop : Stop) → StepStops step stop → IsCounted ⊥ stop (outside store old sink) (outside store new sink) → Took [] step (Err stop) (outside store old sink) (outside store new sink)
+  rig-stopped = stopped-quietly step on-rig

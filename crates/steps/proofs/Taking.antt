@@ -13,6 +13,7 @@ use Rattle.steps.specs.Texts.{attaches, MayAsk, AsksMachine}
 use Rattle.steps.specs.declared.refusal.Refusal.TheVariants.{Memory}
 use Rattle.steps.specs.declared.refusal.Stop.{Stop}
 use Rattle.steps.specs.declared.refusal.Stop.TheVariants.{Refused}
+use Rattle.steps.proofs.Making.{took-quietly, stopped-quietly}
 use Rattle.steps.proofs.Counting.{counted-after, write-counted}
 use Rattle.steps.proofs.Following.{after-stops, after-gives, write-stops, write-then, done-now}
 use Rattle.steps.proofs.WriteLemmas.{asks-after, asks-all, asks-front}
@@ -44,27 +45,11 @@ stands-then files (file ∷ more) old mid new first (inr near) = inr near
 
 -- a step that has nothing to do with what is around it stops
 pub took-stop : {T : Type 0} (step : Step T) (stop : Stop) (o : Outside) → StepStops step stop → IsCounted ⊥ stop o o → Took [] step (Err stop) o o
-took-stop step stop o stops counted = record {
-  later = later-same o;
-  silent = refl;
-  asked = record { all = tt; some = refl };
-  place = refl;
-  gives = tt;
-  stops = stops;
-  counted = counted;
-}
+took-stop step stop o = stopped-quietly step (later-same o) stop
 
 -- or it gives something
 pub took-value : {T : Type 0} (step : Step T) (x : T) (o : Outside) → step.gives x → Took [] step (Ok x) o o
-took-value step x o gives = record {
-  later = later-same o;
-  silent = refl;
-  asked = record { all = sym (append-nil o.store.asked); some = tt };
-  place = refl;
-  gives = gives;
-  stops = tt;
-  counted = tt;
-}
+took-value step x o = took-quietly step (later-same o) x
 
 -- memory was wanting where a step was to be made
 pub took-nothing : {T : Type 0} (step : Step T) (result : Result T Stop) (o : Outside) → result ≡ Err (Refused Memory) → step.stops Memory → Took [] step result o o

@@ -1,11 +1,8 @@
 //! Machines that are attached.
 ghost use Rattle.std.specs.Prelude.{◌≡◌, ◌≤◌, [], OnOk, OnErr, IfErr};
-ghost use Rattle.tm_outside.specs.Store.{StoreState};
-ghost use Rattle.tm_outside.specs.Sink.{SinkState};
 ghost use Rattle.rig.specs.Rig.{Asked, Attaches, AttachFails, IsDetached};
-ghost use Rattle.steps.specs.Outside.{outside};
+ghost use Rattle.steps.specs.Vocabulary.{StoreState, SinkState, outside, Took};
 ghost use Rattle.steps.specs.Texts.{attaches, MayAsk};
-ghost use Rattle.steps.specs.Took.{Took};
 
 use crate::refusal::Stop;
 use hierarchy::Shape;

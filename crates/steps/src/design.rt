@@ -1,11 +1,8 @@
 //! Designs that are read.
 ghost use Rattle.std.specs.Prelude.{◌∷◌, []};
-ghost use Rattle.tm_outside.specs.Sink.{SinkState};
 ghost use Rattle.tm_outside.specs.Told.{holds};
-ghost use Rattle.rig.specs.Rig.{RigState};
-ghost use Rattle.steps.specs.Outside.{Outside, outside};
+ghost use Rattle.steps.specs.Vocabulary.{SinkState, RigState, Outside, outside, Took};
 ghost use Rattle.steps.specs.Texts.{IsRefusedAt, reads_design, reads_text};
-ghost use Rattle.steps.specs.Took.{Took};
 
 use crate::design_file::DesignFile;
 use crate::refusal::{Refusal, RefusedDesign, Stop};

@@ -1,10 +1,7 @@
 //! Files of vectors that are started.
 ghost use Rattle.std.specs.Prelude.{◌≡◌, ◌∷◌, [], Some, OnOk};
-ghost use Rattle.tm_outside.specs.Sink.{SinkState};
-ghost use Rattle.rig.specs.Rig.{RigState};
-ghost use Rattle.steps.specs.Outside.{outside};
+ghost use Rattle.steps.specs.Vocabulary.{SinkState, RigState, outside, Took};
 ghost use Rattle.steps.specs.Texts.{opens};
-ghost use Rattle.steps.specs.Took.{Took};
 
 use crate::refusal::Stop;
 use tm_outside::Store;

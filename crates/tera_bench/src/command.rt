@@ -1,13 +1,9 @@
 //! The command that runs generated work on a generated machine.
 ghost use Rattle.std.specs.Prelude.{◌≡◌, [], Some, IfOk, OnOk, string_bytes};
-ghost use Rattle.tm_outside.specs.Store.{StoreState};
-ghost use Rattle.rig.specs.Rig.{shape_of};
 ghost use Rattle.bench_gen.specs.Work as work;
 ghost use Rattle.bench_laws.specs.Design.{bench_draft};
-ghost use Rattle.steps.specs.Outside.{outside, around};
-ghost use Rattle.steps.specs.Took.{Follows};
+ghost use Rattle.steps.specs.Vocabulary.{StoreState, shape_of, outside, around, Follows, Does, IsLawful};
 ghost use Rattle.steps.specs.Texts.{AsksMachine};
-ghost use Rattle.steps.specs.Jobs.{Does, IsLawful};
 ghost use Rattle.tera_bench.specs.Bench.{bench_course, bench_job, design_laid, generated_name};
 ghost use Rattle.tera_bench.specs.Headline.{IsBenched};
 

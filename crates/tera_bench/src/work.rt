@@ -1,12 +1,9 @@
 //! The machine, the design and the rows of generated work.
 ghost use Rattle.std.specs.Prelude.{◌≡◌, ◌≤◌, [], Some, IfOk, IfErr, length};
-ghost use Rattle.tm_outside.specs.Store.{StoreState};
-ghost use Rattle.tm_outside.specs.Sink.{SinkState};
-ghost use Rattle.rig.specs.Rig.{shape_of, width_of, CycleFails};
+ghost use Rattle.rig.specs.Rig.{CycleFails};
 ghost use Rattle.bench_gen.specs.Work as work;
 ghost use Rattle.bench_laws.specs.Design.{bench_draft};
-ghost use Rattle.steps.specs.Outside.{Outside, outside};
-ghost use Rattle.steps.specs.Took.{Took};
+ghost use Rattle.steps.specs.Vocabulary.{StoreState, SinkState, shape_of, width_of, Outside, outside, Took};
 ghost use Rattle.tera_bench.specs.Bench.{RunsOnes, bench_vector, makes_design, ones_in, runs};
 
 use bench_gen::{bench_counts, bench_design, bench_vector};

@@ -1,11 +1,6 @@
 //! The command that tells whether an image still runs on a machine of the rig.
 ghost use Rattle.std.specs.Prelude.{◌≡◌, ℕ, List, [], Some};
-ghost use Rattle.tm_outside.specs.Store.{StoreState};
-ghost use Rattle.tm_outside.specs.Sink.{SinkState};
-ghost use Rattle.rig.specs.Rig.{RigState, shape_of};
-ghost use Rattle.steps.specs.Outside.{outside, StandsIn};
-ghost use Rattle.steps.specs.Jobs.{Does, IsLawful};
-ghost use Rattle.steps.specs.Took.{Follows, Took};
+ghost use Rattle.steps.specs.Vocabulary.{StoreState, SinkState, RigState, shape_of, outside, StandsIn, Does, IsLawful, Follows, Took};
 ghost use Rattle.tera_check.specs.Testing.{tests_now};
 ghost use Rattle.tera_check.specs.Check.{check_job, image_looked_at, image_tested};
 

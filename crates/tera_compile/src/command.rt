@@ -1,10 +1,6 @@
 //! The command that makes an image of a design for a machine with defects.
 ghost use Rattle.std.specs.Prelude.{ℕ, List, []};
-ghost use Rattle.tm_outside.specs.Store.{StoreState};
-ghost use Rattle.rig.specs.Rig.{RigState};
-ghost use Rattle.steps.specs.Outside.{outside, StandsIn};
-ghost use Rattle.steps.specs.Jobs.{Does, IsLawful};
-ghost use Rattle.steps.specs.Took.{Follows};
+ghost use Rattle.steps.specs.Vocabulary.{StoreState, RigState, outside, StandsIn, Does, IsLawful, Follows};
 ghost use Rattle.tera_compile.specs.Compile.{compile_job, design_laid};
 
 use config_image::write_image;

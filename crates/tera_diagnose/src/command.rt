@@ -1,7 +1,6 @@
 //! The command that lists the defects of a machine of the rig.
 ghost use Rattle.std.specs.Prelude.{◌≡◌};
-ghost use Rattle.steps.specs.Outside.{outside};
-ghost use Rattle.steps.specs.Jobs.{Does, IsLawful};
+ghost use Rattle.steps.specs.Vocabulary.{outside, Does, IsLawful};
 ghost use Rattle.tera_diagnose.specs.Diagnose.{diagnose_job};
 
 use listing::write_list;

@@ -1,14 +1,10 @@
 //! The command that writes the rows of a design.
 ghost use Rattle.std.specs.Prelude.{◌≡◌, ◌∷◌, ◌++◌, [], ℕ, List, OnOk, IfOk, IfErr, IsSome};
-ghost use Rattle.tm_outside.specs.Store.{StoreState};
-ghost use Rattle.rig.specs.Rig.{RigState};
 ghost use Rattle.vector_text.specs.Rows.{row_line};
-ghost use Rattle.steps.specs.Outside.{outside, StandsIn};
+ghost use Rattle.steps.specs.Vocabulary.{StoreState, RigState, outside, StandsIn, Follows, Does, IsLawful};
 ghost use Rattle.steps.specs.Files.{IsBegun, file_of};
 ghost use Rattle.steps.specs.NextVectors.{StaysOpen, WaitsOrPuts, NextStops};
 ghost use Rattle.steps.specs.Courses.{all_rows};
-ghost use Rattle.steps.specs.Took.{Follows};
-ghost use Rattle.steps.specs.Jobs.{Does, IsLawful};
 ghost use Rattle.tera_eval.specs.Eval.{eval_rows, design_evaluated, eval_job};
 ghost use Rattle.tera_eval.specs.Evaluations.{IsReady, IsSized, RowGives, at_rows};
 

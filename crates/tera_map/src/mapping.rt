@@ -1,11 +1,7 @@
 //! Designs that are remapped and written.
 ghost use Rattle.std.specs.Prelude.{ℕ, List, [], ◌∷◌};
-ghost use Rattle.tm_outside.specs.Store.{StoreState};
-ghost use Rattle.rig.specs.Rig.{RigState};
-ghost use Rattle.steps.specs.Outside.{Outside, outside, StandsIn};
-ghost use Rattle.steps.specs.Jobs.{Does, IsLawful};
+ghost use Rattle.steps.specs.Vocabulary.{StoreState, RigState, Outside, outside, StandsIn, Does, IsLawful, Follows, Took};
 ghost use Rattle.steps.specs.Texts.{IsDesignText};
-ghost use Rattle.steps.specs.Took.{Follows, Took};
 ghost use Rattle.tera_map.specs.Maps.{maps, maps_within, design_mapped, design_fitted, map_job, fit_job};
 
 use defect_db::Defects;

@@ -1,7 +1,6 @@
 //! The call of the mapper.
 ghost use Rattle.std.specs.Prelude.{map, string_bytes};
-ghost use Rattle.rig.specs.Rig.{RigState};
-ghost use Rattle.steps.specs.Outside.{outside};
+ghost use Rattle.steps.specs.Vocabulary.{RigState, outside};
 ghost use Rattle.steps.specs.Ends.{Ended};
 ghost use Rattle.steps.specs.Words.{HasNoJob, DoesAsked, job_of};
 ghost use Rattle.tera_map.specs.Words.{asked_by};

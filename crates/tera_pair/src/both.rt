@@ -1,8 +1,7 @@
 //! Two designs as what is laid on a machine.
 ghost use Rattle.std.specs.Prelude.{◌↔◌, IsTrue, [], IfOk, IfErr};
-ghost use Rattle.steps.specs.Outside.{Outside};
+ghost use Rattle.steps.specs.Vocabulary.{Outside, Took};
 ghost use Rattle.steps.specs.Stops.{StepStops};
-ghost use Rattle.steps.specs.Took.{Took};
 ghost use Rattle.tera_pair.specs.Both.{CanBeNumbered, both_laid, lays_both};
 
 use config_image::Image;

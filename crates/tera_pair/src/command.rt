@@ -1,7 +1,6 @@
 //! The command that runs two designs side by side on a machine of the rig.
 ghost use Rattle.std.specs.Prelude.{◌≡◌, OnOk};
-ghost use Rattle.steps.specs.Outside.{outside};
-ghost use Rattle.steps.specs.Jobs.{Does, IsLawful};
+ghost use Rattle.steps.specs.Vocabulary.{outside, Does, IsLawful};
 ghost use Rattle.laid_rows.specs.Headline.{BeginsWithList};
 ghost use Rattle.tera_pair.specs.Pair.{pair_job};
 ghost use Rattle.tera_pair.specs.Headline.{IsPaired, HaveRoomLeft};

@@ -1,10 +1,6 @@
 //! The command that repairs an image for a machine with defects.
 ghost use Rattle.std.specs.Prelude.{◌≡◌, ℕ, List, []};
-ghost use Rattle.tm_outside.specs.Store.{StoreState};
-ghost use Rattle.rig.specs.Rig.{RigState};
-ghost use Rattle.steps.specs.Outside.{outside, StandsIn};
-ghost use Rattle.steps.specs.Jobs.{Does, IsLawful};
-ghost use Rattle.steps.specs.Took.{Follows};
+ghost use Rattle.steps.specs.Vocabulary.{StoreState, RigState, outside, StandsIn, Does, IsLawful, Follows};
 ghost use Rattle.tera_repair.specs.Repair.{repair_job, image_taken};
 
 use crate::repairing::{repaired, take_few};

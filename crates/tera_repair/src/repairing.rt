@@ -1,8 +1,7 @@
 //! Images that are repaired, or why not.
 ghost use Rattle.std.specs.Prelude.{◌≡◌, ◌≤◌, []};
 ghost use Rattle.std.specs.FinSet as set;
-ghost use Rattle.steps.specs.Outside.{Outside};
-ghost use Rattle.steps.specs.Took.{Took};
+ghost use Rattle.steps.specs.Vocabulary.{Outside, Took};
 ghost use Rattle.tera_repair.specs.Repairing.{most_closed, repairs, takes_few};
 
 use config_image::{Image, ImageKind};

@@ -1,7 +1,6 @@
 //! The command that runs an image on a machine of the rig.
 ghost use Rattle.std.specs.Prelude.{◌≡◌};
-ghost use Rattle.steps.specs.Outside.{outside};
-ghost use Rattle.steps.specs.Jobs.{Does, IsLawful};
+ghost use Rattle.steps.specs.Vocabulary.{outside, Does, IsLawful};
 ghost use Rattle.tera_run.specs.Run.{run_job};
 
 use image_rows::run_image;

@@ -1,7 +1,6 @@
 //! The top call.
 ghost use Rattle.std.specs.Prelude.{◌≤◌, map, string_bytes};
-ghost use Rattle.tm_outside.specs.Store.{StoreState};
-ghost use Rattle.steps.specs.Outside.{outside};
+ghost use Rattle.steps.specs.Vocabulary.{StoreState, outside};
 ghost use Rattle.steps.specs.Ends.{Ended};
 ghost use Rattle.steps.specs.Words.{HasNoJob, DoesAsked, job_of};
 ghost use Rattle.tera_top.specs.Words.{of_number, number_of, commands, asked_in, asked_by};
