@@ -16,21 +16,6 @@ use Rattle.board_rig.specs.Kept.{session_of, HasAdded}
 use Rattle.board_rig.specs.Rows.{AreBlank}
 use Rattle.board_rig.specs.Linked.{IsLinked, IsAlongside}
 
--- rows that keep their lengths stay as wide
-pub kept_lengths : (n : ℕ) (old new : List Pins) → KeepLengths old new → All (λ row. length row ≡ n) old → All (λ row. length row ≡ n) new
-kept_lengths n [] [] e all = all
-kept_lengths n [] (y ∷ ys) e all = cc
-kept_lengths n (x ∷ xs) [] e all = cc
-kept_lengths n (x ∷ xs) (y ∷ ys) e all =
-    let tails : map length ys ≡ map length xs = cc in
-    at (kept_lengths n xs ys tails (λ j d lj. all (suc j) d (omega (arith, lj)))) where
-      head : length y ≡ length x
-      head = cc
-
-      at : All (λ row. length row ≡ n) ys → (k : ℕ) (d : Pins) → k < length (y ∷ ys) → length (get_or (y ∷ ys) k d) ≡ n
-      at rest zero d lt = head ∙ all 0 d (omega arith)
-      at rest (suc k) d lt = rest k d (omega (arith, lt))
-
 abbrev pair : Pins → Pins → Exchange
 pair d r = record { drive = d; reading = r }
 
@@ -89,6 +74,15 @@ after drives reads old new kept mid more along cycled config cycles config_more 
       told = λ d is. let t = told_after old.device new.device (session_of kept).config (session_of kept).cycles cycled.pairs along.told cycled.cycled.told d is in
           (rw (g, so_far, ← same) t.0, t.1);
     }
+
+-- what is linked when the cycles begin, and what is known after them
+pub cycles_made : {drives reads : List Pins} {old new : BoardState} {attached : Option Shape} {found : Option Kept} {kept : Kept} (mid more : Kept) → found ≡ Some kept
+    → IsLinked old attached found → HasCycledAll drives reads old new → (session_of mid).config ≡ (session_of kept).config
+    → (session_of mid).cycles ≡ (session_of kept).cycles → (session_of more).config ≡ (session_of mid).config
+    → HasAdded drives reads (session_of mid) (session_of more) → IsLinked old attached (Some kept) × IsAfter drives reads new kept more
+cycles_made {drives} {reads} {old} {new} {attached} {found} {kept} mid more is linked cycled config cycles config_more added =
+    let l : IsLinked old attached (Some kept) = subst (λ k. IsLinked old attached k) is linked in
+    (l, after drives reads old new kept mid more (l.session kept refl).1 cycled config cycles config_more added)
 
 pub linked_after : (drives reads : List Pins) (old new : BoardState) (attached : Option Shape) (kept more : Kept) → IsLinked old attached (Some kept) → new.found ≡ old.found
     → faults_told new.device ≡ faults_told old.device → more.shape ≡ kept.shape → AreBlank (pins_of more.shape) more.blank.items → IsAfter drives reads new kept more

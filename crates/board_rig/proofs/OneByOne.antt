@@ -8,20 +8,24 @@ use Rattle.rig.specs.Rig.{Exchange, KeepLengths, drives_of, readings_of}
 use Rattle.board_rig.specs.Device.{Device, IsInSession, GoesOnWith, WhereTold}
 use Rattle.board_rig.specs.Boards.{BoardState, HasCycled, HasCycledAll}
 
--- rows that keep their lengths fit where they fitted
-pub rows_kept : (w : Option ℕ) (old new : List Pins) → KeepLengths old new → All (λ row. w ≡ Some (length row)) old → All (λ row. w ≡ Some (length row)) new
-rows_kept w [] [] e all = all
-rows_kept w [] (y ∷ ys) e all = cc
-rows_kept w (x ∷ xs) [] e all = cc
-rows_kept w (x ∷ xs) (y ∷ ys) e all =
+-- what holds of the lengths of rows holds of those of rows that keep them
+pub lengths_kept : (P : ℕ → Type 0) (old new : List Pins) → KeepLengths old new → All (λ row. P (length row)) old → All (λ row. P (length row)) new
+lengths_kept P [] [] e all = all
+lengths_kept P [] (y ∷ ys) e all = cc
+lengths_kept P (x ∷ xs) [] e all = cc
+lengths_kept P (x ∷ xs) (y ∷ ys) e all =
     let tails : map length ys ≡ map length xs = cc in
-    at (rows_kept w xs ys tails (λ j d lj. all (suc j) d (omega (arith, lj)))) where
+    at (lengths_kept P xs ys tails (λ j d lj. all (suc j) d (omega (arith, lj)))) where
       head : length x ≡ length y
       head = cc
 
-      at : All (λ row. w ≡ Some (length row)) ys → (k : ℕ) (d : Pins) → k < length (y ∷ ys) → w ≡ Some (length (get_or (y ∷ ys) k d))
-      at rest zero d lt = all 0 d (omega arith) ∙ ap Some head
+      at : All (λ row. P (length row)) ys → (k : ℕ) (d : Pins) → k < length (y ∷ ys) → P (length (get_or (y ∷ ys) k d))
+      at rest zero d lt = subst P head (all 0 d (omega arith))
       at rest (suc k) d lt = rest k d (omega (arith, lt))
+
+-- so rows fit where they fitted
+pub rows_kept : (w : Option ℕ) (old new : List Pins) → KeepLengths old new → All (λ row. w ≡ Some (length row)) old → All (λ row. w ≡ Some (length row)) new
+rows_kept w = lengths_kept (λ l. w ≡ Some l)
 
 -- one row is read anew
 pub lengths_set : (old now : List Pins) (k : ℕ) (d row : Pins) → k < length now → length row ≡ length (get_or now k d) → KeepLengths old now → KeepLengths old (set now k row)

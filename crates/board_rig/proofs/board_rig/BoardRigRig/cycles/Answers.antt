@@ -1,28 +1,25 @@
-use Rattle.std.proofs.Common.{rules, ◌∙◌, ◌≤◌, sym, ap, refl, Some, subst, arith}
+use Rattle.std.proofs.Common.{rules, ◌≡◌, ◌∙◌, ◌≤◌, sym, ap, refl, arith}
 use Rattle.std.specs.Prelude.{option_map}
 use Rattle.hierarchy.specs.Shape.{pins_of}
 use Rattle.board_rig.specs.Kept.{session_of}
-use Rattle.board_rig.specs.Linked.{IsLinked}
-use Rattle.board_rig.proofs.Driven.{kept_lengths, after, linked_after, linked_lost, goes_on, on_ok}
+use Rattle.board_rig.proofs.OneByOne.{lengths_kept}
+use Rattle.board_rig.proofs.Driven.{cycles_made, linked_after, linked_lost, goes_on, on_ok}
 use Rattle.board_rig.proofs.board_rig.BoardRigRig.cycles.Goals as goal
 
 pub add_all-requires-clause-reads : goal.add_all-requires-clause-reads
 add_all-requires-clause-reads g c =
-    kept_lengths (pins_of c.make_room.new.self.shape) c.args.reads.now c.cycles.new.reads c.cycles.ensures.lengths (λ k d lt. search rules)
+    lengths_kept (λ l. l ≡ pins_of c.make_room.new.self.shape) c.args.reads.now c.cycles.new.reads c.cycles.ensures.lengths (λ k d lt. search rules)
 
 pub invariant_of-self-in-Ok : goal.invariant_of-self-in-Ok
 invariant_of-self-in-Ok g c =
     let b = g.B.Board.board_state c.args.self.now.board in
     let after_b = g.B.Board.board_state c.cycles.new.self in
     let attached = option_map (λ m. m.shape) c.args.self.now.machine in
-    let linked : IsLinked b attached (Some c.in-Some.kept)
-    = subst (λ k. IsLinked b attached k) (sym c.in-Some.ensures.value) c.args.self.now.linked in
-    let is_after = after c.args.drives.now c.cycles.new.reads b after_b c.in-Some.kept c.make_room.new.self c.add_all.new.self
-    (linked.session c.in-Some.kept refl).1 c.in-Ok.ensures.cycles
-    c.make_room.ensures.config c.make_room.ensures.cycles c.add_all.ensures.config c.add_all.ensures.cycles in
+    let made = cycles_made c.make_room.new.self c.add_all.new.self (sym c.in-Some.ensures.value) c.args.self.now.linked
+    c.in-Ok.ensures.cycles c.make_room.ensures.config c.make_room.ensures.cycles c.add_all.ensures.config c.add_all.ensures.cycles in
     record {
-      linked = linked_after c.args.drives.now c.cycles.new.reads b after_b attached c.in-Some.kept c.add_all.new.self linked
-          c.cycles.ensures.found c.cycles.ensures.faults (c.add_all.ensures.shape ∙ c.make_room.ensures.shape) c.add_all.ensures.wide is_after;
+      linked = linked_after c.args.drives.now c.cycles.new.reads b after_b attached c.in-Some.kept c.add_all.new.self made.0
+          c.cycles.ensures.found c.cycles.ensures.faults (c.add_all.ensures.shape ∙ c.make_room.ensures.shape) c.add_all.ensures.wide made.1;
     }
 
 pub invariant_of-self-in-Err : goal.invariant_of-self-in-Err
@@ -34,16 +31,11 @@ invariant_of-self-in-Err g c = record {
 
 pub returns-in-Ok-clause-cycles : goal.returns-in-Ok-clause-cycles
 returns-in-Ok-clause-cycles g c =
-    let b = g.B.Board.board_state c.args.self.now.board in
     let after_b = g.B.Board.board_state c.cycles.new.self in
-    let attached = option_map (λ m. m.shape) c.args.self.now.machine in
-    let linked : IsLinked b attached (Some c.in-Some.kept)
-    = subst (λ k. IsLinked b attached k) (sym c.in-Some.ensures.value) c.args.self.now.linked in
-    let is_after = after c.args.drives.now c.cycles.new.reads b after_b c.in-Some.kept c.make_room.new.self c.add_all.new.self
-    (linked.session c.in-Some.kept refl).1 c.in-Ok.ensures.cycles
-    c.make_room.ensures.config c.make_room.ensures.cycles c.add_all.ensures.config c.add_all.ensures.cycles in
+    let made = cycles_made c.make_room.new.self c.add_all.new.self (sym c.in-Some.ensures.value) c.args.self.now.linked
+    c.in-Ok.ensures.cycles c.make_room.ensures.config c.make_room.ensures.cycles c.add_all.ensures.config c.add_all.ensures.cycles in
     let room : (session_of c.in-Some.kept).spare ≤ (session_of c.make_room.new.self).spare
     = on_ok c.make_room.result ((session_of c.in-Some.kept).spare ≤ (session_of c.make_room.new.self).spare) (sym c.is_err.ensures.value ∙ c.if-is_err.false) c.make_room.ensures.spare in
     let added = c.add_all.ensures.spare in
     goes_on c.args.drives.now c.cycles.new.reads after_b c.in-Some.kept c.add_all.new.self _ _
-    (ap (option_map session_of) (sym c.in-Some.ensures.value)) refl refl (omega (arith, room, added)) is_after
+    (ap (option_map session_of) (sym c.in-Some.ensures.value)) refl refl (omega (arith, room, added)) made.1
