@@ -1,19 +1,17 @@
 -- What a choice leaves: of what is known some gives way, and what is left to spend.
-use Rattle.std.proofs.Common.{◌≡◌, ◌⊎◌, inl, inr, ℕ, zero, suc, ◌+◌, ◌*◌, ◌<◌, ◌≤◌, Bool, true, false, cond, ◌&&◌, Option, Some, List, length, replicate, refl, sym, ap, ◌∙◌, subst, arith}
+use Rattle.std.proofs.Common.{◌≡◌, ◌⊎◌, inl, inr, ℕ, ◌+◌, ◌≤◌, Bool, true, false, ◌&&◌, Option, List, length, replicate, refl, sym, ap, ◌∙◌, subst, arith}
 use Rattle.std.proofs.lemmas.Bool.{false≢true, and_parts}
 use Rattle.std.specs.Prelude.{slice_set}
-use Rattle.std.proofs.lemmas.List.Folds.{sum_by-replicate}
 use Rattle.tm_bits.specs.Numbers.{has_number, size_of}
-use Rattle.tm_bits.proofs.NumbersLemmas.{size_of-put}
 use Rattle.hierarchy.specs.declared.Shape.{Shape}
 use Rattle.hierarchy.specs.Faults.{Faults}
-use Rattle.evidence.specs.Kept.{Kept, IsMore, HoldsFor}
-use Rattle.known.specs.Field.{IsFieldOf, how_many}
+use Rattle.evidence.specs.Kept.{Kept}
+use Rattle.known.specs.Field.{how_many}
 use Rattle.known.specs.Known.{HasWire, InSet, KnownWires}
 use Rattle.known.specs.declared.field.Field.{Field}
 use Rattle.known.specs.declared.step.Step.{Step}
 use Rattle.known.proofs.Counting.{many_more, many_size, none_has, set_only}
-use Rattle.sweep.specs.Marks.{AreMarksFor, AreTrueMarks, TrueIf, is_undecided, undecided, worth}
+use Rattle.sweep.specs.Marks.{AreMarksFor, TrueIf, is_undecided, undecided, worth}
 use Rattle.sweep.specs.Stages.{IsFunded, IsHand, in_hand}
 use Rattle.sweep.specs.declared.bad.Bad.{Bad}
 use Rattle.sweep.specs.declared.purse.Purse.{Purse}
@@ -45,13 +43,6 @@ worth_none limit left {purse = purse} {after = after} hand f e = worth_paid limi
 -- the marks of unfit wires are no matter
 pub worth_same : (l : Kept) (c d : Bad) (a : Field) (loads left : ℕ) {limit : ℕ} → d.stuck ≡ c.stuck → worth a l c loads left ≤ limit → worth a l d loads left ≤ limit
 worth_same l c d a loads left {limit} same paid = subst (λ (s : List Bool). worth a l (record d { stuck = s }) loads left ≤ limit) (sym same) paid
-
--- loads for one wire more
-pub paid_more : (paid : List Bool) (w left more : ℕ) → w < length paid → has_number paid w ≡ false → more ≤ left + 14 → more + 14 * size_of paid ≤ left + 14 * size_of (slice_set paid w true)
-paid_more paid w left more within out most = let one = size_of-put paid w within out in omega (arith, one, most)
-
-pub size_none : (n : ℕ) → size_of (replicate n false) ≡ 0
-size_none n = let all = sum_by-replicate (λ (b : Bool). cond b 1 0) n false in omega (arith, all)
 
 none_on : (n w : ℕ) → has_number (replicate n false) w ≡ false
 none_on n w = by (has_number (replicate n false) w) refl

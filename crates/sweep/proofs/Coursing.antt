@@ -1,7 +1,7 @@
 -- Walks that are laid one after the other.
 use Rattle.std.proofs.Common.{◌≡◌, ◌≢◌, ◌⊎◌, inl, inr, ℕ, zero, suc, ◌+◌, ◌<◌, ◌≤◌, Bool, true, false, ◌||◌, None, List, [], ◌∷◌, ◌++◌, length, refl, sym, ap, ◌∙◌, subst, arith}
 use Rattle.std.specs.Prelude.{◌==◌, All, flat_map, map, replicate, slice_index_or, slice_set}
-use Rattle.std.proofs.lemmas.Bool.{false≢true, or_cases}
+use Rattle.std.proofs.lemmas.Bool.{false≢true, or_cases, or_left, or_right}
 use Rattle.std.proofs.lemmas.Bool.Decides.{nat_tests}
 use Rattle.std.proofs.lemmas.List.{flat_map_more, get_or-replicate, get_or_past, length-replicate, map-append, length-set, get_or-set_same, get_or-set_other}
 use Rattle.std.proofs.lemmas.List.Elements.{All-push}
@@ -40,14 +40,6 @@ among_either P xs ys one other y on = by (or_cases (among xs y) (among ys y) (sy
     by : (among xs y ≡ true) ⊎ (among ys y ≡ true) → P y
     by (inl h) = one y h
     by (inr h) = other y h
-
-or_true : (a b : Bool) → b ≡ true → (a || b) ≡ true
-or_true true b e = refl
-or_true false b e = e
-
-or_first : (a b : Bool) → a ≡ true → (a || b) ≡ true
-or_first true b e = refl
-or_first false b e = absurd (false≢true e)
 
 or_turned : (a b : Bool) → (a || b) ≡ (b || a)
 or_turned true true = refl
@@ -154,8 +146,8 @@ module _ {k : Kept} {ss : List Step} {a : Field} where
       still p low (no n) = get_or-set_other drive l.route.pin p false true n ∙ low
 
       lowered : (j : ℕ) → slice_index_or (slice_set drive l.route.pin false) j true ≡ false → Dec (j ≡ l.route.pin) → (among (map (λ (m : Lead). m.route.pin) ls) j || (l.route.pin == j)) ≡ true
-      lowered j low (yes e) = or_true (among (map (λ (m : Lead). m.route.pin) ls) j) (l.route.pin == j) (grind (arith, nat_tests, e))
-      lowered j low (no n) = or_first (among (map (λ (m : Lead). m.route.pin) ls) j) (l.route.pin == j) (c.driven j (sym (get_or-set_other drive l.route.pin j false true n) ∙ low))
+      lowered j low (yes e) = or_right (among (map (λ (m : Lead). m.route.pin) ls) j) (l.route.pin == j) (grind (arith, nat_tests, e))
+      lowered j low (no n) = or_left (among (map (λ (m : Lead). m.route.pin) ls) j) (l.route.pin == j) (c.driven j (sym (get_or-set_other drive l.route.pin j false true n) ∙ low))
 
 -- all of them make a test of paths
 pub path_test : {k : Kept} {known : KnownWires} {a : Field} {g : Configuration} {drive : List Bool} {ls : List Lead} {seen : List Bool} → IsKnown k known → IsCourse k known.steps a g drive ls seen → IsPathTest k g drive ls

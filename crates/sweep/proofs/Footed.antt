@@ -39,7 +39,7 @@ over_pin trees foot e (Some pin) same at = ap (λ (o : Option ℕ). unwrap_or o 
 
 -- one more of a list
 module _ {A : Type 0} (xs : List A) (k : ℕ) (x : A) (below : k < length xs) (here : slice_get xs k ≡ Some x) where
-  one_more : take (k + 1) xs ≡ take k xs ++ x ∷ []
+  pub one_more : take (k + 1) xs ≡ take k xs ++ x ∷ []
   one_more = take_more xs k x below ∙ ap (λ u. take k xs ++ u ∷ []) (got (grind (arith, gets, here)))
     where
       got : get_or xs k x ≡ x → get_or xs k x ≡ x

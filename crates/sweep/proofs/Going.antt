@@ -1,11 +1,11 @@
 -- Steps of a sweep, one after the other.
-use Rattle.std.proofs.Common.{◌≡◌, ◌⊎◌, ℕ, ◌+◌, ◌≤◌, true, Option, List, [], refl, sym, ap, ◌∙◌, subst, inl, inr, arith}
+use Rattle.std.proofs.Common.{◌≡◌, ◌⊎◌, ℕ, ◌+◌, ◌≤◌, true, Option, List, [], sym, ap, ◌∙◌, subst, inl, inr, arith}
 use Rattle.tm_bits.specs.Numbers.{has_number}
-use Rattle.hierarchy.specs.declared.Shape.{Shape}
 use Rattle.hierarchy.specs.declared.Table.{Table}
 use Rattle.hierarchy.specs.Faults.{Faults}
 use Rattle.hierarchy.specs.Shape.{crosses_of}
 use Rattle.evidence.specs.Kept.{Kept, IsMore, Advances}
+use Rattle.evidence.proofs.Keeping.{advances_itself, advances_then}
 use Rattle.evidence.proofs.KeptLemmas.{more_itself}
 use Rattle.rig.specs.Rig.{RigState}
 use Rattle.known.specs.Known.{KnownWires, HasWire, IsKnown}
@@ -13,11 +13,12 @@ use Rattle.known.specs.Field.{IsFieldOf, GrowsIn}
 use Rattle.known.specs.declared.field.Field.{Field}
 use Rattle.known.specs.declared.step.Step.{Step}
 use Rattle.known.proofs.Later.{known_later}
-use Rattle.sweep.specs.Marks.{AreMarksFor, HasTable, MarksIn, MarksSome, TrueIf}
-use Rattle.sweep.specs.Stages.{Hand, Goes, IsFunded, IsHand, Settles, in_hand}
+use Rattle.sweep.specs.Marks.{HasTable, MarksIn, TrueIf}
+use Rattle.sweep.specs.Stages.{Hand, Goes, IsHand, Settles, in_hand}
 use Rattle.sweep.specs.declared.bad.Bad.{Bad}
 use Rattle.sweep.specs.declared.purse.Purse.{Purse}
-use Rattle.sweep.proofs.Marking.{marks_itself, marks_then, marks_for, some_itself, true_later}
+use Rattle.sweep.proofs.Marking.{marks_itself, marks_then, marks_for, true_later}
+use Rattle.sweep.proofs.Paying.{funded_test}
 
 pub grows_itself : (a : Field) (ss : List Step) → GrowsIn a ss ss
 grows_itself a ss = record { stays = λ w has. has; within = λ w has. inl has }
@@ -72,6 +73,34 @@ goes_wider {told} {a} {x} {y} tables g = record {
     by : (i : ℕ) → (has_number x.bad.wrong i ≡ true) ⊎ HasTable [] i → (has_number x.bad.wrong i ≡ true) ⊎ HasTable tables i
     by i (inl on) = inl on
     by i (inr has) = absurd (none i has)
+
+-- a test that marks, and was paid for
+pub goes_tested : {told : Option Faults} {a : Field} {tables : List Table} {k l : Kept} {known : KnownWires} {bad new : Bad} {purse : Purse} {before after : ℕ} (n : ℕ) → IsHand a (in_hand k known bad purse before) → before + n ≤ purse.most → after ≤ before + n → IsMore k l →
+    MarksIn a tables bad new → (TrueIf told k known.steps bad → TrueIf told l known.steps new) → Goes told a tables (in_hand k known bad purse before) (in_hand l known new purse after)
+goes_tested {a = a} {known = known} n hand can took more marked holds = record {
+  hand = record {
+    known = known_later more hand.known;
+    field = subst (λ m. IsFieldOf m a) (sym more.shape) hand.field;
+    marks = marks_for more.shape hand.marks marked;
+    purse = hand.purse ∙ ap crosses_of (sym more.shape);
+  };
+  grows = grows_itself a known.steps;
+  marks = marked;
+  holds = holds;
+  funded = funded_test n can took more marked.stuck.stays;
+}
+
+-- what tests over the rig have made of what is in hand so far
+pub record HasGone (first now : RigState) (j k : Kept) (a : Field) (tables : List Table) (old new : Hand) : Type 0 where
+  pub hand : IsHand a new
+  pub goes : Goes first.machine.faults a tables old new
+  pub advances : Advances first now j k
+
+pub gone_none : {r : RigState} {k : Kept} {a : Field} {tables : List Table} {h : Hand} → IsHand a h → HasGone r r k k a tables h h
+gone_none {r} {k} hand = record { hand = hand; goes = goes_itself hand; advances = advances_itself r k }
+
+pub gone_on : {r s t : RigState} {j k l : Kept} {a : Field} {tables : List Table} {x y z : Hand} → HasGone r s j k a tables x y → Goes s.machine.faults a tables y z → Advances s t k l → HasGone r t j l a tables x z
+gone_on p q on = let goes = goes_on p.advances p.goes q in record { hand = goes.hand; goes = goes; advances = advances_then p.advances on }
 
 -- a purse that is settled anew
 pub goes_settled : {told : Option Faults} {a : Field} {tables : List Table} {k : Kept} {known : KnownWires} {bad : Bad} {old new : Purse} {loads : ℕ} → IsHand a (in_hand k known bad old loads) → Settles k bad old new →

@@ -1,8 +1,8 @@
 -- What a load of hangs leaves.
-use Rattle.std.proofs.Common.{◌≡◌, ◌≢◌, ◌⊎◌, ℕ, zero, suc, ◌+◌, ◌<◌, ◌≤◌, Bool, true, false, not, ◌&&◌, ◌||◌, Option, Result, Ok, Err, Some, List, [], ◌∷◌, length, get_or, refl, sym, ap, ◌∙◌, subst, inl, inr, arith}
+use Rattle.std.proofs.Common.{◌≡◌, ◌≢◌, ◌⊎◌, ℕ, zero, suc, ◌+◌, ◌<◌, ◌≤◌, Bool, true, false, not, ◌&&◌, Option, Result, Ok, Err, Some, List, [], ◌∷◌, length, get_or, refl, sym, ap, ◌∙◌, subst, inl, inr, arith}
 use Rattle.std.specs.Prelude.{All, OnOk, OnErr, ◌==◌, map, slice_get}
 use Rattle.std.specs.List.{list_any}
-use Rattle.std.proofs.lemmas.Bool.{false≢true, or_cases, and_parts}
+use Rattle.std.proofs.lemmas.Bool.{false≢true, or_cases, and_parts, or_left, or_right}
 use Rattle.std.proofs.lemmas.Bool.Decides.{nat_tests}
 use Rattle.tm_bits.specs.Numbers.{has_number}
 use Rattle.hierarchy.specs.declared.Shape.{Shape}
@@ -22,7 +22,7 @@ use Rattle.sweep.specs.Marks.{AreMarksFor, MarksIn, MarksSome, TrueIf}
 use Rattle.sweep.specs.Stages.{Goes, IsHand, in_hand}
 use Rattle.sweep.specs.declared.bad.Bad.{Bad}
 use Rattle.sweep.specs.declared.purse.Purse.{Purse}
-use Rattle.sweep.proofs.Going.{grows_itself}
+use Rattle.sweep.proofs.Going.{grows_itself, goes_tested}
 use Rattle.sweep.proofs.Marking.{marks_for, marks_itself, some_itself, true_later}
 use Rattle.sweep.proofs.Paying.{funded_test}
 
@@ -49,14 +49,6 @@ step_has ss w has = at ss has.place has.at.step has.at.here has.at.wire
   where
     same : (n : ℕ) → (n == n) ≡ true
     same n = grind (arith, nat_tests)
-
-    or_right : (a b : Bool) → b ≡ true → (a || b) ≡ true
-    or_right true b e = refl
-    or_right false b e = e
-
-    or_left : (a b : Bool) → a ≡ true → (a || b) ≡ true
-    or_left true b e = refl
-    or_left false b e = absurd (false≢true e)
 
     at : (rs : List Step) (i : ℕ) (s : Step) → slice_get rs i ≡ Some s → s.wire.0 ≡ w → is_step rs w ≡ true
     at [] i s here e = cc
@@ -141,18 +133,7 @@ pub hang_goes : {told : Option Faults} {a : Field} {tables : List Table} {k l : 
     MarksSome (λ w. has_number a.wires w ≡ true) bad.unfit unfit → MarksSome (λ w. has_number a.wires w ≡ true) bad.unclear unclear →
     (UnfitIf told k (is_step known.steps) bad.unfit → UnfitIf told l (is_step known.steps) unfit) → (UnclearIf told k bad.unclear → UnclearIf told l unclear) →
     Goes told a tables (in_hand k known bad purse before) (in_hand l known (record bad { unfit = unfit; unclear = unclear }) purse after)
-hang_goes {told} {a} {tables} {k} {l} {known} {bad} {unfit} {unclear} {purse} {before} {after} n hand can took more marks also fit clear = record {
-  hand = record {
-    known = known_later more hand.known;
-    field = subst (λ m. IsFieldOf m a) (sym more.shape) hand.field;
-    marks = marks_for more.shape hand.marks marked;
-    purse = hand.purse ∙ ap crosses_of (sym more.shape);
-  };
-  grows = grows_itself a known.steps;
-  marks = marked;
-  holds = holds;
-  funded = funded_test n can took more (λ x on. on);
-}
+hang_goes {told} {a} {tables} {k} {l} {known} {bad} {unfit} {unclear} {purse} {before} {after} n hand can took more marks also fit clear = goes_tested n hand can took more marked holds
   where
     marked : MarksIn a tables bad (record bad { unfit = unfit; unclear = unclear })
     marked = record { stuck = some_itself _ bad.stuck; unfit = marks; unclear = also; wrong = some_itself _ bad.wrong }

@@ -1,5 +1,5 @@
 -- Fields without what is marked bad: what is closed there, and what a sweep and a growth take together.
-use Rattle.std.proofs.Common.{◌≡◌, ◌≢◌, ◌⊎◌, ℕ, zero, suc, ◌+◌, ◌*◌, ◌<◌, ◌≤◌, Bool, true, false, ◌||◌, Some, None, Option, List, length, replicate, set, refl, sym, ap, ◌∙◌, subst, inl, inr, arith}
+use Rattle.std.proofs.Common.{◌≡◌, ◌≢◌, ◌⊎◌, ℕ, zero, suc, ◌+◌, ◌*◌, ◌<◌, ◌≤◌, Bool, true, false, None, Option, List, length, replicate, set, refl, sym, ap, ◌∙◌, subst, inl, inr, arith}
 use Rattle.std.specs.Prelude.{not, ◌&&◌, if◌then◌else◌}
 use Rattle.std.proofs.lemmas.Bool.{false≢true}
 use Rattle.std.proofs.lemmas.List.{get_or-set_same, get_or-set_other, get_or-replicate, get_or_past, length-replicate, length-set}
@@ -7,12 +7,12 @@ use native.Mathlib.Decide.{dec_lt, ℕ_discrete}
 use Rattle.tm_bits.specs.Numbers.{has_number, size_of}
 use Rattle.hierarchy.specs.declared.Shape.{Shape}
 use Rattle.hierarchy.specs.Laws.{IsNumbered}
-use Rattle.hierarchy.specs.Shape.{Ends, crosses_of, ends_of, pin_wire, pins_of, wires_of}
+use Rattle.hierarchy.specs.Shape.{crosses_of, pin_wire, pins_of, wires_of}
 use Rattle.hierarchy.specs.Faults.{Faults, stuck_cross}
 use Rattle.hierarchy.specs.Defects.{IsClear}
 use Rattle.hierarchy.specs.Tight.{IsAlone, HasFeet, two}
 use Rattle.hierarchy.specs.declared.Table.{Table}
-use Rattle.evidence.specs.Kept.{Kept, HoldsFor, IsMore, keeps_cross}
+use Rattle.evidence.specs.Kept.{Kept, IsMore, keeps_cross}
 use Rattle.known.specs.Field.{ClosedIf, IsClosed, IsFieldOf, fresh, how_many, pins_in}
 use Rattle.known.specs.Known.{HasWire}
 use Rattle.known.specs.declared.field.Field.{Field}
@@ -21,6 +21,7 @@ use Rattle.known.proofs.Counting.{many_all, many_more, many_size}
 use Rattle.sweep.specs.Marks.{AreTrueMarks, MarksIn, Pays, TrueIf, is_undecided, undecided}
 use Rattle.sweep.specs.Without.{AreWithout, IsWithout}
 use Rattle.sweep.specs.declared.bad.Bad.{Bad}
+use Rattle.sweep.proofs.Paying.{neither}
 
 none_on : (n i : ℕ) → has_number (replicate n false) i ≡ false
 none_on n i = by (dec_lt i n)
@@ -136,15 +137,6 @@ closed_with told k ss b a rest without true_ closed = record { at = λ f e h. wh
         by : (w : ℕ) → HasFeet k.shape f (λ x. has_number a.crosses x ≡ true) (HasWire ss) w → HasFeet k.shape f (λ x. has_number rest.crosses x ≡ true) (HasWire ss) w
         by w (two x y u v cx cy ex ey differ hu hv sx sy) = two x y u v (cross x cx sx) (cross y cy sy) ex ey differ hu hv sx sy
 
-neither : (a b c d : Bool) → (a ≡ true → c ≡ true) → (b ≡ true → d ≡ true) → (not c && not d) ≡ true → (not a && not b) ≡ true
-neither false false c d p q e = refl
-neither true b c d p q e = absurd (false≢true (ap (λ (x : Bool). not x && not d) (sym (p refl)) ∙ e))
-neither false true c d p q e = absurd (false≢true (sym (none c) ∙ ap (λ (x : Bool). not c && not x) (sym (q refl)) ∙ e))
-  where
-    none : (x : Bool) → (not x && not true) ≡ false
-    none true = refl
-    none false = refl
-
 bit_more : (a b : Bool) → (a ≡ true → b ≡ true) → (if a then 1 else 0) ≤ (if b then 1 else 0)
 bit_more true true h = omega arith
 bit_more true false h = absurd (false≢true (h refl))
@@ -206,21 +198,20 @@ module _ (a rest : Field) (k l : Kept) (b c : Bad) (same : l.shape ≡ k.shape) 
       size_rest : how_many (has_number rest.wires) (length a.wires) ≡ size_of rest.wires
       size_rest = subst (λ (n : ℕ). how_many (has_number rest.wires) n ≡ size_of rest.wires) without.len (many_size rest.wires)
 
+  -- loads for what is fresh, and three for each wire
+  grown_by : IsNumbered k.shape → (few most before after : ℕ) → few ≤ most → after + pins_in l.shape rest ≤ before + (few + 3 * size_of rest.wires) → after + pins_in k.shape a ≤ before + (most + 3 * size_of a.wires)
+  grown_by numbered few most before after less took = sums (pins_in k.shape a) (pins_in l.shape rest) (size_of rest.wires) (size_of a.wires) (pins_lack numbered) size_less took
+    where
+      sums : (p q w x : ℕ) → p + w ≤ q + x → w ≤ x → after + q ≤ before + (few + 3 * w) → after + p ≤ before + (most + 3 * x)
+      sums p q w x lack fewer grow = omega (arith, less, lack, fewer, grow)
+
   pub grown_most : IsNumbered k.shape → (before after : ℕ) → after + pins_in l.shape rest ≤ before + (8 * fresh l rest + 3 * size_of rest.wires) →
       after + pins_in k.shape a ≤ before + (8 * undecided l c a + 3 * size_of a.wires)
-  grown_most numbered before after took =
-      sums (fresh l rest) (undecided l c a) (pins_in k.shape a) (pins_in l.shape rest) (size_of rest.wires) (size_of a.wires) fresh_undecided (pins_lack numbered) size_less took
-    where
-      sums : (f v p q w x : ℕ) → f ≤ v → p + w ≤ q + x → w ≤ x → after + q ≤ before + (8 * f + 3 * w) → after + p ≤ before + (8 * v + 3 * x)
-      sums f v p q w x less lack few grow = omega (arith, less, lack, few, grow)
+  grown_most numbered before after took = grown_by numbered (8 * fresh l rest) (8 * undecided l c a) before after (let less = fresh_undecided in omega (arith, less)) took
 
   pub grown_few : IsNumbered k.shape → (before after : ℕ) → after + pins_in l.shape rest ≤ before + (2 * fresh l rest + 3 * size_of rest.wires) →
       after + pins_in k.shape a ≤ before + (2 * undecided l c a + 3 * size_of a.wires)
-  grown_few numbered before after took =
-      sums (fresh l rest) (undecided l c a) (pins_in k.shape a) (pins_in l.shape rest) (size_of rest.wires) (size_of a.wires) fresh_undecided (pins_lack numbered) size_less took
-    where
-      sums : (f v p q w x : ℕ) → f ≤ v → p + w ≤ q + x → w ≤ x → after + q ≤ before + (2 * f + 3 * w) → after + p ≤ before + (2 * v + 3 * x)
-      sums f v p q w x less lack few grow = omega (arith, less, lack, few, grow)
+  grown_few numbered before after took = grown_by numbered (2 * fresh l rest) (2 * undecided l c a) before after (let less = fresh_undecided in omega (arith, less)) took
 
   module _ {tables : List Table} (more : IsMore k l) (marks : MarksIn a tables b c) where
     undecided_less : undecided l c a ≤ undecided k b a
@@ -230,21 +221,20 @@ module _ (a rest : Field) (k l : Kept) (b c : Bad) (same : l.shape ≡ k.shape) 
         by x true on = neither (keeps_cross k x) (has_number b.stuck x) (keeps_cross l x) (has_number c.stuck x) (more.crosses x) (marks.stuck.stays x) on
         by x false on = on
 
+    -- what was paid for before goes into the sum
+    paid_by : (few most before mid after : ℕ) → few + 2 * undecided k b a ≤ most + 2 * undecided l c a → Pays a k b before l c mid → after + pins_in k.shape a ≤ mid + (few + 3 * size_of a.wires) → after ≤ before + (most + 3 * size_of a.wires)
+    paid_by few most before mid after fits pays grown = sums (undecided l c a) (undecided k b a) (pins_in k.shape a) (size_of a.wires) fits pays grown
+      where
+        sums : (v u p x : ℕ) → few + 2 * u ≤ most + 2 * v → mid + 2 * v ≤ before + (p + 2 * u) → after + p ≤ mid + (few + 3 * x) → after ≤ before + (most + 3 * x)
+        sums v u p x fit pay grow = omega (arith, fit, pay, grow)
+
     pub paid_most : IsNumbered k.shape → (before mid after : ℕ) → Pays a k b before l c mid → after + pins_in l.shape rest ≤ mid + (8 * fresh l rest + 3 * size_of rest.wires) →
         after ≤ before + (8 * undecided k b a + 3 * size_of a.wires)
-    paid_most numbered before mid after pays took =
-        sums (fresh l rest) (undecided l c a) (undecided k b a) (pins_in k.shape a) (pins_in l.shape rest) (size_of rest.wires) (size_of a.wires) fresh_undecided undecided_less (pins_lack numbered) size_less pays took
-      where
-        sums : (f v u p q w x : ℕ) → f ≤ v → v ≤ u → p + w ≤ q + x → w ≤ x → mid + 2 * v ≤ before + (p + 2 * u) → after + q ≤ mid + (8 * f + 3 * w) → after ≤ before + (8 * u + 3 * x)
-        sums f v u p q w x less fewer lack few pay grow = omega (arith, less, fewer, lack, few, pay, grow)
+    paid_most numbered before mid after pays took = paid_by (8 * undecided l c a) (8 * undecided k b a) before mid after (let less = undecided_less in omega (arith, less)) pays (grown_most numbered mid after took)
 
     pub paid_few : IsNumbered k.shape → (before mid after : ℕ) → Pays a k b before l c mid → after + pins_in l.shape rest ≤ mid + (2 * fresh l rest + 3 * size_of rest.wires) →
         after ≤ before + (2 * undecided k b a + 3 * size_of a.wires)
-    paid_few numbered before mid after pays took =
-        sums (fresh l rest) (undecided l c a) (undecided k b a) (pins_in k.shape a) (pins_in l.shape rest) (size_of rest.wires) (size_of a.wires) fresh_undecided undecided_less (pins_lack numbered) size_less pays took
-      where
-        sums : (f v u p q w x : ℕ) → f ≤ v → v ≤ u → p + w ≤ q + x → w ≤ x → mid + 2 * v ≤ before + (p + 2 * u) → after + q ≤ mid + (2 * f + 3 * w) → after ≤ before + (2 * u + 3 * x)
-        sums f v u p q w x less fewer lack few pay grow = omega (arith, less, fewer, lack, few, pay, grow)
+    paid_few numbered before mid after pays took = paid_by (2 * undecided l c a) (2 * undecided k b a) before mid after (let less = undecided_less in omega (arith, less)) pays (grown_few numbered mid after took)
 
 more_below : (p : ℕ → Bool) (m n : ℕ) → m ≤ n → how_many p m ≤ how_many p n
 more_below p m zero less = let e : m ≡ zero = omega (arith, less) in rw e (omega arith)

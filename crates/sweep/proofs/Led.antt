@@ -1,38 +1,26 @@
 -- What a load of walks leaves.
 use Rattle.std.proofs.Common.{◌≡◌, ◌⊎◌, inl, inr, ℕ, ◌+◌, ◌≤◌, Bool, true, false, not, ◌&&◌, ◌||◌, Option, Result, Ok, Err, List, [], ◌∷◌, length, refl, sym, ap, ◌∙◌, subst}
 use Rattle.std.specs.Prelude.{◌==◌, OnOk, OnErr, flat_map}
-use Rattle.std.proofs.lemmas.Bool.{false≢true, or_cases, and_parts}
+use Rattle.std.proofs.lemmas.Bool.{false≢true, or_cases, and_parts, or_left, or_right}
 use Rattle.std.proofs.lemmas.List.Concat.{flat_map-cons}
 use Rattle.std.proofs.lemmas.List.Folds.{list_any-append}
 use Rattle.tm_bits.specs.Numbers.{has_number}
 use Rattle.hierarchy.specs.Faults.{Faults}
 use Rattle.hierarchy.specs.Circuit.{Pins}
-use Rattle.hierarchy.specs.Shape.{crosses_of}
 use Rattle.config_set.specs.Configuration.{Configuration}
 use Rattle.config_set.specs.Groups.{among}
 use Rattle.evidence.specs.Kept.{Kept, HoldsFor, IsMore, keeps_cross}
 use Rattle.evidence.specs.Leads.{HasLed, StuckIf, arrives, held_up_at, is_only_unkept, crosses_of_leads}
 use Rattle.evidence.specs.declared.leads.Lead.{Lead}
-use Rattle.known.specs.Field.{IsFieldOf}
 use Rattle.known.specs.Known.{KnownWires}
 use Rattle.known.specs.declared.field.Field.{Field}
-use Rattle.known.proofs.Later.{known_later}
 use Rattle.sweep.specs.Courses.{IsCourse}
 use Rattle.sweep.specs.Marks.{AreMarksFor, MarksSome, MarksIn, TrueIf}
 use Rattle.sweep.specs.Stages.{Goes, IsHand, in_hand}
 use Rattle.sweep.specs.declared.bad.Bad.{Bad}
 use Rattle.sweep.specs.declared.purse.Purse.{Purse}
-use Rattle.sweep.proofs.Going.{grows_itself}
-use Rattle.sweep.proofs.Marking.{true_later, some_itself, marks_for}
-use Rattle.sweep.proofs.Paying.{funded_test}
-
-or_true : (a b : Bool) → b ≡ true → (a || b) ≡ true
-or_true true b e = refl
-or_true false b e = e
-
-or_first : (a b : Bool) → a ≡ true → (a || b) ≡ true
-or_first true b e = refl
-or_first false b e = absurd (false≢true e)
+use Rattle.sweep.proofs.Going.{goes_tested}
+use Rattle.sweep.proofs.Marking.{true_later, some_itself}
 
 not_kept : (b : Bool) → not b ≡ true → b ≡ false
 not_kept true e = absurd (false≢true e)
@@ -54,14 +42,14 @@ held_up k reading (l ∷ ls) x on = by (held_up k reading ls x) (or_cases (not (
     by later (inl here) =
         let only = (and_parts (not (arrives reading l)) (is_only_unkept k l.route.crosses x) here).1 in
         let two = and_parts (among l.route.crosses x) _ only in
-        record { on = whole ∙ or_first (among l.route.crosses x) (among (crosses_of_leads ls) x) two.0; loose = not_kept (keeps_cross k x) (and_parts (not (keeps_cross k x)) _ two.1).0 }
-    by later (inr more) = record { on = whole ∙ or_true (among l.route.crosses x) (among (crosses_of_leads ls) x) (later more).on; loose = (later more).loose }
+        record { on = whole ∙ or_left (among l.route.crosses x) (among (crosses_of_leads ls) x) two.0; loose = not_kept (keeps_cross k x) (and_parts (not (keeps_cross k x)) _ two.1).0 }
+    by later (inr more) = record { on = whole ∙ or_right (among l.route.crosses x) (among (crosses_of_leads ls) x) (later more).on; loose = (later more).loose }
 
 stuck_marks : (told : Option Faults) (a : Field) (k l : Kept) (known : KnownWires) (g : Configuration) (drive : List Bool) (ls : List Lead) (seen was is : List Bool) {T E : Type 0} (r : Result T E) → IsCourse k known.steps a g drive ls seen → length is ≡ length was →
     OnOk r (HasLed told g drive ls k l was is) → OnErr r (is ≡ was) → MarksSome (λ x. has_number a.crosses x ≡ true) was is
 stuck_marks told a k l known g drive ls seen was is (Ok v) c len led same = record {
   len = len;
-  stays = λ x on. led.marks x ∙ or_true (held_up_at k led.reading ls x) (has_number was x) on;
+  stays = λ x on. led.marks x ∙ or_right (held_up_at k led.reading ls x) (has_number was x) on;
   within = λ x on. by x (or_cases (held_up_at k led.reading ls x) (has_number was x) (sym (led.marks x) ∙ on));
 }
   where
@@ -74,18 +62,7 @@ pub lead_goes : {told : Option Faults} {a : Field} {k l : Kept} {known : KnownWi
     IsHand a (in_hand k known bad purse before) → IsCourse k known.steps a g drive ls seen → before + 1 ≤ purse.most → after ≤ before + 1 → IsMore k l → length stuck ≡ length bad.stuck →
     OnOk r (HasLed told g drive ls k l bad.stuck stuck) → OnErr r (stuck ≡ bad.stuck) → (StuckIf told k bad.stuck → StuckIf told l stuck) →
     Goes told a [] (in_hand k known bad purse before) (in_hand l known (record bad { stuck = stuck }) purse after)
-lead_goes {told} {a} {k} {l} {known} {bad} {purse} {before} {after} {g} {drive} {ls} {seen} {stuck} r hand course can took more len led same true_ = record {
-  hand = record {
-    known = known_later more hand.known;
-    field = subst (λ m. IsFieldOf m a) (sym more.shape) hand.field;
-    marks = marks_for more.shape hand.marks marked;
-    purse = hand.purse ∙ ap crosses_of (sym more.shape);
-  };
-  grows = grows_itself a known.steps;
-  marks = marked;
-  holds = holds;
-  funded = funded_test 1 can took more marked.stuck.stays;
-}
+lead_goes {told} {a} {k} {l} {known} {bad} {purse} {before} {after} {g} {drive} {ls} {seen} {stuck} r hand course can took more len led same true_ = goes_tested 1 hand can took more marked holds
   where
     marked : MarksIn a [] bad (record bad { stuck = stuck })
     marked = record {

@@ -1,6 +1,7 @@
+-- What is cited above.
+pub mod Marking
 -- For the proofs of this crate alone.
 mod Going
-mod Marking
 mod Paying
 mod Purses
 mod Sighting

@@ -10,7 +10,8 @@ use Rattle.sweep.specs.Stages.{IsFunded, in_hand}
 use Rattle.sweep.specs.declared.bad.Bad.{Bad}
 use Rattle.sweep.specs.declared.purse.Purse.{Purse}
 
-neither : (a b c d : Bool) → (a ≡ true → c ≡ true) → (b ≡ true → d ≡ true) → (not c && not d) ≡ true → (not a && not b) ≡ true
+-- if neither of two is so, neither is what they follow from
+pub neither : (a b c d : Bool) → (a ≡ true → c ≡ true) → (b ≡ true → d ≡ true) → (not c && not d) ≡ true → (not a && not b) ≡ true
 neither false false c d p q e = refl
 neither true b c d p q e = absurd (false≢true (ap (λ (x : Bool). not x && not d) (sym (p refl)) ∙ e))
 neither false true c d p q e = absurd (false≢true (sym (none c) ∙ ap (λ (x : Bool). not c && not x) (sym (q refl)) ∙ e))

@@ -6,6 +6,7 @@ use Rattle.std.proofs.lemmas.List.{get_or-set_other, get_or_past, length-set}
 use native.Mathlib.Decide.{ℕ_discrete, dec_lt}
 use Rattle.tm_bits.specs.Numbers.{has_number, size_of}
 use Rattle.tm_bits.proofs.NumbersLemmas.{size_of-taken}
+use Rattle.hierarchy.specs.Shape.{crosses_of}
 use Rattle.evidence.specs.Kept.{Kept, keeps_cross}
 use Rattle.known.specs.Field.{how_many, pins_in}
 use Rattle.known.specs.Known.{KnownWires}
@@ -49,6 +50,17 @@ settles_then p q = record {
   within = (let first = p.within in let next = q.within in omega (arith, first, next));
   whole = λ x on is. q.whole x (p.whole x on is) is;
 }
+
+-- a purse that was settled so far
+pub record HasSettled (k : Kept) (b : Bad) (old new : Purse) : Type 0 where
+  pub purse : length new.unsettled ≡ crosses_of k.shape
+  pub settles : Settles k b old new
+
+pub settled_none : {k : Kept} {b : Bad} {p : Purse} → length p.unsettled ≡ crosses_of k.shape → HasSettled k b p p
+settled_none {k} {b} {p} purse = record { purse = purse; settles = settles_itself k b p }
+
+pub settled_on : {k : Kept} {b : Bad} {x y z : Purse} → HasSettled k b x y → Settles k b y z → HasSettled k b x z
+settled_on p q = record { purse = q.len ∙ p.purse; settles = settles_then p.settles q }
 
 pub funded_first : {k : Kept} {b : Bad} {a : Field} {loads most : ℕ} {set : List Bool} (pins : ℕ) (known : KnownWires) → length set ≡ length a.crosses → ((x : ℕ) → has_number set x ≡ (has_number a.crosses x && is_undecided k b x)) → loads ≤ most → most ≤ loads + pins →
     IsFunded (loads + (pins + 2 * undecided k b a)) a (in_hand k known b (record { most = most; unsettled = set }) loads)

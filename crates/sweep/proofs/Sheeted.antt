@@ -4,10 +4,8 @@ use Rattle.std.specs.Prelude.{◌==◌, All, map, slice_get, slice_index_or}
 use Rattle.std.specs.List.{list_any, IsDistinct}
 use Rattle.std.proofs.lemmas.Bool.{false≢true, or_cases}
 use Rattle.std.proofs.lemmas.Bool.Decides.{nat_tests}
-use Rattle.std.proofs.lemmas.List.{take_all, take_more, map-append}
-use Rattle.std.proofs.lemmas.List.Elements.{All-push}
+use Rattle.std.proofs.lemmas.List.{take_all, map-append}
 use Rattle.std.proofs.lemmas.Map.Keys.{apart_from_distinct}
-use Rattle.std.proofs.lemmas.Option.{gets}
 use native.Mathlib.Decide.{ℕ_discrete, dec_lt}
 use Rattle.hierarchy.specs.declared.Table.{Table}
 use Rattle.hierarchy.specs.Shape.{table_wire, tables_of}
@@ -15,6 +13,7 @@ use Rattle.evidence.specs.Forests.{Trees, HangsOn}
 use Rattle.evidence.specs.TableRows.{AreTablesOn, is_one_of, output_pin}
 use Rattle.sweep.specs.Sheets.{AreOn, InputsOn, OutputOn}
 use Rattle.sweep.specs.Sights.{Seen, SeesMore}
+use Rattle.sweep.proofs.Footed.{one_more}
 
 same_number : (n : ℕ) → (n == n) ≡ true
 same_number n = grind (arith, nat_tests)
@@ -135,26 +134,10 @@ module _ {trees : Trees} {ins : List ℕ} {ts : List Table} (six : length ins �
           (output_at a.place zero_table a.below ∙ ap (output_pin trees) (a.is zero_table) ∙ same_pin (sym (output t is) ∙ hp) ∙ same_pin (sym hq ∙ output u also) ∙ ap (output_pin trees) (sym (b.is zero_table)) ∙ sym (output_at b.place zero_table b.below)) in
           sym (a.is zero_table) ∙ ap (λ i. (get_or ts i zero_table).0) (let f : a.place ≡ b.place = omega (arith, e) in f) ∙ b.is zero_table
 
--- what holds of the first tables holds of one more
-pub all_next : (P : Table → Type 0) (ts : List Table) (k : ℕ) (t : Table) → k < length ts → slice_get ts k ≡ Some t → All P (take k ts) → P t → All P (take (k + 1) ts)
-all_next P ts k t below here all is = subst (All P) (sym (take_more ts k t below ∙ ap (λ u. take k ts ++ u ∷ []) (got (grind (arith, gets, here))))) (All-push P (take k ts) t all is)
-  where
-    got : get_or ts k t ≡ t → get_or ts k t ≡ t
-    got e = e
-
 -- one table more
 module _ (trees : Trees) (ts : List Table) (k : ℕ) (t : Table) (below : k < length ts) (here : slice_get ts k ≡ Some t) where
-  one_table : take (k + 1) ts ≡ take k ts ++ t ∷ []
-  one_table = take_more ts k t below ∙ ap (λ u. take k ts ++ u ∷ []) (got (grind (arith, gets, here)))
-    where
-      got : get_or ts k t ≡ t → get_or ts k t ≡ t
-      got e = e
-
-  pub all_more : (P : Table → Type 0) → All P (take k ts) → P t → All P (take (k + 1) ts)
-  all_more P all is = subst (All P) (sym one_table) (All-push P (take k ts) t all is)
-
   pub outs_more : {old new : List Bool} (ins : List ℕ) → Seen old (ins ++ map (λ t. output_pin trees t.0) (take k ts)) → SeesMore old new (output_pin trees t.0 ∷ []) → Seen new (ins ++ map (λ t. output_pin trees t.0) (take (k + 1) ts))
-  outs_more {old} {new} ins s more = subst (Seen new) (assoc ins (map (λ t. output_pin trees t.0) (take k ts)) (output_pin trees t.0 ∷ []) ∙ ap (λ ps. ins ++ ps) (sym (ap (map (λ t. output_pin trees t.0)) one_table ∙ map-append (λ t. output_pin trees t.0) (take k ts) (t ∷ [])))) (more.at _ s)
+  outs_more {old} {new} ins s more = subst (Seen new) (assoc ins (map (λ t. output_pin trees t.0) (take k ts)) (output_pin trees t.0 ∷ []) ∙ ap (λ ps. ins ++ ps) (sym (ap (map (λ t. output_pin trees t.0)) (one_more ts k t below here) ∙ map-append (λ t. output_pin trees t.0) (take k ts) (t ∷ [])))) (more.at _ s)
     where
       assoc : (xs ys zs : List ℕ) → (xs ++ ys) ++ zs ≡ xs ++ (ys ++ zs)
       assoc [] ys zs = refl

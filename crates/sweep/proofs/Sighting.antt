@@ -1,8 +1,8 @@
 -- Numbers that are seen one after the other.
-use Rattle.std.proofs.Common.{◌≡◌, ◌≢◌, ◌⊎◌, ℕ, zero, suc, ◌+◌, ◌<◌, ◌≤◌, Bool, true, false, ◌||◌, Some, List, [], ◌∷◌, ◌++◌, length, take, get_or, refl, sym, ap, ◌∙◌, subst, inl, inr, arith}
+use Rattle.std.proofs.Common.{◌≡◌, ◌≢◌, ◌⊎◌, ℕ, zero, suc, ◌+◌, ◌<◌, ◌≤◌, Bool, true, false, Some, List, [], ◌∷◌, ◌++◌, length, take, get_or, refl, sym, ap, ◌∙◌, subst, inl, inr, arith}
 use Rattle.std.specs.Prelude.{◌==◌, slice_set, slice_get}
 use Rattle.std.specs.List.{AllByRecursion, list_any, IsDistinct}
-use Rattle.std.proofs.lemmas.Bool.{false≢true, or_cases, or_parts}
+use Rattle.std.proofs.lemmas.Bool.{false≢true, or_cases, or_parts, or_left, or_right}
 use Rattle.std.proofs.lemmas.Bool.Decides.{nat_tests}
 use Rattle.std.proofs.lemmas.List.{take_more}
 use Rattle.std.proofs.lemmas.Option.{gets}
@@ -35,14 +35,6 @@ among_and_one [] n m on = inr (only (or_cases (n == m) false on))
     only (inr no_) = absurd (false≢true no_)
 among_and_one (x ∷ xs) n m on = by (among_and_one xs n m) (or_cases (x == m) (among (xs ++ n ∷ []) m) on)
   where
-    or_right : (a b : Bool) → b ≡ true → (a || b) ≡ true
-    or_right true b e = refl
-    or_right false b e = e
-
-    or_left : (a b : Bool) → a ≡ true → (a || b) ≡ true
-    or_left true b e = refl
-    or_left false b e = absurd (false≢true e)
-
     behind : (among xs m ≡ true) ⊎ (n ≡ m) → (among (x ∷ xs) m ≡ true) ⊎ (n ≡ m)
     behind (inl h) = inl (or_right (x == m) (among xs m) h)
     behind (inr e) = inr e

@@ -1,28 +1,24 @@
 -- What a load of tables leaves.
-use Rattle.std.proofs.Common.{◌≡◌, ◌⊎◌, inl, inr, ℕ, zero, suc, ◌<◌, ◌≤◌, ◌+◌, Bool, true, false, not, ◌&&◌, ◌||◌, Option, Result, Ok, Err, List, [], ◌∷◌, length, refl, sym, ap, ◌∙◌, subst, arith}
+use Rattle.std.proofs.Common.{◌≡◌, ◌⊎◌, inl, inr, ℕ, suc, ◌≤◌, ◌+◌, Bool, true, false, not, ◌&&◌, Option, Result, Ok, Err, List, [], ◌∷◌, length, refl, sym, ◌∙◌, subst, arith}
 use Rattle.std.specs.Prelude.{All, OnOk, OnErr, ◌==◌}
-use Rattle.std.proofs.lemmas.Bool.{false≢true, or_cases, and_parts}
+use Rattle.std.proofs.lemmas.Bool.{false≢true, or_cases, and_parts, or_right}
 use Rattle.std.proofs.lemmas.Bool.Decides.{nat_tests}
 use Rattle.tm_bits.specs.Numbers.{has_number}
 use Rattle.hierarchy.specs.declared.Table.{Table}
 use Rattle.hierarchy.specs.Faults.{Faults}
-use Rattle.hierarchy.specs.Shape.{crosses_of}
 use Rattle.rig.specs.Rig.{RigState}
 use Rattle.evidence.specs.Forests.{Trees}
-use Rattle.evidence.specs.Kept.{Kept, Advances, HoldsFor, IsMore}
+use Rattle.evidence.specs.Kept.{Kept, Advances, IsMore}
 use Rattle.evidence.specs.TableRows.{HasTabled, WrongIf, is_one_of, is_right_before, output_pin}
-use Rattle.evidence.proofs.Keeping.{holds_earlier}
-use Rattle.known.specs.Field.{IsFieldOf}
+use Rattle.evidence.proofs.Keeping.{advances_itself, advances_then}
 use Rattle.known.specs.Known.{KnownWires}
 use Rattle.known.specs.declared.field.Field.{Field}
-use Rattle.known.proofs.Later.{known_later}
-use Rattle.sweep.specs.Marks.{AreMarksFor, HasTable, MarksSome, MarksIn, TrueIf}
+use Rattle.sweep.specs.Marks.{HasTable, MarksSome, MarksIn, TrueIf}
 use Rattle.sweep.specs.Stages.{Goes, Hand, IsHand, in_hand}
 use Rattle.sweep.specs.declared.bad.Bad.{Bad}
 use Rattle.sweep.specs.declared.purse.Purse.{Purse}
-use Rattle.sweep.proofs.Going.{grows_itself, goes_on}
-use Rattle.sweep.proofs.Marking.{true_later, some_itself, marks_for}
-use Rattle.sweep.proofs.Paying.{funded_test}
+use Rattle.sweep.proofs.Going.{goes_itself, goes_on, goes_tested}
+use Rattle.sweep.proofs.Marking.{true_later, some_itself}
 
 -- one of these tables is one of the given ones
 given : {tables : List Table} (ts : List Table) → All (λ t. HasTable tables t.0) ts → (t : ℕ) → is_one_of ts t ≡ true → HasTable tables t
@@ -36,15 +32,11 @@ given {tables} (a ∷ ts) all t on = by (given ts (λ i d below. all (suc i) d (
     by later (inl here) = subst (HasTable tables) (same here) (all 0 a (omega arith))
     by later (inr more) = later more
 
-or_true : (a b : Bool) → b ≡ true → (a || b) ≡ true
-or_true true b e = refl
-or_true false b e = e
-
 pub wrong_marks : (told : Option Faults) (trees : Trees) (tables ts : List Table) (rig : RigState) (k l : Kept) (was is : List Bool) {T E : Type 0} (r : Result T E) → All (λ t. HasTable tables t.0) ts → length is ≡ length was →
     OnOk r (HasTabled told trees ts rig k l was is) → OnErr r (is ≡ was) → MarksSome (HasTable tables) was is
 wrong_marks told trees tables ts rig k l was is (Ok v) of len tabled same = record {
   len = len;
-  stays = λ t on. tabled.marks t ∙ or_true (is_one_of ts t && not (is_right_before tabled.setting tabled.reads tabled.opposite (output_pin trees t) 65)) (has_number was t) on;
+  stays = λ t on. tabled.marks t ∙ or_right (is_one_of ts t && not (is_right_before tabled.setting tabled.reads tabled.opposite (output_pin trees t) 65)) (has_number was t) on;
   within = λ t on. by t (or_cases (is_one_of ts t && not (is_right_before tabled.setting tabled.reads tabled.opposite (output_pin trees t) 65)) (has_number was t) (sym (tabled.marks t) ∙ on));
 }
   where
@@ -56,18 +48,7 @@ wrong_marks told trees tables ts rig k l was is (Err e) of len tabled same = sub
 pub table_goes : {told : Option Faults} {a : Field} {k l : Kept} {known : KnownWires} {bad : Bad} {wrong : List Bool} {purse : Purse} {before after : ℕ} (tables : List Table) → IsHand a (in_hand k known bad purse before) → before + 2 ≤ purse.most →
     after ≤ before + 2 → IsMore k l → MarksSome (HasTable tables) bad.wrong wrong → (WrongIf told k bad.wrong → WrongIf told l wrong) →
     Goes told a tables (in_hand k known bad purse before) (in_hand l known (record bad { wrong = wrong }) purse after)
-table_goes {told} {a} {k} {l} {known} {bad} {wrong} {purse} {before} {after} tables hand can took more marks true_ = record {
-  hand = record {
-    known = known_later more hand.known;
-    field = subst (λ m. IsFieldOf m a) (sym more.shape) hand.field;
-    marks = marks_for more.shape hand.marks marked;
-    purse = hand.purse ∙ ap crosses_of (sym more.shape);
-  };
-  grows = grows_itself a known.steps;
-  marks = marked;
-  holds = holds;
-  funded = funded_test 2 can took more (λ x on. on);
-}
+table_goes {told} {a} {k} {l} {known} {bad} {wrong} {purse} {before} {after} tables hand can took more marks true_ = goes_tested 2 hand can took more marked holds
   where
     marked : MarksIn a tables bad (record bad { wrong = wrong })
     marked = record {
@@ -90,3 +71,17 @@ table_goes {told} {a} {k} {l} {known} {bad} {wrong} {purse} {before} {after} tab
 -- a step after calls that left the machine and the tables as they were
 pub table_on : {a : Field} {ts us : List Table} {x y z : Hand} {r s : RigState} {k l : Kept} → us ≡ ts → Advances r s k l → Goes r.machine.faults a ts x y → Goes s.machine.faults a us y z → Goes r.machine.faults a ts x z
 table_on {a = a} {y = y} {z = z} {s = s} same advances p q = goes_on advances p (subst (λ (t : List Table). Goes s.machine.faults a t y z) same q)
+
+-- what tests of tables have made of what is in hand so far, and the tables are as they were
+pub record HasTested (first now : RigState) (j k : Kept) (a : Field) (given : List Table) (old new : Hand) {T : Type 0} (was is : T) : Type 0 where
+  pub hand : IsHand a new
+  pub goes : Goes first.machine.faults a given old new
+  pub tables : is ≡ was
+  pub advances : Advances first now j k
+
+pub tested_none : {r : RigState} {k : Kept} {a : Field} {given : List Table} {h : Hand} {T : Type 0} {was : T} → IsHand a h → HasTested r r k k a given h h was was
+tested_none {r} {k} hand = record { hand = hand; goes = goes_itself hand; tables = refl; advances = advances_itself r k }
+
+pub tested_on : {r s t : RigState} {j k l : Kept} {a : Field} {given those : List Table} {x y z : Hand} {T : Type 0} {was is new : T} → HasTested r s j k a given x y was is → those ≡ given → Goes s.machine.faults a those y z → new ≡ is → Advances s t k l →
+    HasTested r t j l a given x z was new
+tested_on p same q tables on = let goes = table_on same p.advances p.goes q in record { hand = goes.hand; goes = goes; tables = tables ∙ p.tables; advances = advances_then p.advances on }

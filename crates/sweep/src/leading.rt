@@ -213,6 +213,7 @@ fn lead_turn(
 }
 
 /// Leads walks over undecided crosspoints between known wires, until no more are found or can be paid.
+#[tactic(auto, using(crate::proofs::Going::gone_none))]
 pub(crate) fn lead_paths(
     rig: &mut Box<dyn Rig>,
     proof: &mut Proof,

@@ -110,33 +110,6 @@ fn begin_route(
     Ok(Some(route))
 }
 
-// The route of a walk from a pin of the machine. None where it goes over a wire that isn't known or was seen before, or over a crosspoint
-// that may not be tried.
-fn route_of(
-    alloc: Global,
-    proof: &Proof,
-    known: &Known,
-    field: &Field,
-    seen: &mut BitSet,
-    walk: &Walk,
-) -> Result<Option<Route>, AllocError>
-    requires known { IsKnown proof.now known.now }
-    requires field { IsFieldOf proof.now.shape field.now }
-    requires seen { length seen.old ≡ wires_of proof.now.shape }
-    ensures fair { IfOk result (λ found. IfSome found (IsFair proof.now known.now.steps field.now seen.old seen.new)) }
-    ensures len { length seen.new ≡ length seen.old }
-{
-    let Some(mut route) = begin_route(alloc, proof, known, field, seen, walk.wire(0).0)? else {
-        return Ok(None);
-    };
-    'steps: for place in 0..walk.crosses.len() {
-        if !step_on(&mut route, seen, proof, known, field, walk.foot(place))? {
-            return Ok(None);
-        }
-    }
-    Ok(Some(route))
-}
-
 // The pin of the machine at which a route ends, behind a crosspoint at least.
 fn end_pin(shape: &Shape, route: &Route) -> Option<u32>
     ensures pin { IfSome result (λ pin. EndsAt shape.now route.now pin) }
@@ -170,9 +143,14 @@ pub(crate) fn lead_of(
     ensures fair { IfOk result (λ found. IfSome found (IsFairLead proof.now known.now.steps field.now seen.old seen.new)) }
     ensures len { length seen.new ≡ length seen.old }
 {
-    let Some(route) = route_of(alloc, proof, known, field, seen, walk)? else {
+    let Some(mut route) = begin_route(alloc, proof, known, field, seen, walk.wire(0).0)? else {
         return Ok(None);
     };
+    'steps: for place in 0..walk.crosses.len() {
+        if !step_on(&mut route, seen, proof, known, field, walk.foot(place))? {
+            return Ok(None);
+        }
+    }
     let Some(to) = end_pin(&proof.shape(), &route) else {
         return Ok(None);
     };

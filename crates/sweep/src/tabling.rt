@@ -95,6 +95,7 @@ fn table_turn(
 }
 
 // Tests tables of the hextant that the search is at until none is left to test, or it can't be paid.
+#[tactic(auto, using(crate::proofs::Tabled::tested_none))]
 fn test_hextant(
     rig: &mut Box<dyn Rig>,
     proof: &mut Proof,
@@ -121,6 +122,7 @@ fn test_hextant(
 }
 
 // Tests the tables of each hextant.
+#[tactic(auto, using(crate::proofs::Tabled::tested_none))]
 fn test_tables(
     rig: &mut Box<dyn Rig>,
     proof: &mut Proof,

@@ -154,6 +154,16 @@ fn next_view(
     }))
 }
 
+// True where there was memory for what a look tells.
+fn was_heard(heard: Result<(), AllocError>) -> Result<bool, RigFail>
+    ensures memory { IsErrOf result RigFail.Failed → ⊥ }
+{
+    match heard {
+        Ok(()) => Ok(true),
+        Err(_) => Err(RigFail::Memory),
+    }
+}
+
 // Takes a look, if one is wanted, may be made, and can be paid. False where not.
 fn tell_turn(
     rig: &mut Box<dyn Rig>,
@@ -197,13 +207,11 @@ fn tell_turn(
         &mut view.reads,
     )?;
     let chooser = &mut gear.chooser;
-    match chooser.hear(&view.told, &view.forest, &view.reads, proof, bad) {
-        Ok(()) => Ok(true),
-        Err(_) => Err(RigFail::Memory),
-    }
+    was_heard(chooser.hear(&view.told, &view.forest, &view.reads, proof, bad))
 }
 
 /// Takes looks for what the choice is asked for, until none is wanted, or it can't be paid.
+#[tactic(auto, using(crate::proofs::Going::gone_none))]
 pub(crate) fn tell_all(
     rig: &mut Box<dyn Rig>,
     proof: &mut Proof,

@@ -97,6 +97,7 @@ fn hang_turn(
 }
 
 // Tests wires of a height until none is found, or it can't be paid.
+#[tactic(auto, using(crate::proofs::Going::gone_none))]
 fn hang_height(
     rig: &mut Box<dyn Rig>,
     proof: &mut Proof,
@@ -146,6 +147,7 @@ fn sweep_height(
 }
 
 // Tests the wires of each height once more.
+#[tactic(auto, using(crate::proofs::Going::gone_none))]
 fn sweep_heights(
     rig: &mut Box<dyn Rig>,
     proof: &mut Proof,

@@ -3,13 +3,13 @@ use Rattle.std.specs.Prelude.{All}
 use Rattle.std.proofs.lemmas.List.{take_all}
 use Rattle.hierarchy.specs.declared.Table.{Table}
 use Rattle.sweep.specs.Marks.{HasTable}
-use Rattle.sweep.proofs.Sheeted.{all_next}
+use Rattle.sweep.proofs.Footed.{all_more}
 use Rattle.sweep.proofs.fits.are_given.Goals as goal
 
 pub tables-preserved : goal.tables-preserved
 tables-preserved c =
     let below : c.tables.k < length c.args.tables.now = omega arith in
-    all_next (λ (t : Table). HasTable c.args.given.now t.0) c.args.tables.now c.tables.k c.table_at.result below c.table_at.ensures c.tables.invariant (c.if-not-has_table.ensures refl)
+    all_more c.args.tables.now c.tables.k c.table_at.result below c.table_at.ensures (λ (t : Table). HasTable c.args.given.now t.0) c.tables.invariant (c.if-not-has_table.ensures refl)
 
 pub returns : goal.returns
 returns c =

@@ -5,7 +5,8 @@ use Rattle.hierarchy.specs.declared.Table.{Table}
 use Rattle.hierarchy.specs.Shape.{tables_of}
 use Rattle.sweep.specs.Sheets.{AreOn, InputsOn, OutputOn}
 use Rattle.sweep.specs.Sights.{Seen}
-use Rattle.sweep.proofs.Sheeted.{all_more, outs_more, seen_alone, on_all}
+use Rattle.sweep.proofs.Footed.{all_more}
+use Rattle.sweep.proofs.Sheeted.{outs_more, seen_alone, on_all}
 use Rattle.sweep.proofs.fits.are_on.Goals as goal
 
 pub tables-init : goal.tables-init
@@ -23,9 +24,9 @@ tables-preserved c =
     let at = c.table_at.ensures in
     record {
       len = c.is_on.ensures.len ∙ c.tables.invariant.len;
-      within = all_more c.args.forest.now c.args.tables.now c.tables.k c.table_at.result below at (λ (t : Table). t.0 < tables_of c.args.forest.now.shape) c.tables.invariant.within (c.if-not-is_on.ensures.within refl);
-      inputs = all_more c.args.forest.now c.args.tables.now c.tables.k c.table_at.result below at (InputsOn c.args.forest.now c.args.ins.now) c.tables.invariant.inputs (c.if-not-is_on.ensures.inputs refl);
-      outputs = all_more c.args.forest.now c.args.tables.now c.tables.k c.table_at.result below at (OutputOn c.args.forest.now) c.tables.invariant.outputs (c.if-not-is_on.ensures.output refl);
+      within = all_more c.args.tables.now c.tables.k c.table_at.result below at (λ (t : Table). t.0 < tables_of c.args.forest.now.shape) c.tables.invariant.within (c.if-not-is_on.ensures.within refl);
+      inputs = all_more c.args.tables.now c.tables.k c.table_at.result below at (InputsOn c.args.forest.now c.args.ins.now) c.tables.invariant.inputs (c.if-not-is_on.ensures.inputs refl);
+      outputs = all_more c.args.tables.now c.tables.k c.table_at.result below at (OutputOn c.args.forest.now) c.tables.invariant.outputs (c.if-not-is_on.ensures.output refl);
       seen = outs_more c.args.forest.now c.args.tables.now c.tables.k c.table_at.result below at c.args.ins.now c.tables.invariant.seen (c.if-not-is_on.ensures.sees refl);
     }
 

@@ -1,14 +1,9 @@
-use Rattle.std.proofs.Common.{◌≡◌}
-use Rattle.evidence.specs.Kept.{Advances}
-use Rattle.sweep.specs.Stages.{Goes, in_hand}
+use Rattle.sweep.specs.Stages.{in_hand}
+use Rattle.sweep.proofs.Tabled.{HasTested}
 use Rattle.sweep.proofs.tabling.test_tables.Given as goal
 
 abbrev pub invariant-nodes : goal.invariant-nodes
 invariant-nodes g l =
     let first = (goal.Rig-dyn g (l.fn.rig.vtable, l.fn.rig.value)).rig_state l.fn.rig.value in
     let now = (goal.Rig-dyn g (l.rig.vtable, l.rig.value)).rig_state l.rig.value in
-    record {
-      goes : Goes first.machine.faults l.field l.fn.sheet.tables.items (in_hand l.fn.proof l.known l.fn.bad l.fn.sheet.gear.purse first.loads) (in_hand l.proof l.known l.bad l.sheet.gear.purse now.loads);
-      tables : l.sheet.tables ≡ l.fn.sheet.tables;
-      advances : Advances first now l.fn.proof l.proof;
-    }
+    HasTested first now l.fn.proof l.proof l.field l.fn.sheet.tables.items (in_hand l.fn.proof l.known l.fn.bad l.fn.sheet.gear.purse first.loads) (in_hand l.proof l.known l.bad l.sheet.gear.purse now.loads) l.fn.sheet.tables l.sheet.tables

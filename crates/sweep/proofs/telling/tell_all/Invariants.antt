@@ -1,13 +1,10 @@
 use Rattle.std.proofs.Common.{[]}
-use Rattle.evidence.specs.Kept.{Advances}
-use Rattle.sweep.specs.Stages.{Goes, in_hand}
+use Rattle.sweep.specs.Stages.{in_hand}
+use Rattle.sweep.proofs.Going.{HasGone}
 use Rattle.sweep.proofs.telling.tell_all.Given as goal
 
 abbrev pub invariant-looks : goal.invariant-looks
 invariant-looks g l =
     let first = (goal.Rig-dyn g (l.fn.rig.vtable, l.fn.rig.value)).rig_state l.fn.rig.value in
     let now = (goal.Rig-dyn g (l.rig.vtable, l.rig.value)).rig_state l.rig.value in
-    record {
-      goes : Goes first.machine.faults l.field [] (in_hand l.fn.proof l.known l.fn.bad l.fn.gear.purse first.loads) (in_hand l.proof l.known l.bad l.gear.purse now.loads);
-      advances : Advances first now l.fn.proof l.proof;
-    }
+    HasGone first now l.fn.proof l.proof l.field [] (in_hand l.fn.proof l.known l.fn.bad l.fn.gear.purse first.loads) (in_hand l.proof l.known l.bad l.gear.purse now.loads)

@@ -1,9 +1,8 @@
-use Rattle.std.proofs.Common.{◌∙◌}
-use Rattle.sweep.proofs.Purses.{settles_itself, settles_then}
+use Rattle.sweep.proofs.Purses.{settled_none, settled_on}
 use Rattle.sweep.proofs.turns.settle_hangs.Goals as goal
 
 pub hangs-init : goal.hangs-init
-hangs-init c = settles_itself c.args.proof.now c.args.bad.now c.args.purse.now
+hangs-init c = settled_none c.requires.purse
 
 pub hangs-preserved : goal.hangs-preserved
-hangs-preserved c = settles_then c.hangs.invariant (settles_then c.settle.ensures c.settle-in-hangs.ensures)
+hangs-preserved c = settled_on (settled_on c.hangs.invariant c.settle.ensures) c.settle-in-hangs.ensures

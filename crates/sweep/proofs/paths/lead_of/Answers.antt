@@ -1,6 +1,6 @@
 use Rattle.std.proofs.Common.{◌∙◌}
 use Rattle.sweep.proofs.Coursing.{fair_more}
-use Rattle.sweep.proofs.paths.route_of.Goals as goal
+use Rattle.sweep.proofs.paths.lead_of.Goals as goal
 
 pub steps-preserved : goal.steps-preserved
 steps-preserved c = record {

@@ -1,6 +1,6 @@
 use Rattle.std.proofs.Common.{◌≡◌, length}
 use Rattle.sweep.specs.Courses.{IsFair}
-use Rattle.sweep.proofs.paths.route_of.Given as goal
+use Rattle.sweep.proofs.paths.lead_of.Given as goal
 
 abbrev pub invariant-steps : goal.invariant-steps
 invariant-steps l = record {
