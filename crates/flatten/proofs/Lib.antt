@@ -4,7 +4,6 @@ pub mod SubstitutionLemmas
 mod FirstLemmas
 mod OrderLemmas
 mod SignalsLemmas
-mod NotedLemmas
 mod MarkLemmas
 mod UseLemmas
 mod FormalLemmas
