@@ -5,6 +5,7 @@ mod FirstLemmas
 mod OrderLemmas
 mod SignalsLemmas
 mod MarkLemmas
+mod NotedLemmas
 mod UseLemmas
 mod FormalLemmas
 mod RuleLemmas

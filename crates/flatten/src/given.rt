@@ -46,6 +46,10 @@ impl<'a> Given<'a> {
     pub fn get(&self, name: &[u8]) -> Option<Signal>
         ensures { result ≡ looked_up self.now name.now }
     {
+        // Nothing is given to the first model, which mostly has all lines.
+        if self.map.is_empty() {
+            return None;
+        }
         self.map.get(name).copied()
     }
 

@@ -1,13 +1,14 @@
 //! Signals, numbered by first appearance.
 
-ghost use Rattle.std.specs.Prelude.{◌≡◌, ◌≤◌, [], length, IfErr, OnOk};
+ghost use Rattle.std.specs.Prelude.{◌≡◌, ◌≤◌, ◌<◌, [], true, length, Some, IfErr, IfSome, IsSome, IsTrue, OnOk, slice_get};
+ghost use Rattle.std.specs.List.{list_any};
 ghost use Rattle.flatten.specs.Refusals.{IsPast};
-ghost use Rattle.flatten.specs.Signals.{with_signal, with_signals, signal_number};
+ghost use Rattle.flatten.specs.Signals.{same_signal, with_signal, with_signals, signal_number};
 
 use crate::model::Signal;
 use crate::refusal::Refusal;
 use indexmap::IndexSet;
-use std::alloc::Global;
+use std::alloc::{AllocError, Global};
 use std::marker::Model;
 
 /// The most signals that a design may have.
@@ -17,6 +18,41 @@ pub const MOST_SIGNALS: usize = 65_535;
 #[derive(Drop)]
 pub struct Signals {
     set: IndexSet<Signal>,
+    /// At which numbers signals of the first model may stand.
+    noted: Vec<usize>,
+}
+
+/// Notes at which number a signal of the first model stands.
+fn note(noted: &mut Vec<usize>, signal: Signal, number: usize) -> Result<(), AllocError> {
+    let own = signal.own as usize;
+    if signal.used != 0 || own >= MOST_SIGNALS {
+        return Ok(());
+    }
+    'room: for _own in noted.len()..own + 1 {
+        noted.push(0)?;
+    }
+    if own < noted.len() {
+        noted[own] = number;
+    }
+    Ok(())
+}
+
+/// The number that was noted for a signal.
+fn noted_number(noted: &[usize], signal: Signal) -> usize {
+    match noted.get(signal.own as usize) {
+        Some(number) => *number,
+        None => 0,
+    }
+}
+
+/// Whether the signal stands at this place.
+fn stands_at(signals: &[Signal], place: usize, signal: Signal) -> bool
+    ensures { IsTrue result → slice_get signals.now place ≡ Some signal }
+{
+    match signals.get(place) {
+        Some(known) => *known == signal,
+        None => false,
+    }
 }
 
 impl Model for Signals {
@@ -36,7 +72,30 @@ impl Signals {
     {
         Signals {
             set: IndexSet::new(alloc),
+            noted: Vec::new(alloc),
         }
+    }
+
+    /// The number of a signal, where it was noted.
+    fn noted_at(&self, signal: Signal) -> Option<usize>
+        ensures number { IfSome result (λ k. k ≡ signal_number self.now signal) }
+        ensures known { IsSome result → list_any (same_signal signal) self.now ≡ true }
+        ensures within { length self.now ≤ 65535 }
+        ensures room { IfSome result (λ k. k < length self.now) }
+    {
+        let number = noted_number(&self.noted, signal);
+        if stands_at(self.set.as_slice(), number, signal) {
+            Some(number)
+        } else {
+            None
+        }
+    }
+
+    /// Whether a signal is known by what was noted.
+    fn is_noted(&self, signal: Signal) -> bool
+        ensures { IsTrue result → list_any (same_signal signal) self.now ≡ true }
+    {
+        self.noted_at(signal).is_some()
     }
 
     /// Adds a signal, if it is new.
@@ -44,13 +103,14 @@ impl Signals {
         ensures ok { OnOk result (self.new ≡ with_signal self.old signal) }
         ensures refused { IfErr result (IsPast (with_signal self.old signal)) }
     {
-        if self.set.contains(&signal) {
+        if self.is_noted(signal) || self.set.contains(&signal) {
             return Ok(());
         }
         if self.set.len() >= MOST_SIGNALS {
             return Err(Refusal::Limit);
         }
-        let _ = self.set.insert_full(signal)?;
+        let (number, _) = self.set.insert_full(signal)?;
+        note(&mut self.noted, signal, number)?;
         Ok(())
     }
 
@@ -69,6 +129,9 @@ impl Signals {
     pub fn number(&self, signal: Signal) -> u32
         ensures { result ≡ signal_number self.now signal }
     {
+        if let Some(number) = self.noted_at(signal) {
+            return number as u32;
+        }
         match self.set.get_index_of(&signal) {
             Some(number) => number as u32,
             None => self.set.len() as u32,

@@ -151,8 +151,11 @@ pub fn check_uses(alloc: Global, models: &[Model]) -> Result<(), DesignFault>
     ensures refused { IfErr result (IsRefusalOfModels models.now) }
     ensures only { KeepsRules models.now → IfErr result (λ e. e ≡ Memory) }
 {
-    let catalog = Catalog::new(alloc, models)?;
     let uses = uses_of(alloc, models)?;
+    if uses.len() == 0 {
+        return Ok(());
+    }
+    let catalog = Catalog::new(alloc, models)?;
     check_names(alloc, &catalog, &uses)?;
     check_formals(alloc, &catalog, &uses)?;
     check_recursion(alloc, models, &uses)?;
