@@ -1,10 +1,8 @@
 -- Pins: the lane and the pass that spell given bits.
-use Rattle.std.proofs.Common.{◌≡◌, ◌⊎◌, ℕ, zero, suc, ◌+◌, ◌-◌, ◌*◌, ◌^◌, ◌<◌, ◌≤◌, ◌==◌, Bool, true, false, List, [], ◌∷◌, length, map, get_or, nat_lt, refl, sym, ap, ◌∙◌, inl, inr, arith}
+use Rattle.std.proofs.Common.{◌≡◌, ◌⊎◌, ℕ, zero, suc, ◌+◌, ◌-◌, ◌*◌, ◌^◌, ◌<◌, ◌≤◌, ◌==◌, Bool, true, false, List, length, nat_lt, refl, sym, ap, ◌∙◌, inl, inr, arith}
 use Rattle.std.specs.Prelude.{if◌then◌else◌}
-use Rattle.std.specs.List.{range_with_len}
 use native.Mathlib.Numerals.{unary_clauses}
 use Rattle.std.proofs.lemmas.Bool.{cases_lt, le-ltb}
-use Rattle.std.proofs.lemmas.List.FromFn.{get_or-map-range_with_len}
 use Rattle.std.proofs.lemmas.Nat.Bits.{bit_at-suc, bit_at_lowest}
 use Rattle.netlist.specs.Lanes.{is_bit}
 use Rattle.netlist.specs.Valuations.{number_at}
@@ -12,25 +10,6 @@ use Rattle.netlist.proofs.BitLemmas.{halved, lowest}
 use Rattle.same_rows.specs.declared.graph.Graph.{Graph}
 use Rattle.same_rows.specs.Graphs.{IsValued}
 use Rattle.same_rows.specs.Plans.{pin_bit, AreAt}
-
-abbrev pins : List ℕ
-pins = 12297829382473034410 ∷ 14757395258967641292 ∷ 17361641481138401520 ∷ 18374966859414961920 ∷ 18446462603027742720 ∷ 18446744069414584320 ∷ []
-
--- each word in all lanes
-pin_lanes : (p : ℕ) → p < 6 → map (λ a. is_bit (get_or pins p 0) a) (range_with_len 0 64) ≡ map (λ a. is_bit a p) (range_with_len 0 64)
-pin_lanes zero lp = refl
-pin_lanes (suc zero) lp = refl
-pin_lanes (suc (suc zero)) lp = refl
-pin_lanes (suc (suc (suc zero))) lp = refl
-pin_lanes (suc (suc (suc (suc zero)))) lp = refl
-pin_lanes (suc (suc (suc (suc (suc zero))))) lp = refl
-pin_lanes (suc (suc (suc (suc (suc (suc p)))))) lp = absurd (omega arith)
-
-pub pin_gives : (p : ℕ) → p < 6 → (a : ℕ) → a < 64 → is_bit (get_or pins p 0) a ≡ is_bit a p
-pin_gives p lp a la =
-    sym (get_or-map-range_with_len (λ a. is_bit (get_or pins p 0) a) 0 64 a a false la (omega arith))
-    ∙ ap (λ bs. get_or bs a false) (pin_lanes p lp)
-    ∙ get_or-map-range_with_len (λ a. is_bit a p) 0 64 a a false la (omega arith)
 
 -- the number whose first bits are these
 abbrev spelled_by : (ℕ → Bool) → ℕ → ℕ

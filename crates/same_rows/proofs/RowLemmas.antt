@@ -9,22 +9,12 @@ use Rattle.netlist.specs.declared.draft.PortDef.{PortDef}
 use Rattle.netlist.specs.Checks.{IsChecked}
 use Rattle.netlist.specs.Drafts.{word, signal_at, IsDriven}
 use Rattle.netlist.specs.Rows.{IsRightValuation, RowsFrom, AreRows, outputs_in, next_state, first_state}
-use Rattle.netlist.proofs.RightLemmas.{right_agrees}
+use Rattle.netlist.proofs.RightLemmas.{map_each, map_is, right_agrees}
 use Rattle.same_rows.specs.declared.graph.Graph.{Graph}
 use Rattle.same_rows.specs.declared.graph.GraphLatch.{GraphLatch}
 use Rattle.same_rows.specs.Graphs.{IsValued, first_latch, literal_in}
 use Rattle.same_rows.specs.Labels.{label_at, signal_bits, IsLatchAt, IsConstantLatch, IsLatchOf, IsLabelled, DoAgree, output_labels}
 use Rattle.same_rows.proofs.GraphLemmas.{bit_of, even_literal, constant_literal, node_bits, bits_valued, input_bit, latch_bit}
-
-map_each : {X : Type 0} (f g : X → Bool) (d : X) (xs : List X) → ((k : ℕ) → k < length xs → f (get_or xs k d) ≡ g (get_or xs k d)) → map f xs ≡ map g xs
-map_each f g d [] h = refl
-map_each f g d (x ∷ xs) h = ap (λ b. b ∷ map f xs) (h 0 (omega arith)) ∙ ap (λ bs. g x ∷ bs) (map_each f g d xs (λ k lk. h (suc k) (omega arith)))
-
-map_is : {X : Type 0} (f : X → Bool) (d : X) (xs : List X) (bs : List Bool) → length bs ≡ length xs → ((k : ℕ) → k < length xs → f (get_or xs k d) ≡ get_or bs k false) → map f xs ≡ bs
-map_is f d [] [] e h = refl
-map_is f d [] (b ∷ bs) e h = absurd (omega arith)
-map_is f d (x ∷ xs) [] e h = absurd (omega arith)
-map_is f d (x ∷ xs) (b ∷ bs) e h = ap (λ c. c ∷ map f xs) (h 0 (omega arith)) ∙ ap (λ cs. b ∷ cs) (map_is f d xs bs (omega arith) (λ k lk. h (suc k) (omega arith)))
 
 map_twice : (f : ℕ → Bool) (labels : List ℕ) (ps : List PortDef) → map (λ p. f (label_at labels p.signal)) ps ≡ map f (map (λ p. label_at labels p.signal) ps)
 map_twice f labels [] = refl

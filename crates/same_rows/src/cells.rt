@@ -3,7 +3,8 @@
 use crate::graph::Graph;
 use crate::nodes::node_count;
 use crate::plan::{Limits, Plan, Scratch, Source, Step, plan_of};
-use crate::words::{fill_words, lane_pin, literal_word};
+use crate::words::{fill_words, literal_word};
+use netlist::lane_word;
 use std::alloc::{AllocError, Global};
 
 /// How many ANDs the walk to the output looks at.
@@ -41,7 +42,7 @@ fn turned(word: u64, pin: usize) -> u64 {
     if pin >= 6 {
         return word;
     }
-    let mask = lane_pin(pin);
+    let mask = lane_word(pin);
     let down = word & mask;
     let up = word & !mask;
     down.checked_shr(FAR[pin]).unwrap_or(0) | up.checked_shl(FAR[pin]).unwrap_or(0)

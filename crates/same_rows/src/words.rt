@@ -10,24 +10,7 @@ ghost use Rattle.same_rows.specs.Graphs.{literal_in};
 ghost use Rattle.same_rows.specs.Plans.{AreAt, AreInputs, AreSteps, HaveInputs, HaveWords, IsFrom, pin_bit};
 
 use crate::plan::{Source, Step};
-
-/// The words of six pins: their bits in a lane spell its number.
-const PINS: [u64; 6] = [
-    0xAAAA_AAAA_AAAA_AAAA,
-    0xCCCC_CCCC_CCCC_CCCC,
-    0xF0F0_F0F0_F0F0_F0F0,
-    0xFF00_FF00_FF00_FF00,
-    0xFFFF_0000_FFFF_0000,
-    0xFFFF_FFFF_0000_0000,
-];
-
-/// The word of one of the six pins that a lane spells.
-pub fn lane_pin(pin: usize) -> u64
-    requires { pin < 6 }
-    ensures { (lane : ℕ) → lane < 64 → is_bit result lane ≡ is_bit lane pin }
-{
-    PINS[pin]
-}
+use netlist::lane_word;
 
 /// The bit of a number.
 fn bit_in(word: u64, place: u32) -> bool
@@ -49,7 +32,7 @@ fn pin_word(pin: u32, pass: u64) -> u64
     ensures { pin < 14 → (lane : ℕ) → lane < 64 → is_bit result lane ≡ pin_bit pass lane pin }
 {
     if pin < 6 {
-        return lane_pin(pin as usize);
+        return lane_word(pin as usize);
     }
     let place = pin - 6;
     if place >= 64 {
