@@ -1,5 +1,5 @@
 -- Of a whole's crosspoints those of one network.
-use Rattle.std.proofs.Common.{◌≡◌, ◌⊎◌, ℕ, zero, suc, ◌+◌, ◌-◌, ◌<◌, ◌≤◌, Bool, true, false, not, cond, ◌||◌, ◌&&◌, None, Option, List, [], ◌∷◌, ◌++◌, length, get_or, replicate, refl, sym, ap, ◌∙◌, subst, inl, inr, arith}
+use Rattle.std.proofs.Common.{◌≡◌, ◌⊎◌, ℕ, zero, suc, ◌+◌, ◌-◌, ◌<◌, ◌≤◌, Bool, true, false, not, cond, ◌||◌, ◌&&◌, None, Option, List, [], ◌∷◌, ◌++◌, length, get_or, refl, sym, ap, ◌∙◌, subst, inl, inr, arith}
 use Rattle.std.specs.Prelude.{◌==◌, ◌↔◌, if◌then◌else◌, count_by, IsSome}
 use Rattle.std.specs.List.{Contains, list_any}
 use Rattle.std.specs.Ordering.{nat_cmp, eq_by_cmp}
@@ -9,16 +9,17 @@ use Rattle.std.specs.FinSet.{contains-empty, contains-items, contains-remove, le
 use Rattle.std.proofs.lemmas.Bool.{false≢true}
 use Rattle.std.proofs.lemmas.Bool.Decides.{nat_tests}
 use Rattle.std.proofs.lemmas.List.Elements.{Contains-append_left, Contains-push, Contains-push_cases}
-use Rattle.std.proofs.lemmas.List.Sums.{sum_by-cons}
 use Rattle.hierarchy.specs.declared.Shape.{Shape}
 use Rattle.hierarchy.specs.declared.Cross.{Cross}
 use Rattle.hierarchy.specs.declared.Table.{Table}
 use Rattle.hierarchy.specs.Shape.{ends_of}
 use Rattle.config_set.specs.declared.Setting.{Setting}
 use Rattle.config_set.specs.Configuration.{Configuration, is_closed, setting_of, cleared, with_closed, with_ticks}
+use Rattle.config_image.proofs.Keyed.{listed, of_list}
 use Rattle.table_map.specs.declared.network.Network.{Network}
 use Rattle.crossbar_route.specs.Closing.{Closes, SwitchesOn}
 use Rattle.crossbar_route.proofs.Joining.{closes_none, closes_then, closes_same, closes_one}
+use Rattle.crossbar_route.proofs.Whole.{none_at}
 use Rattle.tenants.specs.declared.site.Site.{Site}
 use Rattle.tenants.specs.Sites.{IsHeldBy, IsHeldAmong, IsShare}
 
@@ -62,35 +63,12 @@ no_more s t h = some_more (set_.len s) s t refl h
 
 -- ---- a list in which each number of a set stands once
 
-in_list : (q : ℕ) (xs : List Cross) → 0 < count_by (λ c. c.0 == q) xs → Contains xs (record { 0 = q })
-in_list q [] h = absurd (let no : ⊥ = omega (arith, h) in no)
-in_list q (x ∷ xs) h = by (x.0 == q) refl (sum_by-cons (λ (c : Cross). if c.0 == q then 1 else 0) x xs) (in_list q xs)
-  where
-    by : (b : Bool) → (x.0 == q) ≡ b → count_by (λ c. c.0 == q) (x ∷ xs) ≡ (if x.0 == q then 1 else 0) + count_by (λ c. c.0 == q) xs → (0 < count_by (λ c. c.0 == q) xs → Contains xs (record { 0 = q })) → Contains (x ∷ xs) (record { 0 = q })
-    by true e s more = let same : x.0 ≡ q = grind (arith, nat_tests, e) in (0, omega arith, λ i. record { 0 = same i })
-    by false e s more = let t = ap (λ b. (if b then 1 else 0) + count_by (λ (c : Cross). c.0 == q) xs) e in let r = more (omega (arith, h, s, t)) in (suc r.0, omega (arith, r.1), r.2)
-
-counted : (q : ℕ) (xs : List Cross) (k : ℕ) (d : Cross) → k < length xs → (get_or xs k d).0 ≡ q → 0 < count_by (λ c. c.0 == q) xs
-counted q [] k d l e = absurd (let no : ⊥ = omega (arith, l) in no)
-counted q (x ∷ xs) zero d l e =
-    let s = sum_by-cons (λ (c : Cross). if c.0 == q then 1 else 0) x xs in
-    let t = ap (λ b. (if b then 1 else 0) + count_by (λ (c : Cross). c.0 == q) xs) (let same : (x.0 == q) ≡ true = grind (arith, nat_tests, e) in same) in
-    omega (arith, s, t)
-counted q (x ∷ xs) (suc k) d l e =
-    let s = sum_by-cons (λ (c : Cross). if c.0 == q then 1 else 0) x xs in
-    let r = counted q xs k d (omega (arith, l)) e in
-    omega (arith, s, r)
-
 module _ (closed : List Cross) (f : ℕ → Bool) (counts : (q : ℕ) → count_by (λ c. c.0 == q) closed ≡ (if f q then 1 else 0)) where
   pub to_list : (q : ℕ) → f q ≡ true → Contains closed (record { 0 = q })
-  to_list q e = in_list q closed (let one : ◌≡◌ {A = ℕ} (if f q then 1 else 0) 1 = ap {B = ℕ} (λ b. if b then 1 else 0) e in let c = counts q in omega (arith, c, one))
+  to_list q e = let r = listed (λ (c : Cross). c.0) closed f counts q (record { 0 = q }) e in (r.0, r.1, λ i. record { 0 = r.2 i })
 
   pub from_list : (k : ℕ) (d : Cross) → k < length closed → f (get_or closed k d).0 ≡ true
-  from_list k d l = by (f (get_or closed k d).0) (counts (get_or closed k d).0)
-    where
-      by : (b : Bool) → count_by (λ c. c.0 == (get_or closed k d).0) closed ≡ (if b then 1 else 0) → b ≡ true
-      by true e = refl
-      by false e = absurd (let c = counted (get_or closed k d).0 closed k d l refl in let no : ⊥ = omega (arith, e, c) in no)
+  from_list k d l = of_list (λ (c : Cross). c.0) closed f counts k d l
 
 -- ---- crosspoints one after another
 
@@ -122,11 +100,6 @@ module _ (m : Shape) (s : Site) (n : Network) (owners : List (Option ℕ)) where
       by x h (inr same) = absurd (false≢true (is.1 (subst (λ z. IsHeldBy s n owners (ends_of m z).0) (sym (ap (λ (z : Cross). z.0) same)) h)))
 
 -- ---- what a tenant's configuration is made of
-
-none_at : (none : Option Setting) (n t : ℕ) → get_or (replicate n none) t none ≡ none
-none_at o zero t = refl
-none_at o (suc n) zero = refl
-none_at o (suc n) (suc t) = none_at o n t
 
 abbrev off : Option Setting
 off = None

@@ -2,7 +2,7 @@
 use Rattle.std.proofs.Common.{◌≡◌, ◌≢◌, ◌⊎◌, ℕ, ◌+◌, ◌-◌, ◌<◌, ◌≤◌, ◌++◌, true, Some, None, Option, List, length, get_or, refl, sym, ap, ◌∙◌, subst, inl, inr, arith}
 use Rattle.std.specs.Prelude.{IsSome}
 use Rattle.std.specs.List.{All, AllPairs, Contains}
-use Rattle.std.proofs.lemmas.Bool.{cases_lt, cases_order}
+use Rattle.std.proofs.lemmas.Bool.{cases_lt}
 use Rattle.std.proofs.lemmas.List.{get_or-map, get_or_append_left, get_or-append_right, get_or_default, length-append, length-map}
 use Rattle.std.proofs.lemmas.List.Elements.{All-contains}
 use Rattle.hierarchy.specs.declared.Shape.{Shape}
@@ -24,11 +24,11 @@ use Rattle.place.specs.declared.short.Port.{Port}
 use Rattle.place.specs.declared.short.Visit.{Visit}
 use Rattle.place.specs.Laying.{IsLayout}
 use Rattle.place.specs.Layouts.{AreHeld}
-use Rattle.place.specs.Lists.{IsNth, nth_of}
+use Rattle.place.specs.Lists.{nth_of}
 use Rattle.place.specs.Plans.{number_of, places, place_of, nets_in, IsTerminal, drives, reads, shows, IsPlan}
-use Rattle.place.specs.Room.{HasPort, CrossesAt, VisitsAt, IsFreePort, Serves}
+use Rattle.place.specs.Room.{HasPort, CrossesAt, VisitsAt, Serves}
 use Rattle.place.specs.Strands.{Crosses, Visits}
-use Rattle.place.proofs.Those.{those_unique, same_place}
+use Rattle.place.proofs.Those.{different_at}
 use Rattle.crossbar_route.specs.Closing.{no_seat}
 use Rattle.crossbar_route.specs.Layouts.{IsSet, image_at, setting_in}
 use Rattle.crossbar_route.specs.Owners.{AreOwners, Holds, HasLine}
@@ -36,6 +36,7 @@ use Rattle.crossbar_route.specs.RightImages.{IsRightForNetwork}
 use Rattle.crossbar_route.specs.Routed.{HasPortIn, IsRouteOf}
 use Rattle.crossbar_route.specs.Trees.{IsNetTap, by_terminal, by_child, by_port, IsLaidOnTree, IsOfNet, as_terminal, as_line, as_port}
 use Rattle.crossbar_route.proofs.OnTree.{nets_apart}
+use Rattle.crossbar_route.proofs.Ported.{same_port}
 use Rattle.crossbar_route.proofs.Reading.{ticks_enough}
 use Rattle.crossbar_route.proofs.Routed.{set_is_free, tree_reads_rows}
 use Rattle.crossbar_route.proofs.Terminals.{plan_terminals, no_idle_terminal}
@@ -60,28 +61,12 @@ pub record Ground (m : Shape) (d : Defects) (joint : Network) (p : Plan) (l : La
 -- ---- a net has one port of a node, so two lists of ports are alike
 
 module _ (m : Shape) (d : Defects) (count : ℕ) (terminal : ℕ → ℕ → Type 0) where
-  one_port : (a k w u : ℕ) → HasPort m d count terminal a k w → HasPort m d count terminal a k u → w ≡ u
-  one_port a k w u p q =
-      let ports : p.ports ≡ q.ports = those_unique (IsFreePort m d a) p.ports q.ports p.are_ports q.are_ports in
-      let crossing : p.crossing ≡ q.crossing = those_unique (CrossesAt m count terminal a) p.crossing q.crossing p.are_crossing q.are_crossing in
-      let at : IsNth q.crossing p.place k = subst (λ xs. IsNth xs p.place k) crossing p.net_is in
-      let same : p.place ≡ q.place = same_place q.crossing p.place q.place k q.are_crossing.ascending at q.net_is in
-      sym p.port_is.1 ∙ (λ i. get_or (ports i) (same i) 0) ∙ q.port_is.1
-
   held_too : (nodes : ℕ) (ports others : List Port) → AreHeld m d count terminal nodes ports → AreHeld m d count terminal nodes others → (a k w : ℕ) → HasPortIn ports a k w → HasPortIn others a k w
   held_too nodes ports others are is a k w has =
       let r = All-contains (λ (q : Port). (q.node < nodes) × CrossesAt m count terminal q.node q.net × HasPort m d count terminal q.node q.net q.wire) ports (record { node = a; net = k; wire = w }) are.each has in
       let g = is.given a k r.0 r.1 in
       let h = All-contains (λ (q : Port). (q.node < nodes) × CrossesAt m count terminal q.node q.net × HasPort m d count terminal q.node q.net q.wire) others (record { node = a; net = k; wire = g.0 }) is.each g.1 in
-      subst (HasPortIn others a k) (one_port a k g.0 w h.2 r.2) g.1
-
-different_at : (xs : List ℕ) → AllPairs (λ t u. t ≢ u) xs → (i j : ℕ) → i < length xs → j < length xs → get_or xs i 0 ≡ get_or xs j 0 → i ≡ j
-different_at xs all i j h l e = by (cases_order i j)
-  where
-    by : (i ≡ j) ⊎ ((i < j) ⊎ (j < i)) → i ≡ j
-    by (inl s) = s
-    by (inr (inl s)) = absurd (all i j 0 s l e)
-    by (inr (inr s)) = absurd (all j i 0 s h (sym e))
+      subst (HasPortIn others a k) (same_port m d count terminal a k g.0 w h.2 r.2) g.1
 
 module _ (m : Shape) (d : Defects) (joint : Network) (p : Plan) (l : Layout) (owners : List (Option ℕ)) (whole : ImageValue) (ground : Ground m d joint p l owners whole) where
   -- the wires of a net of the whole

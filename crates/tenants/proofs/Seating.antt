@@ -17,7 +17,7 @@ use Rattle.place.specs.declared.short.Port.{Port}
 use Rattle.place.specs.Laying.{IsLayout}
 use Rattle.place.specs.Plans.{number_of, places, IsPlan}
 use Rattle.crossbar_route.specs.Owners.{AreOwners}
-use Rattle.crossbar_route.specs.Routed.{IsRouteOf}
+use Rattle.crossbar_route.specs.Routed.{AreWiresOf, IsRouteOf}
 use Rattle.crossbar_route.proofs.Making.{numbering, laid_by}
 use Rattle.crossbar_route.proofs.Whole.{wires_are}
 use Rattle.tenants.specs.declared.site.Site.{Site}
@@ -47,11 +47,11 @@ module _ (m : Shape) (d : Defects) (joint : Network) (p : Plan) (plan : IsPlan m
       pub outputs_for : s.output + length n.outputs ≤ length whole.outputs
       outputs_for = let e = ap length route.outputs in let f = plan.outputs in let g = stands.outputs_within in omega (arith, e, f, g)
 
--- the ports of a layout are wires
-pub ports_within : ((m : Shape) → IsNumbered m) → ((m : Shape) → IsTree m) → ((m : Shape) → HasParents m) → ((m : Shape) → HasMeanings m) → ((m : Shape) → HasTaps m) → ((m : Shape) → HasCrosses m) → ((m : Shape) → HasSites m) →
-    (m : Shape) (d : Defects) (joint : Network) (p : Plan) (l : Layout) → IsNetwork joint → IsPlan m d joint p → IsLayout m d joint p l → All (λ (q : Port). q.wire < wires_of m) l.ports.items
-ports_within numbered tree parents meanings taps crosses sites m d joint p l network plan layout =
-    (wires_are m d joint p l.nets.items l.ports.items l.visits.items (numbering numbered tree parents meanings taps crosses sites m) network plan (laid_by m d joint p l layout)).ports_are
+-- the terminals, ports and lines of a layout are wires
+pub layout_wires : ((m : Shape) → IsNumbered m) → ((m : Shape) → IsTree m) → ((m : Shape) → HasParents m) → ((m : Shape) → HasMeanings m) → ((m : Shape) → HasTaps m) → ((m : Shape) → HasCrosses m) → ((m : Shape) → HasSites m) →
+    (m : Shape) (d : Defects) (joint : Network) (p : Plan) (l : Layout) → IsNetwork joint → IsPlan m d joint p → IsLayout m d joint p l → AreWiresOf m l.nets.items l.ports.items l.visits.items
+layout_wires numbered tree parents meanings taps crosses sites m d joint p l network plan layout =
+    wires_are m d joint p l.nets.items l.ports.items l.visits.items (numbering numbered tree parents meanings taps crosses sites m) network plan (laid_by m d joint p l layout)
 
 -- so many owners as the whole's machine has wires
 pub owners_for : (m : Shape) (d : Defects) (joint : Network) (p : Plan) (nets : List (List ℕ)) (ports : List Port) (owners : List (Option ℕ)) (whole : ImageValue) → AreOwners m nets ports owners → IsRouteOf m d joint p whole → length owners ≡ wires_of whole.config.shape

@@ -1,10 +1,11 @@
 -- Two networks as one.
-use Rattle.std.specs.Prelude.{◌≡◌, ℕ, ◌+◌, ◌++◌, List, Bool, map, length, take, drop}
+use Rattle.std.specs.Prelude.{◌≡◌, ℕ, ◌+◌, ◌<◌, ◌++◌, List, Bool, map, length, take, drop}
 use Rattle.std.specs.List.{All}
 use Rattle.table_map.specs.declared.source.Source.{Source}
 use Rattle.table_map.specs.declared.source.Source.TheVariants.{Input, Table}
 use Rattle.table_map.specs.declared.network.NetTable.{NetTable}
 use Rattle.table_map.specs.declared.network.Network.{Network}
+use Rattle.table_map.specs.Networks.{IsNetwork}
 use Rattle.table_map.specs.Rows.{AreRows}
 
 -- so many elements of a list, from a place on
@@ -26,6 +27,13 @@ joint_network n o = record {
   tables = n.tables ++ map (moved_table n.inputs (length n.tables)) o.tables;
   outputs = n.outputs ++ map (moved n.inputs (length n.tables)) o.outputs;
 }
+
+-- two networks for whose inputs and tables together there are numbers
+pub record MayBeJoint (n o : Network) : Type 0 where
+  pub first : IsNetwork n
+  pub second : IsNetwork o
+  pub inputs : n.inputs + o.inputs < 4294967296
+  pub tables : length n.tables + length o.tables < 4294967296
 
 -- Rows of two networks side by side: each vector is one for the first and then one for the second, and each row is the
 -- first's row and then the second's.

@@ -13,6 +13,7 @@
 //! exactly where the in-order plan of the joint network doesn't fit, with what `in_order` says of it (`room`, `fail`).
 #![tactic(auto)]
 
+mod holders;
 mod joining;
 mod pairing;
 mod site;

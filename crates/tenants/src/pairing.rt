@@ -7,19 +7,19 @@ ghost use Rattle.netlist.specs.declared.draft.Draft.{Draft};
 ghost use Rattle.table_map.specs.Networks.{IsNetwork};
 ghost use Rattle.table_map.specs.Rows.{HasRowsOf};
 ghost use Rattle.place.specs.Laying.{IsLayout};
-ghost use Rattle.place.specs.Plans.{FitsInOrder, IsPlaceFail, IsPlan};
-ghost use Rattle.crossbar_route.specs.Owners.{AreOwners};
+ghost use Rattle.place.specs.Plans.{FitsInOrder, IsPlaceFail};
 ghost use Rattle.crossbar_route.specs.RightImages.{IsRightImage, ReadsRows};
 ghost use Rattle.crossbar_route.specs.RoutedImages.{IsRoutedInOrder};
-ghost use Rattle.tenants.specs.JointNetworks.{AreBothRows, joint_network};
+ghost use Rattle.tenants.specs.JointNetworks.{AreBothRows, MayBeJoint, joint_network};
 ghost use Rattle.tenants.specs.Sites.{IsSplit, first_site, second_site};
 ghost use Rattle.tenants.specs.Tenants.{AreTenants, HasPinsOf, HaveRoom, StandApart};
 
+use crate::holders::owners_by;
 use crate::joining::joint;
 use crate::site::Site;
 use crate::splitting::tenant;
 use config_image::Image;
-use crossbar_route::{owners_of, route_laid};
+use crossbar_route::route_laid;
 use defect_db::Defects;
 use place::{PlaceFail, Placed, in_order_laid};
 use std::alloc::{AllocError, Global};
@@ -62,25 +62,6 @@ fn second_of(first: &Network, second: &Network) -> Site
     }
 }
 
-// For each wire the net that has it in a layout of a plan, if there is one.
-fn owners_by(
-    alloc: Global,
-    network: &Network,
-    placed: &Placed,
-    defects: &Defects,
-) -> Result<Vec<Option<u32>>, AllocError>
-    requires network { IsNetwork network.now }
-    requires plan { IsPlan defects.now.shape defects.now.list network.now placed.now.plan }
-    requires layout { IsLayout defects.now.shape defects.now.list network.now placed.now.plan placed.now.layout }
-    ensures { IfOk result (λ o. AreOwners defects.now.shape placed.now.layout.nets.items placed.now.layout.ports.items o.items) }
-{
-    hierarchy::the_numbering_is_sound();
-    hierarchy::the_crosspoints_are_sound();
-    hierarchy::ports_and_lines_ascend();
-    let layout = &placed.layout;
-    owners_of(alloc, defects.shape(), &layout.nets, &layout.ports)
-}
-
 // The image of both on the in-order plan of their joint network with this layout, and the image of each.
 fn split(
     alloc: Global,
@@ -90,10 +71,7 @@ fn split(
     placed: &Placed,
     defects: &Defects,
 ) -> Result<Pair, AllocError>
-    requires first { IsNetwork first.now }
-    requires second { IsNetwork second.now }
-    requires inputs { first.now.inputs + second.now.inputs < 4294967296 }
-    requires tables { length first.now.tables + length second.now.tables < 4294967296 }
+    requires pair { MayBeJoint first.now second.now }
     requires joint { network.now ≡ joint_network first.now second.now }
     requires network { IsNetwork network.now }
     requires fits { FitsInOrder defects.now.shape defects.now.list network.now placed.now.plan }
@@ -102,10 +80,12 @@ fn split(
     ensures routed { IfOk result (λ p. IsRoutedInOrder defects.now.shape defects.now.list network.now p.whole) }
 {
     hierarchy::the_numbering_is_sound();
+    hierarchy::the_crosspoints_are_sound();
+    hierarchy::ports_and_lines_ascend();
     table_map::laws::networks_have_one_list_of_rows();
     let Placed { plan, layout } = placed;
     let whole = route_laid(alloc, network, plan, layout, defects)?;
-    let owners = owners_by(alloc, network, placed, defects)?;
+    let owners = owners_by(alloc, layout, defects)?;
     let one = first_of(first, second);
     let two = second_of(first, second);
     let first = tenant(alloc, first, &whole, plan, &owners, &one)?;

@@ -7,8 +7,15 @@ use Rattle.tenants.specs.declared.site.Site.{Site}
 use Rattle.tenants.specs.Sites.{first_site, second_site, IsTenant}
 use Rattle.tenants.proofs.Halving.{first_in, second_in, split_of}
 use Rattle.tenants.proofs.Letting.{Ground}
-use Rattle.tenants.proofs.Seating.{seats_for, inputs_for, outputs_for, seats_within, seats_apart, owners_for}
+use Rattle.tenants.proofs.Seating.{layout_wires, seats_for, inputs_for, outputs_for, seats_within, seats_apart, owners_for}
 use Rattle.tenants.proofs.pairing.split.Goals as goal
+
+pub owners_by-requires-clause-wires : goal.owners_by-requires-clause-wires
+owners_by-requires-clause-wires c =
+    let sound = c.the_numbering_is_sound.ensures in
+    let crosses = c.the_crosspoints_are_sound.ensures in
+    layout_wires sound.numbered sound.tree sound.parents sound.meanings crosses.taps crosses.crosses c.ports_and_lines_ascend.ensures
+    c.args.defects.now.shape c.args.defects.now.list c.args.network.now c.args.placed.now.plan c.args.placed.now.layout c.requires.network c.requires.fits.plan c.requires.layout
 
 pub tenant-requires-clause-owners : goal.tenant-requires-clause-owners
 tenant-requires-clause-owners c =
@@ -18,17 +25,17 @@ tenant-requires-clause-owners c =
 
 pub tenant-requires-clause-tables : goal.tenant-requires-clause-tables
 tenant-requires-clause-tables c =
-    let stands = first_in c.args.first.now c.args.second.now c.requires.first c.requires.second c.args.network.now c.first_of-one.result c.requires.joint c.first_of-one.ensures in
+    let stands = first_in c.args.first.now c.args.second.now c.requires.pair.first c.requires.pair.second c.args.network.now c.first_of-one.result c.requires.joint c.first_of-one.ensures in
     seats_for c.args.defects.now.shape c.args.defects.now.list c.args.network.now c.args.placed.now.plan c.requires.fits.plan c.first_of-one.result c.args.first.now stands
 
 pub tenant-requires-clause-inputs : goal.tenant-requires-clause-inputs
 tenant-requires-clause-inputs c =
-    let stands = first_in c.args.first.now c.args.second.now c.requires.first c.requires.second c.args.network.now c.first_of-one.result c.requires.joint c.first_of-one.ensures in
+    let stands = first_in c.args.first.now c.args.second.now c.requires.pair.first c.requires.pair.second c.args.network.now c.first_of-one.result c.requires.joint c.first_of-one.ensures in
     inputs_for c.args.defects.now.shape c.args.defects.now.list c.args.network.now c.args.placed.now.plan c.requires.fits.plan c.first_of-one.result c.args.first.now stands c.in_ok-whole.whole c.in_ok-whole.ensures.route
 
 pub tenant-requires-clause-outputs : goal.tenant-requires-clause-outputs
 tenant-requires-clause-outputs c =
-    let stands = first_in c.args.first.now c.args.second.now c.requires.first c.requires.second c.args.network.now c.first_of-one.result c.requires.joint c.first_of-one.ensures in
+    let stands = first_in c.args.first.now c.args.second.now c.requires.pair.first c.requires.pair.second c.args.network.now c.first_of-one.result c.requires.joint c.first_of-one.ensures in
     outputs_for c.args.defects.now.shape c.args.defects.now.list c.args.network.now c.args.placed.now.plan c.requires.fits.plan c.first_of-one.result c.args.first.now stands c.in_ok-whole.whole c.in_ok-whole.ensures.route
 
 pub tenant-requires-clause-within : goal.tenant-requires-clause-within
@@ -47,17 +54,17 @@ tenant-requires-2-clause-owners c =
 
 pub tenant-requires-2-clause-tables : goal.tenant-requires-2-clause-tables
 tenant-requires-2-clause-tables c =
-    let stands = second_in c.args.first.now c.args.second.now c.requires.first c.requires.second c.args.network.now c.second_of-two.result c.requires.joint c.second_of-two.ensures in
+    let stands = second_in c.args.first.now c.args.second.now c.requires.pair.first c.requires.pair.second c.args.network.now c.second_of-two.result c.requires.joint c.second_of-two.ensures in
     seats_for c.args.defects.now.shape c.args.defects.now.list c.args.network.now c.args.placed.now.plan c.requires.fits.plan c.second_of-two.result c.args.second.now stands
 
 pub tenant-requires-2-clause-inputs : goal.tenant-requires-2-clause-inputs
 tenant-requires-2-clause-inputs c =
-    let stands = second_in c.args.first.now c.args.second.now c.requires.first c.requires.second c.args.network.now c.second_of-two.result c.requires.joint c.second_of-two.ensures in
+    let stands = second_in c.args.first.now c.args.second.now c.requires.pair.first c.requires.pair.second c.args.network.now c.second_of-two.result c.requires.joint c.second_of-two.ensures in
     inputs_for c.args.defects.now.shape c.args.defects.now.list c.args.network.now c.args.placed.now.plan c.requires.fits.plan c.second_of-two.result c.args.second.now stands c.in_ok-whole.whole c.in_ok-whole.ensures.route
 
 pub tenant-requires-2-clause-outputs : goal.tenant-requires-2-clause-outputs
 tenant-requires-2-clause-outputs c =
-    let stands = second_in c.args.first.now c.args.second.now c.requires.first c.requires.second c.args.network.now c.second_of-two.result c.requires.joint c.second_of-two.ensures in
+    let stands = second_in c.args.first.now c.args.second.now c.requires.pair.first c.requires.pair.second c.args.network.now c.second_of-two.result c.requires.joint c.second_of-two.ensures in
     outputs_for c.args.defects.now.shape c.args.defects.now.list c.args.network.now c.args.placed.now.plan c.requires.fits.plan c.second_of-two.result c.args.second.now stands c.in_ok-whole.whole c.in_ok-whole.ensures.route
 
 pub tenant-requires-2-clause-within : goal.tenant-requires-2-clause-within
@@ -91,7 +98,7 @@ returns-clause-parts c =
     (subst (λ (z : List (Option ℕ)). IsTenant c.first_of-one.result n p z whole c.in_ok-first.first) c.deref.ensures.value c.in_ok-first.ensures) in
     let two : IsTenant (second_site n o) o p owners whole c.in_ok-second.second = subst (λ (z : Site). IsTenant z o p owners whole c.in_ok-second.second) c.second_of-two.ensures
     (subst (λ (z : List (Option ℕ)). IsTenant c.second_of-two.result o p z whole c.in_ok-second.second) c.deref-2.ensures.value c.in_ok-second.ensures) in
-    split_of n o c.requires.first c.requires.second m d p l owners whole c.args.network.now c.requires.joint ground c.in_ok-first.first c.in_ok-second.second one two c.in_ok-whole.ensures.free c.in_ok-whole.ensures.rows c.networks_have_one_list_of_rows.ensures
+    split_of n o c.requires.pair.first c.requires.pair.second m d p l owners whole c.args.network.now c.requires.joint ground c.in_ok-first.first c.in_ok-second.second one two c.in_ok-whole.ensures.free c.in_ok-whole.ensures.rows c.networks_have_one_list_of_rows.ensures
 
 pub returns-clause-routed : goal.returns-clause-routed
 returns-clause-routed c = record { plan = c.args.placed.now.plan; fits = c.requires.fits; routed = c.in_ok-whole.ensures.routed c.requires.fits.fits }

@@ -17,12 +17,10 @@ new-requires-clause-within c =
 
 pub new-requires-clause-apart : goal.new-requires-clause-apart
 new-requires-clause-apart c =
-    let w = c.args.whole.now in
     let s = c.args.site.now in
     let n = c.args.network.now in
-    let ins = c.in_ok-inputs.ensures ∙ ap (part s.input n.inputs) c.inputs.ensures.pins in
-    let outs = c.in_ok-outputs.ensures ∙ (λ i. part s.output (length (c.as_slice-shown.ensures i)) (c.outputs.ensures.pins i)) in
-    cut_apart s.input n.inputs s.output (length n.outputs) w c.inputs.ensures.right c.requires.inputs c.requires.outputs c.in_ok-inputs.inputs.items c.in_ok-outputs.outputs.items ins outs
+    cut_apart s.input n.inputs s.output (length n.outputs) c.args.whole.now c.inputs.ensures.right c.requires.inputs c.requires.outputs c.in_ok-inputs.inputs.items c.in_ok-outputs.outputs.items
+    (c.in_ok-inputs.ensures ∙ ap (part s.input n.inputs) c.inputs.ensures.pins) (c.in_ok-outputs.ensures ∙ (λ i. part s.output (length (c.as_slice-shown.ensures i)) (c.outputs.ensures.pins i)))
 
 pub returns : goal.returns
 returns c =
