@@ -7,7 +7,7 @@ use Rattle.vector_text.specs.declared.vectors.VectorKind.{VectorKind}
 use Rattle.vector_text.specs.declared.vectors.VectorKind.TheVariants.{Char, Width, Limit}
 use Rattle.vector_text.specs.declared.line.Step.TheVariants.{Onward, Vector, Fault}
 use Rattle.vector_text.specs.Vectors.{is_row_blank, is_comment_mark, is_line_feed, is_vector_byte, vector_size, PhysicalLine, put_before, numbered_lines, shown, byte_fault, end_fault, fault_or, line_fault, line_says, lines_say, bits_of, SaidVectors, fault_said, with_vector, nothing_said}
-use Rattle.vector_text.specs.Lines.{PartLine, IsSound, front_of, begun, says_on, HasRead}
+use Rattle.vector_text.specs.Lines.{PartLine, IsSound, front_of, begun, says_on, SaysStep, HasRead}
 use Rattle.vector_text.proofs.TextLemmas.{lines-limit, lines-feed, lines-more, lines-end, put_before-twice, put_before-nil, first-line, shown-nil, shown-right, shown-comment, shown-blank, shown-other, unmarked, no_byte_fault, char_fault, width_fault}
 
 -- what lines say, by what is shown of the first
@@ -81,27 +81,22 @@ on-byte old new b sound lt e c is =
     onward old new b lt e (rw is refl) (rw is refl) (rw is refl) (rw is refl)
     (λ more. rw (is, c) (ap (λ (t : List ℕ). shown (t ++ more)) (ap (λ (t : List ℕ). t ++ b ∷ []) (append-nil old.shown) ∙ sym (append-nil (old.shown ++ b ∷ [])))))
 
+-- a byte at which a line is refused
+stopped : (p : PartLine) (b : ℕ) (kind : VectorKind) → ((rest : List ℕ) → SaysStep (Fault kind) p (b ∷ rest) p rest) → HasRead (Fault kind) (b ∷ []) 1 p p
+stopped p b kind says = record { width = refl; limit = refl; within = omega arith; at = tt; room = λ same _. absurd (cc); whole = λ same. absurd (cc); full = tt; says = says }
+
 -- a fault of a byte, whatever follows on the line
 faulty : (p : PartLine) (b : ℕ) (kind : VectorKind) → IsSound p → p.at < p.limit → is_line_feed b ≡ false → is_comment_mark b ≡ false → is_row_blank b ≡ false → p.in_comment ≡ false → ((more : List ℕ) → byte_fault p.width (p.shown ++ b ∷ more) ≡ Some kind) → HasRead (Fault kind) (b ∷ []) 1 p p
-faulty p b kind sound lt e m h c fault = record {
-  width = refl;
-  limit = refl;
-  within = omega arith;
-  at = tt;
-  room = λ same _. absurd (cc);
-  whole = λ same. absurd (cc);
-  full = tt;
-  says = λ rest.
-      let first = first-line p.limit p.number (p.at + 1) rest in (
-        first.line.next_at,
-        omega (arith, first.late),
-        says-byte p b rest lt e ∙
-            ap (λ (ls : List PhysicalLine). lines_say p.width (put_before (front_of p ++ b ∷ []) ls)) first.is ∙
-            says-first p.width (record first.line { bytes = (front_of p ++ b ∷ []) ++ first.line.bytes }) first.later (p.shown ++ b ∷ shown first.line.bytes)
-            (rw c (ap shown (append_assoc (p.shown ++ []) (b ∷ []) first.line.bytes ∙ append_assoc p.shown [] (b ∷ first.line.bytes)) ∙ shown-other p.width p.shown first.line.bytes b sound.right m h)) ∙
-            rw (fault (shown first.line.bytes), first.numbered) refl,
-      );
-}
+faulty p b kind sound lt e m h c fault = stopped p b kind (λ rest.
+    let first = first-line p.limit p.number (p.at + 1) rest in (
+      first.line.next_at,
+      omega (arith, first.late),
+      says-byte p b rest lt e ∙
+          ap (λ (ls : List PhysicalLine). lines_say p.width (put_before (front_of p ++ b ∷ []) ls)) first.is ∙
+          says-first p.width (record first.line { bytes = (front_of p ++ b ∷ []) ++ first.line.bytes }) first.later (p.shown ++ b ∷ shown first.line.bytes)
+          (rw c (ap shown (append_assoc (p.shown ++ []) (b ∷ []) first.line.bytes ∙ append_assoc p.shown [] (b ∷ first.line.bytes)) ∙ shown-other p.width p.shown first.line.bytes b sound.right m h)) ∙
+          rw (fault (shown first.line.bytes), first.numbered) refl,
+    ))
 
 pub on-wrong : (p : PartLine) (b : ℕ) → IsSound p → p.at < p.limit → is_line_feed b ≡ false → is_comment_mark b ≡ false → is_row_blank b ≡ false → p.in_comment ≡ false → is_vector_byte p.width b ≡ false → HasRead (Fault Char) (b ∷ []) 1 p p
 on-wrong p b sound lt e m h c wrong = faulty p b Char sound lt e m h c (λ more. char_fault p.width b p.shown more sound.right sound.room wrong)
@@ -125,16 +120,7 @@ ends p next_at is_cut later sound =
 
 pub on-limit : (p : PartLine) (b : ℕ) → IsSound p → p.limit ≤ p.at → HasRead (Fault Limit) (b ∷ []) 1 p p
 unfolding end_fault
-on-limit p b sound le = record {
-  width = refl;
-  limit = refl;
-  within = omega arith;
-  at = tt;
-  room = λ same _. absurd (cc);
-  whole = λ same. absurd (cc);
-  full = tt;
-  says = λ rest. (p.at, omega arith, ap (λ (ls : List PhysicalLine). lines_say p.width (put_before (front_of p) ls)) (lines-limit p.limit p.number p.at b rest le) ∙ ends p p.at true [] sound);
-}
+on-limit p b sound le = stopped p b Limit (λ rest. (p.at, omega arith, ap (λ (ls : List PhysicalLine). lines_say p.width (put_before (front_of p) ls)) (lines-limit p.limit p.number p.at b rest le) ∙ ends p p.at true [] sound))
 
 short_fault : (width : ℕ) (s : List ℕ) → 0 < length s → length s < vector_size width → end_fault width false s ≡ Some Width
 unfolding end_fault
@@ -191,16 +177,7 @@ feed-vector old new sound lt e is = record {
 }
 
 pub feed-short : (p : PartLine) → IsSound p → p.at < p.limit → 0 < length p.shown → length p.shown < vector_size p.width → HasRead (Fault Width) (10 ∷ []) 1 p p
-feed-short p sound lt some few = record {
-  width = refl;
-  limit = refl;
-  within = omega arith;
-  at = tt;
-  room = λ same _. absurd (cc);
-  whole = λ same. absurd (cc);
-  full = tt;
-  says = λ rest. (p.at + 1, omega arith, says-feed p rest sound lt ∙ rw (short_fault p.width p.shown some few) refl);
-}
+feed-short p sound lt some few = stopped p 10 Width (λ rest. (p.at + 1, omega arith, says-feed p rest sound lt ∙ rw (short_fault p.width p.shown some few) refl))
 
 -- at the end of the file
 says-end : (p : PartLine) → IsSound p → says_on p [] ≡ line_says p.width p.number p.at (end_fault p.width false p.shown) p.shown nothing_said

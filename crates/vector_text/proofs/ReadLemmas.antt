@@ -282,6 +282,23 @@ module _ (old line : PartLine) (unread left fresh : List ℕ) (before mid after 
             (map-holds (says_on old) (says_on line) (FaultHere number kind) (bytes_ahead unread before) (bytes_ahead fresh after) (says-fresh more r) here),
       )
 
+  answers-fault : (more : Bool) (new : PartLine) (rest : List ℕ) (kind : VectorKind) → IsSound line → length fresh ≤ 65536 → IsRefilled more left fresh mid after → new.width ≡ old.width → new.limit ≡ old.limit →
+      IfSome (bytes_ahead fresh after) (λ bytes. FaultHere new.number kind (says_on line bytes)) → HasAnswered (answer_of (Fault kind) new.number) old unread new rest before after
+  answers-fault more new rest kind sound few r width limit fault = record {
+    gives = tt;
+    refused = fault-ahead more new.number kind r fault;
+    width = width;
+    limit = limit;
+    current = tt;
+    moves = tt;
+    onward = λ _. tt;
+    stopped = stays-within more r;
+    open_ = λ none. asked-now none sound few more r;
+    contents = contents ∙ h.contents;
+    asked = asked ∙ h.asked;
+    later = omega (arith, h.later);
+  }
+
   pub answers-read : (step : Step) (new : PartLine) (rest : List ℕ) → IsSound line → length fresh ≤ 65536 → (step ≡ Onward → ⊥) →
       IsRefilled true left fresh mid after → HasReadOn step line fresh new rest →
       HasAnswered (answer_of step new.number) old unread new rest before after
@@ -304,21 +321,8 @@ module _ (old line : PartLine) (unread left fresh : List ℕ) (before mid after 
     asked = asked ∙ h.asked;
     later = omega (arith, h.later);
   }
-  answers-read (Fault kind) new rest sound few ne r s = record {
-    gives = tt;
-    refused = fault-ahead true new.number kind r (if-rest (λ bytes. FaultHere new.number kind (says_on line bytes)) (rest_of after)
-        (λ t. let d = s.says t in record { end = d.0; is = d.2; near = omega (arith, d.1, few) }));
-    width = s.width ∙ h.width;
-    limit = s.limit ∙ h.limit;
-    current = tt;
-    moves = tt;
-    onward = λ _. tt;
-    stopped = stays-within true r;
-    open_ = λ none. asked-now none sound few true r;
-    contents = contents ∙ h.contents;
-    asked = asked ∙ h.asked;
-    later = omega (arith, h.later);
-  }
+  answers-read (Fault kind) new rest sound few ne r s = answers-fault true new rest kind sound few r (s.width ∙ h.width) (s.limit ∙ h.limit)
+      (if-rest (λ bytes. FaultHere new.number kind (says_on line bytes)) (rest_of after) (λ t. let d = s.says t in record { end = d.0; is = d.2; near = omega (arith, d.1, few) }))
 
   -- at the end of the file nothing is ahead
   nothing-ahead : IsRefilled false left fresh mid after → IfSome (bytes_ahead fresh after) (λ bytes. bytes ≡ [])
@@ -386,21 +390,8 @@ module _ (old line : PartLine) (unread left fresh : List ℕ) (before mid after 
     asked = asked ∙ h.asked;
     later = omega (arith, h.later);
   }
-  answers-end (Fault kind) sound few r ends says = record {
-    gives = tt;
-    refused = fault-ahead false line.number kind r (if-nothing-holds (λ bytes. FaultHere line.number kind (says_on line bytes))
-        (bytes_ahead fresh after) (nothing-ahead r) (record { end = line.at; is = says; near = omega (arith, few) }));
-    width = h.width;
-    limit = h.limit;
-    current = tt;
-    moves = tt;
-    onward = λ _. tt;
-    stopped = stays-within false r;
-    open_ = λ none. asked-now none sound few false r;
-    contents = contents ∙ h.contents;
-    asked = asked ∙ h.asked;
-    later = omega (arith, h.later);
-  }
+  answers-end (Fault kind) sound few r ends says = answers-fault false line fresh kind sound few r h.width h.limit
+      (if-nothing-holds (λ bytes. FaultHere line.number kind (says_on line bytes)) (bytes_ahead fresh after) (nothing-ahead r) (record { end = line.at; is = says; near = omega (arith, few) }))
 
   -- the store's refusal
   pub answers-failed : (e : VectorsFail) → IsSound line → left ≡ [] → IsStoreFail e mid after →
