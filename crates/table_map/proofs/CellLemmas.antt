@@ -1,17 +1,18 @@
 -- Cells as masks, and the cells of a function.
-use Rattle.std.proofs.Common.{◌≡◌, Bool, ℕ, zero, suc, ◌+◌, ◌-◌, ◌*◌, ◌^◌, ◌<◌, ◌≤◌, ◌&&◌, ◌||◌, List, [], ◌∷◌, true, false, length, drop, map, get_or, refl, sym, ap, subst, ◌∙◌, arith, bit_and, bit_or, w64, min, max}
+use Rattle.std.proofs.Common.{◌≡◌, Bool, ℕ, zero, suc, ◌+◌, ◌-◌, ◌*◌, ◌^◌, ◌<◌, ◌≤◌, ◌&&◌, ◌||◌, List, [], ◌∷◌, true, false, length, drop, map, get_or, refl, sym, ap, subst, ◌∙◌, arith, bit_and, bit_or, w64}
 use Rattle.std.specs.Prelude.{not, if◌then◌else◌, ◌==◌}
 use Rattle.std.specs.Int.{bit_at}
 use native.Mathlib.Numerals.{unary_clauses}
 use Rattle.std.specs.List.{range_with_len}
-use Rattle.std.proofs.lemmas.Nat.Bits.{bit_at_and, bit_at_or, bit_at_not, bit_at_ones, bit_at-lt, bit_at-zero, bit_at-suc, bit_at_lowest, same_from_bits_below}
+use Rattle.std.proofs.lemmas.Nat.Bits.{bit_at_not, bit_at_ones, bit_at-lt, bit_at-zero, bit_at-suc, bit_at_lowest, same_from_bits_below}
 use Rattle.std.proofs.lemmas.List.{drop_more, drop_all, ext_get_or, length-map, get_or-map}
 use Rattle.std.proofs.lemmas.List.FromFn.{get_or-map-range_with_len, length-map-range_with_len}
 use Rattle.std.proofs.lemmas.Bool.Decides.{nat_tests}
 use Rattle.std.proofs.Math.Bool.{and_assoc, and-true, or_assoc, or-false}
 use Rattle.netlist.specs.declared.draft.Lit.{Lit}
 use Rattle.netlist.specs.Covers.{fits, matches, some_matches}
-use Rattle.netlist.proofs.BitLemmas.{halved, lowest}
+use Rattle.netlist.proofs.BitLemmas.{halved, lowest, two_bits}
+use Rattle.netlist.proofs.LaneLemmas.{and-bit, or-bit}
 use Rattle.table_map.specs.declared.want.Want.{Want}
 use Rattle.table_map.specs.Rows.{number_of, cell_at}
 use Rattle.table_map.specs.Plain.{six_bits, cells_where, every, any, met, pin_named}
@@ -19,32 +20,16 @@ use Rattle.table_map.specs.Cells.{Give, masks_at}
 
 -- one bit
 
-bits_and : (p q : ℕ) → p < 2 → q < 2 → (min p q == 1) ≡ ((p == 1) && (q == 1))
-bits_and zero zero lp lq = refl
-bits_and zero (suc zero) lp lq = refl
-bits_and (suc zero) zero lp lq = refl
-bits_and (suc zero) (suc zero) lp lq = refl
-bits_and (suc (suc p)) q lp lq = absurd (omega arith)
-bits_and p (suc (suc q)) lp lq = absurd (omega arith)
-
-bits_or : (p q : ℕ) → p < 2 → q < 2 → (max p q == 1) ≡ ((p == 1) || (q == 1))
-bits_or zero zero lp lq = refl
-bits_or zero (suc zero) lp lq = refl
-bits_or (suc zero) zero lp lq = refl
-bits_or (suc zero) (suc zero) lp lq = refl
-bits_or (suc (suc p)) q lp lq = absurd (omega arith)
-bits_or p (suc (suc q)) lp lq = absurd (omega arith)
-
 bits_not : (p : ℕ) → p < 2 → (1 - p == 1) ≡ not (p == 1)
 bits_not zero lp = refl
 bits_not (suc zero) lp = refl
 bits_not (suc (suc p)) lp = absurd (omega arith)
 
 pub cell_and : (x y a : ℕ) → cell_at (bit_and x y) a ≡ (cell_at x a && cell_at y a)
-cell_and x y a = ap (λ b. b == 1) (bit_at_and x y a) ∙ bits_and (bit_at x a) (bit_at y a) (bit_at-lt x a) (bit_at-lt y a)
+cell_and = and-bit
 
 pub cell_or : (x y a : ℕ) → cell_at (bit_or x y) a ≡ (cell_at x a || cell_at y a)
-cell_or x y a = ap (λ b. b == 1) (bit_at_or x y a) ∙ bits_or (bit_at x a) (bit_at y a) (bit_at-lt x a) (bit_at-lt y a)
+cell_or = or-bit
 
 pub cell_not : (x a : ℕ) → x < 18446744073709551616 → a < 64 → cell_at (18446744073709551615 - x) a ≡ not (cell_at x a)
 cell_not x a lx la = ap (λ b. b == 1) (bit_at_not w64 x a lx la) ∙ bits_not (bit_at x a) (bit_at-lt x a)
@@ -91,13 +76,8 @@ cell_where f a la = cell_of_number (map (λ a. f (six_bits a)) (range_with_len 0
 pub gives_of : (f : List Bool → Bool) (bits : List Bool) → length bits ≡ 6 → cell_at (cells_where f) (number_of bits) ≡ f bits
 gives_of f bits len = cell_where f (number_of bits) (number_of_six bits len) ∙ ap f (six_of_number bits len)
 
-bit_of_cell : (p q : ℕ) → p < 2 → q < 2 → (p == 1) ≡ (q == 1) → p ≡ q
-bit_of_cell zero zero lp lq e = refl
-bit_of_cell zero (suc zero) lp lq e = absurd (let no : false ≡ true = e in cc)
-bit_of_cell (suc zero) zero lp lq e = absurd (let no : true ≡ false = e in cc)
-bit_of_cell (suc zero) (suc zero) lp lq e = refl
-bit_of_cell (suc (suc p)) q lp lq e = absurd (omega arith)
-bit_of_cell p (suc (suc q)) lp lq e = absurd (omega arith)
+pub bit_of_cell : (p q : ℕ) → p < 2 → q < 2 → (p == 1) ≡ (q == 1) → p ≡ q
+bit_of_cell = two_bits (λ p q. (p == 1) ≡ (q == 1) → p ≡ q) (λ e. refl) (λ e. absurd (let no : false ≡ true = e in cc)) (λ e. absurd (let no : true ≡ false = e in cc)) (λ e. refl)
 
 pub cells_are : (x : ℕ) (f : List Bool → Bool) → x < 18446744073709551616 → Give x (λ a. f (six_bits a)) → x ≡ cells_where f
 unfolding cells_where
@@ -107,26 +87,10 @@ cells_are x f lx h =
 
 -- pins
 
-abbrev pub pins : List ℕ
-pins = 12297829382473034410 ∷ 14757395258967641292 ∷ 17361641481138401520 ∷ 18374966859414961920 ∷ 18446462603027742720 ∷ 18446744069414584320 ∷ []
-
--- each mask at all addresses
-pin_cells : (p : ℕ) → p < 6 → map (λ a. cell_at (get_or pins p 0) a) (range_with_len 0 64) ≡ map (λ a. cell_at a p) (range_with_len 0 64)
-pin_cells zero lp = refl
-pin_cells (suc zero) lp = refl
-pin_cells (suc (suc zero)) lp = refl
-pin_cells (suc (suc (suc zero))) lp = refl
-pin_cells (suc (suc (suc (suc zero)))) lp = refl
-pin_cells (suc (suc (suc (suc (suc zero))))) lp = refl
-pin_cells (suc (suc (suc (suc (suc (suc p)))))) lp = absurd (omega arith)
-
-pub pin_gives : (p : ℕ) → p < 6 → Give (get_or pins p 0) (λ a. get_or (six_bits a) p true)
+-- a mask that has the bits of addresses at a pin's place
+pub pin_gives : (p mask : ℕ) → p < 6 → ((a : ℕ) → a < 64 → cell_at mask a ≡ cell_at a p) → Give mask (λ a. get_or (six_bits a) p true)
 unfolding six_bits
-pin_gives p lp a la =
-    sym (get_or-map-range_with_len (λ a. cell_at (get_or pins p 0) a) 0 64 a a false la (omega arith))
-    ∙ ap (λ bs. get_or bs a false) (pin_cells p lp)
-    ∙ get_or-map-range_with_len (λ a. cell_at a p) 0 64 a a false la (omega arith)
-    ∙ sym (get_or-map-range_with_len (cell_at a) 0 6 p p true lp (omega arith))
+pin_gives p mask lp gives a la = gives a la ∙ sym (get_or-map-range_with_len (cell_at a) 0 6 p p true lp (omega arith))
 
 -- one more of a loop
 

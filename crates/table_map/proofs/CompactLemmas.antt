@@ -12,8 +12,52 @@ use Rattle.table_map.specs.declared.network.Network.{Network}
 use Rattle.table_map.specs.Networks.{no_table, table_at, IsSourceOf, IsCombinational, IsLatched, IsPath, alone, onward, IsNetwork}
 use Rattle.table_map.specs.Rows.{number_of, cell_at, bit_of, truth, IsNetworkValuation, outputs_in, next_state, first_state, RowsFrom, AreRows}
 use Rattle.table_map.specs.Compacting.{is_dropped, rank, renamed, renamed_table, kept_tables, compacted, named_by, AreRanks, IsKept, IsClosed, IsCompacted}
-use Rattle.table_map.specs.Joining.{IsReduced, IsUnread}
+use Rattle.table_map.specs.Joining.{DoesSame, IsReduced, IsUnread}
 use Rattle.table_map.proofs.ValuationLemmas.{one_rows}
+
+-- rows are those of another network too, if each of its valuations gives one of the other's, with the same outputs and a next state that goes with its own
+pub rows_between : (m n : Network) (back : List Bool → (ℕ → Bool) → ℕ → Bool) (With : (ℕ → Bool) → (ℕ → Bool) → Type 0)
+    → ((vector : List Bool) (given state less : ℕ → Bool) → With state less → IsNetworkValuation m state vector given → IsNetworkValuation n less vector (back vector given))
+    → ((vector : List Bool) (given : ℕ → Bool) → outputs_in m vector given ≡ outputs_in n vector (back vector given))
+    → ((vector : List Bool) (given : ℕ → Bool) → With (next_state m vector given) (next_state n vector (back vector given)))
+    → (vectors rows : List (List Bool)) (state less : ℕ → Bool) → With state less → RowsFrom m state vectors rows → RowsFrom n less vectors rows
+rows_between m n back With right shown next [] [] state less start p = tt
+rows_between m n back With right shown next [] (row ∷ rows) state less start p = absurd p
+rows_between m n back With right shown next (v ∷ vs) [] state less start p = absurd p
+rows_between m n back With right shown next (v ∷ vs) (row ∷ rows) state less start p = (
+  back v p.0,
+  right v p.0 state less start p.1,
+  p.2 ∙ shown v p.0,
+  rows_between m n back With right shown next vs rows (next_state m v p.0) (next_state n v (back v p.0)) (next v p.0) p.3,
+)
+
+-- a network does the same as itself, and one after the other what the first does
+pub same_none : (n : Network) → IsNetwork n → DoesSame n n
+same_none n is = record {
+  network = is;
+  rows = λ vs rs. (λ q. q, λ q. q);
+  fewer = omega arith;
+  inputs = refl;
+  outputs = refl;
+}
+
+pub same_then : (n m k : Network) → DoesSame n m → DoesSame m k → DoesSame n k
+same_then n m k a b = record {
+  network = b.network;
+  rows = λ vs rs. (let f = a.rows vs rs in let g = b.rows vs rs in (λ q. g.0 (f.0 q), λ q. f.1 (g.1 q)));
+  fewer = (let l = a.fewer in let e = b.fewer in omega arith);
+  inputs = b.inputs ∙ a.inputs;
+  outputs = b.outputs ∙ a.outputs;
+}
+
+pub reduced_same : (n m : Network) → IsReduced n m → DoesSame n m
+reduced_same n m r = record {
+  network = r.network;
+  rows = r.rows;
+  fewer = (let l = r.less in omega arith);
+  inputs = r.inputs;
+  outputs = r.outputs;
+}
 
 -- one more of the loops
 
@@ -205,19 +249,10 @@ module _ (n : Network) (is : IsNetwork n) (dropped : List Bool) (closed : IsClos
       combinational = λ k c. p.combinational (place dropped k) (was_combinational k c) ∙ sym (truth_same k c.within);
     }
 
-  small_from : (vectors rows : List (List Bool)) (state less : ℕ → Bool) → ((k : ℕ) → k < length small.tables → less k ≡ state (place dropped k)) → RowsFrom n state vectors rows → RowsFrom small less vectors rows
-  small_from [] [] state less same p = tt
-  small_from [] (row ∷ rows) state less same p = absurd p
-  small_from (v ∷ vs) [] state less same p = absurd p
-  small_from (v ∷ vs) (row ∷ rows) state less same p = (
-    fewer v p.0,
-    small_right v p.0 state less same p.1,
-    p.2 ∙ sym (outputs_same v p.0),
-    small_from vs rows (next_state n v p.0) (next_state small v (fewer v p.0)) (λ k lk. truth_same v p.0 k lk) p.3,
-  )
-
   small_rows : (vectors rows : List (List Bool)) → AreRows n vectors rows → AreRows small vectors rows
-  small_rows vectors rows p = small_from vectors rows (first_state n) (first_state small) (λ k lk. ap (λ t. t.init) (at_new k lk)) p
+  small_rows vectors rows p =
+      rows_between n small fewer (λ state less. (k : ℕ) → k < length small.tables → less k ≡ state (place dropped k)) small_right (λ v given. sym (outputs_same v given)) truth_same vectors rows
+      (first_state n) (first_state small) (λ k lk. ap (λ t. t.init) (at_new k lk)) p
 
   table_name : (a b : ℕ) → Table a ≡ Table b → a ≡ b
   table_name a b e = cc

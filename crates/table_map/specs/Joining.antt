@@ -111,3 +111,11 @@ pub record IsReduced (n m : Network) : Type 0 where
   pub inputs : m.inputs ≡ n.inputs
   pub outputs : length m.outputs ≡ length n.outputs
   pub less : length m.tables < length n.tables
+
+-- no more tables do the same
+pub record DoesSame (n m : Network) : Type 0 where
+  pub network : IsNetwork m
+  pub rows : (vectors rows : List (List Bool)) → AreRows n vectors rows ↔ AreRows m vectors rows
+  pub fewer : length m.tables ≤ length n.tables
+  pub inputs : m.inputs ≡ n.inputs
+  pub outputs : length m.outputs ≡ length n.outputs

@@ -7,25 +7,15 @@ ghost use Rattle.table_map.specs.Plain.{cells_where, flip, every, any, together,
 ghost use Rattle.table_map.specs.Cells.{Give, masks_at};
 
 use crate::want::{Gate, Want};
-use netlist::{Cover, Cube, Lit};
+use netlist::{Cover, Cube, Lit, lane_word};
 use std::alloc::{AllocError, Global};
-
-/// The cells of tables that give what pin 0 reads, what pin 1 reads, and so on.
-const PINS: [u64; 6] = [
-    0xAAAA_AAAA_AAAA_AAAA,
-    0xCCCC_CCCC_CCCC_CCCC,
-    0xF0F0_F0F0_F0F0_F0F0,
-    0xFF00_FF00_FF00_FF00,
-    0xFFFF_0000_FFFF_0000,
-    0xFFFF_FFFF_0000_0000,
-];
 
 /// The cells that give what the pin reads.
 pub fn pin_mask(pin: usize) -> u64
     requires { pin < 6 }
     ensures { Give result (λ a. slice_index_or (six_bits a) pin true) }
 {
-    PINS[pin]
+    lane_word(pin)
 }
 
 /// The cells that give whether the mask is as wanted.

@@ -127,7 +127,8 @@ fn kept_tables(
     Ok(kept)
 }
 
-fn renamed_outputs(
+/// What the outputs show, with new numbers of the tables, by their old ones.
+pub fn renamed_outputs(
     alloc: Global,
     ranks: &[u32],
     outputs: &[Source],

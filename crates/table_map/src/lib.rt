@@ -35,7 +35,7 @@ mod want;
 mod work;
 
 pub use build::plain;
-pub use compact::renamed_table;
+pub use compact::{renamed_outputs, renamed_table};
 pub use copying::copied_network;
 pub use longest::depth;
 pub use merge::{merged, merged_of};
