@@ -15,7 +15,7 @@ use Rattle.table_map.specs.Compacting.{is_dropped, IsClosed, IsCompacted}
 use Rattle.table_map.specs.Merges.{none_gone, begins, drops}
 use Rattle.table_map.specs.Passes.{IsFound, IsSmaller, IsMergedOf}
 use Rattle.table_map.proofs.PutLemmas.{net, IsAfter, after_puts, puts_on, same_tables, unread_now}
-use Rattle.table_map.proofs.CompactLemmas.{compacted_reduced, one_dropped}
+use Rattle.table_map.proofs.CompactLemmas.{compacted_reduced, one_dropped, reduced_same, same_none, same_then}
 use Rattle.table_map.proofs.MergeLemmas.{clean_of, merged_by, none_is_gone}
 use Rattle.table_map.proofs.ReaderLemmas.{may_put}
 
@@ -104,24 +104,10 @@ if_ok_map (Err e) f h = tt
 
 -- the passes
 pub merged_none : (n : Network) → IsNetwork n → IsMergedOf n n
-merged_none n is = record {
-  network = is;
-  rows = λ vs rs. (λ q. q, λ q. q);
-  fewer = omega arith;
-  inputs = refl;
-  outputs = refl;
-  merged = begins;
-}
+merged_none n is = record { same = same_none n is; merged = begins }
 
 pub merged_on : (n m k : Network) → IsMergedOf n m → IsSmaller m k → IsMergedOf n k
-merged_on n m k old next = record {
-  network = next.reduced.network;
-  rows = λ vs rs. (let f = old.rows vs rs in let g = next.reduced.rows vs rs in (λ q. g.0 (f.0 q), λ q. f.1 (g.1 q)));
-  fewer = (let l = next.reduced.less in let e = old.fewer in omega arith);
-  inputs = next.reduced.inputs ∙ old.inputs;
-  outputs = next.reduced.outputs ∙ old.outputs;
-  merged = next.merged n old.merged;
-}
+merged_on n m k old next = record { same = same_then n m k old.same (reduced_same m k next.reduced); merged = next.merged n old.merged }
 
 -- from the plain network on
 module _ (d : Draft) where
@@ -134,10 +120,10 @@ module _ (d : Draft) where
   plain_outputs = length-map d.outputs (λ (p : PortDef). source_of d p.signal)
 
   pub merged_rows : (n m : Network) → HasRowsOf n d → IsMergedOf n m → HasRowsOf m d
-  merged_rows n m has merged = λ vs rs. (let f = has vs rs in let g = merged.rows vs rs in (λ q. g.0 (f.0 q), λ q. f.1 (g.1 q)))
+  merged_rows n m has merged = λ vs rs. (let f = has vs rs in let g = merged.same.rows vs rs in (λ q. g.0 (f.0 q), λ q. f.1 (g.1 q)))
 
   pub inputs_of : (n m : Network) → n ≡ plain_network d → IsMergedOf n m → m.inputs ≡ length d.inputs
-  inputs_of n m e merged = merged.inputs ∙ ap (λ (x : Network). x.inputs) e ∙ plain_inputs
+  inputs_of n m e merged = merged.same.inputs ∙ ap (λ (x : Network). x.inputs) e ∙ plain_inputs
 
   pub outputs_of : (n m : Network) → n ≡ plain_network d → IsMergedOf n m → length m.outputs ≡ length d.outputs
-  outputs_of n m e merged = merged.outputs ∙ ap (λ (x : Network). length x.outputs) e ∙ plain_outputs
+  outputs_of n m e merged = merged.same.outputs ∙ ap (λ (x : Network). length x.outputs) e ∙ plain_outputs

@@ -4,11 +4,11 @@ use Rattle.table_map.specs.declared.source.Source.{Source}
 use Rattle.table_map.specs.declared.network.NetTable.{NetTable}
 use Rattle.table_map.specs.declared.network.Network.{Network}
 use Rattle.table_map.specs.Networks.{IsNetwork}
-use Rattle.table_map.specs.Joining.{in_tables, MayPut, IsPut, IsJoined, IsReduced}
+use Rattle.table_map.specs.Joining.{in_tables, MayPut, IsPut, IsJoined, DoesSame}
 use Rattle.table_map.specs.Compacting.{is_dropped, IsClosed, IsCompacted}
-use Rattle.table_map.specs.Spreading.{Spreads, begins, puts, IsSpreadFrom}
+use Rattle.table_map.specs.Spreading.{Spreads, begins, puts}
 use Rattle.table_map.proofs.PutLemmas.{net, IsAfter, after_none, after_put, same_length}
-use Rattle.table_map.proofs.CompactLemmas.{compacted_reduced}
+use Rattle.table_map.proofs.CompactLemmas.{compacted_reduced, reduced_same}
 
 -- a table is put into a reader
 pub one_spread : (ts us : List NetTable) (j r : ℕ) (t : NetTable) → us ≡ ts → MayPut us j r × IsJoined j (in_tables us j) (in_tables us r) t → Spreads ts (set ts r t)
@@ -28,28 +28,9 @@ module _ (inputs : ℕ) (outputs : List Source) where
   after_spreads {old} begins is = after_none inputs outputs old is
   after_spreads {old} (puts {mid = b} {new = c} {j = j} {r = r} ps p) is = after_put inputs outputs old b c j r (after_spreads ps is) p
 
--- the network as it was
-pub spread_none : (n : Network) → IsNetwork n → IsSpreadFrom n n
-spread_none n is = record {
-  network = is;
-  rows = λ vs rs. (λ q. q, λ q. q);
-  fewer = omega arith;
-  inputs = refl;
-  outputs = refl;
-}
-
-pub spread_then : (n m k : Network) → IsSpreadFrom n m → IsSpreadFrom m k → IsSpreadFrom n k
-spread_then n m k a b = record {
-  network = b.network;
-  rows = λ vs rs. (let f = a.rows vs rs in let g = b.rows vs rs in (λ q. g.0 (f.0 q), λ q. f.1 (g.1 q)));
-  fewer = (let l = a.fewer in let e = b.fewer in omega arith);
-  inputs = b.inputs ∙ a.inputs;
-  outputs = b.outputs ∙ a.outputs;
-}
-
 -- tables were put into readers
-pub spread_put : (n m : Network) (ts : List NetTable) → IsNetwork n → Spreads n.tables ts → m ≡ net n.inputs ts n.outputs → IsSpreadFrom n m
-spread_put n m ts is ps e = subst (IsSpreadFrom n) (sym e) (record {
+pub spread_put : (n m : Network) (ts : List NetTable) → IsNetwork n → Spreads n.tables ts → m ≡ net n.inputs ts n.outputs → DoesSame n m
+spread_put n m ts is ps e = subst (DoesSame n) (sym e) (record {
   network = all.network;
   rows = all.rows;
   fewer = (let l = all.len in omega arith);
@@ -60,18 +41,9 @@ spread_put n m ts is ps e = subst (IsSpreadFrom n) (sym e) (record {
     all : IsAfter n.inputs n.outputs n.tables ts
     all = after_spreads n.inputs n.outputs ps is
 
-pub spread_changed : (n : Network) (ts us : List NetTable) (qs : List Source) → IsNetwork n → Spreads n.tables ts → us ≡ ts → qs ≡ n.outputs → IsSpreadFrom n (net n.inputs us qs)
+pub spread_changed : (n : Network) (ts us : List NetTable) (qs : List Source) → IsNetwork n → Spreads n.tables ts → us ≡ ts → qs ≡ n.outputs → DoesSame n (net n.inputs us qs)
 spread_changed n ts us qs is ps e f = spread_put n (net n.inputs us qs) ts is ps (ap (λ xs. net n.inputs xs qs) e ∙ ap (λ xs. net n.inputs ts xs) f)
 
 -- what is marked is dropped
-pub spread_less : (n m : Network) (marks : List Bool) → IsNetwork n → IsClosed marks n.tables n.outputs → IsCompacted n marks m → (j : ℕ) → j < length n.tables → is_dropped marks j ≡ true → IsSpreadFrom n m
-spread_less n m marks is closed comp j lj at = record {
-  network = less.network;
-  rows = less.rows;
-  fewer = (let l = less.less in omega arith);
-  inputs = less.inputs;
-  outputs = less.outputs;
-}
-  where
-    less : IsReduced n m
-    less = compacted_reduced n m marks is closed comp j lj at
+pub spread_less : (n m : Network) (marks : List Bool) → IsNetwork n → IsClosed marks n.tables n.outputs → IsCompacted n marks m → (j : ℕ) → j < length n.tables → is_dropped marks j ≡ true → DoesSame n m
+spread_less n m marks is closed comp j lj at = reduced_same n m (compacted_reduced n m marks is closed comp j lj at)

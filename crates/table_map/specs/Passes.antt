@@ -1,11 +1,9 @@
 -- What the passes of merging keep.
-use Rattle.std.specs.Prelude.{◌≡◌, ◌≤◌, ◌↔◌, ℕ, List, Bool, true, length}
+use Rattle.std.specs.Prelude.{◌≡◌, ℕ, List, true}
 use Rattle.table_map.specs.declared.network.NetTable.{NetTable}
 use Rattle.table_map.specs.declared.network.Network.{Network}
 use Rattle.table_map.specs.declared.merge.Found.{Found}
-use Rattle.table_map.specs.Networks.{IsNetwork}
-use Rattle.table_map.specs.Rows.{AreRows}
-use Rattle.table_map.specs.Joining.{IsReduced, Puts}
+use Rattle.table_map.specs.Joining.{DoesSame, IsReduced, Puts}
 use Rattle.table_map.specs.Compacting.{is_dropped, IsClosed}
 use Rattle.table_map.specs.Merges.{none_gone, IsMergedFrom}
 
@@ -24,9 +22,5 @@ pub record IsSmaller (n m : Network) : Type 0 where
 
 -- what each network of the passes is
 pub record IsMergedOf (n m : Network) : Type 0 where
-  pub network : IsNetwork m
-  pub rows : (vectors rows : List (List Bool)) → AreRows n vectors rows ↔ AreRows m vectors rows
-  pub fewer : length m.tables ≤ length n.tables
-  pub inputs : m.inputs ≡ n.inputs
-  pub outputs : length m.outputs ≡ length n.outputs
+  pub same : DoesSame n m
   pub merged : IsMergedFrom n m

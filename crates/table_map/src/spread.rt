@@ -5,7 +5,7 @@ ghost use Rattle.table_map.specs.Networks.{IsNetwork};
 ghost use Rattle.table_map.specs.Rows.{AreRows};
 ghost use Rattle.table_map.specs.Merging.{IsWhole};
 ghost use Rattle.table_map.specs.Compacting.{is_dropped};
-ghost use Rattle.table_map.specs.Spreading.{IsSpreadFrom};
+ghost use Rattle.table_map.specs.Joining.{DoesSame};
 
 use crate::compact::{compacted, is_closed};
 use crate::copying::{copied_network, copied_sources};
@@ -33,7 +33,7 @@ fn is_some_marked(marks: &[bool]) -> bool
 /// The network without the marked tables, where nothing that stays reads one of them, and else as it is.
 fn without(alloc: Global, network: Network, marks: &[bool]) -> Result<Network, AllocError>
     requires { IsNetwork network }
-    ensures { IfOk result (IsSpreadFrom network) }
+    ensures { IfOk result (DoesSame network) }
 {
     if marks.len() != network.tables.as_slice().len() {
         return Ok(network);
@@ -51,7 +51,7 @@ fn without(alloc: Global, network: Network, marks: &[bool]) -> Result<Network, A
 /// The network without the tables that no way leads to from an output.
 fn without_useless(alloc: Global, network: Network) -> Result<Network, AllocError>
     requires { IsNetwork network }
-    ensures { IfOk result (IsSpreadFrom network) }
+    ensures { IfOk result (DoesSame network) }
 {
     let marks = useless_tables(alloc, &network)?;
     without(alloc, network, &marks)
@@ -60,7 +60,7 @@ fn without_useless(alloc: Global, network: Network) -> Result<Network, AllocErro
 /// The network with tables put into all their readers.
 fn spread_once(alloc: Global, network: Network) -> Result<Network, AllocError>
     requires { IsNetwork network }
-    ensures { IfOk result (IsSpreadFrom network) }
+    ensures { IfOk result (DoesSame network) }
 {
     let spread = spread_tables(alloc, &network)?;
     let outputs = copied_sources(alloc, network.outputs.as_slice())?;
@@ -75,7 +75,7 @@ fn spread_once(alloc: Global, network: Network) -> Result<Network, AllocError>
 /// The network with tables put into all their readers, while that makes them fewer.
 fn spread_rounds(alloc: Global, network: Network) -> Result<Network, AllocError>
     requires { IsNetwork network }
-    ensures { IfOk result (IsSpreadFrom network) }
+    ensures { IfOk result (DoesSame network) }
 {
     let mut spread = network;
     'rounds: for _ in 0..ROUNDS {

@@ -1,8 +1,9 @@
 use Rattle.std.proofs.Common.{◌∙◌}
-use Rattle.table_map.specs.Spreading.{IsSpreadFrom}
+use Rattle.table_map.specs.Joining.{DoesSame}
 use Rattle.table_map.proofs.PutLemmas.{net}
 use Rattle.table_map.proofs.ReducedLemmas.{if_ok_map}
-use Rattle.table_map.proofs.SpreadLemmas.{spread_changed, spread_then}
+use Rattle.table_map.proofs.CompactLemmas.{same_then}
+use Rattle.table_map.proofs.SpreadLemmas.{spread_changed}
 use Rattle.table_map.proofs.spread.spread_once.Goals as goal
 
 pub without-requires : goal.without-requires
@@ -13,5 +14,5 @@ pub returns : goal.returns
 returns c =
     let n = c.args.network in
     let m = net n.inputs c.new.result c.new-2.result in
-    let first : IsSpreadFrom n m = spread_changed n c.in_ok-spread.spread.tables.items c.new.result c.new-2.result c.requires (c.in_ok-spread.ensures {u = tt}) c.new.ensures (c.new-2.ensures ∙ (c.in_ok-outputs.ensures {u = tt} ∙ c.as_slice.ensures)) in
-    if_ok_map c.without.result (λ x p. spread_then n m x first p) c.without.ensures
+    let first : DoesSame n m = spread_changed n c.in_ok-spread.spread.tables.items c.new.result c.new-2.result c.requires (c.in_ok-spread.ensures {u = tt}) c.new.ensures (c.new-2.ensures ∙ (c.in_ok-outputs.ensures {u = tt} ∙ c.as_slice.ensures)) in
+    if_ok_map c.without.result (λ x p. same_then n m x first p) c.without.ensures
