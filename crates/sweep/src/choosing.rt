@@ -19,7 +19,7 @@ use std::alloc::{AllocError, Global};
 pub(crate) const FIRST_HEIGHT: u32 = 9;
 
 /// How often a wire is looked at for a choice.
-const PARTNER_LOOKS: u32 = 7;
+const PARTNER_LOOKS: u32 = 16;
 
 /// How often one is looked at that was unfit before a choice.
 const AGAIN_LOOKS: u32 = 5;

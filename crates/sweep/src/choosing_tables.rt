@@ -44,6 +44,26 @@ fn keeps_wire(proof: &Proof, w: Wire) -> bool {
     false
 }
 
+// Whether two wires are kept apart.
+fn is_apart(proof: &Proof, a: Wire, b: Wire) -> bool {
+    let wires = proof.shape().wires();
+    if a.0 >= wires || b.0 >= wires || a.0 == b.0 {
+        return false;
+    }
+    proof.keeps_pair(a, b)
+}
+
+// How many wires were known when a wire was tried, as it seems: up to the last one from which it is kept apart.
+fn places_tried(proof: &Proof, known: &Known, w: Wire) -> usize {
+    let mut places = 0;
+    'places: for place in 0..known.len() {
+        if is_apart(proof, w, known.wire_at(place)) {
+            places = place.saturating_add(1);
+        }
+    }
+    places
+}
+
 // Whether a kept crosspoint leads from a pin of a table to a line of its hextant that is known.
 fn is_foot(proof: &Proof, known: &Known, pin: Wire, node: Node, k: u32) -> bool {
     let shape = proof.shape();
@@ -141,11 +161,27 @@ impl Chooser {
         Ok(())
     }
 
+    // A wire that was tried can be shorted to those alone from which it isn't kept apart, of the wires that were known by then.
+    fn infer(&mut self, proof: &Proof, known: &Known, w: Wire) -> Result<(), AllocError> {
+        if self.suspect_count(w) > 0 {
+            return Ok(());
+        }
+        let mut wires = Vec::new(self.alloc);
+        'places: for place in 0..places_tried(proof, known, w) {
+            if place < known.len() && !is_apart(proof, w, known.wire_at(place)) {
+                wires.push(known.wire_at(place))?;
+            }
+        }
+        self.set_suspects(w, wires);
+        Ok(())
+    }
+
     // Wants the pins of a table.
-    fn want_lack(&mut self, known: &Known, lack: Lack) -> Result<(), AllocError> {
+    fn want_lack(&mut self, proof: &Proof, known: &Known, lack: Lack) -> Result<(), AllocError> {
         'pins: for pin in &lack.pins {
             self.wanted.push(*pin)?;
             self.recall(known, *pin)?;
+            self.infer(proof, known, *pin)?;
         }
         self.lacks.push(lack)?;
         Ok(())
@@ -165,7 +201,7 @@ impl Chooser {
             set_flag(&mut self.dead, t, wrong);
             let lack = self.lack_of(&shape, known, Table(t))?;
             if !wrong && !lack.pins.is_empty() && self.are_lost(&lack.pins) {
-                self.want_lack(known, lack)?;
+                self.want_lack(proof, known, lack)?;
             }
         }
         Ok(())
