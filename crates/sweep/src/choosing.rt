@@ -88,14 +88,16 @@ pub(crate) struct Chooser {
     // The known wire to which one was found to be shorted; and of a wire that gave way, for which one.
     pub partner: Vec<Option<Wire>>,
     pub heir: Vec<Option<Wire>>,
-    // Whether a wire is unfit, or was lost in growth; whether it gives way; and of each table whether it can't be used.
+    // Whether a wire is unfit, or was lost in growth; whether it gives way; and of each table whether it can't be used, and whether wires
+    // gave way for it before.
     pub lost: Vec<bool>,
     pub given: Vec<bool>,
     pub dead: Vec<bool>,
+    pub favoured: Vec<bool>,
     // The tables that would be free if all of their pins were known.
     pub lacks: Vec<Lack>,
-    // How many tables the choice may free, and whether one was made before.
-    pub gains: usize,
+    // The tables that the choice may free, and whether one was made before.
+    pub gains: Vec<Table>,
     pub has_chosen: bool,
     // The wires that are hung before all others in the next sweep, and those to be marked again then.
     pub first: Vec<Wire>,
@@ -151,8 +153,9 @@ impl Chooser {
             lost: Vec::new(alloc),
             given: Vec::new(alloc),
             dead: Vec::new(alloc),
+            favoured: Vec::new(alloc),
             lacks: Vec::new(alloc),
-            gains: 0,
+            gains: Vec::new(alloc),
             has_chosen: false,
             first: Vec::new(alloc),
             again: Vec::new(alloc),
@@ -164,6 +167,7 @@ impl Chooser {
         chooser.lost.resize(wires, false)?;
         chooser.given.resize(wires, false)?;
         chooser.dead.resize(shape.tables() as usize, false)?;
+        chooser.favoured.resize(shape.tables() as usize, false)?;
         'wires: for _w in 0..wires {
             chooser.suspects.push(Suspects {
                 wires: Vec::new(alloc),

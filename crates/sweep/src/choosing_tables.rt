@@ -197,10 +197,11 @@ impl Chooser {
         let shape = proof.shape();
         self.lacks.clear();
         'tables: for t in 0..shape.tables() {
-            let wrong = in_set(&bad.wrong, t);
-            set_flag(&mut self.dead, t, wrong);
             let lack = self.lack_of(&shape, known, Table(t))?;
-            if !wrong && !lack.pins.is_empty() && self.are_lost(&lack.pins) {
+            let lacks = !lack.pins.is_empty();
+            let dead = in_set(&bad.wrong, t) || (lacks && flag_at(&self.favoured, t));
+            set_flag(&mut self.dead, t, dead);
+            if lacks && !dead && self.are_lost(&lack.pins) {
                 self.want_lack(proof, known, lack)?;
             }
         }
@@ -318,7 +319,7 @@ impl Chooser {
         }
         match self.partners_of(shape, &lack.pins)? {
             Some(partners) => {
-                self.gains = self.gains.saturating_add(1);
+                self.gains.push(lack.table)?;
                 self.give(&partners, &lack.pins)
             }
             None => {
@@ -382,6 +383,13 @@ impl Chooser {
         Ok(())
     }
 
+    // Wires give way for these tables. None does a second time.
+    fn note_favoured(&mut self) {
+        'tables: for table in &self.gains {
+            set_flag(&mut self.favoured, table.0, true);
+        }
+    }
+
     // Of tables with few pins to gain first, all that these are shorted to gives way.
     fn give_all(&mut self, shape: &Shape) -> Result<(), AllocError> {
         let lacks = std::mem::replace(&mut self.lacks, Vec::new(self.alloc));
@@ -393,7 +401,7 @@ impl Chooser {
 
     // Whether a choice is worth its loads: the first is, and a further one, if few wires are marked again for each table that it frees.
     fn is_worth_it(&self) -> bool {
-        !self.has_chosen || self.again.len() <= self.gains.saturating_mul(WIRES_A_TABLE)
+        !self.has_chosen || self.again.len() <= self.gains.len().saturating_mul(WIRES_A_TABLE)
     }
 
     /// The known wires that stay, once others give way for pins of tables. None where none does.
@@ -408,13 +416,14 @@ impl Chooser {
         self.forget_given();
         self.note_partners();
         self.note_dead(proof);
-        self.gains = 0;
+        self.gains.clear();
         self.give_all(&shape)?;
         self.note_again(bad)?;
         if self.first.is_empty() || !self.is_worth_it() {
             return Ok(None);
         }
         let stay = self.staying(&shape, known)?;
+        self.note_favoured();
         self.forget_suspects();
         self.has_chosen = true;
         Ok(Some(stay))
