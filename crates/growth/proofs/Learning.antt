@@ -3,14 +3,18 @@ use Rattle.std.proofs.Common.{◌≡◌, ℕ, true, Option, [], ◌∷◌, lengt
 use Rattle.std.specs.Prelude.{Result, Ok, Err, OnOk, OnErr, slice_set}
 use Rattle.tm_bits.specs.Numbers.{has_number}
 use Rattle.hierarchy.specs.Faults.{Faults}
-use Rattle.evidence.specs.Kept.{Kept, IsMore}
+use Rattle.rig.specs.Rig.{RigState}
+use Rattle.evidence.specs.Kept.{Kept, Advances, IsMore}
 use Rattle.growth.specs.Grown.{IsLearnt, IsOneMore}
+use Rattle.growth.specs.Looks.{IsReady}
 use Rattle.known.specs.Known.{KnownWires, HasWire, IsKnown, Stands, IsGood}
 use Rattle.reach.specs.Marked.{AreMarks, OffersOnly}
 use Rattle.reach.specs.declared.marks.Marks.{Marks}
+use Rattle.reach.specs.declared.offers.Offer.{Offer}
 use Rattle.known.specs.declared.step.Step.{Step}
-use Rattle.known.proofs.Later.{learnt}
+use Rattle.known.proofs.Later.{known_later, learnt}
 use Rattle.known.proofs.Places.{get_last}
+use Rattle.reach.proofs.Seconds.{offer_still}
 use Rattle.reach.proofs.Settling.{marks_later}
 
 -- what follows from both kinds of answer
@@ -32,6 +36,14 @@ learnt_known is good stands l = learnt is good stands l.shape l.steps
 
 pub learnt_marks : {told : Option Faults} {k l : Kept} {a b : KnownWires} {s : Step} {m : Marks} → IsMore k l → IsLearnt a b s → AreMarks told k a.steps m → AreMarks told l b.steps m
 learnt_marks {told} {k} {l} {a} {b} {s} {m} more p are = subst (λ ss. AreMarks told l ss m) (sym p.steps) (marks_later (s ∷ []) more are)
+
+-- an offer may still be tried after tests
+pub ready_later : {a b : RigState} {k l : Kept} {those : KnownWires} {o : Offer} {s t : Marks} → Advances a b k l → IsReady a.machine.faults k those o s → AreMarks a.machine.faults l those.steps t → IsReady b.machine.faults l those o t
+ready_later {l = l} {those = those} {t = t} advances ready marks = record {
+  known = known_later advances.more ready.known;
+  offer = offer_still advances.more.shape ready.offer;
+  marks = subst (λ (told : Option Faults). AreMarks told l those.steps t) (sym (ap (λ m. m.faults) advances.machine)) marks;
+}
 
 -- a barred wire changes no other mark
 pub offers_barred : {x : ℕ} {s t u : Marks} (w : ℕ) → OffersOnly x s t → u ≡ record t { barred = slice_set t.barred w true } → OffersOnly x s u

@@ -1,3 +1,5 @@
+-- What is cited above.
+pub mod Decided
 -- For the proofs of this crate alone.
 mod Parting
 mod Growing
@@ -9,5 +11,4 @@ mod Taken
 mod Listing
 mod Circling
 mod Learning
-mod Halved
 mod SoFar

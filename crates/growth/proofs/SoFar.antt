@@ -12,9 +12,7 @@ use Rattle.reach.specs.Marked.{AreMarks, Spends, SpendsOn}
 use Rattle.reach.specs.Offers.{AreLost}
 use Rattle.reach.specs.declared.marks.Marks.{Marks}
 use Rattle.reach.specs.declared.offers.Offer.{Offer}
-use Rattle.growth.specs.Halves.{IsPart}
 use Rattle.growth.specs.Looks.{AreAllMarks, AreTried, Grows, IsLinking}
-use Rattle.growth.specs.declared.halving.Part.{Part}
 use Rattle.growth.proofs.Circling.{IsGrowing}
 
 -- the first n pins were tried
@@ -31,15 +29,13 @@ pub record HasLooked (first now : RigState) (j k : Kept) (near : List Near) (old
   pub spends : Spends first.machine.faults j (IsLinking near) from new first.loads now.loads
   pub also : More
 
+-- .. and something else besides
+pub looked_also : {r s : RigState} {j k : Kept} {near : List Near} {old known : KnownWires} {from new : Marks} {More Next : Type 0} → HasLooked r s j k near old known from new More → Next → HasLooked r s j k near old known from new Next
+looked_also h next = record { advances = h.advances; grows = h.grows; tried = h.tried; marks = h.marks; spends = h.spends; also = next }
+
 -- the first n other crosspoints of an offer were tried
 pub record HaveTriedOthers (first now : RigState) (j k : Kept) (ss : List Step) (o : Offer) (old new : Marks) (n : ℕ) : Type 0 where
   pub advances : Advances first now j k
   pub marks : AreMarks first.machine.faults k ss new
   pub spends : SpendsOn first.machine.faults j o old new first.loads now.loads
   pub lost : (i : ℕ) (a : Foot) → i < n → slice_get o.others.items i ≡ Some a → AreLost first.machine.faults k ss o.wire.0 o.foot.cross.0 a.cross.0
-
--- so many wires were halved n times
-pub record HasHalved (first now : RigState) (j k : Kept) (count : ℕ) (p : Part) (n : ℕ) : Type 0 where
-  pub advances : Advances first now j k
-  pub part : IsPart count p
-  pub loads : now.loads ≤ first.loads + n

@@ -2,4 +2,3 @@
 pub mod Partings
 pub mod Grown
 pub mod Looks
-pub mod Halves

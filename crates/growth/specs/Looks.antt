@@ -8,7 +8,7 @@ use Rattle.evidence.specs.Kept.{Kept}
 use Rattle.known.specs.Linked.{Links, list_at}
 use Rattle.known.specs.Known.{KnownWires, IsKnown, IsAt, IsBefore, HasWire}
 use Rattle.reach.specs.Marked.{AreMarks}
-use Rattle.reach.specs.Offers.{IsPlaced, AreLost}
+use Rattle.reach.specs.Offers.{IsOffer, IsPlaced, AreLost}
 use Rattle.reach.specs.Trials.{IsKeptUnlessStuck, IsTried}
 use Rattle.known.specs.declared.links.Near.{Near}
 use Rattle.growth.specs.declared.look.Look.{Look}
@@ -90,6 +90,16 @@ pub record IsOfferedMark (told : Option Faults) (k : Kept) (near : List Near) (s
 pub record AreAllMarks (told : Option Faults) (k : Kept) (near : List Near) (ss : List Step) (s : Marks) : Type 0 where
   pub are : AreMarks told k ss s
   pub offers : (x : ℕ) → has_number s.offered x ≡ true → IsOfferedMark told k near ss s.barred x
+
+-- an offer may be tried: the wires are known, the offer is one over them, and the marks are right
+pub record IsReady (told : Option Faults) (k : Kept) (those : KnownWires) (o : Offer) (s : Marks) : Type 0 where
+  pub known : IsKnown k those
+  pub offer : IsOffer k.shape those.steps o
+  pub marks : AreMarks told k those.steps s
+
+-- the crosspoint of the offer wasn't offered before
+abbrev pub IsNewOffer : Offer → Marks → Type 0
+IsNewOffer o s = has_number s.offered o.foot.cross.0 ≡ false
 
 -- a linking crosspoint
 abbrev pub IsLinking : List Near → ℕ → Type 0

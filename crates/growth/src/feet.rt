@@ -1,14 +1,13 @@
 //! Two feet for a wire that isn't known.
 ghost use Rattle.std.specs.Prelude.{◌≡◌, ◌<◌, ℕ, true, false, Some, IfOk, OnOk, IfSome, IfNone, IsErrOf, IsTrue, slice_get};
-ghost use Rattle.tm_bits.specs.Numbers.{has_number};
 ghost use Rattle.tm_outside.specs.Counts.{Rose};
 ghost use Rattle.hierarchy.specs.Shape.{crosses_of};
 ghost use Rattle.rig.specs.Rig.{shape_of};
 ghost use Rattle.evidence.specs.Kept.{Advances, keeps_cross};
-ghost use Rattle.known.specs.Known.{IsKnown};
-ghost use Rattle.reach.specs.Marked.{AreMarks, SpendsOn};
-ghost use Rattle.reach.specs.Offers.{IsOffer, IsPlaced, IsKeptOther, IsSecond, AreLost, HasNoSecond};
 ghost use Rattle.known.specs.declared.step.Foot.{Foot};
+ghost use Rattle.reach.specs.Marked.{AreMarks, SpendsOn};
+ghost use Rattle.reach.specs.Offers.{IsPlaced, IsKeptOther, IsSecond, AreLost, HasNoSecond};
+ghost use Rattle.growth.specs.Looks.{IsNewOffer, IsReady};
 
 use evidence::Proof;
 use known::{Foot, Known};
@@ -39,10 +38,8 @@ fn try_over(
     over: Foot,
 ) -> Result<Option<Foot>, RigFail>
     requires attached { shape_of (rig_state rig.old) ≡ Some proof.old.shape }
-    requires known { IsKnown proof.old known.now }
-    requires offer { IsOffer proof.old.shape known.now.steps offer.now }
-    requires marks { AreMarks (rig_state rig.old).machine.faults proof.old known.now.steps marks.old }
-    requires first { has_number marks.old.offered offer.now.foot.cross.0 ≡ false }
+    requires ready { IsReady (rig_state rig.old).machine.faults proof.old known.now offer.now marks.old }
+    requires first { IsNewOffer offer.now marks.old }
     requires over { IsKeptOther proof.old offer.now.others.items over }
     ensures some { IfOk result (λ found. IfSome found (IsSecond proof.new offer.now)) }
     ensures none { IfOk result (λ found. IfNone found
@@ -75,9 +72,7 @@ fn try_other(
     other: Foot,
 ) -> Result<bool, RigFail>
     requires attached { shape_of (rig_state rig.old) ≡ Some proof.old.shape }
-    requires known { IsKnown proof.old known.now }
-    requires offer { IsOffer proof.old.shape known.now.steps offer.now }
-    requires marks { AreMarks (rig_state rig.old).machine.faults proof.old known.now.steps marks.old }
+    requires ready { IsReady (rig_state rig.old).machine.faults proof.old known.now offer.now marks.old }
     requires own { keeps_cross proof.old offer.now.foot.cross.0 ≡ true }
     requires other { IsPlaced offer.now.others.items other }
     ensures kept { IfOk result (λ yes. IsTrue yes → keeps_cross proof.new other.cross.0 ≡ true) }
@@ -108,9 +103,7 @@ fn try_others(
     offer: &Offer,
 ) -> Result<Option<Foot>, RigFail>
     requires attached { shape_of (rig_state rig.old) ≡ Some proof.old.shape }
-    requires known { IsKnown proof.old known.now }
-    requires offer { IsOffer proof.old.shape known.now.steps offer.now }
-    requires marks { AreMarks (rig_state rig.old).machine.faults proof.old known.now.steps marks.old }
+    requires ready { IsReady (rig_state rig.old).machine.faults proof.old known.now offer.now marks.old }
     requires own { keeps_cross proof.old offer.now.foot.cross.0 ≡ true }
     ensures some { IfOk result (λ found. IfSome found (IsSecond proof.new offer.now)) }
     ensures none { IfOk result (λ found. IfNone found
@@ -141,10 +134,8 @@ pub(crate) fn second_foot(
     offer: &Offer,
 ) -> Result<Option<Foot>, RigFail>
     requires attached { shape_of (rig_state rig.old) ≡ Some proof.old.shape }
-    requires known { IsKnown proof.old known.now }
-    requires offer { IsOffer proof.old.shape known.now.steps offer.now }
-    requires marks { AreMarks (rig_state rig.old).machine.faults proof.old known.now.steps marks.old }
-    requires first { has_number marks.old.offered offer.now.foot.cross.0 ≡ false }
+    requires ready { IsReady (rig_state rig.old).machine.faults proof.old known.now offer.now marks.old }
+    requires first { IsNewOffer offer.now marks.old }
     ensures some { IfOk result (λ found. IfSome found (IsSecond proof.new offer.now)) }
     ensures none { IfOk result (λ found. IfNone found
         (HasNoSecond (rig_state rig.old).machine.faults proof.new known.now.steps offer.now)) }

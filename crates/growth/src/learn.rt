@@ -7,6 +7,7 @@ ghost use Rattle.hierarchy.specs.Shape.{pins_of, pin_wire, wires_of};
 ghost use Rattle.rig.specs.Rig.{shape_of};
 ghost use Rattle.evidence.specs.Kept.{Advances};
 ghost use Rattle.growth.specs.Grown.{IsLearnt, IsOneMore};
+ghost use Rattle.growth.specs.Looks.{IsNewOffer, IsReady};
 ghost use Rattle.reach.specs.Trials.{IsBad, IsTried};
 ghost use Rattle.known.specs.Known.{IsKnown, HasWire, IsGood};
 ghost use Rattle.reach.specs.Marked.{AreMarks, IsOfOffer, OffersOnly, Spends, BarsAtMost, HasTried, TakesForWire};
@@ -88,9 +89,7 @@ fn try_feet(
     over: Foot,
 ) -> Result<(), RigFail>
     requires attached { shape_of (rig_state rig.old) ≡ Some proof.old.shape }
-    requires known { IsKnown proof.old known.old }
-    requires offer { IsOffer proof.old.shape known.old.steps offer.now }
-    requires marks { AreMarks (rig_state rig.old).machine.faults proof.old known.old.steps marks.old }
+    requires ready { IsReady (rig_state rig.old).machine.faults proof.old known.old offer.now marks.old }
     requires over { IsSecond proof.old offer.now over }
     requires first { has_number marks.old.barred offer.now.wire.0 ≡ false }
     ensures known { IsKnown proof.new known.new }
@@ -124,10 +123,8 @@ pub(crate) fn try_offer(
     offer: &Offer,
 ) -> Result<(), RigFail>
     requires attached { shape_of (rig_state rig.old) ≡ Some proof.old.shape }
-    requires known { IsKnown proof.old known.old }
-    requires offer { IsOffer proof.old.shape known.old.steps offer.now }
-    requires marks { AreMarks (rig_state rig.old).machine.faults proof.old known.old.steps marks.old }
-    requires first { has_number marks.old.offered offer.now.foot.cross.0 ≡ false }
+    requires ready { IsReady (rig_state rig.old).machine.faults proof.old known.old offer.now marks.old }
+    requires first { IsNewOffer offer.now marks.old }
     requires wire { has_number marks.old.barred offer.now.wire.0 ≡ false }
     ensures known { IsKnown proof.new known.new }
     ensures more { IsOneMore known.old known.new offer.now.wire.0 }

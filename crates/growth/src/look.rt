@@ -132,6 +132,7 @@ fn look_known(
 }
 
 // Looks from a known wire to one that isn't known, nor barred.
+#[tactic(auto, using(crate::proofs::Stages::tried_none, reach::proofs::Marking::spends_none))]
 fn look_new(
     known: &mut Known,
     rig: &mut Box<dyn Rig>,
@@ -168,6 +169,7 @@ fn look_new(
 }
 
 // Looks from a known wire over a link.
+#[tactic(auto, using(crate::proofs::Stages::tried_none, reach::proofs::Marking::spends_none))]
 fn look_over(
     known: &mut Known,
     rig: &mut Box<dyn Rig>,

@@ -1,23 +1,15 @@
-use Rattle.std.proofs.Common.{◌≡◌, List, Option, Some, sym, ap, subst}
+use Rattle.std.proofs.Common.{◌≡◌, List, Option, Some, ap, subst}
 use Rattle.std.specs.Prelude.{IfOk, OnOk, IfNone, slice_get}
 use Rattle.hierarchy.specs.Faults.{Faults}
 use Rattle.reach.specs.Marked.{AreMarks}
 use Rattle.reach.specs.Offers.{HasNoSecond}
 use Rattle.known.specs.declared.step.Foot.{Foot}
-use Rattle.known.proofs.Later.{known_later}
 use Rattle.reach.proofs.Offering.{spends_on_then, spends_on_told}
-use Rattle.reach.proofs.Seconds.{offer_still}
+use Rattle.growth.proofs.Learning.{ready_later}
 use Rattle.growth.proofs.feet.second_foot.Goals as goal
 
-pub try_others-requires-clause-known : goal.try_others-requires-clause-known
-try_others-requires-clause-known g c = known_later c.toggle_first.ensures.advances.more c.requires.known
-
-pub try_others-requires-clause-offer : goal.try_others-requires-clause-offer
-try_others-requires-clause-offer g c = offer_still c.toggle_first.ensures.advances.more.shape c.requires.offer
-
-pub try_others-requires-clause-marks : goal.try_others-requires-clause-marks
-try_others-requires-clause-marks g c =
-    subst (λ (told : Option Faults). AreMarks told c.toggle_first.new.proof c.args.known.now.steps c.toggle_first.new.marks) (sym (ap (λ m. m.faults) c.toggle_first.ensures.advances.machine)) c.in_ok-kept.ensures.marks
+pub try_others-requires-clause-ready : goal.try_others-requires-clause-ready
+try_others-requires-clause-ready g c = ready_later c.toggle_first.ensures.advances c.requires.ready c.in_ok-kept.ensures.marks
 
 pub try_others-requires-clause-own : goal.try_others-requires-clause-own
 try_others-requires-clause-own g c = c.in_ok-kept.ensures.kept c.if-not-kept.false
@@ -35,4 +27,4 @@ returns-clause-spends g c = spends_on_then c.toggle_first.ensures.advances.more 
     (spends_on_told (ap (λ m. m.faults) c.toggle_first.ensures.advances.machine) c.try_others.ensures.spends)
 
 pub kept_link-requires : goal.kept_link-requires
-kept_link-requires g c = λ j a here. (c.requires.offer.others j a (subst (λ (links : List Foot). slice_get links j ≡ Some a) c.deref.ensures.value here)).within
+kept_link-requires g c = λ j a here. (c.requires.ready.offer.others j a (subst (λ (links : List Foot). slice_get links j ≡ Some a) c.deref.ensures.value here)).within

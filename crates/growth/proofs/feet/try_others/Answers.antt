@@ -1,32 +1,25 @@
-use Rattle.std.proofs.Common.{◌≡◌, Option, Some, length, refl, sym, ap, subst, arith}
+use Rattle.std.proofs.Common.{◌≡◌, Option, Some, length, refl, ap, subst, arith}
 use Rattle.std.specs.Prelude.{slice_get}
 use Rattle.std.proofs.lemmas.Option.{slice_get_within, slice_get_read}
 use Rattle.hierarchy.specs.Faults.{Faults}
 use Rattle.evidence.proofs.Keeping.{advances_itself, advances_then}
 use Rattle.reach.specs.Marked.{AreMarks}
 use Rattle.reach.specs.Offers.{AreLost}
-use Rattle.known.proofs.Later.{known_later}
 use Rattle.reach.proofs.Offering.{spends_on_none, spends_on_then, spends_on_told}
-use Rattle.reach.proofs.Seconds.{offer_still, lost_next}
+use Rattle.reach.proofs.Seconds.{lost_next}
+use Rattle.growth.proofs.Learning.{ready_later}
 use Rattle.growth.proofs.feet.try_others.Goals as goal
 
 pub others-init : goal.others-init
 others-init g c = record {
   advances = advances_itself _ c.args.proof.now;
-  marks = c.requires.marks;
+  marks = c.requires.ready.marks;
   spends = spends_on_none refl refl;
   lost = λ j a less at. absurd (let no : ⊥ = omega (arith, less) in no);
 }
 
-pub try_other-requires-clause-known : goal.try_other-requires-clause-known
-try_other-requires-clause-known g c = known_later c.others.invariant.advances.more c.requires.known
-
-pub try_other-requires-clause-offer : goal.try_other-requires-clause-offer
-try_other-requires-clause-offer g c = offer_still c.others.invariant.advances.more.shape c.requires.offer
-
-pub try_other-requires-clause-marks : goal.try_other-requires-clause-marks
-try_other-requires-clause-marks g c =
-    subst (λ (told : Option Faults). AreMarks told c.others.proof c.args.known.now.steps c.others.marks) (sym (ap (λ m. m.faults) c.others.invariant.advances.machine)) c.others.invariant.marks
+pub try_other-requires-clause-ready : goal.try_other-requires-clause-ready
+try_other-requires-clause-ready g c = ready_later c.others.invariant.advances c.requires.ready c.others.invariant.marks
 
 pub try_other-requires-clause-own : goal.try_other-requires-clause-own
 try_other-requires-clause-own g c = c.others.invariant.advances.more.crosses c.args.offer.now.foot.cross.0 c.requires.own

@@ -8,13 +8,12 @@ use Rattle.hierarchy.specs.Faults.{Faults}
 use Rattle.reach.specs.Marked.{AreMarks, barred, lost}
 use Rattle.reach.specs.Trials.{IsTried}
 use Rattle.known.proofs.Later.{known_later}
-use Rattle.growth.proofs.Learning.{none_more, offers_barred, barred_twice}
+use Rattle.growth.proofs.Learning.{none_more, offers_barred, barred_twice, ready_later}
 use Rattle.reach.proofs.Marking.{spends_then, spends_barred}
-use Rattle.reach.proofs.Seconds.{offer_still}
 use Rattle.growth.proofs.learn.try_offer.Goals as goal
 
 pub returns-in_err-second-clause-known : goal.returns-in_err-second-clause-known
-returns-in_err-second-clause-known g c = known_later c.second_foot.ensures.advances.more c.requires.known
+returns-in_err-second-clause-known g c = known_later c.second_foot.ensures.advances.more c.requires.ready.known
 
 pub returns-in_err-second-clause-more : goal.returns-in_err-second-clause-more
 returns-in_err-second-clause-more g c = none_more c.args.offer.now.wire.0 refl
@@ -23,7 +22,7 @@ pub returns-in_err-second-clause-barred : goal.returns-in_err-second-clause-barr
 returns-in_err-second-clause-barred g c = inl c.second_foot.ensures.spends.barred
 
 pub returns-in_default-clause-known : goal.returns-in_default-clause-known
-returns-in_default-clause-known g c = known_later c.second_foot.ensures.advances.more c.requires.known
+returns-in_default-clause-known g c = known_later c.second_foot.ensures.advances.more c.requires.ready.known
 
 pub returns-in_default-clause-more : goal.returns-in_default-clause-more
 returns-in_default-clause-more g c = none_more c.args.offer.now.wire.0 refl
@@ -34,15 +33,8 @@ returns-in_default-clause-found g c = lost c.second_foot.ensures.spends.barred (
 pub returns-in_default-clause-barred : goal.returns-in_default-clause-barred
 returns-in_default-clause-barred g c = inl c.second_foot.ensures.spends.barred
 
-pub try_feet-requires-clause-known : goal.try_feet-requires-clause-known
-try_feet-requires-clause-known g c = known_later c.second_foot.ensures.advances.more c.requires.known
-
-pub try_feet-requires-clause-offer : goal.try_feet-requires-clause-offer
-try_feet-requires-clause-offer g c = offer_still c.second_foot.ensures.advances.more.shape c.requires.offer
-
-pub try_feet-requires-clause-marks : goal.try_feet-requires-clause-marks
-try_feet-requires-clause-marks g c =
-    subst (λ (told : Option Faults). AreMarks told c.second_foot.new.proof c.args.known.now.steps c.second_foot.new.marks) (sym (ap (λ m. m.faults) c.second_foot.ensures.advances.machine)) c.in_ok-second.ensures.marks
+pub try_feet-requires-clause-ready : goal.try_feet-requires-clause-ready
+try_feet-requires-clause-ready g c = ready_later c.second_foot.ensures.advances c.requires.ready c.in_ok-second.ensures.marks
 
 pub try_feet-requires-clause-over : goal.try_feet-requires-clause-over
 try_feet-requires-clause-over g c = rw c.in-Some.is at c.in_ok-second.ensures.some
@@ -70,5 +62,5 @@ returns-clause-spends g c =
     let more = c.second_foot.ensures.advances.more in
     let w = c.args.offer.now.wire.0 in
     spends_then more c.second_foot.ensures.advances.holds c.second_foot.ensures.spends.spends
-    (spends_barred _ _ c.in_ok-second.ensures.marks (subst (λ (m : Shape). w < wires_of m) (sym more.shape) c.requires.offer.within)
+    (spends_barred _ _ c.in_ok-second.ensures.marks (subst (λ (m : Shape). w < wires_of m) (sym more.shape) c.requires.ready.offer.within)
     (ap (λ bits. has_number bits w) c.second_foot.ensures.spends.barred ∙ c.requires.wire) c.try_feet.ensures.barred c.try_feet.ensures.loads)

@@ -11,6 +11,7 @@ use Rattle.growth.proofs.Leaving.{looks_next, looks_past, looks_all, spends_told
 use Rattle.growth.proofs.Looking.{link_leads}
 use Rattle.reach.proofs.Marking.{spends_none, spends_then}
 use Rattle.known.proofs.Places.{at_later}
+use Rattle.growth.proofs.SoFar.{looked_also}
 use Rattle.growth.proofs.Stages.{grows_itself, grows_then, grown_on, longer, tried_none, tried_then}
 use Rattle.growth.proofs.look.look_at.Goals as goal
 
@@ -26,15 +27,7 @@ links-init g c = record {
 
 pub links-preserved-in_default : goal.links-preserved-in_default
 links-preserved-in_default g c =
-    let old = c.links.invariant in
-    record {
-      advances = old.advances;
-      grows = old.grows;
-      tried = old.tried;
-      marks = old.marks;
-      spends = old.spends;
-      also = looks_past c.args.place c.wire_at-wire.result.0 c.links.j (sym c.link_at.ensures ∙ c.in_default.is) old.also;
-    }
+    looked_also c.links.invariant (looks_past c.args.place c.wire_at-wire.result.0 c.links.j (sym c.link_at.ensures ∙ c.in_default.is) c.links.invariant.also)
 
 pub look_over-requires-clause-links : goal.look_over-requires-clause-links
 look_over-requires-clause-links g c = subst (λ (m : Shape). AreLinked m c.args.near.now.items) (sym c.links.invariant.advances.more.shape) c.requires.links

@@ -6,9 +6,9 @@ use Rattle.evidence.proofs.KeptLemmas.{more_itself}
 use Rattle.known.specs.Linked.{AreLinked}
 use Rattle.growth.proofs.Leaving.{look_plain, looked_offered, looked_tried, tried_tried, offered_marks, offer_links}
 use Rattle.growth.proofs.Looking.{look_within, look_other}
-use Rattle.reach.proofs.Marking.{spends_none, spends_in}
+use Rattle.reach.proofs.Marking.{spends_in}
 use Rattle.reach.proofs.Settling.{on_both}
-use Rattle.growth.proofs.Stages.{grows_itself, grows_one, tried_none}
+use Rattle.growth.proofs.Stages.{grows_itself, grows_one}
 use Rattle.growth.proofs.look.look_new.Goals as goal
 
 pub has-requires : goal.has-requires
@@ -17,20 +17,14 @@ has-requires g c = subst (λ n. c.args.look.link.cross.0 < n) (sym c.requires.ma
 pub returns-then-has-clause-grows : goal.returns-then-has-clause-grows
 returns-then-has-clause-grows g c = grows_itself c.requires.known (more_itself c.args.proof.now) refl
 
-pub returns-then-has-clause-tried : goal.returns-then-has-clause-tried
-returns-then-has-clause-tried g c = tried_none refl
-
 pub returns-then-has-clause-looked : goal.returns-then-has-clause-looked
 returns-then-has-clause-looked g c = looked_offered c.requires.known c.requires.marks (look_plain c.requires.known (c.the_numbering_is_sound.ensures.numbered c.args.proof.now.shape) c.requires.links c.requires.look) c.requires.new (sym c.has.ensures ∙ c.if-has.true)
-
-pub returns-then-has-clause-spends : goal.returns-then-has-clause-spends
-returns-then-has-clause-spends g c = spends_none refl refl
 
 pub returns-in_default-clause-grows : goal.returns-in_default-clause-grows
 returns-in_default-clause-grows g c = grows_itself c.requires.known (more_itself c.args.proof.now) refl
 
-pub returns-in_default-clause-spends : goal.returns-in_default-clause-spends
-returns-in_default-clause-spends g c = spends_none refl refl
+pub try_offer-requires-clause-ready : goal.try_offer-requires-clause-ready
+try_offer-requires-clause-ready g c = record { known = c.requires.known; offer = c.in-Ok.ensures.offer; marks = c.requires.marks.are }
 
 pub try_offer-requires-clause-wire : goal.try_offer-requires-clause-wire
 try_offer-requires-clause-wire g c = ap (has_number c.args.marks.now.barred) c.in-Ok.ensures.of_look.wire ∙ c.requires.free

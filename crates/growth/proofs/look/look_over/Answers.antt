@@ -6,7 +6,6 @@ use Rattle.hierarchy.specs.Shape.{wires_of}
 use Rattle.evidence.proofs.KeptLemmas.{more_itself}
 use Rattle.growth.proofs.Leaving.{look_plain, all_later, joins_spent, joins_barred, joins_offered}
 use Rattle.growth.proofs.Looking.{look_within, look_other, looked_barred, looked_known, not_earlier}
-use Rattle.reach.proofs.Marking.{spends_none}
 use Rattle.known.proofs.Places.{before_has}
 use Rattle.growth.proofs.Stages.{grows_itself, tried_none}
 use Rattle.growth.proofs.look.look_over.Goals as goal
@@ -20,27 +19,15 @@ has-requires g c = subst (λ n. c.args.look.link.wire.0 < n) (sym c.requires.mar
 pub returns-then-has-clause-grows : goal.returns-then-has-clause-grows
 returns-then-has-clause-grows g c = grows_itself c.requires.known (more_itself c.args.proof.now) refl
 
-pub returns-then-has-clause-tried : goal.returns-then-has-clause-tried
-returns-then-has-clause-tried g c = tried_none refl
-
 pub returns-then-has-clause-looked : goal.returns-then-has-clause-looked
 returns-then-has-clause-looked g c = looked_barred (λ before. c.in_default.ensures.unknown (before_has before)) (sym c.has.ensures ∙ c.if-has.true)
-
-pub returns-then-has-clause-spends : goal.returns-then-has-clause-spends
-returns-then-has-clause-spends g c = spends_none refl refl
 
 pub returns-then-other-look-clause-grows : goal.returns-then-other-look-clause-grows
 returns-then-other-look-clause-grows g c = grows_itself c.requires.known (more_itself c.args.proof.now) refl
 
-pub returns-then-other-look-clause-tried : goal.returns-then-other-look-clause-tried
-returns-then-other-look-clause-tried g c = tried_none refl
-
 pub returns-then-other-look-clause-looked : goal.returns-then-other-look-clause-looked
 returns-then-other-look-clause-looked g c =
     looked_known (record { place = c.in-Some.other; at = c.in-Some.ensures.known }) (λ before. absurd (not_earlier c.requires.known c.in-Some.ensures.known (omega arith) before))
-
-pub returns-then-other-look-clause-spends : goal.returns-then-other-look-clause-spends
-returns-then-other-look-clause-spends g c = spends_none refl refl
 
 pub look_known-requires-clause-look : goal.look_known-requires-clause-look
 look_known-requires-clause-look g c = look_plain c.requires.known (c.the_numbering_is_sound.ensures.numbered c.args.proof.now.shape) c.requires.links c.requires.look
