@@ -1,8 +1,8 @@
 //! A text of examples, case by case.
 
 use crate::lines::try_case;
-use crate::words::{numbers_of, words_of};
 use hierarchy::{Counts, Shape};
+use program_words::{Fails, numbers_of, turn_of, words_of};
 use std::alloc::{AllocError, Global};
 
 /// A line of a case: what it says, and what has to come of it.
@@ -23,8 +23,7 @@ pub struct Case {
     /// The text of its faults.
     pub faults: Vec<u8>,
     /// The calls that fail, of the rig and of the store where it finds its faults.
-    pub rig_fails: Vec<u64>,
-    pub store_fails: Vec<u64>,
+    pub fails: Fails,
     pub lines: Vec<Line>,
 }
 
@@ -57,26 +56,10 @@ fn shape_of(numbers: &[u16]) -> Option<Shape> {
 
 // The shape whose counts words say.
 fn shape_of_words(alloc: Global, words: &[String]) -> Result<Option<Shape>, AllocError> {
-    let mut counts = Vec::new(alloc);
-    for word in words {
-        match word.as_str().parse::<u16>() {
-            Ok(count) => counts.push(count)?,
-            Err(_) => return Ok(None),
-        }
+    match numbers_of::<u16>(alloc, words)? {
+        Some(counts) => Ok(shape_of(&counts)),
+        None => Ok(None),
     }
-    Ok(shape_of(&counts))
-}
-
-// The calls that words say.
-fn calls_of(alloc: Global, words: &[String]) -> Result<Option<Vec<u64>>, AllocError> {
-    let Some(numbers) = numbers_of(alloc, words)? else {
-        return Ok(None);
-    };
-    let mut calls = Vec::new(alloc);
-    for number in numbers.iter() {
-        calls.push(u64::from(*number))?;
-    }
-    Ok(Some(calls))
 }
 
 // A line of a case. What has to come stands behind a colon between blanks.
@@ -100,8 +83,7 @@ impl Case {
             shape,
             machine: String::from_str(alloc, "faults")?,
             faults: Vec::new(alloc),
-            rig_fails: Vec::new(alloc),
-            store_fails: Vec::new(alloc),
+            fails: Fails::new(alloc),
             lines: Vec::new(alloc),
         })
     }
@@ -118,13 +100,12 @@ impl Case {
         let [what, calls @ ..] = words else {
             return Ok(false);
         };
-        let Some(calls) = calls_of(alloc, calls)? else {
+        let Some(calls) = numbers_of::<u64>(alloc, calls)? else {
             return Ok(false);
         };
-        match what.as_str() {
-            "rig" => self.rig_fails = calls,
-            "faults" => self.store_fails = calls,
-            _ => return Ok(false),
+        match turn_of(what.as_str()) {
+            Some(turn) => self.fails.add(turn, &calls)?,
+            None => return Ok(false),
         }
         Ok(true)
     }

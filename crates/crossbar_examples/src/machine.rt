@@ -2,6 +2,7 @@
 
 use crate::book::Case;
 use cycle_sim::SimRig;
+use program_words::Turn;
 use rig::{FlakyRig, LogRig};
 use std::alloc::{AllocError, Global};
 use tm_outside::{File, MemoryStore};
@@ -16,8 +17,8 @@ pub fn rig_of(
         bytes: Vec::from_slice(alloc, &case.faults)?,
     };
     let files = vec![in alloc; file]?;
-    let store = MemoryStore::new(alloc, files, Vec::from_slice(alloc, &case.store_fails)?);
+    let store = MemoryStore::new(alloc, files, case.fails.of(alloc, Turn::Faults)?);
     let sim = SimRig::new(alloc, store);
-    let flaky = FlakyRig::new(alloc, sim, Vec::from_slice(alloc, &case.rig_fails)?);
+    let flaky = FlakyRig::new(alloc, sim, case.fails.of(alloc, Turn::Rig)?);
     Ok(LogRig::new(flaky))
 }

@@ -14,8 +14,9 @@ mod walk;
 mod words;
 
 use book::Book;
+use program_words::{texts, verdict};
 use std::process::ExitCode;
-use std::{env, fs, io};
+use std::{fs, io};
 
 // Tries all cases of a text, and tells whether each of its lines says something.
 fn try_text(rt: &HostRuntime, book: &mut Book, name: &str) -> io::Result<bool> {
@@ -33,7 +34,7 @@ fn try_text(rt: &HostRuntime, book: &mut Book, name: &str) -> io::Result<bool> {
 fn run(rt: &HostRuntime) -> io::Result<bool> {
     let mut book = Book::new(rt.alloc());
     let mut written = true;
-    'texts: for name in env::args(rt)?.skip(1) {
+    'texts: for name in texts(rt)?.iter() {
         written = try_text(rt, &mut book, name.as_str())? && written;
     }
     let (right, all) = book.counts();
@@ -42,8 +43,5 @@ fn run(rt: &HostRuntime) -> io::Result<bool> {
 }
 
 fn main(rt: HostRuntime) -> ExitCode {
-    match run(&rt) {
-        Ok(true) => ExitCode::from(0),
-        _ => ExitCode::from(1),
-    }
+    verdict(run(&rt))
 }

@@ -45,7 +45,7 @@ fn extended_left(
     setup: &Setup,
     c: u32,
 ) -> Result<Option<String>, AllocError> {
-    let Some(left) = route_of(alloc, shape, &setup.left)? else {
+    let Some(left) = route_of(alloc, shape, &setup.routes.left)? else {
         return Ok(None);
     };
     match longer(alloc, shape, &left, Cross(c))? {
@@ -61,7 +61,7 @@ fn left(
     setup: &Setup,
     touched: Option<u32>,
 ) -> Result<Option<String>, AllocError> {
-    let Some(left) = route_of(alloc, shape, &setup.left)? else {
+    let Some(left) = route_of(alloc, shape, &setup.routes.left)? else {
         return Ok(None);
     };
     match touched {
@@ -72,10 +72,10 @@ fn left(
 
 // Whether the two routes meet.
 fn meet(alloc: Global, shape: &Shape, setup: &Setup) -> Result<Option<String>, AllocError> {
-    let Some(left) = route_of(alloc, shape, &setup.left)? else {
+    let Some(left) = route_of(alloc, shape, &setup.routes.left)? else {
         return Ok(None);
     };
-    let Some(right) = route_of(alloc, shape, &setup.right)? else {
+    let Some(right) = route_of(alloc, shape, &setup.routes.right)? else {
         return Ok(None);
     };
     yes_or_no(alloc, Some(left.meets(&right)))

@@ -4,19 +4,24 @@ ghost use Rattle.hierarchy.specs.Shape.{crosses_of, pins_of};
 ghost use Rattle.test_configs.specs.Routes.{IsRoute};
 ghost use Rattle.crossbar_examples.specs.Laid.{IsLaid};
 
-use crate::words::numbers_of;
 use config_set::{Config, Setting};
 use hierarchy::{Cross, Shape, Table};
+use program_words::numbers_of;
 use rig::{PinBits, RigFail};
 use std::alloc::{AllocError, Global};
 use test_configs::{Route, cell_config, loop_config, route_at};
 
+/// Two routes, each by its pin and its crosspoints.
+#[derive(Drop)]
+pub struct Routes {
+    pub left: Vec<u32>,
+    pub right: Vec<u32>,
+}
+
 /// What is set.
 #[derive(Drop)]
 pub struct Setup {
-    /// The pin and the crosspoints of two routes.
-    pub left: Vec<u32>,
-    pub right: Vec<u32>,
+    pub routes: Routes,
     /// The crosspoints that are closed besides.
     pub closed: Vec<u32>,
     /// The pins that are driven 0.
@@ -56,8 +61,10 @@ impl Setup {
     /// Nothing is set.
     pub fn new(alloc: Global) -> Setup {
         Setup {
-            left: Vec::new(alloc),
-            right: Vec::new(alloc),
+            routes: Routes {
+                left: Vec::new(alloc),
+                right: Vec::new(alloc),
+            },
             closed: Vec::new(alloc),
             low: Vec::new(alloc),
             table: None,
@@ -76,8 +83,8 @@ impl Setup {
             return Ok(false);
         };
         match key {
-            "left" => self.left = numbers,
-            "right" => self.right = numbers,
+            "left" => self.routes.left = numbers,
+            "right" => self.routes.right = numbers,
             "closed" => self.closed = numbers,
             "low" => self.low = numbers,
             _ => return Ok(false),
@@ -201,10 +208,10 @@ pub fn laid_of(alloc: Global, shape: &Shape, setup: &Setup) -> Result<Option<Lai
     ensures laid { IfOk result (λ found. IfSome found (λ laid. IsLaid shape.now laid.left laid.right laid.config.config)) }
     ensures drive { IfOk result (λ found. IfSome found (λ laid. length laid.drive ≡ pins_of shape.now)) }
 {
-    let Some(left) = route_of(alloc, shape, &setup.left)? else {
+    let Some(left) = route_of(alloc, shape, &setup.routes.left)? else {
         return Ok(None);
     };
-    let Some(right) = route_of(alloc, shape, &setup.right)? else {
+    let Some(right) = route_of(alloc, shape, &setup.routes.right)? else {
         return Ok(None);
     };
     let Some(ties) = crosses_of(alloc, shape, &setup.closed)? else {

@@ -1,27 +1,6 @@
-//! Words and numbers of a line.
+//! What comes of a line, in words.
 
 use std::alloc::{AllocError, Global};
-
-/// The words of a text.
-pub fn words_of(alloc: Global, text: &str) -> Result<Vec<String>, AllocError> {
-    let mut words = Vec::new(alloc);
-    for word in text.split_whitespace() {
-        words.push(String::from_str(alloc, word)?)?;
-    }
-    Ok(words)
-}
-
-/// The numbers that words spell, where each is one.
-pub fn numbers_of(alloc: Global, words: &[String]) -> Result<Option<Vec<u32>>, AllocError> {
-    let mut numbers = Vec::new(alloc);
-    for word in words {
-        match word.as_str().parse::<u32>() {
-            Ok(number) => numbers.push(number)?,
-            Err(_) => return Ok(None),
-        }
-    }
-    Ok(Some(numbers))
-}
 
 /// A word.
 pub fn word(alloc: Global, word: &str) -> Result<Option<String>, AllocError> {

@@ -8,18 +8,9 @@
 
 mod plans;
 
+use program_words::{texts, verdict};
+use std::io;
 use std::process::ExitCode;
-use std::rt::Env;
-use std::{env, io};
-
-// The words of the command line.
-fn words(rt: &(impl Env + AllocGlobal)) -> io::Result<Vec<String>> {
-    let mut words = Vec::new(rt.alloc());
-    for word in env::args(rt)?.skip(1) {
-        words.push(word)?;
-    }
-    Ok(words)
-}
 
 // The word at the place. Nothing where there is none.
 fn word(words: &[String], place: usize) -> &str {
@@ -47,7 +38,7 @@ fn part(rt: &HostRuntime, words: &[String], place: usize) -> io::Result<(usize, 
 
 // Does all parts, and tells whether all of them are right and there is one.
 fn run(rt: &HostRuntime) -> io::Result<bool> {
-    let words = words(rt)?;
+    let words = texts(rt)?;
     let mut place = 0usize;
     let mut right = !words.is_empty();
     'parts: for _ in 0..words.len() {
@@ -62,8 +53,5 @@ fn run(rt: &HostRuntime) -> io::Result<bool> {
 }
 
 fn main(rt: HostRuntime) -> ExitCode {
-    match run(&rt) {
-        Ok(true) => ExitCode::from(0),
-        _ => ExitCode::from(1),
-    }
+    verdict(run(&rt))
 }

@@ -8,7 +8,7 @@ mod texts;
 use book::Book;
 use figures::figures_of;
 use std::{fs, io};
-use texts::Texts;
+use texts::{Designs, Texts};
 
 /// Tries all cases of a text, prints how many are right, and tells whether all are.
 pub fn try_text(rt: &HostRuntime, name: &str) -> io::Result<bool> {
@@ -28,8 +28,10 @@ pub fn show(rt: &HostRuntime, machine: &str, defects: &str, design: &str) -> io:
     let texts = Texts {
         machine: fs::read(rt, machine)?,
         defects: fs::read(rt, defects)?,
-        design: fs::read(rt, design)?,
-        second: Vec::new(rt.alloc()),
+        designs: Designs {
+            first: fs::read(rt, design)?,
+            second: Vec::new(rt.alloc()),
+        },
     };
     let Some(figures) = figures_of(rt.alloc(), &texts) else {
         println!(rt; "no plan")?;

@@ -1,16 +1,46 @@
-//! What the programs share: the words of the command line, and the exit code of a status.
+//! What the programs share: the words of the command line, files and standard output, and the exit code of a status; and of the
+//! programs of examples, the words and numbers of a line, a machine, and the calls that fail.
 #![tactic(auto)]
 
+mod fails;
+
+pub use fails::{Fails, Turn, turn_of};
+use hierarchy::Counts;
 use std::alloc::{AllocError, Global};
 use std::process::ExitCode;
-use std::rt::Env;
+use std::rt::{Env, Files};
+use std::str::FromStr;
 use std::{env, io};
+use tm_outside::{FileStore, StdSink};
 
 /// The status where there is no memory to begin with.
 const NO_MEMORY: u8 = 6;
 
-// The words after the program's name.
-fn texts(rt: &(impl Env + AllocGlobal)) -> io::Result<Vec<String>> {
+/// The counts of the machine `tiny` of examples.
+pub const TINY: Counts = Counts {
+    modules: 1,
+    chips: 1,
+    hextants: 1,
+    tables: 2,
+    ports: [4, 4, 4],
+    lines: [4, 4, 4, 4],
+    pins: 4,
+};
+
+/// What a command of the command line works with: its words, real files, and standard output.
+#[derive(Drop)]
+pub struct Surroundings<R: Files + Print + Drop> {
+    pub words: Vec<String>,
+    pub store: FileStore<R>,
+    pub sink: StdSink<R>,
+}
+
+/// The words after the program's name.
+///
+/// # Errors
+///
+/// Where one of them is no text, or memory was wanting.
+pub fn texts(rt: &(impl Env + AllocGlobal)) -> io::Result<Vec<String>> {
     let mut words = Vec::new(rt.alloc());
     for word in env::args(rt)?.skip(1) {
         words.push(word)?;
@@ -32,10 +62,60 @@ pub fn words(rt: &(impl Env + AllocGlobal)) -> Result<Vec<String>, AllocError> {
     }
 }
 
+/// The words, the files and the standard output of this runtime.
+///
+/// # Errors
+///
+/// Where memory was wanting.
+pub fn surroundings_of<R>(rt: &R) -> Result<Surroundings<R>, AllocError>
+where
+    R: Env + Files + Print + AllocGlobal + Clone + Drop,
+{
+    let alloc: Global = rt.alloc();
+    Ok(Surroundings {
+        words: words(rt)?,
+        store: FileStore::new(alloc, rt.clone()?),
+        sink: StdSink::new(rt.clone()?),
+    })
+}
+
 /// The exit code of a status, or of none for want of memory.
 pub fn exit_code(status: Result<u8, AllocError>) -> ExitCode {
     match status {
         Ok(status) => ExitCode::from(status),
         Err(_) => ExitCode::from(NO_MEMORY),
     }
+}
+
+/// The exit code of a program of examples: 0 where all was right.
+pub fn verdict(right: io::Result<bool>) -> ExitCode {
+    match right {
+        Ok(true) => ExitCode::from(0),
+        _ => ExitCode::from(1),
+    }
+}
+
+/// The words of a line.
+pub fn words_of(alloc: Global, line: &str) -> Result<Vec<String>, AllocError> {
+    let mut words = Vec::new(alloc);
+    for word in line.split_whitespace() {
+        words.push(String::from_str(alloc, word)?)?;
+    }
+    Ok(words)
+}
+
+/// The numbers that words spell, where each spells one.
+pub fn numbers_of<N>(alloc: Global, words: &[String]) -> Result<Option<Vec<N>>, AllocError>
+where
+    N: FromStr + Drop,
+    N::Err: Drop,
+{
+    let mut numbers = Vec::new(alloc);
+    for word in words {
+        match word.as_str().parse::<N>() {
+            Ok(number) => numbers.push(number)?,
+            Err(_) => return Ok(None),
+        }
+    }
+    Ok(Some(numbers))
 }

@@ -12,13 +12,13 @@ use crate::lost::load_twice;
 use board_rig::BoardRig;
 use cycle_sim::SimRig;
 use doubled_rig::{RepeatRig, TwinRig};
-use hierarchy::{Counts, Shape};
+use hierarchy::Shape;
 use port_board::{FileBoard, PortBoard, RigPort};
+use program_words::{TINY, texts, verdict, words_of};
 use rig::Rig;
 use std::alloc::Global;
 use std::process::ExitCode;
-use std::rt::Env;
-use std::{env, fs, io};
+use std::{fs, io};
 use tera_top::teramac;
 use tm_outside::{File, FileStore, MemoryStore, StdSink};
 use turn_rig::TurnRig;
@@ -31,17 +31,6 @@ const FAULTS: [(&str, &str); 5] = [
     ("stuck", "stuck0 r.l0\n"),
     ("wrong", "stuck2 r.l0\n"),
 ];
-
-/// The counts of the machine `tiny`.
-const TINY: Counts = Counts {
-    modules: 1,
-    chips: 1,
-    hextants: 1,
-    tables: 2,
-    ports: [4, 4, 4],
-    lines: [4, 4, 4, 4],
-    pins: 4,
-};
 
 // A simulated rig, in no session.
 fn sim_of(alloc: Global) -> io::Result<SimRig<MemoryStore>>
@@ -62,6 +51,12 @@ fn number_of(word: &str) -> u64 {
     word.parse::<u64>().unwrap_or(0)
 }
 
+// Prints the status of a command.
+fn tell(rt: &HostRuntime, status: u8) -> io::Result<bool> {
+    println!(rt; "status {status}")?;
+    Ok(true)
+}
+
 // Over a rig that asks again, over one that turns the reading of a number.
 fn try_repeat(rt: &HostRuntime, turned: &str, words: &[String]) -> io::Result<bool> {
     let alloc: Global = rt.alloc();
@@ -69,9 +64,7 @@ fn try_repeat(rt: &HostRuntime, turned: &str, words: &[String]) -> io::Result<bo
     let mut rig: Box<dyn Rig> = Box::new(alloc, RepeatRig::new(alloc, inner))?;
     let mut store = FileStore::new(alloc, rt.clone()?);
     let mut sink = StdSink::new(rt.clone()?);
-    let status = teramac(alloc, words, &mut store, &mut rig, &mut sink);
-    println!(rt; "status {status}")?;
-    Ok(true)
+    tell(rt, teramac(alloc, words, &mut store, &mut rig, &mut sink))
 }
 
 // Over two rigs side by side, the second under this name.
@@ -82,9 +75,7 @@ fn try_twin(rt: &HostRuntime, name: &str, words: &[String]) -> io::Result<bool> 
     let mut rig: Box<dyn Rig> = Box::new(alloc, twin)?;
     let mut store = FileStore::new(alloc, rt.clone()?);
     let mut sink = StdSink::new(rt.clone()?);
-    let status = teramac(alloc, words, &mut store, &mut rig, &mut sink);
-    println!(rt; "status {status}")?;
-    Ok(true)
+    tell(rt, teramac(alloc, words, &mut store, &mut rig, &mut sink))
 }
 
 // Over a machine behind files.
@@ -94,9 +85,7 @@ fn try_port(rt: &HostRuntime, words: &[String]) -> io::Result<bool> {
     let mut rig: Box<dyn Rig> = Box::new(alloc, BoardRig::new(alloc, board))?;
     let mut store = FileStore::new(alloc, rt.clone()?);
     let mut sink = StdSink::new(rt.clone()?);
-    let status = teramac(alloc, words, &mut store, &mut rig, &mut sink);
-    println!(rt; "status {status}")?;
-    Ok(true)
+    tell(rt, teramac(alloc, words, &mut store, &mut rig, &mut sink))
 }
 
 // Over a simulated rig that answers requests: a machine of the counts of `tiny` behind a port.
@@ -109,9 +98,7 @@ fn try_end(rt: &HostRuntime, words: &[String]) -> io::Result<bool> {
     let mut store = FileStore::new(alloc, rt.clone()?);
     let mut sink = StdSink::new(rt.clone()?);
     let mut rig: Box<dyn Rig> = Box::new(alloc, BoardRig::new(alloc, board))?;
-    let status = teramac(alloc, words, &mut store, &mut rig, &mut sink);
-    println!(rt; "status {status}")?;
-    Ok(true)
+    tell(rt, teramac(alloc, words, &mut store, &mut rig, &mut sink))
 }
 
 // Over a machine behind a port, what is read behind a load that may have been made again.
@@ -139,10 +126,7 @@ fn try_lost(rt: &HostRuntime, name: &str) -> io::Result<bool> {
 // Tries a case; false where it says none.
 fn try_line(rt: &HostRuntime, line: &str) -> io::Result<bool> {
     let alloc: Global = rt.alloc();
-    let mut words = Vec::new(alloc);
-    for word in line.split_whitespace() {
-        words.push(String::from_str(alloc, word)?)?;
-    }
+    let words = words_of(alloc, line)?;
     println!(rt; "{line}")?;
     match words.as_slice() {
         [kind, turned, words @ ..] if kind.as_str() == "repeat" => try_repeat(
@@ -161,7 +145,7 @@ fn try_line(rt: &HostRuntime, line: &str) -> io::Result<bool> {
 // Tries all cases of a text.
 fn run(rt: &HostRuntime) -> io::Result<bool> {
     let mut right = true;
-    for name in env::args(rt)?.skip(1) {
+    for name in texts(rt)?.iter() {
         let text = fs::read_to_string(rt, name.as_str())?;
         for line in text.lines() {
             if !line.is_empty() && !line.starts_with("#") && !try_line(rt, line)? {
@@ -173,8 +157,5 @@ fn run(rt: &HostRuntime) -> io::Result<bool> {
 }
 
 fn main(rt: HostRuntime) -> ExitCode {
-    match run(&rt) {
-        Ok(true) => ExitCode::from(0),
-        _ => ExitCode::from(1),
-    }
+    verdict(run(&rt))
 }

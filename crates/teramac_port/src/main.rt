@@ -7,23 +7,21 @@
 use board_rig::BoardRig;
 use doubled_rig::RepeatRig;
 use port_board::FileBoard;
-use program_words::{exit_code, words};
+use program_words::{exit_code, surroundings_of};
 use rig::Rig;
 use std::alloc::{AllocError, Global};
 use std::process::ExitCode;
 use tera_top::teramac;
-use tm_outside::{FileStore, StdSink};
 
 // Runs the program over real files, standard output and the machine behind the port, and answers its status.
 fn run(rt: &HostRuntime) -> Result<u8, AllocError> {
     let alloc: Global = rt.alloc();
-    let words = words(rt)?;
-    let mut store = FileStore::new(alloc, rt.clone()?);
-    let mut sink = StdSink::new(rt.clone()?);
+    let mut around = surroundings_of(rt)?;
     // Loads are those that the tool asks for: `RepeatRig` counts none that it makes to ask again.
     let board = BoardRig::new(alloc, FileBoard::new(alloc, rt.clone()?));
     let mut rig: Box<dyn Rig> = Box::new(alloc, RepeatRig::new(alloc, board))?;
-    Ok(teramac(alloc, words.as_slice(), &mut store, &mut rig, &mut sink))
+    let words = around.words.as_slice();
+    Ok(teramac(alloc, words, &mut around.store, &mut rig, &mut around.sink))
 }
 
 fn main(rt: HostRuntime) -> ExitCode {

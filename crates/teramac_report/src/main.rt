@@ -8,22 +8,21 @@ mod plans;
 mod report;
 
 use cycle_sim::SimRig;
-use program_words::{exit_code, words};
+use program_words::{exit_code, surroundings_of};
 use report::report;
 use rig::{LogRig, Rig};
 use std::alloc::{AllocError, Global};
 use std::process::ExitCode;
-use tm_outside::{FileStore, StdSink};
+use tm_outside::FileStore;
 
 // Reports over real files, standard output and a simulated rig with files of its own, and answers the status.
 fn run(rt: &HostRuntime) -> Result<u8, AllocError> {
     let alloc: Global = rt.alloc();
-    let words = words(rt)?;
-    let mut store = FileStore::new(alloc, rt.clone()?);
-    let mut sink = StdSink::new(rt.clone()?);
+    let mut around = surroundings_of(rt)?;
     let sim = SimRig::new(alloc, FileStore::new(alloc, rt.clone()?));
     let mut rig: Box<dyn Rig> = Box::new(alloc, LogRig::new(sim))?;
-    Ok(report(alloc, words.as_slice(), &mut store, &mut rig, &mut sink))
+    let words = around.words.as_slice();
+    Ok(report(alloc, words, &mut around.store, &mut rig, &mut around.sink))
 }
 
 fn main(rt: HostRuntime) -> ExitCode {

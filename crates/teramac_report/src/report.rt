@@ -82,19 +82,6 @@ fn diagnosed<S: Store>(
     Ok(Diagnosis { list, loads, parts })
 }
 
-// The report on a machine alone.
-fn machine_report<S: Store>(
-    alloc: Global,
-    machine: &str,
-    name: &str,
-    store: &mut S,
-    rig: &mut Box<dyn Rig>,
-) -> Result<Vec<u8>, Stop> {
-    let diagnosis = diagnosed(alloc, machine, name, store, rig)?;
-    let text = text_of(alloc, &diagnosis)?;
-    Ok(text)
-}
-
 // The report on a machine and on the plans of a design, which is read first.
 fn design_report<S: Store>(
     alloc: Global,
@@ -119,7 +106,10 @@ fn text_for<S: Store>(
     rig: &mut Box<dyn Rig>,
 ) -> Result<Vec<u8>, Stop> {
     match words {
-        [machine, name] => machine_report(alloc, machine, name, store, rig),
+        [machine, name] => {
+            let diagnosis = diagnosed(alloc, machine, name, store, rig)?;
+            Ok(text_of(alloc, &diagnosis)?)
+        }
         [machine, name, design] => design_report(alloc, machine, name, design, store, rig),
         _ => Err(Stop::Refused(Refusal::Words)),
     }

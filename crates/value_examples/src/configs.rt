@@ -1,8 +1,8 @@
 //! A configuration after its calls, and bits of pins.
 
-use crate::shapes::TINY;
 use config_set::{Config, Setting};
 use hierarchy::{Cross, Shape, Table};
+use program_words::TINY;
 use rig::PinBits;
 use std::alloc::Global;
 
@@ -44,7 +44,7 @@ fn switches(config: &mut Config) -> Option<bool> {
     Some(on && one && config.setting(Table(1)).is_none())
 }
 
-pub fn config_after_each_call(alloc: Global) -> Option<bool> {
+pub fn after_each_call(alloc: Global) -> Option<bool> {
     let shape = Shape::new(TINY).ok()?;
     let mut config = Config::with_room(alloc, shape, 1).ok()?;
     let closed = closes(&mut config)?;

@@ -63,7 +63,7 @@ fn do_agree(alloc: Global, shape: Shape, first: Side, second: Side) -> Option<bo
 }
 
 // One function by two lists of rows, by the rows where it is 0, and with a row changed.
-pub fn labels_of_other_rows(alloc: Global) -> Option<bool> {
+pub fn other_rows(alloc: Global) -> Option<bool> {
     let ands = XOR;
     let shape = xor_shape(&ands);
     let on: Side = (
@@ -90,7 +90,7 @@ pub fn labels_of_other_rows(alloc: Global) -> Option<bool> {
 }
 
 // A signal that is read twice, and inputs that follow from others.
-pub fn labels_of_dependent_inputs(alloc: Global) -> Option<bool> {
+pub fn dependent_inputs(alloc: Global) -> Option<bool> {
     let ands = BOTH;
     let shape = xor_shape(&ands);
     let twice: Side = (
@@ -113,7 +113,7 @@ pub fn labels_of_dependent_inputs(alloc: Global) -> Option<bool> {
 }
 
 // Seven inputs: the first and the last, and one that is read with either value.
-pub fn labels_of_seven_inputs(alloc: Global) -> Option<bool> {
+pub fn seven_inputs(alloc: Global) -> Option<bool> {
     let ands = [And { left: 2, right: 14 }];
     let shape = Shape {
         inputs: 7,
@@ -142,7 +142,7 @@ fn forty_labels(alloc: Global, output: u32) -> Option<Vec<u32>> {
 }
 
 // A cover of 40 inputs with three rows; and with one of them changed.
-pub fn labels_of_forty_inputs(alloc: Global) -> Option<bool> {
+pub fn forty_inputs(alloc: Global) -> Option<bool> {
     let ands = [
         And { left: 2, right: 4 },
         And { left: 82, right: 6 },
@@ -195,7 +195,7 @@ fn text_of_forty(alloc: Global, row: &str) -> Option<Vec<u8>> {
 }
 
 // Two latches with one label, and one that stays the constant that it begins with.
-pub fn labels_of_latches(alloc: Global) -> Option<bool> {
+pub fn latch_labels(alloc: Global) -> Option<bool> {
     let latches = LATCH;
     let shape = Shape {
         inputs: 1,
@@ -214,7 +214,7 @@ pub fn labels_of_latches(alloc: Global) -> Option<bool> {
 }
 
 // Another initial bit, and labels of a latch's output that are no latch's.
-pub fn wrong_labels_of_latches(alloc: Global) -> Option<bool> {
+pub fn wrong_latch_labels(alloc: Global) -> Option<bool> {
     let latches = LATCH;
     let ands = [And { left: 2, right: 4 }];
     let shape = Shape {
@@ -237,7 +237,7 @@ pub fn wrong_labels_of_latches(alloc: Global) -> Option<bool> {
 }
 
 // Outputs that are exchanged, and one more.
-pub fn labels_of_other_outputs(alloc: Global) -> Option<bool> {
+pub fn other_outputs(alloc: Global) -> Option<bool> {
     let shape = xor_shape(&[]);
     let first: Side = (b".model o\n.inputs a b\n.outputs a b\n.end\n", &[2, 4]);
     let exchanged: Side = (b".model o\n.inputs a b\n.outputs b a\n.end\n", &[2, 4]);
@@ -250,7 +250,7 @@ pub fn labels_of_other_outputs(alloc: Global) -> Option<bool> {
 }
 
 // A list with a label too few, and an AND that reads a higher node.
-pub fn lists_that_do_not_fit(alloc: Global) -> Option<bool> {
+pub fn unfit_lists(alloc: Global) -> Option<bool> {
     let ands = XOR;
     let shape = xor_shape(&ands);
     let text: &[u8] = b".model x\n.inputs a b\n.outputs y\n.names a b y\n10 1\n01 1\n.end\n";
@@ -267,7 +267,7 @@ pub fn lists_that_do_not_fit(alloc: Global) -> Option<bool> {
 }
 
 // A signal that nothing drives and nothing reads.
-pub fn label_of_an_undriven_signal(alloc: Global) -> Option<bool> {
+pub fn undriven_signal(alloc: Global) -> Option<bool> {
     let shape = Shape {
         inputs: 0,
         latches: &[],

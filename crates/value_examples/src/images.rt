@@ -1,10 +1,10 @@
 //! The bytes of an image.
 ghost use Rattle.std.specs.Prelude.{◌≡◌};
 
-use crate::shapes::TINY;
 use config_image::{Image, ImageFault, ImageKind, read_image, touches_none, write_image};
 use defect_db::Defects;
 use hierarchy::{Cross, Shape, Table, Wire};
+use program_words::TINY;
 use std::alloc::{AllocError, Global};
 
 // Two inputs and an output, one table that is on, 24 closed crosspoints.

@@ -31,34 +31,34 @@ fn is_plain(alloc: Global, text: &[u8], wanted: &[Wanted], levels: u32) -> Optio
     Some(has_tables(&network, wanted) && found == levels)
 }
 
-pub fn repeated_input_cover(alloc: Global) -> Option<bool> {
-    let text =
-        b".model v\n.inputs a b c d e\n.outputs y\n.names a b a c d e y\n1-1--- 1\n0-1--- 1\n.end\n";
-    let ins = [
-        Source::Input(0),
-        Source::Input(1),
-        Source::Input(2),
-        Source::Input(3),
-        Source::Input(4),
-    ];
-    let wanted: [Wanted; 1] = [(&ins, EACH, false)];
-    is_plain(alloc, text, &wanted, 1)
-}
-
-pub fn seven_input_nand(alloc: Global) -> Option<bool> {
-    let text =
-        b".model n\n.inputs a b c d e f g\n.outputs y\n.names a b c d e f g y\n1111111 0\n.end\n";
-    let six = [
+// The inputs of a design of seven.
+fn inputs() -> [Source; 7] {
+    [
         Source::Input(0),
         Source::Input(1),
         Source::Input(2),
         Source::Input(3),
         Source::Input(4),
         Source::Input(5),
-    ];
+        Source::Input(6),
+    ]
+}
+
+pub fn repeated_input(alloc: Global) -> Option<bool> {
+    let text =
+        b".model v\n.inputs a b c d e\n.outputs y\n.names a b a c d e y\n1-1--- 1\n0-1--- 1\n.end\n";
+    let inputs = inputs();
+    let wanted: [Wanted; 1] = [(&inputs[..5], EACH, false)];
+    is_plain(alloc, text, &wanted, 1)
+}
+
+pub fn seven_input_nand(alloc: Global) -> Option<bool> {
+    let text =
+        b".model n\n.inputs a b c d e f g\n.outputs y\n.names a b c d e f g y\n1111111 0\n.end\n";
+    let inputs = inputs();
     let wanted: [Wanted; 4] = [
-        (&six, 0x8000_0000_0000_0000, false),
-        (&[Source::Input(6)], EACH, false),
+        (&inputs[..6], 0x8000_0000_0000_0000, false),
+        (&inputs[6..], EACH, false),
         (
             &[Source::Table(0), Source::Table(1)],
             0x8888_8888_8888_8888,
@@ -80,7 +80,7 @@ pub fn toggling_latch(alloc: Global) -> Option<bool> {
 }
 
 // The cover is put into the table of the latch, which reads itself then.
-pub fn merged_toggling_latch(alloc: Global) -> Option<bool> {
+pub fn merged_latch(alloc: Global) -> Option<bool> {
     let text = b".model t\n.outputs q\n.names q d\n0 1\n.latch d q\n.end\n";
     let netlist = read_blif(alloc, text).ok()?;
     let network = merged(alloc, &netlist).ok()?;

@@ -1,17 +1,7 @@
 //! Numbers and names of a small machine.
 
 use hierarchy::{Counts, Cross, Field, Node, Shape, ShapeFault, Table, Which, Wire};
-
-/// One module, chip and hextant of two tables.
-pub const TINY: Counts = Counts {
-    modules: 1,
-    chips: 1,
-    hextants: 1,
-    tables: 2,
-    ports: [4, 4, 4],
-    lines: [4, 4, 4, 4],
-    pins: 4,
-};
+use program_words::TINY;
 
 // Whether the wire has the name, and the name is the wire's.
 fn is_named(shape: &Shape, name: &[u8], number: u32) -> bool {

@@ -3,8 +3,9 @@
 use crate::block::{Block, blocks};
 use crate::design::ports_of;
 use crate::judge::{Trial, Want, judge};
-use crate::step::{Each, Marks, Step, Turn};
+use crate::step::{Each, Marks, Step};
 use crate::trial::Given;
+use program_words::{numbers_of, turn_of};
 use std::alloc::{AllocError, Global};
 use tm_outside::File;
 
@@ -79,30 +80,6 @@ fn first_of(words: &[String]) -> &str {
     }
 }
 
-// The numbers of words, where each is one.
-fn numbers_of(alloc: Global, words: &[String]) -> Result<Option<Vec<u64>>, AllocError> {
-    let mut numbers = Vec::new(alloc);
-    for word in words {
-        match word.as_str().parse::<u64>() {
-            Ok(number) => numbers.push(number)?,
-            Err(_) => return Ok(None),
-        }
-    }
-    Ok(Some(numbers))
-}
-
-// The sizes of words, where each is one.
-fn sizes_of(alloc: Global, words: &[String]) -> Result<Option<Vec<usize>>, AllocError> {
-    let mut sizes = Vec::new(alloc);
-    for word in words {
-        match word.as_str().parse::<usize>() {
-            Ok(size) => sizes.push(size)?,
-            Err(_) => return Ok(None),
-        }
-    }
-    Ok(Some(sizes))
-}
-
 // A line of words.
 fn line_of(alloc: Global, words: &[String]) -> Result<Vec<u8>, AllocError> {
     let mut line = Vec::new(alloc);
@@ -116,17 +93,6 @@ fn line_of(alloc: Global, words: &[String]) -> Result<Vec<u8>, AllocError> {
         line.push(b'\n')?;
     }
     Ok(line)
-}
-
-// What fails in turn.
-fn turn_of(word: &str) -> Option<Turn> {
-    match word {
-        "store" => Some(Turn::Store),
-        "rig" => Some(Turn::Rig),
-        "faults" => Some(Turn::Faults),
-        "sink" => Some(Turn::Sink),
-        _ => None,
-    }
 }
 
 // What the words behind `each` say.
@@ -146,15 +112,11 @@ fn set_fails(alloc: Global, step: &mut Step, words: &[String]) -> Result<bool, A
     let [turn, calls @ ..] = words else {
         return Ok(false);
     };
-    let (Some(turn), Some(calls)) = (turn_of(turn.as_str()), numbers_of(alloc, calls)?) else {
+    let (Some(turn), Some(calls)) = (turn_of(turn.as_str()), numbers_of::<u64>(alloc, calls)?)
+    else {
         return Ok(false);
     };
-    match turn {
-        Turn::Store => step.fails.store = calls,
-        Turn::Rig => step.fails.rig = calls,
-        Turn::Faults => step.fails.faults = calls,
-        Turn::Sink => step.fails.sink = calls,
-    }
+    step.fails.add(turn, &calls)?;
     Ok(true)
 }
 
@@ -174,7 +136,7 @@ fn set(alloc: Global, step: &mut Step, key: &str, words: Vec<String>) -> Result<
             Err(_) => return Ok(false),
         },
         "each" => step.each = each_of(alloc, &words)?,
-        "pieces" => match sizes_of(alloc, &words)? {
+        "pieces" => match numbers_of::<usize>(alloc, &words)? {
             Some(sizes) => step.pieces = sizes,
             None => return Ok(false),
         },

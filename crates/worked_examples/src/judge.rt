@@ -1,8 +1,9 @@
 //! Whether what came of a command is what had to come.
 
 use crate::design::has_ports;
-use crate::step::{Each, Fails, Marks, Step};
+use crate::step::{Each, Marks, Step};
 use crate::trial::{Given, Manner, Outcome, outcome_of};
+use program_words::Fails;
 use std::alloc::{AllocError, Global};
 
 /// So many calls fail in turn at most.

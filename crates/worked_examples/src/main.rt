@@ -11,19 +11,9 @@ mod step;
 mod trial;
 
 use book::{Book, Trouble};
-use std::alloc::{AllocError, Global};
+use program_words::{texts, verdict};
 use std::process::ExitCode;
-use std::rt::Env;
-use std::{env, fs, io};
-
-// The names of the texts.
-fn names(rt: &(impl Env + AllocGlobal)) -> io::Result<Vec<String>> {
-    let mut names = Vec::new(rt.alloc());
-    for name in env::args(rt)?.skip(1) {
-        names.push(name)?;
-    }
-    Ok(names)
-}
+use std::{fs, io};
 
 // Tries all cases of a text, and tells whether it is written as it should be.
 fn try_text(rt: &HostRuntime, book: &mut Book, name: &str) -> io::Result<bool> {
@@ -45,7 +35,7 @@ fn try_text(rt: &HostRuntime, book: &mut Book, name: &str) -> io::Result<bool> {
 fn run(rt: &HostRuntime) -> io::Result<bool> {
     let mut book = Book::new(rt.alloc());
     let mut written = true;
-    for name in names(rt)?.iter() {
+    for name in texts(rt)?.iter() {
         let (right_before, all_before) = book.counts();
         if !try_text(rt, &mut book, name.as_str())? {
             written = false;
@@ -61,8 +51,5 @@ fn run(rt: &HostRuntime) -> io::Result<bool> {
 }
 
 fn main(rt: HostRuntime) -> ExitCode {
-    match run(&rt) {
-        Ok(true) => ExitCode::from(0),
-        _ => ExitCode::from(1),
-    }
+    verdict(run(&rt))
 }

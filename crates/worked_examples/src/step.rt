@@ -1,36 +1,16 @@
 //! A command to be tried: its words, what is given besides, and which calls fail.
 
 use crate::design::Ports;
-use std::alloc::{AllocError, Global};
-
-/// Which calls fail in turn, the first, the second and so on, until none is left that can.
-#[derive(Clone, Copy, Drop)]
-pub enum Turn {
-    /// Those of the store.
-    Store,
-    /// Those of the rig.
-    Rig,
-    /// Those of the store of the rig.
-    Faults,
-    /// Those of the sink.
-    Sink,
-}
+use program_words::{Fails, Turn};
+use std::alloc::Global;
 
 /// What every end has to be where calls fail in turn.
 #[derive(Drop)]
 pub struct Each {
+    /// Of what calls fail in turn, the first, the second and so on, until none is left that can.
     pub turn: Turn,
     pub status: u8,
     pub last: Vec<u8>,
-}
-
-/// The numbers of the calls that fail.
-#[derive(Drop)]
-pub struct Fails {
-    pub store: Vec<u64>,
-    pub rig: Vec<u64>,
-    pub faults: Vec<u64>,
-    pub sink: Vec<u64>,
 }
 
 /// What is said of single lines of what is written, where it isn't known as a whole.
@@ -71,30 +51,6 @@ pub struct Step {
     pub marks: Marks,
     /// The name under which what is written is kept for later steps.
     pub keep: Option<String>,
-}
-
-impl Fails {
-    /// None fails.
-    pub fn new(alloc: Global) -> Fails {
-        Fails {
-            store: Vec::new(alloc),
-            rig: Vec::new(alloc),
-            faults: Vec::new(alloc),
-            sink: Vec::new(alloc),
-        }
-    }
-
-    /// One of them fails.
-    pub fn one(alloc: Global, turn: Turn, call: u64) -> Result<Fails, AllocError> {
-        let mut fails = Fails::new(alloc);
-        match turn {
-            Turn::Store => fails.store.push(call)?,
-            Turn::Rig => fails.rig.push(call)?,
-            Turn::Faults => fails.faults.push(call)?,
-            Turn::Sink => fails.sink.push(call)?,
-        }
-        Ok(fails)
-    }
 }
 
 impl Marks {

@@ -1,7 +1,7 @@
 //! A command over files, a rig and a sink in memory.
 
-use crate::step::Fails;
 use cycle_sim::SimRig;
+use program_words::{Fails, Turn};
 use rig::{FlakyRig, LogRig, Rig};
 use std::alloc::{AllocError, Global};
 use tera_map::teramac_map;
@@ -58,7 +58,7 @@ fn store_of(
     let mut files = Vec::new(alloc);
     add_copies(alloc, &mut files, given.files)?;
     add_copies(alloc, &mut files, given.texts)?;
-    let fails = Vec::from_slice(alloc, &fails.store)?;
+    let fails = fails.of(alloc, Turn::Store)?;
     Ok(match piece {
         Some(most) if most > 0 => MemoryStore::in_pieces(alloc, files, fails, most),
         _ => MemoryStore::new(alloc, files, fails),
@@ -73,9 +73,9 @@ fn sim_of(
 ) -> Result<FlakyRig<SimRig<MemoryStore>>, AllocError> {
     let mut files = Vec::new(alloc);
     add_copies(alloc, &mut files, faults)?;
-    let store = MemoryStore::new(alloc, files, Vec::from_slice(alloc, &fails.faults)?);
+    let store = MemoryStore::new(alloc, files, fails.of(alloc, Turn::Faults)?);
     let sim = SimRig::new(alloc, store);
-    Ok(FlakyRig::new(alloc, sim, Vec::from_slice(alloc, &fails.rig)?))
+    Ok(FlakyRig::new(alloc, sim, fails.of(alloc, Turn::Rig)?))
 }
 
 // The status of a command over a sink, and by how much the loads rose. Where it doesn't end as it should have before, that
@@ -121,7 +121,7 @@ pub fn outcome_of(
             loads,
         });
     }
-    let mut sink = MemorySink::new(alloc, Vec::from_slice(alloc, &manner.fails.sink)?);
+    let mut sink = MemorySink::new(alloc, manner.fails.of(alloc, Turn::Sink)?);
     let (status, loads) = end_over(alloc, manner, given, &mut sink)?;
     let bytes = Vec::from_slice(alloc, sink.bytes())?;
     Ok(Outcome {

@@ -96,7 +96,7 @@ fn plan_of(alloc: Global, network: &Network, defects: &Defects) -> Option<Plan>
 /// What is to be seen of both plans. None where a text can't be read, the plan in order doesn't fit, or memory is wanting.
 pub fn figures_of(alloc: Global, texts: &Texts) -> Option<Figures> {
     let defects = defects_of(alloc, texts)?;
-    let network = network_of(alloc, &texts.design)?;
+    let network = network_of(alloc, &texts.designs.first)?;
     let plan = plan_of(alloc, &network, &defects)?;
     let in_order = seen_by(alloc, &network, &plan, &defects)?;
     let plan = improve(alloc, &network, plan, &defects).ok()?;

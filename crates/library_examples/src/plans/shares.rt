@@ -48,8 +48,8 @@ fn closed_in(image: &Image) -> usize {
 /// wanting.
 pub fn shares_of(alloc: Global, texts: &Texts) -> Option<Shares> {
     let defects = defects_of(alloc, texts)?;
-    let first = network_of(alloc, &texts.design)?;
-    let second = network_of(alloc, &texts.second)?;
+    let first = network_of(alloc, &texts.designs.first)?;
+    let second = network_of(alloc, &texts.designs.second)?;
     if !are_few(&first, &second) {
         return None;
     }

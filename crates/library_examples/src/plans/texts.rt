@@ -2,13 +2,19 @@
 
 use std::alloc::{AllocError, Global};
 
-/// The texts of a machine, of its list of defects, of a design and of a second one.
+/// The texts of a design and of a second one.
+#[derive(Drop)]
+pub struct Designs {
+    pub first: Vec<u8>,
+    pub second: Vec<u8>,
+}
+
+/// The texts of a machine, of its list of defects, and of designs.
 #[derive(Drop)]
 pub struct Texts {
     pub machine: Vec<u8>,
     pub defects: Vec<u8>,
-    pub design: Vec<u8>,
-    pub second: Vec<u8>,
+    pub designs: Designs,
 }
 
 /// One of the texts.
@@ -26,8 +32,10 @@ impl Texts {
         Texts {
             machine: Vec::new(alloc),
             defects: Vec::new(alloc),
-            design: Vec::new(alloc),
-            second: Vec::new(alloc),
+            designs: Designs {
+                first: Vec::new(alloc),
+                second: Vec::new(alloc),
+            },
         }
     }
 
@@ -36,8 +44,8 @@ impl Texts {
         match part {
             Part::Machine => self.machine = Vec::new(alloc),
             Part::Defects => self.defects = Vec::new(alloc),
-            Part::Design => self.design = Vec::new(alloc),
-            Part::Second => self.second = Vec::new(alloc),
+            Part::Design => self.designs.first = Vec::new(alloc),
+            Part::Second => self.designs.second = Vec::new(alloc),
         }
     }
 
@@ -46,8 +54,8 @@ impl Texts {
         let text = match part {
             Part::Machine => &mut self.machine,
             Part::Defects => &mut self.defects,
-            Part::Design => &mut self.design,
-            Part::Second => &mut self.second,
+            Part::Design => &mut self.designs.first,
+            Part::Second => &mut self.designs.second,
         };
         text.extend_from_slice(line.as_bytes())?;
         text.push(b'\n')?;
