@@ -1,5 +1,5 @@
 //! The lines of a case: what comes of each, and whether it is what has to come.
-ghost use Rattle.std.specs.Prelude.{◌≡◌, Some, IfSome, length};
+ghost use Rattle.std.specs.Prelude.{◌≡◌, Some};
 ghost use Rattle.rig.specs.Rig.{shape_of};
 ghost use Rattle.evidence.specs.Kept.{Advances};
 ghost use Rattle.crossbar_examples.specs.Found.{AreFound};
@@ -141,24 +141,32 @@ fn asked(
     told(alloc, answer)
 }
 
-// The node that a word says is the next one.
-fn next_node(found: &[Tested], words: &[String]) -> Option<Node>
-    ensures { IfSome result (λ node. node.0 ≡ length found.now) }
+// What the next crossbar has, in words.
+fn next(
+    alloc: Global,
+    rig: &mut Box<dyn Rig>,
+    proof: &mut Proof,
+    walk: &mut Progress,
+    bench: &mut Bench,
+    words: &[String],
+) -> Result<Option<String>, AllocError>
+    requires attached { shape_of (rig_state rig.old) ≡ Some proof.old.shape }
+    requires found { AreFound (rig_state rig.old).machine.faults proof.old walk.old.known walk.old.found.items }
+    ensures advances { Advances (rig_state rig.old) (rig_state rig.new) proof.old proof.new }
+    ensures found { AreFound (rig_state rig.old).machine.faults proof.new walk.new.known walk.new.found.items }
 {
+    tests_add_up();
     let [node] = words else {
-        return None;
+        return Ok(None);
     };
     let Ok(node) = node.as_str().parse::<u32>() else {
-        return None;
+        return Ok(None);
     };
-    if node as usize != found.len() {
-        return None;
+    if node as usize != walk.found.len() {
+        return Ok(None);
     }
-    Some(Node(node))
-}
-
-// What came of the test of a crossbar, in words.
-fn tested(alloc: Global, answer: Result<bool, RigFail>) -> Result<Option<String>, AllocError> {
+    let answer = test_next(alloc, rig, proof, walk, Node(node));
+    bench.loads = walk.loads;
     match answer {
         Ok(true) => word(alloc, "tested"),
         Ok(false) => word(alloc, "none"),
@@ -187,14 +195,7 @@ fn came_of(
     };
     let key = key.as_str();
     match key {
-        "crossbar" => {
-            let Some(node) = next_node(&walk.found, words) else {
-                return Ok(None);
-            };
-            let answer = test_next(alloc, rig, proof, walk, node);
-            bench.loads = walk.loads;
-            tested(alloc, answer)
-        }
+        "crossbar" => next(alloc, rig, proof, walk, bench, words),
         "separated" => yes_or_no(alloc, Some(are_separated(proof, walk))),
         "toggle" | "cell" | "register" | "swing" | "apart" => {
             asked(alloc, rig, proof, bench, key, words)
