@@ -5,7 +5,9 @@ use Rattle.reach.specs.declared.beside.Reach.TheVariants as reach
 use Rattle.reach.proofs.beside.put_route.Goals as goal
 
 pub index_mut-requires : goal.index_mut-requires
-index_mut-requires c = wire_within c.args.route.now.wires c.requires c.wires.invariant.len c.wires.k c.wire_at.result.0 (omega arith) c.wire_at.ensures
+index_mut-requires c =
+    let within : c.wire_at.result.0 < length c.wires.reaches.items = wire_within c.args.route.now.wires c.requires c.wires.invariant.len c.wires.k c.wire_at.result.0 (omega arith) c.wire_at.ensures in
+    omega (arith, within)
 
 pub wires-preserved : goal.wires-preserved
 wires-preserved c =
