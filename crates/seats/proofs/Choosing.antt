@@ -20,8 +20,8 @@ use Rattle.seats.specs.declared.seats.Out.{Out}
 use Rattle.table_test.specs.declared.seat.Arm.{Arm}
 
 -- a line of the table's hextant, by what its shape says of the machine's
-pub line_there_is : {m n : Shape} {t h i l : ℕ} → m ≡ n → h ≡ hextant_of m t → l ≡ line_at m h i → l ≡ line_at n (hextant_of n t) i
-line_there_is {m} {t = t} {i = i} {l = l} same hextant at = subst (λ (n : Shape). l ≡ line_at n (hextant_of n t) i) same (at ∙ ap (λ h. line_at m h i) hextant)
+pub line_there_is : {m n : Shape} {h l : ℕ} (t i : ℕ) → m ≡ n → h ≡ hextant_of m t → l ≡ line_at m h i → l ≡ line_at n (hextant_of n t) i
+line_there_is {m} {l = l} t i same hextant at = subst (λ (n : Shape). l ≡ line_at n (hextant_of n t) i) same (at ∙ ap (λ h. line_at m h i) hextant)
 
 -- a port is no line, so what is left out for it is no arm, and no port is left out for a line
 pub no_arm_at : {k : Kept} {ss : List Step} {h near input : ℕ} → IsTree k.shape → IsPort k.shape h near → ((line : ℕ) → ¬ IsFreeArm k ss h near input near line) → (beside line : ℕ) → ¬ IsFreeArm k ss h near input beside line

@@ -23,7 +23,7 @@ pub lines-preserved-in_default : goal.lines-preserved-in_default
 lines-preserved-in_default c =
     let k = c.args.proof.now in
     let h = hextant_of k.shape c.args.t.0 in
-    let there : c.line.result.0 ≡ line_at k.shape h c.lines.k = line_there_is c.shape-shape.ensures c.hextant_of-hextant.ensures.node c.line.ensures.wire in
+    let there : c.line.result.0 ≡ line_at k.shape h c.lines.k = line_there_is c.args.t.0 c.lines.k c.shape-shape.ensures c.hextant_of-hextant.ensures.node c.line.ensures.wire in
     record {
       outs = c.lines.invariant.outs;
       told = one_more (λ i. IsTold k c.args.known.now.steps c.args.without.now.steps c.args.t.0 c.lines.outs.items (line_at k.shape h i)) c.lines.k c.lines.invariant.told
@@ -34,7 +34,7 @@ pub lines-preserved : goal.lines-preserved
 lines-preserved c =
     let k = c.args.proof.now in
     let h = hextant_of k.shape c.args.t.0 in
-    let there : c.line.result.0 ≡ line_at k.shape h c.lines.k = line_there_is c.shape-shape.ensures c.hextant_of-hextant.ensures.node c.line.ensures.wire in
+    let there : c.line.result.0 ≡ line_at k.shape h c.lines.k = line_there_is c.args.t.0 c.lines.k c.shape-shape.ensures c.hextant_of-hextant.ensures.node c.line.ensures.wire in
     record {
       outs = outs_next c.lines.invariant.outs c.in-Some.ensures.out c.in_ok-push.ensures.items;
       told = told_next _ (line_at k.shape h) c.lines.invariant.told (c.in-Some.ensures.line ∙ there) c.in_ok-push.ensures.items;
