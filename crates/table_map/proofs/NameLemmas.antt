@@ -1,11 +1,11 @@
 -- Distinct names, and how many tables a cover has.
-use Rattle.std.proofs.Common.{◌≡◌, ◌⊎◌, Bool, ℕ, zero, suc, ◌+◌, ◌<◌, ◌≤◌, ◌||◌, List, [], ◌∷◌, ◌++◌, true, false, length, drop, take, get_or, refl, sym, ap, ◌∙◌, inl, inr, arith, cond}
+use Rattle.std.proofs.Common.{◌≡◌, ◌⊎◌, Bool, ℕ, zero, suc, ◌+◌, ◌<◌, ◌≤◌, ◌||◌, List, [], ◌∷◌, ◌++◌, true, false, length, drop, take, get_or, refl, sym, ap, ◌∙◌, inl, inr, arith, cond, nat_lt}
 use Rattle.std.specs.Prelude.{not, ◌==◌}
 use Rattle.std.specs.List.{filter}
-use Rattle.std.proofs.lemmas.Bool.{cases_eq}
+use Rattle.std.proofs.lemmas.Bool.{cases_eq, lt-ltb}
 use Rattle.std.proofs.lemmas.List.{append_assoc, append-nil, drop_more, drop_all, take_more, take-append-drop, length_push}
 use Rattle.std.proofs.lemmas.List.Elements.{filter-append}
-use Rattle.std.proofs.lemmas.List.Sums.{sum_by-cons}
+use Rattle.std.proofs.lemmas.List.Sums.{sum_by-cons, length-filter, count_by-le-length}
 use Rattle.netlist.specs.declared.draft.Lit.{Lit}
 use Rattle.netlist.specs.declared.draft.Lit.TheVariants.{Zero, One, Any}
 use Rattle.netlist.specs.Drafts.{row_characters}
@@ -112,6 +112,14 @@ wants_few (l ∷ ls) = let h = wants_few ls in let e = sum_by-cons is_wanted l l
 
 pub row_size_few : (row : List Lit) → row_size row ≤ row_characters row
 row_size_few row = let h = tree_size_few (wants_in row) in let w = wants_few row in omega arith
+
+pub distinct_few : (xs : List ℕ) → length (distinct xs) ≤ length xs
+distinct_few [] = omega arith
+distinct_few (s ∷ ss) = omega (arith, distinct_few ss, length-filter (λ x. not (x == s)) (distinct ss), count_by-le-length (λ x. not (x == s)) (distinct ss))
+
+-- of at most six names at most six differ
+pub narrow_few : (xs : List ℕ) → length xs ≤ 6 → nat_lt (length (distinct xs)) 7 ≡ true
+narrow_few xs h = lt-ltb _ _ (omega (arith, distinct_few xs, h))
 
 -- each name is among the distinct ones
 pub among_distinct : (xs : List ℕ) (k : ℕ) → k < length xs → is_among (distinct xs) (get_or xs k 0) ≡ true
