@@ -44,6 +44,16 @@ fn keeps_wire(proof: &Proof, w: Wire) -> bool {
     false
 }
 
+// Whether one of these was found unclear, so that it can't come to be known.
+fn has_unclear(bad: &Bad, pins: &Vec<Wire>) -> bool {
+    'pins: for pin in pins {
+        if in_set(&bad.unclear, pin.0) {
+            return true;
+        }
+    }
+    false
+}
+
 // Whether two wires are kept apart.
 fn is_apart(proof: &Proof, a: Wire, b: Wire) -> bool {
     let wires = proof.shape().wires();
@@ -199,7 +209,8 @@ impl Chooser {
         'tables: for t in 0..shape.tables() {
             let lack = self.lack_of(&shape, known, Table(t))?;
             let lacks = !lack.pins.is_empty();
-            let dead = in_set(&bad.wrong, t) || (lacks && flag_at(&self.favoured, t));
+            let chosen = lacks && flag_at(&self.favoured, t);
+            let dead = chosen || in_set(&bad.wrong, t) || has_unclear(bad, &lack.pins);
             set_flag(&mut self.dead, t, dead);
             if lacks && !dead && self.are_lost(&lack.pins) {
                 self.want_lack(proof, known, lack)?;
