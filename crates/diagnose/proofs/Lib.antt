@@ -4,4 +4,5 @@ mod Covering
 mod Losing
 mod Stepping
 mod Sweeping
+mod Choosing
 mod Counted

@@ -20,7 +20,8 @@ use Rattle.known.specs.declared.step.Step.{Step}
 use Rattle.table_test.specs.Seats.{AddsOnlyTableFacts}
 use Rattle.diagnose.specs.Diagnosis.{IsDiagnosis}
 use Rattle.diagnose.specs.Listing.{IsListOf}
-use Rattle.diagnose.specs.Stages.{HasTable, IsReached, ReachedIf, TablesIf}
+use Rattle.sweep.specs.Marks.{HasTable}
+use Rattle.diagnose.specs.Stages.{IsReached, ReachedIf, TablesIf}
 use Rattle.diagnose.proofs.Covering.{covers, tight}
 use Rattle.diagnose.proofs.Losing.{reached_later}
 

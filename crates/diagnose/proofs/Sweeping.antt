@@ -11,16 +11,16 @@ use Rattle.hierarchy.specs.Shape.{tables_of}
 use Rattle.hierarchy.specs.Faults.{Faults, IsFaultless}
 use Rattle.hierarchy.proofs.Faultless.{all_sound}
 use Rattle.evidence.specs.Kept.{Kept, HoldsFor, IsMore}
-use Rattle.evidence.proofs.Keeping.{holds_earlier}
 use Rattle.known.specs.Field.{ClosedIf, IsFieldOf}
 use Rattle.known.specs.Known.{HasWire}
 use Rattle.known.proofs.Counting.{none_has, set_only}
 use Rattle.known.specs.declared.field.Field.{Field}
 use Rattle.known.specs.declared.step.Step.{Step}
 use Rattle.seats.specs.Tables.{SeatedIsKept, SeatedAreKept, fresh_tables, keeps_table}
-use Rattle.sweep.specs.Marks.{AreMarksFor, AreTrueMarks, MarksIn, TrueIf}
+use Rattle.sweep.specs.Marks.{AreMarksFor, HasTable, MarksIn, TrueIf}
 use Rattle.sweep.specs.declared.bad.Bad.{Bad}
-use Rattle.diagnose.specs.Stages.{HasTable, IfFaultless, IsWhole, TablesIf}
+use Rattle.sweep.proofs.Marking.{marks_for}
+use Rattle.diagnose.specs.Stages.{IfFaultless, IsWhole, TablesIf}
 use Rattle.diagnose.proofs.Stepping.{has_before, has_last}
 
 pub always : {told : Option Faults} {k : Kept} {P : Type 0} → P → IfFaultless told k P
@@ -31,18 +31,6 @@ few_when p = record { at = p }
 
 pub closed_told : {told now : Option Faults} {k : Kept} {a : Field} {ss : List Step} → now ≡ told → ClosedIf now k a ss → ClosedIf told k a ss
 closed_told e c = record { at = λ f told holds. c.at f (e ∙ told) holds }
-
--- Marks stay true as more is kept and more is known.
-pub marks_later : {told : Option Faults} {k l : Kept} {ss ts : List Step} {b : Bad} → IsMore k l → ((w : ℕ) → HasWire ss w → HasWire ts w) → TrueIf told k ss b → TrueIf told l ts b
-marks_later {told} {k} {l} {ss} {ts} {b} more known t = record { at = λ f e h. subst (λ (m : Shape). AreTrueMarks m f (HasWire ts) b) (sym more.shape) (at f (t.at f e (holds_earlier more h))) }
-  where
-    at : (f : Faults) → AreTrueMarks k.shape f (HasWire ss) b → AreTrueMarks k.shape f (HasWire ts) b
-    at f old = record {
-      stuck = old.stuck;
-      unfit = λ w on clear alone. old.unfit w on clear (λ u has. alone u (known u has));
-      unclear = old.unclear;
-      wrong = old.wrong;
-    }
 
 pub marks_told : {told now : Option Faults} {k : Kept} {ss : List Step} {b : Bad} → now ≡ told → TrueIf told k ss b → TrueIf now k ss b
 marks_told e t = record { at = λ f told holds. t.at f (sym e ∙ told) holds }
@@ -64,14 +52,8 @@ marks_of_none ss stuck unfit unclear wrong = record {
 
 -- Marks of a machine stay so.
 pub marks_of : {m : Shape} {a : Field} {tables : List Table} {b c : Bad} → AreMarksFor m b → MarksIn a tables b c → AreMarksFor m c
-marks_of are in_ = record {
-  stuck = in_.stuck.len ∙ are.stuck;
-  unfit = in_.unfit.len ∙ are.unfit;
-  unclear = in_.unclear.len ∙ are.unclear;
-  wrong = in_.wrong.len ∙ are.wrong;
-}
+marks_of are in_ = marks_for refl are in_
 
--- What a field and marks are said of stays the machine.
 pub field_later : {k l : Kept} {a : Field} → IsMore k l → IsFieldOf k.shape a → IsFieldOf l.shape a
 field_later {a = a} more field = subst (λ (m : Shape). IsFieldOf m a) (sym more.shape) field
 

@@ -1,8 +1,7 @@
 -- The stages of a diagnosis.
-use Rattle.std.specs.Prelude.{◌≡◌, ℕ, ◌+◌, ◌*◌, ◌<◌, true, Option, Some, None, List, slice_get}
+use Rattle.std.specs.Prelude.{◌≡◌, ℕ, ◌+◌, ◌*◌, ◌<◌, true, Option, Some, None, List}
 use Rattle.tm_bits.specs.Numbers.{has_number}
 use Rattle.hierarchy.specs.declared.Shape.{Shape}
-use Rattle.hierarchy.specs.declared.Table.{Table}
 use Rattle.hierarchy.specs.Shape.{pins_of, pin_wire, wires_of, crosses_of, tables_of, ends_of}
 use Rattle.hierarchy.specs.Faults.{Faults, IsFaultless, stuck_cross}
 use Rattle.hierarchy.specs.Defects.{IsClear}
@@ -38,13 +37,6 @@ loads_for k crosses wires = crosses * crosses_of k.shape + wires * wires_of k.sh
 -- each table of the machine that is seated in the known wires and kept crosspoints, and is right, is kept
 pub record TablesIf (told : Option Faults) (k l : Kept) (ss : List Step) : Type 0 where
   pub each : (t : ℕ) → t < tables_of k.shape → SeatedIsKept told k l ss t
-
--- the table is one of these
-pub record HasTable (tables : List Table) (t : ℕ) : Type 0 where
-  pub place : ℕ
-  pub table : Table
-  pub here : slice_get tables place ≡ Some table
-  pub is : table.0 ≡ t
 
 -- the whole machine is looked at
 pub record IsWhole (m : Shape) (a : Field) : Type 0 where

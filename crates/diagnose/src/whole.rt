@@ -9,9 +9,9 @@ ghost use Rattle.known.specs.Field.{IsFieldOf, pins_in};
 ghost use Rattle.known.specs.Known.{IsKnown};
 ghost use Rattle.known.specs.declared.step.Step.{Step};
 ghost use Rattle.table_test.specs.Seats.{AddsOnlyTableFacts};
-ghost use Rattle.sweep.specs.Marks.{AreMarksFor, TrueIf, undecided, worth};
+ghost use Rattle.sweep.specs.Marks.{AreMarksFor, HasTable, TrueIf, undecided, worth};
 ghost use Rattle.diagnose.specs.Diagnosis.{IsDiagnosis, TakesFewLoads};
-ghost use Rattle.diagnose.specs.Stages.{HasTable, IfFaultless, IsWhole, ReachedIf, TablesIf, loads_for};
+ghost use Rattle.diagnose.specs.Stages.{IfFaultless, IsWhole, ReachedIf, TablesIf, loads_for};
 
 use crate::list::list_of;
 use crate::lost::{lost_pins, unfit_wires};

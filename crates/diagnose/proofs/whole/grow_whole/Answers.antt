@@ -1,7 +1,8 @@
-use Rattle.std.proofs.Common.{◌∙◌, ap, refl, sym, arith}
+use Rattle.std.proofs.Common.{sym, arith}
 use Rattle.std.proofs.lemmas.Result.{on_ok_weaker}
 use Rattle.diagnose.proofs.Stepping.{reached_if}
-use Rattle.diagnose.proofs.Sweeping.{always, closed_told, few_when, marks_later}
+use Rattle.diagnose.proofs.Sweeping.{always, few_when}
+use Rattle.sweep.proofs.Marking.{true_later}
 use Rattle.diagnose.proofs.whole.grow_whole.Goals as goal
 
 pub returns-in_default-clause-loads : goal.returns-in_default-clause-loads
@@ -11,12 +12,12 @@ pub returns-in_default-clause-few : goal.returns-in_default-clause-few
 returns-in_default-clause-few g c = always (let pins = c.growth_without_bad_is_paid.ensures.pins c.args.field.now c.args.proof.now c.requires.field in omega (arith, pins))
 
 pub returns-clause-right : goal.returns-clause-right
-returns-clause-right g c = marks_later c.grow.ensures.advances.more c.grow.ensures.grows.stays c.requires.right
+returns-clause-right g c = true_later c.grow.ensures.advances.more c.grow.ensures.grows.stays c.requires.right
 
 pub returns-clause-reached : goal.returns-clause-reached
 returns-clause-reached g c =
     on_ok_weaker c.grow.result (λ closed. reached_if (sym c.grow.ensures.advances.more.shape) (c.the_numbering_is_sound.ensures.numbered _) c.requires.whole.wires c.requires.whole.crosses
-    (c.closed_without_bad.ensures _ c.grow.new.proof c.grow.new.known.steps c.args.bad.now c.args.field.now c.in-Ok.rest c.in-Ok.ensures (marks_later c.grow.ensures.advances.more c.grow.ensures.grows.stays c.requires.right) closed))
+    (c.closed_without_bad.ensures _ c.grow.new.proof c.grow.new.known.steps c.args.bad.now c.args.field.now c.in-Ok.rest c.in-Ok.ensures (true_later c.grow.ensures.advances.more c.grow.ensures.grows.stays c.requires.right) closed))
     c.grow.ensures.closed
 
 pub returns-clause-loads : goal.returns-clause-loads

@@ -3,7 +3,7 @@ use Rattle.std.specs.Prelude.{All}
 use Rattle.tm_bits.specs.Numbers.{has_number}
 use Rattle.hierarchy.specs.declared.Table.{Table}
 use Rattle.hierarchy.specs.Shape.{tables_of}
-use Rattle.diagnose.specs.Stages.{HasTable}
+use Rattle.sweep.specs.Marks.{HasTable}
 use Rattle.diagnose.proofs.whole.tables_left.Given as goal
 
 abbrev pub invariant-tables : goal.invariant-tables
