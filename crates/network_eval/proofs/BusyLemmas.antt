@@ -8,6 +8,7 @@ use Rattle.std.proofs.lemmas.List.{ext_get_or, get_or-map, get_or_default, get_o
 use Rattle.std.proofs.lemmas.List.FromFn.{get_or-map-range_with_len, length-map-range_with_len}
 use Rattle.table_map.specs.declared.source.Source.{Source}
 use Rattle.table_map.specs.declared.source.Source.TheVariants.{Input, Table}
+use Rattle.table_map.specs.declared.network.NetTable.{NetTable}
 use Rattle.table_map.specs.declared.network.Network.{Network}
 use Rattle.table_map.specs.Networks.{no_table, table_at, IsSourceOf, IsCombinational, IsLatched}
 use Rattle.table_map.specs.Rows.{bit_of, cell_at, number_of, pins_of, truth, outputs_in, next_state, RowsFrom, IsNetworkValuation}
@@ -96,6 +97,10 @@ module _ (n : Network) (wires : List ℕ) (range : AreInRange n) (are : AreWires
     pub gives_truth_of : (t cells : ℕ) (x : Bool) → t < length n.tables → cells ≡ (table_at n t).cells → x ≡ cell_at cells (number_of (bits_at wires t bits)) → x ≡ truth inputs (value_in bits) (table_at n t)
     gives_truth_of t cells x lt e f = f ∙ ap (λ c. cell_at c (number_of (bits_at wires t bits))) e ∙ ap (λ bs. cell_at (table_at n t).cells (number_of bs)) (bits_are t lt)
 
+-- a table that is read from the slice of all
+pub table_read : (n : Network) (t : ℕ) (tables : List NetTable) (x : NetTable) → x ≡ get_or tables t x → tables ≡ n.tables → t < length n.tables → x ≡ table_at n t
+table_read n t tables x is e lt = is ∙ ap (λ ts. get_or ts t x) e ∙ get_or_default n.tables t x no_table lt
+
 -- ---- tables, one after the other
 
 -- what a table gives hangs on what it reads alone
@@ -172,6 +177,16 @@ module _ (n : Network) (values before one two vector : List Bool) (e : length va
       let w = l.within in
       let lt : t < length values = omega (arith, w, e) in
       same t l ∙ before t lt ∙ at t lt)
+
+-- inputs and values are written anew
+pub shaped_by : (plan : Plan) (old new : State) → IsShaped plan old → length new.inputs.items ≡ plan.network.inputs → length new.values.items ≡ length old.values.items → new.masks ≡ old.masks → new.addresses ≡ old.addresses → new.marks ≡ old.marks → IsShaped plan new
+shaped_by plan old new is inputs values masks addresses marks = record {
+  inputs = inputs;
+  values = values ∙ is.values;
+  masks = ap (λ v. length v.items) masks ∙ is.masks;
+  addresses = ap (λ v. length v.items) addresses ∙ is.addresses;
+  marks = ap (λ v. length v.items) marks ∙ is.marks;
+}
 
 pub kept_shaped : (plan : Plan) (state : State) → IsKept plan state → IsShaped plan state
 kept_shaped plan state kept = record {

@@ -25,6 +25,7 @@ use Rattle.network_eval.specs.Placing.{IsPlaced, IsStandIn}
 use Rattle.network_eval.specs.Evals.{NetworkState, IsFirst}
 use Rattle.network_eval.specs.Starting.{first_values}
 use Rattle.network_eval.proofs.StateLemmas.{gives_truth, takes_truth}
+use Rattle.table_map.proofs.CompactLemmas.{rows_between}
 
 -- rows go on alike from states that latched tables can't tell apart
 module _ (n : Network) where
@@ -109,19 +110,10 @@ module _ (n m : Network) (is : IsNetwork n) (placed : IsPlaced n m) where
       combinational = λ j c. p.combinational (f j) (combinational_at j c) ∙ truth_same j c.within;
     }
 
-  rows_before : (vectors rows : List (List Bool)) (state less : ℕ → Bool) → ((j : ℕ) → j < length n.tables → less j ≡ state (f j)) → RowsFrom m state vectors rows → RowsFrom n less vectors rows
-  rows_before [] [] state less same p = tt
-  rows_before [] (row ∷ rows) state less same p = absurd p
-  rows_before (v ∷ vs) [] state less same p = absurd p
-  rows_before (v ∷ vs) (row ∷ rows) state less same p = (
-    before v p.0,
-    right_before v p.0 state less same p.1,
-    p.2 ∙ outputs_same v p.0,
-    rows_before vs rows (next_state m v p.0) (next_state n v (before v p.0)) (λ j lj. sym (truth_same v p.0 j lj)) p.3,
-  )
-
   pub placed_rows : (vectors rows : List (List Bool)) → AreRows m vectors rows → AreRows n vectors rows
-  placed_rows vectors rows p = rows_before vectors rows (first_state m) (first_state n) (λ j lj. sym (ap (λ (t : NetTable). t.init) (placed.tables j lj).1)) p
+  placed_rows vectors rows p =
+      rows_between m n before (λ state less. (j : ℕ) → j < length n.tables → less j ≡ state (f j)) right_before outputs_same (λ v given j lj. sym (truth_same v given j lj)) vectors rows
+      (first_state m) (first_state n) (λ j lj. sym (ap (λ (t : NetTable). t.init) (placed.tables j lj).1)) p
 
   pub stands_in : AreInRange m → IsOrdered m → IsStandIn n m
   stands_in range ordered = record {

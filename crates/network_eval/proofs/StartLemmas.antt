@@ -4,6 +4,7 @@ use Rattle.std.specs.Prelude.{not}
 use Rattle.std.proofs.lemmas.Bool.{cases_eq, cases_lt}
 use Rattle.std.proofs.lemmas.List.{ext_get_or, get_or-map, get_or_default, get_or_past, get_or-set_same, get_or-set_other, get_or_append_left, get_or_push, length-map, length_push, length-set}
 use Rattle.std.proofs.lemmas.Nat.{pow_below}
+use Rattle.netlist.proofs.BitLemmas.{six_places}
 use Rattle.table_map.specs.declared.source.Source.{Source}
 use Rattle.table_map.specs.declared.source.Source.TheVariants.{Input, Table}
 use Rattle.table_map.specs.declared.network.NetTable.{NetTable}
@@ -52,13 +53,7 @@ address_first ins inputs values = record {
 }
   where
     ones : (p : ℕ) → p < 6 → cell_at 63 p ≡ true
-    ones zero l = refl
-    ones (suc zero) l = refl
-    ones (suc (suc zero)) l = refl
-    ones (suc (suc (suc zero))) l = refl
-    ones (suc (suc (suc (suc zero)))) l = refl
-    ones (suc (suc (suc (suc (suc zero))))) l = refl
-    ones (suc (suc (suc (suc (suc (suc p)))))) l = absurd (omega arith)
+    ones = six_places (λ p. cell_at 63 p ≡ true) refl refl refl refl refl refl
 
 pub address_more : (ins : List Source) (inputs values : List Bool) (m address new : ℕ) (bit : Bool) → m < length ins → bit ≡ bit_of inputs (value_in values) (get_or ins m (Input 0)) → new < 64 → cell_at new m ≡ bit → ((p : ℕ) → (p ≡ m → ⊥) → cell_at new p ≡ cell_at address p) → IsAddress ins inputs values m address → IsAddress ins inputs values (m + 1) new
 address_more ins inputs values m address new bit lm e low this rest old = record {

@@ -26,7 +26,7 @@ use Rattle.network_eval.specs.Marks.{number_at, is_marked, differs, AreMarked}
 use Rattle.network_eval.specs.Turns.{AreLow, ArePinsIn, AreTurned}
 use Rattle.network_eval.specs.States.{value_in, pin_bit, HavePins, HaveMasks, IsPlan, IsKept}
 use Rattle.network_eval.specs.Changes.{differs_in, AreOthersAsBefore, IsTurnedAt, IsEvaluated}
-use Rattle.network_eval.proofs.WordLemmas.{bit_of_cell}
+use Rattle.table_map.proofs.CellLemmas.{bit_of_cell}
 use Rattle.network_eval.proofs.PinLemmas.{pins_in, is_listed, is_read, reads_of}
 
 -- the source gives the other bit exactly where the signal is its own

@@ -1,5 +1,5 @@
 -- Bits of words and addresses.
-use Rattle.std.proofs.Common.{◌≡◌, ◌⊎◌, Bool, ℕ, zero, suc, ◌+◌, ◌*◌, ◌/◌, ◌%◌, ◌^◌, ◌<◌, ◌≤◌, ◌-◌, ◌==◌, ◌||◌, ◌&&◌, List, true, false, length, get_or, set, refl, sym, ap, subst, ◌∙◌, inl, inr, arith, bit_and, bit_or}
+use Rattle.std.proofs.Common.{◌≡◌, ◌⊎◌, Bool, ℕ, zero, suc, ◌+◌, ◌*◌, ◌/◌, ◌%◌, ◌^◌, ◌<◌, ◌≤◌, ◌-◌, ◌==◌, ◌||◌, ◌&&◌, List, true, false, length, set, refl, sym, ap, ◌∙◌, inl, inr, arith, bit_and, bit_or}
 use Rattle.std.specs.Prelude.{not, bit_xor}
 use Rattle.std.specs.Int.{bit_at}
 use Rattle.std.proofs.lemmas.Nat.{and_le_l, xor_lt, pow_below}
@@ -8,7 +8,8 @@ use Rattle.std.proofs.lemmas.List.{get_or-set_same, get_or-set_other, get_or_pas
 use Rattle.std.proofs.lemmas.Nat.Bits.{bit_at_xor, bit_at-pow_same, bit_at-pow_other, bit_at-lt}
 use Rattle.table_map.specs.Rows.{cell_at}
 use Rattle.table_map.specs.Plain.{flip}
-use Rattle.table_map.proofs.CellLemmas.{cell_or, cell_and, cell_not, cell_zero}
+use Rattle.table_map.proofs.CellLemmas.{bit_of_cell, cell_or, cell_and, cell_not, cell_zero}
+use Rattle.netlist.proofs.BitLemmas.{two_bits}
 use Rattle.network_eval.specs.Marks.{number_at, is_marked, differs, AreMarked, AreMarkedTo}
 
 -- one word takes the place of another, from which it differs at one bit at most
@@ -63,14 +64,6 @@ and_no false = refl
 pub and_yes : (b : Bool) → (b && true) ≡ b
 and_yes true = refl
 and_yes false = refl
-
-pub bit_of_cell : (p q : ℕ) → p < 2 → q < 2 → (p == 1) ≡ (q == 1) → p ≡ q
-bit_of_cell zero zero lp lq e = refl
-bit_of_cell zero (suc zero) lp lq e = absurd (let no : false ≡ true = e in cc)
-bit_of_cell (suc zero) zero lp lq e = absurd (let no : true ≡ false = e in cc)
-bit_of_cell (suc zero) (suc zero) lp lq e = refl
-bit_of_cell (suc (suc p)) q lp lq e = absurd (omega arith)
-bit_of_cell p (suc (suc q)) lp lq e = absurd (omega arith)
 
 -- addresses in which a bit is turned
 
@@ -165,20 +158,10 @@ module _ (marks : List ℕ) (t bit : ℕ) (within : t < 64 * length marks) (lb :
 
 -- two cells, as 0 or 1
 pub change_few : (p q : ℕ) → p < 2 → q < 2 → bit_xor p q < 2
-change_few zero zero lp lq = omega arith
-change_few zero (suc zero) lp lq = omega arith
-change_few (suc zero) zero lp lq = omega arith
-change_few (suc zero) (suc zero) lp lq = omega arith
-change_few (suc (suc p)) q lp lq = absurd (omega arith)
-change_few p (suc (suc q)) lp lq = absurd (omega arith)
+change_few = two_bits (λ p q. bit_xor p q < 2) (omega arith) (omega arith) (omega arith) (omega arith)
 
 pub change_turns : (p q : ℕ) → p < 2 → q < 2 → flip (bit_xor p q == 1) (p == 1) ≡ (q == 1)
-change_turns zero zero lp lq = refl
-change_turns zero (suc zero) lp lq = refl
-change_turns (suc zero) zero lp lq = refl
-change_turns (suc zero) (suc zero) lp lq = refl
-change_turns (suc (suc p)) q lp lq = absurd (omega arith)
-change_turns p (suc (suc q)) lp lq = absurd (omega arith)
+change_turns = two_bits (λ p q. flip (bit_xor p q == 1) (p == 1) ≡ (q == 1)) refl refl refl refl
 
 -- all marks are taken away
 pub clear_next : (marks : List ℕ) (k : ℕ) → k < length marks → ((t : ℕ) → t / 64 < k → is_marked marks t ≡ false) → (t : ℕ) → t / 64 < k + 1 → is_marked (set marks k 0) t ≡ false

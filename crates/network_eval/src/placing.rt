@@ -1,15 +1,13 @@
 //! A network whose tables are numbered anew.
 
-ghost use Rattle.std.specs.Prelude.{◌≡◌, ◌<◌, true, false, length, map, IfOk, IfSome};
+ghost use Rattle.std.specs.Prelude.{◌≡◌, ◌<◌, true, false, length, IfOk, IfSome};
 ghost use Rattle.table_map.specs.Networks.{IsNetwork, IsSourceOf};
-ghost use Rattle.table_map.specs.Levels.{IsSourceIn, AreSourcesIn};
-ghost use Rattle.table_map.specs.Compacting.{named_by, renamed, renamed_table};
 ghost use Rattle.network_eval.specs.Pins.{AreInRange};
 ghost use Rattle.network_eval.specs.States.{IsLower, IsOrdered};
 ghost use Rattle.network_eval.specs.Placing.{AreInverse, AreInsInRange, AreInsLower, ArePlaced, IsPlaced, IsStandIn};
 
 use std::alloc::{AllocError, Global};
-use table_map::{NetTable, Network, Source, renamed_table};
+use table_map::{NetTable, Network, Source, renamed_outputs, renamed_table};
 use tm_items::Items;
 
 // The place of each table in the order, or the number of tables if it doesn't stand there.
@@ -67,28 +65,6 @@ fn tables_in(
     Ok(Some(placed))
 }
 
-fn renamed(places: &[u32], source: Source) -> Source
-    requires { IsSourceIn (length places.now) source }
-    ensures { result ≡ renamed (named_by places.now) source }
-{
-    match source {
-        Source::Input(input) => Source::Input(input),
-        Source::Table(table) => Source::Table(places[table as usize]),
-    }
-}
-
-// What the outputs show, with the tables' new numbers.
-fn outputs_in(alloc: Global, places: &[u32], outputs: &[Source]) -> Result<Vec<Source>, AllocError>
-    requires { AreSourcesIn (length places.now) outputs.now }
-    ensures { IfOk result (λ shown. shown.items ≡ map (renamed (named_by places.now)) outputs.now) }
-{
-    let mut shown = Vec::with_capacity(alloc, outputs.len())?;
-    'outputs: for k in 0..outputs.len() {
-        shown.push(renamed(places, outputs[k]))?;
-    }
-    Ok(shown)
-}
-
 // The network with its tables in this order, if each stands there once.
 fn placed_in(alloc: Global, network: &Network, order: &[u32]) -> Result<Option<Network>, AllocError>
     requires { IsNetwork network.now }
@@ -108,7 +84,7 @@ fn placed_in(alloc: Global, network: &Network, order: &[u32]) -> Result<Option<N
     let Some(tables) = tables_in(alloc, network, &places, order)? else {
         return Ok(None);
     };
-    let outputs = outputs_in(alloc, &places, network.outputs.as_slice())?;
+    let outputs = renamed_outputs(alloc, &places, network.outputs.as_slice())?;
     Ok(Some(Network {
         inputs: network.inputs,
         tables: Items::new(tables),

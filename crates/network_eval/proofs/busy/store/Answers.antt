@@ -1,18 +1,13 @@
-use Rattle.std.proofs.Common.{◌∙◌, List, Bool, sym, ap, length, arith}
+use Rattle.std.proofs.Common.{◌∙◌, List, Bool, refl, sym, ap, length, arith}
 use Rattle.network_eval.specs.States.{value_in}
+use Rattle.network_eval.proofs.BusyLemmas.{shaped_by}
 use Rattle.network_eval.proofs.StateLemmas.{whole_items}
 use Rattle.network_eval.proofs.busy.store.Goals as goal
 
 pub returns-clause-shaped : goal.returns-clause-shaped
-returns-clause-shaped c = (
+returns-clause-shaped c =
     let same = c.store_values.ensures.len ∙ ap length c.deref_mut.ensures.value in
-    record {
-      inputs = ap length c.copy_from_slice.ensures.items ∙ c.requires.inputs;
-      values = ap length (whole_items c.args.state.now.values c.store_values.new.values same) ∙ same ∙ c.requires.shaped.values;
-      masks = c.requires.shaped.masks;
-      addresses = c.requires.shaped.addresses;
-      marks = c.requires.shaped.marks;
-    })
+    shaped_by c.args.plan.now c.args.state.now _ c.requires.shaped (ap length c.copy_from_slice.ensures.items ∙ c.requires.inputs) (ap length (whole_items c.args.state.now.values c.store_values.new.values same) ∙ same) refl refl refl
 
 pub returns-clause-stored : goal.returns-clause-stored
 returns-clause-stored c = λ t lt. (

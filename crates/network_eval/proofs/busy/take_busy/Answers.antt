@@ -1,18 +1,13 @@
-use Rattle.std.proofs.Common.{◌∙◌, List, Bool, sym, ap, length, subst}
+use Rattle.std.proofs.Common.{◌∙◌, List, Bool, refl, sym, ap, length, subst}
 use Rattle.network_eval.specs.Wires.{HaveInputs, HaveTakenTo}
+use Rattle.network_eval.proofs.BusyLemmas.{shaped_by}
 use Rattle.network_eval.proofs.StateLemmas.{whole_items}
 use Rattle.network_eval.proofs.busy.take_busy.Goals as goal
 
 pub returns-clause-shaped : goal.returns-clause-shaped
-returns-clause-shaped c = (
+returns-clause-shaped c =
     let same = c.take_bits.ensures.len ∙ ap length c.deref_mut.ensures.value in
-    record {
-      inputs = c.requires.shaped.inputs;
-      values = ap length (whole_items c.args.state.now.values c.take_bits.new.values same) ∙ same ∙ c.requires.shaped.values;
-      masks = c.requires.shaped.masks;
-      addresses = c.requires.shaped.addresses;
-      marks = c.requires.shaped.marks;
-    })
+    shaped_by c.args.plan.now c.args.state.now _ c.requires.shaped c.requires.shaped.inputs (ap length (whole_items c.args.state.now.values c.take_bits.new.values same) ∙ same) refl refl refl
 
 pub returns-clause-taken : goal.returns-clause-taken
 returns-clause-taken c = λ inputs have. (
