@@ -291,6 +291,21 @@ impl Search {
         Ok(())
     }
 
+    // Whether two lines of the root aren't used: a walk through another crossbar goes over two of them.
+    fn may_arrive(&self) -> bool {
+        let mut lines: u32 = 0;
+        'lines: for place in 0..self.heights.bar_lines(0) {
+            let Some(line) = self.heights.bar_wire(0, place) else {
+                continue;
+            };
+            lines = lines.saturating_add(u32::from(self.board.is_idle(line)));
+            if lines > 1 {
+                return true;
+            }
+        }
+        false
+    }
+
     // Lays a walk through the crossbar at a place of the order. None where it is known already that none can be laid there; else whether
     // one was laid.
     fn lay_at(&mut self, place: usize) -> Result<Option<bool>, AllocError> {
@@ -299,6 +314,9 @@ impl Search {
         };
         let node = u32::try_from(key % 32_768).unwrap_or(0);
         if self.full.get(node as usize).copied().unwrap_or(true) {
+            return Ok(None);
+        }
+        if node > 0 && !self.may_arrive() {
             return Ok(None);
         }
         if self.lay_walk(node)? {
