@@ -8,7 +8,8 @@ ghost use Rattle.sweep.specs.Marks.{AreMarksFor};
 ghost use Rattle.machine_examples.specs.Stages.{IsStageOf};
 
 use crate::choices::choose_once;
-use crate::fields::{Area, Task, area_of, draw_part, whole};
+use crate::fields::{Task, area_of, draw_part, unmarked, whole};
+use crate::flags::Parts;
 use crate::judge::{Judge, judge_of};
 use crate::picture::{Picture, Stage};
 use crate::purse::{most_of_growth, most_of_sweep, most_of_tables};
@@ -55,7 +56,7 @@ fn sweep_once(
     stage: &mut Stage,
     judge: &Judge,
     task: &Task,
-    area: &Area,
+    area: &Parts,
 ) -> Result<(), &'static str>
     requires attached { shape_of (rig_state rig.old) ≡ Some stage.old.proof.shape }
     requires stage { IsStageOf stage.old.proof.shape stage.old }
@@ -91,7 +92,7 @@ fn grow_once(
     stage: &mut Stage,
     judge: &Judge,
     task: &Task,
-    area: &Area,
+    area: &Parts,
 ) -> Result<(), &'static str>
     requires attached { shape_of (rig_state rig.old) ≡ Some stage.old.proof.shape }
     requires stage { IsStageOf stage.old.proof.shape stage.old }
@@ -109,8 +110,7 @@ fn grow_once(
     }
     let after = judge.picture(stage)?;
     judge.hold_in(area, &before, &after)?;
-    let looked_at = area
-        .without(judge.alloc, &before.marks)
+    let looked_at = unmarked(judge.alloc, area, &before.marks)
         .ok()
         .ok_or("no memory")?;
     let most = most_of_growth(&judge.sight, &looked_at, &before, judge.faults);

@@ -4,7 +4,8 @@ ghost use Rattle.rig.specs.Rig.{shape_of};
 ghost use Rattle.known.specs.Field.{IsFieldOf};
 ghost use Rattle.machine_examples.specs.Stages.{IsStageOf};
 
-use crate::fields::{Area, Task};
+use crate::fields::Task;
+use crate::flags::Parts;
 use crate::judge::Judge;
 use crate::picture::Stage;
 use crate::purse::worth;
@@ -17,7 +18,7 @@ fn choose_now(
     stage: &mut Stage,
     judge: &Judge,
     task: &Task,
-    area: &Area,
+    area: &Parts,
     choices: &mut Choices,
 ) -> Result<(), &'static str>
     requires attached { shape_of (rig_state rig.old) ≡ Some stage.old.proof.shape }
@@ -53,7 +54,7 @@ fn sweep_again(
     stage: &mut Stage,
     judge: &Judge,
     task: &Task,
-    area: &Area,
+    area: &Parts,
     choices: &mut Choices,
 ) -> Result<(), &'static str>
     requires attached { shape_of (rig_state rig.old) ≡ Some stage.old.proof.shape }
@@ -93,7 +94,7 @@ pub fn choose_once(
     stage: &mut Stage,
     judge: &Judge,
     task: &Task,
-    area: &Area,
+    area: &Parts,
 ) -> Result<(), &'static str>
     requires attached { shape_of (rig_state rig.old) ≡ Some stage.old.proof.shape }
     requires stage { IsStageOf stage.old.proof.shape stage.old }

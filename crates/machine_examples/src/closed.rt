@@ -1,10 +1,10 @@
 //! Whether a growth found all that it had to.
 
 use crate::feet::on_two;
-use crate::fields::Area;
+use crate::flags::{Flags, Parts};
 use crate::picture::Picture;
 use crate::purse::keeps_table;
-use crate::sight::{Free, Sight, has};
+use crate::sight::Sight;
 use hierarchy::Meaning;
 use std::alloc::{AllocError, Global};
 
@@ -13,8 +13,8 @@ use std::alloc::{AllocError, Global};
 fn wires_are_closed(
     alloc: Global,
     sight: &Sight,
-    area: &Area,
-    known: &[bool],
+    area: &Parts,
+    known: &Flags,
 ) -> Result<bool, AllocError> {
     let mut crosses = Vec::new(alloc);
     'crosses: for (c, looked_at) in sight.crosses.iter().zip(area.crosses.iter()) {
@@ -26,17 +26,17 @@ fn wires_are_closed(
     Ok(
         sight.wires.iter().zip(two.iter()).all(|(w, two)| {
             let could = *two || matches!(w.meaning, Meaning::Pin { .. });
-            !area.has_wire(w.number) || !could || !w.clear || sight.shorted_to(w, known) > 0
+            !area.wires.has(w.number) || !could || !w.clear || sight.shorted_to(w, known) > 0
         }),
     )
 }
 
 // Each crosspoint of the area between two known wires is kept, unless it is stuck.
-fn crosses_are_closed(sight: &Sight, area: &Area, picture: &Picture) -> bool {
+fn crosses_are_closed(sight: &Sight, area: &Parts, picture: &Picture) -> bool {
     let known = &picture.known.wires;
     let kept = picture.kept.crosses.iter();
     sight.crosses.iter().zip(area.crosses.iter()).zip(kept).all(|((c, looked_at), kept)| {
-        !*looked_at || c.stuck || *kept || !has(known, c.ends.0) || !has(known, c.ends.1)
+        !*looked_at || c.stuck || *kept || !known.has(c.ends.0) || !known.has(c.ends.1)
     })
 }
 
@@ -44,7 +44,7 @@ fn crosses_are_closed(sight: &Sight, area: &Area, picture: &Picture) -> bool {
 pub fn is_closed(
     alloc: Global,
     sight: &Sight,
-    area: &Area,
+    area: &Parts,
     picture: &Picture,
 ) -> Result<bool, AllocError> {
     let wires = wires_are_closed(alloc, sight, area, &picture.known.wires)?;
@@ -52,28 +52,21 @@ pub fn is_closed(
 }
 
 // The kept crosspoints between known wires.
-fn usable_crosses(
-    alloc: Global,
-    sight: &Sight,
-    picture: &Picture,
-) -> Result<Vec<bool>, AllocError> {
+fn usable_crosses(alloc: Global, sight: &Sight, picture: &Picture) -> Result<Flags, AllocError> {
     let known = &picture.known.wires;
     let mut crosses = Vec::new(alloc);
     'crosses: for (c, kept) in sight.crosses.iter().zip(picture.kept.crosses.iter()) {
-        crosses.push(*kept && has(known, c.ends.0) && has(known, c.ends.1))?;
+        crosses.push(*kept && known.has(c.ends.0) && known.has(c.ends.1))?;
     }
-    Ok(crosses)
+    Ok(Flags::new(crosses))
 }
 
 /// What may be used of a machine: known wires, kept crosspoints between them, and tables of which all is kept.
-pub fn free_by_facts(alloc: Global, sight: &Sight, picture: &Picture) -> Result<Free, AllocError> {
-    let mut tables = Vec::new(alloc);
-    'tables: for t in 0..sight.tables.len() {
-        tables.push(keeps_table(&picture.kept, t))?;
-    }
-    Ok(Free {
-        wires: Vec::from_slice(alloc, &picture.known.wires)?,
+pub fn free_by_facts(alloc: Global, sight: &Sight, picture: &Picture) -> Result<Parts, AllocError> {
+    let tables = (0..sight.tables.len()).map(|t| keeps_table(&picture.kept, t));
+    Ok(Parts {
+        wires: picture.known.wires.copy(alloc)?,
         crosses: usable_crosses(alloc, sight, picture)?,
-        tables,
+        tables: Flags::new(tables.collect(alloc)?),
     })
 }

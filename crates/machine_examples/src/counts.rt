@@ -20,44 +20,37 @@ fn some(draws: &mut Draws, first: u16, many: u16) -> u16
     first.saturating_add(draws.draw(u32::from(many)) as u16)
 }
 
-fn small(draws: &mut Draws) -> Counts {
+// What a machine of either size has. Ports, lines and pins are from a number on, one of so many.
+fn counts(draws: &mut Draws, nodes: [u16; 3], first: u16, many: u16) -> Counts
+    requires { many ≢ 0 }
+{
     Counts {
-        modules: some(draws, 1, 2),
-        chips: some(draws, 1, 2),
-        hextants: some(draws, 1, 2),
+        modules: nodes[0],
+        chips: nodes[1],
+        hextants: nodes[2],
         tables: some(draws, 1, 2),
-        ports: [some(draws, 2, 5), some(draws, 2, 5), some(draws, 2, 5)],
-        lines: [
-            some(draws, 2, 5),
-            some(draws, 2, 5),
-            some(draws, 2, 5),
-            some(draws, 2, 5),
+        ports: [
+            some(draws, first, many),
+            some(draws, first, many),
+            some(draws, first, many),
         ],
-        pins: some(draws, 2, 5),
-    }
-}
-
-fn wide(draws: &mut Draws) -> Counts {
-    Counts {
-        modules: 1,
-        chips: 1,
-        hextants: 1,
-        tables: some(draws, 1, 2),
-        ports: [some(draws, 7, 3), some(draws, 7, 3), some(draws, 7, 3)],
         lines: [
-            some(draws, 7, 3),
-            some(draws, 7, 3),
-            some(draws, 7, 3),
-            some(draws, 7, 3),
+            some(draws, first, many),
+            some(draws, first, many),
+            some(draws, first, many),
+            some(draws, first, many),
         ],
-        pins: some(draws, 7, 3),
+        pins: some(draws, first, many),
     }
 }
 
 /// Draws the counts of a machine.
 pub fn draw_counts(draws: &mut Draws, size: Size) -> Counts {
     match size {
-        Size::Small => small(draws),
-        Size::Wide => wide(draws),
+        Size::Small => {
+            let nodes = [some(draws, 1, 2), some(draws, 1, 2), some(draws, 1, 2)];
+            counts(draws, nodes, 2, 5)
+        }
+        Size::Wide => counts(draws, [1, 1, 1], 7, 3),
     }
 }

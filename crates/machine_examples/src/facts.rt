@@ -1,30 +1,25 @@
 //! Whether what is kept and known is so.
 
-use crate::picture::{Facts, Picture, rows_stay, stays};
-use crate::sight::{Sight, WireSeen, has};
+use crate::flags::Flags;
+use crate::picture::{Facts, Picture};
+use crate::sight::{Sight, WireSeen, all_hold};
 use hierarchy::Meaning;
 use known::{Foot, Stand, Step};
 
 // A kept crosspoint isn't stuck.
 fn crosses_are_true(sight: &Sight, kept: &Facts) -> bool {
-    sight
-        .crosses
-        .iter()
-        .zip(kept.crosses.iter())
-        .all(|(c, kept)| !*kept || !c.stuck)
+    let mut crosses = sight.crosses.iter().zip(kept.crosses.iter());
+    crosses.all(|(c, kept)| !*kept || !c.stuck)
 }
 
 // A kept wire is shorted to no stuck one.
 fn wires_are_true(sight: &Sight, kept: &Facts) -> bool {
-    sight
-        .wires
-        .iter()
-        .zip(kept.wires.iter())
-        .all(|(w, kept)| !*kept || w.clear)
+    let mut wires = sight.wires.iter().zip(kept.wires.iter());
+    wires.all(|(w, kept)| !*kept || w.clear)
 }
 
 // The wires with which this one is a kept pair aren't shorted to it.
-fn pairs_with(sight: &Sight, wire: &WireSeen, kept: &[bool]) -> bool {
+fn pairs_with(sight: &Sight, wire: &WireSeen, kept: &Flags) -> bool {
     sight
         .wires
         .iter()
@@ -37,11 +32,11 @@ fn pairs_are_true(sight: &Sight, kept: &Facts) -> bool {
         .wires
         .iter()
         .zip(kept.pairs.iter())
-        .all(|(w, kept)| pairs_with(sight, w, kept.as_slice()))
+        .all(|(w, kept)| pairs_with(sight, w, kept))
 }
 
 // No kept cell is wrong.
-fn cells_in(wrong: &[bool], kept: &[bool]) -> bool {
+fn cells_in(wrong: &Flags, kept: &Flags) -> bool {
     wrong
         .iter()
         .zip(kept.iter())
@@ -53,16 +48,13 @@ fn cells_are_true(sight: &Sight, kept: &Facts) -> bool {
         .tables
         .iter()
         .zip(kept.cells.iter())
-        .all(|(t, kept)| cells_in(t.cells.as_slice(), kept.as_slice()))
+        .all(|(t, kept)| cells_in(&t.cells, kept))
 }
 
 // A kept register isn't stuck.
 fn registers_are_true(sight: &Sight, kept: &Facts) -> bool {
-    sight
-        .tables
-        .iter()
-        .zip(kept.registers.iter())
-        .all(|(t, kept)| !*kept || !t.register)
+    let mut tables = sight.tables.iter().zip(kept.registers.iter());
+    tables.all(|(t, kept)| !*kept || !t.register)
 }
 
 /// Each kept fact is true.
@@ -71,31 +63,22 @@ fn registers_are_true(sight: &Sight, kept: &Facts) -> bool {
 ///
 /// Which isn't.
 pub fn are_true(sight: &Sight, kept: &Facts) -> Result<(), &'static str> {
-    if !crosses_are_true(sight, kept) {
-        return Err("a kept crosspoint is stuck");
-    }
-    if !wires_are_true(sight, kept) {
-        return Err("a kept wire isn't clear");
-    }
-    if !pairs_are_true(sight, kept) {
-        return Err("a kept pair is shorted");
-    }
-    if !cells_are_true(sight, kept) {
-        return Err("a kept cell is wrong");
-    }
-    if !registers_are_true(sight, kept) {
-        return Err("a kept register is stuck");
-    }
-    Ok(())
+    all_hold(&[
+        (crosses_are_true(sight, kept), "a kept crosspoint is stuck"),
+        (wires_are_true(sight, kept), "a kept wire isn't clear"),
+        (pairs_are_true(sight, kept), "a kept pair is shorted"),
+        (cells_are_true(sight, kept), "a kept cell is wrong"),
+        (registers_are_true(sight, kept), "a kept register is stuck"),
+    ])
 }
 
 /// What was kept still is.
 pub fn still_are(was: &Facts, is: &Facts) -> bool {
-    stays(&was.crosses, &is.crosses)
-        && stays(&was.wires, &is.wires)
-        && rows_stay(&was.pairs, &is.pairs)
-        && rows_stay(&was.cells, &is.cells)
-        && stays(&was.registers, &is.registers)
+    was.crosses.stays(&is.crosses)
+        && was.wires.stays(&is.wires)
+        && was.pairs.stays(&is.pairs)
+        && was.cells.stays(&is.cells)
+        && was.registers.stays(&is.registers)
 }
 
 // Whether two wires are a kept pair.
@@ -103,7 +86,7 @@ fn are_pair(kept: &Facts, a: u32, b: u32) -> bool {
     let (low, high) = if a < b { (a, b) } else { (b, a) };
     kept.pairs
         .get(high as usize)
-        .is_some_and(|row| has(row.as_slice(), low))
+        .is_some_and(|row| row.has(low))
 }
 
 // A kept crosspoint leads from the wire to one of these.
@@ -113,7 +96,7 @@ fn is_foot(sight: &Sight, kept: &Facts, earlier: &[Step], wire: u32, foot: &Foot
     };
     let other = foot.wire.0;
     let leads = cross.ends == (wire, other) || cross.ends == (other, wire);
-    leads && has(&kept.crosses, foot.cross.0) && earlier.iter().any(|s| s.wire.0 == other)
+    leads && kept.crosses.has(foot.cross.0) && earlier.iter().any(|s| s.wire.0 == other)
 }
 
 // A known wire is a pin of the machine, or stands on two kept crosspoints to two different wires that came before it; it is kept, and
@@ -131,7 +114,7 @@ fn stands(sight: &Sight, kept: &Facts, earlier: &[Step], step: &Step) -> bool {
                 && is_foot(sight, kept, earlier, wire, b)
         }
     };
-    on && has(&kept.wires, wire) && earlier.iter().all(|s| are_pair(kept, s.wire.0, wire))
+    on && kept.wires.has(wire) && earlier.iter().all(|s| are_pair(kept, s.wire.0, wire))
 }
 
 /// What is known is known by what is kept.

@@ -31,42 +31,21 @@ const ALL: [Kind; 8] = [
 ];
 
 fn groups() -> [Group; 11] {
+    let closed = half_open(Kind::Closed, Kind::Closed);
+    let stuck = half_open(Kind::Stuck, Kind::Stuck);
+    let bridged = half_open(Kind::Bridge, Kind::Bridge);
+    let wrong = half_open(Kind::Cell, Kind::Register);
     [
         group("sound", Size::Small, ALL, 0),
         group("open", Size::Small, [Kind::Open; 8], 200),
-        group(
-            "closed",
-            Size::Small,
-            half_open(Kind::Closed, Kind::Closed),
-            15,
-        ),
-        group(
-            "stuck",
-            Size::Small,
-            half_open(Kind::Stuck, Kind::Stuck),
-            20,
-        ),
-        group(
-            "bridged",
-            Size::Small,
-            half_open(Kind::Bridge, Kind::Bridge),
-            15,
-        ),
-        group(
-            "wrong",
-            Size::Small,
-            half_open(Kind::Cell, Kind::Register),
-            20,
-        ),
+        group("closed", Size::Small, closed, 15),
+        group("stuck", Size::Small, stuck, 20),
+        group("bridged", Size::Small, bridged, 15),
+        group("wrong", Size::Small, wrong, 20),
         group("some", Size::Small, ALL, 10),
         group("many", Size::Small, ALL, 40),
         group("wide sound", Size::Wide, ALL, 0),
-        group(
-            "wide wrong",
-            Size::Wide,
-            half_open(Kind::Cell, Kind::Register),
-            2,
-        ),
+        group("wide wrong", Size::Wide, wrong, 2),
         group("wide some", Size::Wide, ALL, 3),
     ]
 }

@@ -1,9 +1,9 @@
 //! What a diagnosis has of a machine, held against the machine.
 
 use crate::closed::{free_by_facts, is_closed};
-use crate::fields::Area;
+use crate::flags::Parts;
 use crate::looks::is_tight;
-use crate::picture::{Picture, Stage, picture_of, stays};
+use crate::picture::{Picture, Stage, picture_of};
 use crate::sight::{Sight, free_nothing, sight_of};
 use crate::{facts, marks};
 use fault_model::FaultSet;
@@ -37,7 +37,7 @@ impl Judge {
     pub fn hold(&self, before: &Picture, after: &Picture) -> Result<(), &'static str> {
         self.is_true(after)?;
         let facts = facts::still_are(&before.kept, &after.kept);
-        if !facts || !stays(&before.known.wires, &after.known.wires) {
+        if !facts || !before.known.wires.stays(&after.known.wires) {
             return Err("something was forgotten");
         }
         if !marks::still_are(&before.marks, &after.marks) {
@@ -55,7 +55,7 @@ impl Judge {
         if !marks::still_are_but_unfit(&before.marks, &after.marks) {
             return Err("a choice forgot a mark");
         }
-        if !stays(&after.known.wires, &before.known.wires) {
+        if !after.known.wires.stays(&before.known.wires) {
             return Err("a choice made a wire known");
         }
         Ok(())
@@ -64,12 +64,12 @@ impl Judge {
     /// .. and what is new is of the area.
     pub fn hold_in(
         &self,
-        area: &Area,
+        area: &Parts,
         before: &Picture,
         after: &Picture,
     ) -> Result<(), &'static str> {
         self.hold(before, after)?;
-        if !marks::is_within(&before.known.wires, &after.known.wires, &area.wires) {
+        if !before.known.wires.grows_in(&after.known.wires, &area.wires) {
             return Err("a wire is known that wasn't looked at");
         }
         if !marks::are_within(&before.marks, &after.marks, area) {
@@ -79,7 +79,7 @@ impl Judge {
     }
 
     /// What is known is closed in the area.
-    pub fn closed(&self, area: &Area, picture: &Picture) -> Result<(), &'static str> {
+    pub fn closed(&self, area: &Parts, picture: &Picture) -> Result<(), &'static str> {
         match is_closed(self.alloc, &self.sight, area, picture) {
             Ok(true) => Ok(()),
             Ok(false) => Err("a growth left something out"),

@@ -1,6 +1,7 @@
 //! Whether a list covers the faults, and whether it is tight to them.
 
 use crate::feet::on_two;
+use crate::flags::Flags;
 use crate::seating::is_seated;
 use crate::sight::Sight;
 use hierarchy::Meaning;
@@ -26,8 +27,8 @@ fn wires_are_tight(alloc: Global, sight: &Sight) -> Result<bool, AllocError> {
         .filter(|c| !c.stuck)
         .map(|c| c.ends)
         .collect(alloc)?;
-    let free: Vec<bool> = sight.wires.iter().map(|w| w.free).collect(alloc)?;
-    let two = on_two(alloc, &crosses, &free)?;
+    let free = sight.wires.iter().map(|w| w.free);
+    let two = on_two(alloc, &crosses, &Flags::new(free.collect(alloc)?))?;
     'wires: for (wire, two) in sight.wires.iter().zip(two.iter()) {
         let could = *two || matches!(wire.meaning, Meaning::Pin { .. });
         if could && wire.clear && sight.free_with(wire) == 0 {

@@ -13,6 +13,7 @@ mod facts;
 mod faults;
 mod feet;
 mod fields;
+mod flags;
 mod groups;
 mod judge;
 mod looks;
@@ -24,21 +25,19 @@ mod shorts;
 mod sight;
 mod trial;
 
+use program_words::{texts, verdict};
+use std::io;
 use std::process::ExitCode;
-use std::{env, io};
 
 // Tries as many machines of each group as the word says.
 fn run(rt: &HostRuntime) -> io::Result<bool> {
     let mut many = 0u32;
-    'words: for word in env::args(rt)?.skip(1) {
+    'words: for word in texts(rt)?.iter() {
         many = word.parse::<u32>().unwrap_or(0);
     }
     Ok(groups::try_all(rt, many)? && many > 0)
 }
 
 fn main(rt: HostRuntime) -> ExitCode {
-    match run(&rt) {
-        Ok(true) => ExitCode::from(0),
-        _ => ExitCode::from(1),
-    }
+    verdict(run(&rt))
 }

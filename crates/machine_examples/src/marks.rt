@@ -1,8 +1,8 @@
 //! Whether marks are true, and of what was to be looked at.
 
-use crate::fields::Area;
-use crate::picture::{Knowing, Marks, stays};
-use crate::sight::Sight;
+use crate::flags::Parts;
+use crate::picture::{Knowing, Marks};
+use crate::sight::{Sight, all_hold};
 
 // A crosspoint that is marked stuck is.
 fn stuck_are_true(sight: &Sight, marks: &Marks) -> bool {
@@ -44,46 +44,42 @@ fn wrong_are_true(sight: &Sight, marks: &Marks) -> bool {
 ///
 /// Which isn't.
 pub fn are_true(sight: &Sight, marks: &Marks, known: &Knowing) -> Result<(), &'static str> {
-    if !stuck_are_true(sight, marks) {
-        return Err("a crosspoint is marked stuck that isn't");
-    }
-    if !unfit_are_true(sight, marks, known) {
-        return Err("a wire is marked unfit that is clear and shorted to no known one");
-    }
-    if !unclear_are_true(sight, marks) {
-        return Err("a wire is marked unclear that is clear");
-    }
-    if !wrong_are_true(sight, marks) {
-        return Err("a table is marked wrong that is right");
-    }
-    Ok(())
+    all_hold(&[
+        (
+            stuck_are_true(sight, marks),
+            "a crosspoint is marked stuck that isn't",
+        ),
+        (
+            unfit_are_true(sight, marks, known),
+            "a wire is marked unfit that is clear and shorted to no known one",
+        ),
+        (
+            unclear_are_true(sight, marks),
+            "a wire is marked unclear that is clear",
+        ),
+        (
+            wrong_are_true(sight, marks),
+            "a table is marked wrong that is right",
+        ),
+    ])
 }
 
 /// What was marked still is, but for unfit wires.
 pub fn still_are_but_unfit(before: &Marks, after: &Marks) -> bool {
-    stays(&before.stuck, &after.stuck)
-        && stays(&before.unclear, &after.unclear)
-        && stays(&before.wrong, &after.wrong)
+    before.stuck.stays(&after.stuck)
+        && before.unclear.stays(&after.unclear)
+        && before.wrong.stays(&after.wrong)
 }
 
 /// What was marked still is.
 pub fn still_are(before: &Marks, after: &Marks) -> bool {
-    still_are_but_unfit(before, after) && stays(&before.unfit, &after.unfit)
-}
-
-/// What is marked was so before, or is one of these.
-pub fn is_within(before: &[bool], after: &[bool], these: &[bool]) -> bool {
-    after
-        .iter()
-        .zip(before.iter())
-        .zip(these.iter())
-        .all(|((is, was), this)| !*is || *was || *this)
+    still_are_but_unfit(before, after) && before.unfit.stays(&after.unfit)
 }
 
 /// New marks are of the area and of its tables.
-pub fn are_within(before: &Marks, after: &Marks, area: &Area) -> bool {
-    is_within(&before.stuck, &after.stuck, &area.crosses)
-        && is_within(&before.unfit, &after.unfit, &area.wires)
-        && is_within(&before.unclear, &after.unclear, &area.wires)
-        && is_within(&before.wrong, &after.wrong, &area.tables)
+pub fn are_within(before: &Marks, after: &Marks, area: &Parts) -> bool {
+    before.stuck.grows_in(&after.stuck, &area.crosses)
+        && before.unfit.grows_in(&after.unfit, &area.wires)
+        && before.unclear.grows_in(&after.unclear, &area.wires)
+        && before.wrong.grows_in(&after.wrong, &area.tables)
 }

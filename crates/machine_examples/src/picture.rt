@@ -2,12 +2,12 @@
 ghost use Rattle.std.specs.Prelude.{◌<◌};
 ghost use Rattle.hierarchy.specs.Shape.{tables_of, wires_of};
 
+use crate::flags::{Flags, Rows};
 use evidence::Proof;
 use hierarchy::{Cross, Table, Wire};
 use known::{Known, Step};
 use std::alloc::{AllocError, Global};
 use sweep::Bad;
-use tm_bits::BitSet;
 
 /// What a diagnosis has of a machine between two calls.
 #[derive(Drop)]
@@ -20,27 +20,27 @@ pub struct Stage {
 /// The facts that are kept: of a wire also with which wires of a lower number it is a kept pair, of a table its cells.
 #[derive(Drop)]
 pub struct Facts {
-    pub crosses: Vec<bool>,
-    pub wires: Vec<bool>,
-    pub pairs: Vec<Vec<bool>>,
-    pub cells: Vec<Vec<bool>>,
-    pub registers: Vec<bool>,
+    pub crosses: Flags,
+    pub wires: Flags,
+    pub pairs: Rows,
+    pub cells: Rows,
+    pub registers: Flags,
 }
 
 /// The wires that are known, in their order and by number.
 #[derive(Drop)]
 pub struct Knowing {
     pub steps: Vec<Step>,
-    pub wires: Vec<bool>,
+    pub wires: Flags,
 }
 
 /// The marks.
 #[derive(Drop)]
 pub struct Marks {
-    pub stuck: Vec<bool>,
-    pub unfit: Vec<bool>,
-    pub unclear: Vec<bool>,
-    pub wrong: Vec<bool>,
+    pub stuck: Flags,
+    pub unfit: Flags,
+    pub unclear: Flags,
+    pub wrong: Flags,
 }
 
 /// All of it.
@@ -51,75 +51,54 @@ pub struct Picture {
     pub marks: Marks,
 }
 
-/// The numbers of a set, marked.
-pub fn marks_of(alloc: Global, set: &BitSet) -> Result<Vec<bool>, AllocError> {
-    let mut marks = Vec::new(alloc);
-    'numbers: for i in 0..set.len() {
-        marks.push(set.has(i))?;
-    }
-    Ok(marks)
+fn crosses_of(alloc: Global, proof: &Proof) -> Result<Flags, AllocError> {
+    let kept = (0..proof.shape().crosses()).map(|c| proof.keeps_cross(Cross(c)));
+    Ok(Flags::new(kept.collect(alloc)?))
 }
 
-fn crosses_of(alloc: Global, proof: &Proof) -> Result<Vec<bool>, AllocError> {
-    let mut kept = Vec::new(alloc);
-    'crosses: for c in 0..proof.shape().crosses() {
-        kept.push(proof.keeps_cross(Cross(c)))?;
-    }
-    Ok(kept)
-}
-
-fn wires_of(alloc: Global, proof: &Proof) -> Result<Vec<bool>, AllocError> {
-    let mut kept = Vec::new(alloc);
-    'wires: for w in 0..proof.shape().wires() {
-        kept.push(proof.keeps_wire(Wire(w)))?;
-    }
-    Ok(kept)
+fn wires_of(alloc: Global, proof: &Proof) -> Result<Flags, AllocError> {
+    let kept = (0..proof.shape().wires()).map(|w| proof.keeps_wire(Wire(w)));
+    Ok(Flags::new(kept.collect(alloc)?))
 }
 
 // With which wires of a lower number a wire is a kept pair.
-fn pairs_with(alloc: Global, proof: &Proof, wire: u32) -> Result<Vec<bool>, AllocError>
+fn pairs_with(alloc: Global, proof: &Proof, wire: u32) -> Result<Flags, AllocError>
     requires { wire < wires_of proof.now.shape }
 {
     let mut kept = Vec::new(alloc);
     'wires: for w in 0..wire {
         kept.push(proof.keeps_pair(Wire(wire), Wire(w)))?;
     }
-    Ok(kept)
+    Ok(Flags::new(kept))
 }
 
-fn pairs_of(alloc: Global, proof: &Proof) -> Result<Vec<Vec<bool>>, AllocError> {
+fn pairs_of(alloc: Global, proof: &Proof) -> Result<Rows, AllocError> {
     let mut kept = Vec::new(alloc);
     'wires: for w in 0..proof.shape().wires() {
         kept.push(pairs_with(alloc, proof, w)?)?;
     }
-    Ok(kept)
+    Ok(Rows::new(kept))
 }
 
 // Which cells of a table are kept.
-fn cells_in(alloc: Global, proof: &Proof, table: Table) -> Result<Vec<bool>, AllocError>
+fn cells_in(alloc: Global, proof: &Proof, table: Table) -> Result<Flags, AllocError>
     requires { table.0 < tables_of proof.now.shape }
 {
-    let mut kept = Vec::new(alloc);
-    'cells: for address in 0..64 {
-        kept.push(proof.keeps_cell(table, address))?;
-    }
-    Ok(kept)
+    let kept = (0..64).map(|address| proof.keeps_cell(table, address));
+    Ok(Flags::new(kept.collect(alloc)?))
 }
 
-fn cells_of(alloc: Global, proof: &Proof) -> Result<Vec<Vec<bool>>, AllocError> {
+fn cells_of(alloc: Global, proof: &Proof) -> Result<Rows, AllocError> {
     let mut kept = Vec::new(alloc);
     'tables: for t in 0..proof.shape().tables() {
         kept.push(cells_in(alloc, proof, Table(t))?)?;
     }
-    Ok(kept)
+    Ok(Rows::new(kept))
 }
 
-fn registers_of(alloc: Global, proof: &Proof) -> Result<Vec<bool>, AllocError> {
-    let mut kept = Vec::new(alloc);
-    'tables: for t in 0..proof.shape().tables() {
-        kept.push(proof.keeps_register(Table(t)))?;
-    }
-    Ok(kept)
+fn registers_of(alloc: Global, proof: &Proof) -> Result<Flags, AllocError> {
+    let kept = (0..proof.shape().tables()).map(|t| proof.keeps_register(Table(t)));
+    Ok(Flags::new(kept.collect(alloc)?))
 }
 
 fn kept_of(alloc: Global, proof: &Proof) -> Result<Facts, AllocError> {
@@ -141,13 +120,10 @@ fn steps_of(alloc: Global, known: &Known) -> Result<Vec<Step>, AllocError> {
 }
 
 fn known_of(alloc: Global, known: &Known) -> Result<Knowing, AllocError> {
-    let mut wires = Vec::new(alloc);
-    'wires: for w in 0..known.shape().wires() {
-        wires.push(known.has(Wire(w)))?;
-    }
+    let wires = (0..known.shape().wires()).map(|w| known.has(Wire(w)));
     Ok(Knowing {
         steps: steps_of(alloc, known)?,
-        wires,
+        wires: Flags::new(wires.collect(alloc)?),
     })
 }
 
@@ -157,28 +133,10 @@ pub fn picture_of(alloc: Global, stage: &Stage) -> Result<Picture, AllocError> {
         kept: kept_of(alloc, &stage.proof)?,
         known: known_of(alloc, &stage.known)?,
         marks: Marks {
-            stuck: marks_of(alloc, &stage.bad.stuck)?,
-            unfit: marks_of(alloc, &stage.bad.unfit)?,
-            unclear: marks_of(alloc, &stage.bad.unclear)?,
-            wrong: marks_of(alloc, &stage.bad.wrong)?,
+            stuck: Flags::of_set(alloc, &stage.bad.stuck)?,
+            unfit: Flags::of_set(alloc, &stage.bad.unfit)?,
+            unclear: Flags::of_set(alloc, &stage.bad.unclear)?,
+            wrong: Flags::of_set(alloc, &stage.bad.wrong)?,
         },
     })
-}
-
-/// What was marked still is.
-pub fn stays(before: &[bool], after: &[bool]) -> bool {
-    before.len() == after.len()
-        && before
-            .iter()
-            .zip(after.iter())
-            .all(|(was, is)| !*was || *is)
-}
-
-/// What was marked in each row still is.
-pub fn rows_stay(before: &[Vec<bool>], after: &[Vec<bool>]) -> bool {
-    before.len() == after.len()
-        && before
-            .iter()
-            .zip(after.iter())
-            .all(|(was, is)| stays(was.as_slice(), is.as_slice()))
 }

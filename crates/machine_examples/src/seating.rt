@@ -1,6 +1,7 @@
 //! Which tables are seated among free wires.
 
 use crate::feet::on_two;
+use crate::flags::Flags;
 use crate::sight::{Sight, TableSeen};
 use hierarchy::{Meaning, Node};
 use std::alloc::{AllocError, Global};
@@ -10,8 +11,8 @@ fn standing_on(
     alloc: Global,
     sight: &Sight,
     hextant: Node,
-    two: &[bool],
-) -> Result<Vec<bool>, AllocError> {
+    two: &Flags,
+) -> Result<Flags, AllocError> {
     let mut stands = Vec::new(alloc);
     'wires: for (wire, two) in sight.wires.iter().zip(two.iter()) {
         let is_outside = match wire.meaning {
@@ -21,7 +22,7 @@ fn standing_on(
         let is_pin = matches!(wire.meaning, Meaning::Pin { .. });
         stands.push(wire.free && is_outside && (is_pin || *two))?;
     }
-    Ok(stands)
+    Ok(Flags::new(stands))
 }
 
 // The wires that stand without the hextant by these crosspoints: the least set that has the pins of the machine, and what has
@@ -31,12 +32,13 @@ fn standing(
     sight: &Sight,
     crosses: &[(u32, u32)],
     hextant: Node,
-) -> Result<Vec<bool>, AllocError> {
-    let mut stands = vec![in alloc; false; sight.wires.len()]?;
+) -> Result<Flags, AllocError> {
+    let none = sight.wires.iter().map(|_| false);
+    let mut stands = Flags::new(none.collect(alloc)?);
     'passes: for _pass in 0..sight.wires.len() {
         let two = on_two(alloc, crosses, &stands)?;
         let more = standing_on(alloc, sight, hextant, &two)?;
-        if more == stands {
+        if more.stays(&stands) && stands.stays(&more) {
             break;
         }
         stands = more;

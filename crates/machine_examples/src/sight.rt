@@ -2,24 +2,12 @@
 ghost use Rattle.std.specs.Prelude.{◌≡◌, ◌<◌, IfOk};
 ghost use Rattle.hierarchy.specs.Shape.{tables_of};
 
+use crate::flags::{Flags, Parts};
 use crate::shorts::groups_of;
 use defect_db::Defects;
 use fault_model::FaultSet;
 use hierarchy::{Cross, Meaning, Node, Shape, Table, Wire};
 use std::alloc::{AllocError, Global};
-
-/// What of a machine is free, by number.
-#[derive(Drop)]
-pub struct Free {
-    pub wires: Vec<bool>,
-    pub crosses: Vec<bool>,
-    pub tables: Vec<bool>,
-}
-
-/// Whether a number is among those that are marked.
-pub fn has(marks: &[bool], number: u32) -> bool {
-    marks.get(number as usize) == Some(&true)
-}
 
 /// A wire. Those that are shorted have one group; it is clear where none of them is stuck.
 #[derive(Clone, Copy)]
@@ -45,7 +33,7 @@ pub struct CrossSeen {
 #[derive(Drop)]
 pub struct TableSeen {
     pub pins: Vec<u32>,
-    pub cells: Vec<bool>,
+    pub cells: Flags,
     pub register: bool,
     pub free: bool,
 }
@@ -53,7 +41,7 @@ pub struct TableSeen {
 impl TableSeen {
     /// No cell is wrong, and the register isn't stuck.
     pub fn is_right(&self) -> bool {
-        !self.register && self.cells.iter().all(|wrong| !*wrong)
+        !self.register && self.cells.count() == 0
     }
 }
 
@@ -66,116 +54,101 @@ pub struct Sight {
 }
 
 // The groups of shorted wires of which one is stuck.
-fn stuck_groups(alloc: Global, faults: &FaultSet, groups: &[u32]) -> Result<Vec<bool>, AllocError> {
-    let mut stuck = vec![in alloc; false; groups.len()]?;
+fn stuck_groups(alloc: Global, faults: &FaultSet, groups: &[u32]) -> Result<Flags, AllocError> {
+    let mut stuck = Flags::none(alloc, faults.shape().wires())?;
     'wires: for w in 0..faults.shape().wires() {
         if faults.stuck(Wire(w)).is_none() {
             continue;
         }
-        let group = groups.get(w as usize).copied().unwrap_or(w) as usize;
-        if group < stuck.len() {
-            stuck[group] = true;
-        }
+        stuck.mark(groups.get(w as usize).copied().unwrap_or(w));
     }
     Ok(stuck)
 }
 
-fn wires_seen(alloc: Global, faults: &FaultSet, free: &Free) -> Result<Vec<WireSeen>, AllocError> {
+fn wires(alloc: Global, faults: &FaultSet, free: &Flags) -> Result<Vec<WireSeen>, AllocError> {
     let shape = faults.shape();
     let groups = groups_of(alloc, faults)?;
     let stuck = stuck_groups(alloc, faults, &groups)?;
-    let mut wires = Vec::new(alloc);
+    let mut seen = Vec::new(alloc);
     'wires: for w in 0..shape.wires() {
         let group = groups.get(w as usize).copied().unwrap_or(w);
-        wires.push(WireSeen {
+        seen.push(WireSeen {
             number: w,
             meaning: shape.meaning(Wire(w)),
             node: shape.node_of(Wire(w)),
             group,
-            free: has(&free.wires, w),
+            free: free.has(w),
             stuck: faults.stuck(Wire(w)).is_some(),
-            clear: !has(&stuck, group),
+            clear: !stuck.has(group),
         })?;
     }
-    Ok(wires)
+    Ok(seen)
 }
 
-fn crosses_seen(
-    alloc: Global,
-    faults: &FaultSet,
-    free: &Free,
-) -> Result<Vec<CrossSeen>, AllocError> {
+fn crosses(alloc: Global, faults: &FaultSet, free: &Flags) -> Result<Vec<CrossSeen>, AllocError> {
     let shape = faults.shape();
-    let mut crosses = Vec::new(alloc);
+    let mut seen = Vec::new(alloc);
     'crosses: for c in 0..shape.crosses() {
         let (tap, line) = shape.ends(Cross(c));
-        crosses.push(CrossSeen {
+        seen.push(CrossSeen {
             ends: (tap.0, line.0),
-            free: has(&free.crosses, c),
+            free: free.has(c),
             stuck: faults.cross_stuck(Cross(c)).is_some(),
         })?;
     }
-    Ok(crosses)
+    Ok(seen)
 }
 
 // Which cells of a table are wrong.
-fn wrong_cells(alloc: Global, faults: &FaultSet, t: Table) -> Result<Vec<bool>, AllocError>
+fn wrong_cells(alloc: Global, faults: &FaultSet, t: Table) -> Result<Flags, AllocError>
     requires { t.0 < tables_of faults.now.shape }
 {
-    (0..64)
-        .map(|address| faults.cell(t, address).is_some())
-        .collect(alloc)
+    let wrong = (0..64).map(|address| faults.cell(t, address).is_some());
+    Ok(Flags::new(wrong.collect(alloc)?))
 }
 
-fn tables_seen(
-    alloc: Global,
-    faults: &FaultSet,
-    free: &Free,
-) -> Result<Vec<TableSeen>, AllocError> {
+fn tables(alloc: Global, faults: &FaultSet, free: &Flags) -> Result<Vec<TableSeen>, AllocError> {
     let shape = faults.shape();
-    let mut tables = Vec::new(alloc);
+    let mut seen = Vec::new(alloc);
     'tables: for t in 0..shape.tables() {
-        tables.push(TableSeen {
+        seen.push(TableSeen {
             pins: (0..7).map(|k| shape.pin_of(Table(t), k).0).collect(alloc)?,
             cells: wrong_cells(alloc, faults, Table(t))?,
             register: faults.register(Table(t)).is_some(),
-            free: has(&free.tables, t),
+            free: free.has(t),
         })?;
     }
-    Ok(tables)
+    Ok(seen)
 }
 
 /// What these faults say of a machine of which so much is free.
-pub fn sight_of(alloc: Global, faults: &FaultSet, free: &Free) -> Result<Sight, AllocError> {
+pub fn sight_of(alloc: Global, faults: &FaultSet, free: &Parts) -> Result<Sight, AllocError> {
     Ok(Sight {
-        wires: wires_seen(alloc, faults, free)?,
-        crosses: crosses_seen(alloc, faults, free)?,
-        tables: tables_seen(alloc, faults, free)?,
+        wires: wires(alloc, faults, &free.wires)?,
+        crosses: crosses(alloc, faults, &free.crosses)?,
+        tables: tables(alloc, faults, &free.tables)?,
     })
 }
 
 /// What a list leaves free.
-pub fn free_by_list(alloc: Global, list: &Defects) -> Result<Free, AllocError> {
+pub fn free_by_list(alloc: Global, list: &Defects) -> Result<Parts, AllocError> {
     let shape = list.shape();
-    Ok(Free {
-        wires: (0..shape.wires())
-            .map(|w| list.free_wire(Wire(w)))
-            .collect(alloc)?,
-        crosses: (0..shape.crosses())
-            .map(|c| list.free_cross(Cross(c)))
-            .collect(alloc)?,
-        tables: (0..shape.tables())
-            .map(|t| list.free_table(Table(t)))
-            .collect(alloc)?,
+    let wires = (0..shape.wires()).map(|w| list.free_wire(Wire(w)));
+    let crosses = (0..shape.crosses()).map(|c| list.free_cross(Cross(c)));
+    let tables = (0..shape.tables()).map(|t| list.free_table(Table(t)));
+    Ok(Parts {
+        wires: Flags::new(wires.collect(alloc)?),
+        crosses: Flags::new(crosses.collect(alloc)?),
+        tables: Flags::new(tables.collect(alloc)?),
     })
 }
 
 /// Nothing of a machine is free.
-pub fn free_nothing(alloc: Global, shape: &Shape) -> Result<Free, AllocError> {
-    Ok(Free {
-        wires: vec![in alloc; false; shape.wires() as usize]?,
-        crosses: vec![in alloc; false; shape.crosses() as usize]?,
-        tables: vec![in alloc; false; shape.tables() as usize]?,
+pub fn free_nothing(alloc: Global, shape: &Shape) -> Result<Parts, AllocError> {
+    Ok(Parts {
+        wires: Flags::none(alloc, shape.wires())?,
+        crosses: Flags::none(alloc, shape.crosses())?,
+        tables: Flags::none(alloc, shape.tables())?,
     })
 }
 
@@ -186,10 +159,10 @@ impl Sight {
     }
 
     /// To how many of these wires a wire is shorted, itself among them.
-    pub fn shorted_to(&self, wire: &WireSeen, wires: &[bool]) -> usize {
+    pub fn shorted_to(&self, wire: &WireSeen, wires: &Flags) -> usize {
         self.wires
             .iter()
-            .filter(|u| u.group == wire.group && has(wires, u.number))
+            .filter(|u| u.group == wire.group && wires.has(u.number))
             .count()
     }
 
@@ -200,4 +173,18 @@ impl Sight {
             .filter(|u| u.group == wire.group && u.free)
             .count()
     }
+}
+
+/// All of these hold.
+///
+/// # Errors
+///
+/// What is wrong where the first of them doesn't.
+pub fn all_hold(these: &[(bool, &'static str)]) -> Result<(), &'static str> {
+    for (holds, wrong) in these {
+        if !*holds {
+            return Err(*wrong);
+        }
+    }
+    Ok(())
 }
