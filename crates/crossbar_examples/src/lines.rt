@@ -14,8 +14,8 @@ use crate::words::{text_of, word, yes_or_no};
 use crossbar_test::Tested;
 use evidence::Proof;
 use evidence::laws::tests_add_up;
+use example_words::numbers_of;
 use hierarchy::{Node, Wire};
-use program_words::numbers_of;
 use rig::{Rig, RigFail};
 use std::alloc::{AllocError, Global};
 

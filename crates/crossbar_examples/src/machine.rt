@@ -2,7 +2,7 @@
 
 use crate::book::Case;
 use cycle_sim::SimRig;
-use program_words::Turn;
+use example_words::Turn;
 use rig::{FlakyRig, LogRig};
 use std::alloc::{AllocError, Global};
 use tm_outside::{File, MemoryStore};

@@ -14,7 +14,8 @@ mod walk;
 mod words;
 
 use book::Book;
-use program_words::{texts, verdict};
+use example_words::verdict;
+use program_words::texts;
 use std::process::ExitCode;
 use std::{fs, io};
 

@@ -5,8 +5,8 @@ ghost use Rattle.test_configs.specs.Routes.{IsRoute};
 ghost use Rattle.crossbar_examples.specs.Laid.{IsLaid};
 
 use config_set::{Config, Setting};
+use example_words::numbers_of;
 use hierarchy::{Cross, Shape, Table};
-use program_words::numbers_of;
 use rig::{PinBits, RigFail};
 use std::alloc::{AllocError, Global};
 use test_configs::{Route, cell_config, loop_config, route_at};

@@ -8,7 +8,8 @@
 
 mod plans;
 
-use program_words::{texts, verdict};
+use example_words::verdict;
+use program_words::texts;
 use std::io;
 use std::process::ExitCode;
 

@@ -25,7 +25,8 @@ mod shorts;
 mod sight;
 mod trial;
 
-use program_words::{texts, verdict};
+use example_words::verdict;
+use program_words::texts;
 use std::io;
 use std::process::ExitCode;
 

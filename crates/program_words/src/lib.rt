@@ -1,31 +1,14 @@
-//! What the programs share: the words of the command line, files and standard output, and the exit code of a status; and of the
-//! programs of examples, the words and numbers of a line, a machine, and the calls that fail.
+//! What the programs share: the words of the command line, files and standard output, and the exit code of a status.
 #![tactic(auto)]
 
-mod fails;
-
-pub use fails::{Fails, Turn, turn_of};
-use hierarchy::Counts;
 use std::alloc::{AllocError, Global};
 use std::process::ExitCode;
 use std::rt::{Env, Files};
-use std::str::FromStr;
 use std::{env, io};
 use tm_outside::{FileStore, StdSink};
 
 /// The status where there is no memory to begin with.
 const NO_MEMORY: u8 = 6;
-
-/// The counts of the machine `tiny` of examples.
-pub const TINY: Counts = Counts {
-    modules: 1,
-    chips: 1,
-    hextants: 1,
-    tables: 2,
-    ports: [4, 4, 4],
-    lines: [4, 4, 4, 4],
-    pins: 4,
-};
 
 /// What a command of the command line works with: its words, real files, and standard output.
 #[derive(Drop)]
@@ -85,37 +68,4 @@ pub fn exit_code(status: Result<u8, AllocError>) -> ExitCode {
         Ok(status) => ExitCode::from(status),
         Err(_) => ExitCode::from(NO_MEMORY),
     }
-}
-
-/// The exit code of a program of examples: 0 where all was right.
-pub fn verdict(right: io::Result<bool>) -> ExitCode {
-    match right {
-        Ok(true) => ExitCode::from(0),
-        _ => ExitCode::from(1),
-    }
-}
-
-/// The words of a line.
-pub fn words_of(alloc: Global, line: &str) -> Result<Vec<String>, AllocError> {
-    let mut words = Vec::new(alloc);
-    for word in line.split_whitespace() {
-        words.push(String::from_str(alloc, word)?)?;
-    }
-    Ok(words)
-}
-
-/// The numbers that words spell, where each spells one.
-pub fn numbers_of<N>(alloc: Global, words: &[String]) -> Result<Option<Vec<N>>, AllocError>
-where
-    N: FromStr + Drop,
-    N::Err: Drop,
-{
-    let mut numbers = Vec::new(alloc);
-    for word in words {
-        match word.as_str().parse::<N>() {
-            Ok(number) => numbers.push(number)?,
-            Err(_) => return Ok(None),
-        }
-    }
-    Ok(Some(numbers))
 }

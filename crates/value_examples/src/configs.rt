@@ -1,8 +1,8 @@
 //! A configuration after its calls, and bits of pins.
 
 use config_set::{Config, Setting};
+use example_words::TINY;
 use hierarchy::{Cross, Shape, Table};
-use program_words::TINY;
 use rig::PinBits;
 use std::alloc::Global;
 

@@ -3,8 +3,8 @@ ghost use Rattle.std.specs.Prelude.{◌≡◌};
 
 use config_image::{Image, ImageFault, ImageKind, read_image, touches_none, write_image};
 use defect_db::Defects;
+use example_words::TINY;
 use hierarchy::{Cross, Shape, Table, Wire};
-use program_words::TINY;
 use std::alloc::{AllocError, Global};
 
 // Two inputs and an output, one table that is on, 24 closed crosspoints.

@@ -5,7 +5,7 @@ use crate::design::ports_of;
 use crate::judge::{Trial, Want, judge};
 use crate::step::{Each, Marks, Step};
 use crate::trial::Given;
-use program_words::{numbers_of, turn_of};
+use example_words::{numbers_of, turn_of};
 use std::alloc::{AllocError, Global};
 use tm_outside::File;
 

@@ -11,7 +11,8 @@ mod step;
 mod trial;
 
 use book::{Book, Trouble};
-use program_words::{texts, verdict};
+use example_words::verdict;
+use program_words::texts;
 use std::process::ExitCode;
 use std::{fs, io};
 

@@ -1,7 +1,7 @@
 //! A command over files, a rig and a sink in memory.
 
 use cycle_sim::SimRig;
-use program_words::{Fails, Turn};
+use example_words::{Fails, Turn};
 use rig::{FlakyRig, LogRig, Rig};
 use std::alloc::{AllocError, Global};
 use tera_map::teramac_map;
