@@ -3,7 +3,7 @@ ghost use Rattle.std.specs.Prelude.{◌≡◌, IfOk, length};
 ghost use Rattle.std.specs.List.{sum_by};
 ghost use Rattle.table_map.specs.Networks.{IsNetwork};
 ghost use Rattle.place.specs.Plans.{IsPlan};
-ghost use Rattle.partition.specs.Crossings.{AreCrossings, HasCrossings};
+ghost use Rattle.partition.specs.Crossings.{HasCrossings};
 
 use defect_db::Defects;
 use place::{Plan, crossing_nets, nets_of_plan, touched_by, tree_of};
@@ -22,24 +22,6 @@ fn length_in_sum(lists: &[Items<u32>]) -> u128
     sum
 }
 
-// The nets that cross each node.
-fn lists_of(
-    alloc: Global,
-    network: &Network,
-    plan: &Plan,
-    defects: &Defects,
-) -> Result<Vec<Items<u32>>, AllocError>
-    requires network { IsNetwork network.now }
-    requires plan { IsPlan defects.now.shape defects.now.list network.now plan.now }
-    ensures { IfOk result (λ lists. AreCrossings defects.now.shape network.now plan.now lists.items) }
-{
-    let nets = nets_of_plan(alloc, defects, network, plan)?;
-    let tree = tree_of(alloc, defects.shape())?;
-    let touched = touched_by(alloc, &tree, &nets)?;
-    let lists = crossing_nets(alloc, &tree, &nets, &touched)?;
-    Ok(lists)
-}
-
 /// How many nets of a plan cross a node, summed over all nodes.
 ///
 /// # Errors
@@ -55,6 +37,9 @@ pub fn crossings_of(
     requires plan { IsPlan defects.now.shape defects.now.list network.now plan.now }
     ensures { IfOk result (HasCrossings defects.now.shape network.now plan.now) }
 {
-    let lists = lists_of(alloc, network, plan, defects)?;
+    let nets = nets_of_plan(alloc, defects, network, plan)?;
+    let tree = tree_of(alloc, defects.shape())?;
+    let touched = touched_by(alloc, &tree, &nets)?;
+    let lists = crossing_nets(alloc, &tree, &nets, &touched)?;
     Ok(length_in_sum(&lists))
 }

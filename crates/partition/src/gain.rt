@@ -69,17 +69,18 @@ fn with_level(change: Change, crowd: Crowd, pinned: bool) -> Change {
     }
 }
 
-// The change for a net where one of its tables moves and another table comes from there. A net that has both stays as it
-// is.
-fn with_net(
-    change: Change,
-    net: &Net,
-    seats: &[Seat],
+// A table that moves from a seat to another, and the table that comes from there.
+#[derive(Clone, Copy)]
+struct Move {
     mover: usize,
     other: usize,
     from: Seat,
     to: Seat,
-) -> Change {
+}
+
+// The change for a net where one of its tables moves and another table comes from there. A net that has both stays as it
+// is.
+fn with_net(change: Change, net: &Net, seats: &[Seat], moved: Move) -> Change {
     if net.tables.as_slice().len() > MOST_TABLES {
         return change;
     }
@@ -87,14 +88,14 @@ fn with_net(
     let mut chips = NOBODY;
     let mut modules = NOBODY;
     for table in net.tables.as_slice() {
-        if *table == other {
+        if *table == moved.other {
             return change;
         }
-        if *table != mover && *table < seats.len() {
+        if *table != moved.mover && *table < seats.len() {
             let seat = seats[*table];
-            hextants = with(hextants, seat.hextant, from.hextant, to.hextant);
-            chips = with(chips, seat.chip, from.chip, to.chip);
-            modules = with(modules, seat.module, from.module, to.module);
+            hextants = with(hextants, seat.hextant, moved.from.hextant, moved.to.hextant);
+            chips = with(chips, seat.chip, moved.from.chip, moved.to.chip);
+            modules = with(modules, seat.module, moved.from.module, moved.to.module);
         }
     }
     let change = with_level(change, hextants, net.pinned);
@@ -103,20 +104,12 @@ fn with_net(
 }
 
 // The change for all nets of a table that moves, where another comes from there.
-fn with_move(
-    change: Change,
-    links: &Links,
-    seats: &[Seat],
-    mover: usize,
-    other: usize,
-    from: Seat,
-    to: Seat,
-) -> Change {
+fn with_move(change: Change, links: &Links, seats: &[Seat], moved: Move) -> Change {
     let mut change = change;
-    if mover < links.nets_of.len() {
-        for net in links.nets_of[mover].as_slice() {
+    if moved.mover < links.nets_of.len() {
+        for net in links.nets_of[moved.mover].as_slice() {
             if *net < links.nets.len() {
-                change = with_net(change, &links.nets[*net], seats, mover, other, from, to);
+                change = with_net(change, &links.nets[*net], seats, moved);
             }
         }
     }
@@ -132,6 +125,18 @@ pub fn exchange(links: &Links, seats: &[Seat], a: usize, b: usize) -> Change {
     if a >= seats.len() || b >= seats.len() {
         return change;
     }
-    let change = with_move(change, links, seats, a, b, seats[a], seats[b]);
-    with_move(change, links, seats, b, a, seats[b], seats[a])
+    let there = Move {
+        mover: a,
+        other: b,
+        from: seats[a],
+        to: seats[b],
+    };
+    let back = Move {
+        mover: b,
+        other: a,
+        from: seats[b],
+        to: seats[a],
+    };
+    let change = with_move(change, links, seats, there);
+    with_move(change, links, seats, back)
 }

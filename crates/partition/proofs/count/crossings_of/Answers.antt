@@ -1,9 +1,10 @@
-use Rattle.std.proofs.Common.{◌∙◌, ℕ, List, length, subst}
+use Rattle.std.proofs.Common.{◌∙◌, ℕ, List, length, ap, subst}
+use Rattle.std.specs.List.{sum_by}
 use Rattle.hierarchy.specs.Shape.{nodes_of}
 use Rattle.place.specs.Lists.{AreLists}
 use Rattle.place.specs.Room.{CrossesAt, HasTerminal}
 use Rattle.partition.proofs.Counted.{crossings_are}
-use Rattle.partition.proofs.count.lists_of.Goals as goal
+use Rattle.partition.proofs.count.crossings_of.Goals as goal
 
 pub returns : goal.returns
 returns c =
@@ -15,6 +16,9 @@ returns c =
     c.in_ok-lists.ensures in
     let on : AreLists (nodes_of t) (CrossesAt t (length nets) (HasTerminal nets)) lists =
     subst (λ (z : List (List ℕ)). AreLists (nodes_of t) (CrossesAt t (length z) (HasTerminal z)) lists) c.deref-2.ensures.value are in
-    crossings_are D.shape D.list c.args.network.now c.args.plan.now nets lists c.in_ok-nets.ensures
-    (subst (λ m. AreLists (nodes_of m) (CrossesAt m (length nets) (HasTerminal nets)) lists)
-    (c.in_ok-tree.ensures ∙ c.shape.ensures.shape) on)
+    record {
+      crossing = lists;
+      are = crossings_are D.shape D.list c.args.network.now c.args.plan.now nets lists c.in_ok-nets.ensures
+          (subst (λ m. AreLists (nodes_of m) (CrossesAt m (length nets) (HasTerminal nets)) lists) (c.in_ok-tree.ensures ∙ c.shape.ensures.shape) on);
+      sum_is = c.length_in_sum.ensures ∙ ap (sum_by length) c.deref-4.ensures.value;
+    }
