@@ -1,7 +1,7 @@
-use Rattle.std.proofs.Common.{◌∙◌, ap, sym}
+use Rattle.std.proofs.Common.{◌≡◌, ◌∙◌, ap, sym}
 use Rattle.hierarchy.specs.Shape.{pins_of}
 use Rattle.port_board.specs.Lines.{reading_line}
-use Rattle.board_rig.proofs.Driven.{kept_lengths}
+use Rattle.board_rig.proofs.OneByOne.{lengths_kept}
 use Rattle.port_board.proofs.Answered.{went_on}
 use Rattle.port_board.proofs.rig_port.drive_rows.Goals as goal
 
@@ -9,4 +9,4 @@ pub returns-clause-driven : goal.returns-clause-driven
 returns-clause-driven g c = λ _ h is.
     went_on (pins_of c.args.shape.now) h c.args.drives.now c.cycles.new.reads c.put_readings.new.line.items (g.R.Rig.rig_state c.args.inner.now) (g.R.Rig.rig_state c.cycles.new.self)
     c.in-Ok.ensures.cycles is
-    (kept_lengths (pins_of c.args.shape.now) c.args.reads.now c.cycles.new.reads c.cycles.ensures.lengths c.requires.wide_too) c.put_readings.ensures.spelled
+    (lengths_kept (λ l. l ≡ pins_of c.args.shape.now) c.args.reads.now c.cycles.new.reads c.cycles.ensures.lengths c.requires.wide_too) c.put_readings.ensures.spelled

@@ -1,7 +1,7 @@
 use Rattle.std.proofs.Common.{arith, ◌≡◌, ◌∙◌, true, false, refl, sym, ap, length, take, subst}
 use Rattle.std.proofs.lemmas.List.{length-map}
 use Rattle.hierarchy.specs.Shape.{pins_of}
-use Rattle.board_rig.proofs.Driven.{kept_lengths}
+use Rattle.board_rig.proofs.OneByOne.{lengths_kept}
 use Rattle.port_board.specs.Linked.{IsLinked}
 use Rattle.port_board.specs.Lines.{reading_line}
 use Rattle.port_board.proofs.Alarm.{right_reply, keep_of}
@@ -21,7 +21,7 @@ module _ (g : Over) (c : goal.After-link-3-1 g) where
       turn_stands (g.P.Port.port_state c.args.port.now).device (g.P.Port.port_state c.ask.new.self).device c.args.link.now.set.config c.args.link.now.anew
       c.args.link.now.running c.args.link.now.due c.args.link.now.line.items c.deref.result.now (take c.in-Ok.count c.ask.new.reply) c.args.drives.now c.read_all.new.reads
       c.requires.linked c.requires.drives (c.requires.as_many ∙ many)
-      (kept_lengths (pins_of c.args.link.now.set.config.shape) c.args.reads.now c.read_all.new.reads c.read_all.ensures.lengths c.requires.reads)
+      (lengths_kept (λ l. l ≡ pins_of c.args.link.now.set.config.shape) c.args.reads.now c.read_all.new.reads c.read_all.ensures.lengths c.requires.reads)
       (ap (λ l. take c.in-Ok.count l) (sym (c.deref-3.ensures.value ∙ whole)) ∙ c.is_right.ensures.right c.if-not-is_right.false) c.requires.running
       (λ due. c.deref.ensures.value ∙ c.put_request.ensures.loads due)
       (λ due none. c.deref.ensures.value ∙ c.put_request.ensures.drives due none)
@@ -49,7 +49,7 @@ is_right-requires g c =
     let many : length c.args.reads.now ≡ length c.read_all.new.reads
     = sym (length-map c.args.reads.now length) ∙ ap length (sym c.read_all.ensures.lengths) ∙ length-map c.read_all.new.reads length in
     let same = same_room n c.args.drives.now c.read_all.new.reads c.requires.drives.1
-    (kept_lengths n c.args.reads.now c.read_all.new.reads c.read_all.ensures.lengths c.requires.reads) (c.requires.as_many ∙ many) in
+    (lengths_kept (λ l. l ≡ n) c.args.reads.now c.read_all.new.reads c.read_all.ensures.lengths c.requires.reads) (c.requires.as_many ∙ many) in
     omega (arith, same, c.requires.few, c.requires.room.expected)
 
 pub returns-then-not-is_right-clause-alarm : goal.returns-then-not-is_right-clause-alarm

@@ -2,7 +2,7 @@ use Rattle.std.proofs.Common.{ℕ, ◌+◌, ◌*◌, ◌≡◌, ◌∙◌, ◌-�
 use Rattle.std.proofs.lemmas.List.Elements.{All-take, All-drop}
 use Rattle.hierarchy.specs.Shape.{pins_of}
 use Rattle.hierarchy.specs.Circuit.{Pins}
-use Rattle.board_rig.proofs.Driven.{kept_lengths}
+use Rattle.board_rig.proofs.OneByOne.{lengths_kept}
 use Rattle.port_board.proofs.Held.{put_lengths, not_turned, turned_next}
 use Rattle.std.specs.Int.{div_ceil}
 use Rattle.std.specs.List.{sum_by}
@@ -45,7 +45,7 @@ turns-init g c = (
 pub turn-requires-clause-reads : goal.turn-requires-clause-reads
 turn-requires-clause-reads g c =
     let n = pins_of c.args.link.now.set.config.shape in
-    let rows = kept_lengths n c.args.reads.now c.turns.reads c.turns.invariant.2 c.requires.reads in
+    let rows = lengths_kept (λ l. l ≡ n) c.args.reads.now c.turns.reads c.turns.invariant.2 c.requires.reads in
     let wide : ℕ → Type 0 = λ w. All (λ (row : Pins). length row ≡ w) (take (c.min-end.result - c.turns.at) (drop c.turns.at c.turns.reads)) in
     subst wide (sym (ap (λ s. pins_of s.shape) c.turns.invariant.3.set))
     (All-take (λ row. length row ≡ n) (c.min-end.result - c.turns.at) (drop c.turns.at c.turns.reads) (All-drop (λ row. length row ≡ n) c.turns.at c.turns.reads rows))
