@@ -1,37 +1,36 @@
 -- The wires that an image uses, as they are marked.
-use Rattle.std.proofs.Common.{◌≡◌, ◌⊎◌, ℕ, ◌+◌, ◌<◌, Bool, true, Some, List, length, get_or, refl, sym, ap, ◌∙◌, subst, inl, inr, arith}
+use Rattle.std.proofs.Common.{◌≡◌, ◌⊎◌, ℕ, ◌+◌, ◌<◌, Bool, true, Some, List, length, refl, sym, ap, ◌∙◌, subst, inl, inr, arith}
 use Rattle.std.specs.Prelude.{slice_get}
 use Rattle.std.proofs.Math.ListN.{set}
 use Rattle.std.proofs.lemmas.List.{length-set}
 use Rattle.hierarchy.specs.declared.Shape.{Shape}
 use Rattle.hierarchy.specs.declared.Cross.{Cross}
 use Rattle.hierarchy.specs.declared.Table.{Table}
-use Rattle.hierarchy.specs.Shape.{pin_wire, table_wire, ends_of}
+use Rattle.hierarchy.specs.Shape.{ends_of}
 use Rattle.known.proofs.Getting.{below_or}
-use Rattle.self_test.specs.Marks.{Adds, IsPinAmong, IsEndAmong, tap_among, line_among, IsPinOfTable, IsTablePinAmong}
+use Rattle.known.proofs.Places.{some_same}
+use Rattle.self_test.specs.Marks.{Adds, IsAmongFirst, IsEndAmong, tap_among, line_among, IsPinOfTable, IsTablePinAmong}
 use Rattle.self_test.proofs.Marking.{adds_none, adds_one, adds_more}
 
-pub some_same : {A : Type 0} {x y : A} → Some x ≡ Some y → x ≡ y
-some_same e = cc
+-- wires by a numbering, one after the other
+module _ (wire_at : ℕ → ℕ) where
+  pub first_none : {marks : List Bool} → Adds (IsAmongFirst wire_at 0) marks marks
+  first_none = adds_none (λ x p. let early = p.early in let no : ⊥ = omega (arith, early) in no)
+
+  pub first_next : (n w : ℕ) {old mid : List Bool} → Adds (IsAmongFirst wire_at n) old mid → w ≡ wire_at n → w < length mid → Adds (IsAmongFirst wire_at (n + 1)) old (set mid w true)
+  first_next n w a e within = adds_one w a within more (record { place = n; early = omega arith; wire = e }) from
+    where
+      more : (y : ℕ) → IsAmongFirst wire_at n y → IsAmongFirst wire_at (n + 1) y
+      more y p = record { place = p.place; early = (let early = p.early in omega (arith, early)); wire = p.wire }
+
+      from : (y : ℕ) → IsAmongFirst wire_at (n + 1) y → IsAmongFirst wire_at n y ⊎ (y ≡ w)
+      from y p = by (below_or n p.place p.early)
+        where
+          by : (p.place < n) ⊎ (p.place ≡ n) → IsAmongFirst wire_at n y ⊎ (y ≡ w)
+          by (inl l) = inl (record { place = p.place; early = l; wire = p.wire })
+          by (inr s) = inr (p.wire ∙ ap wire_at s ∙ sym e)
 
 module _ (m : Shape) where
-  module _ (pins : List ℕ) where
-    pub pins_none : {marks : List Bool} → Adds (IsPinAmong m pins 0) marks marks
-    pins_none = adds_none (λ x p. let early = p.early in let no : ⊥ = omega (arith, early) in no)
-
-    pub pins_next : (n w : ℕ) {old mid : List Bool} → Adds (IsPinAmong m pins n) old mid → w ≡ pin_wire m (get_or pins n 0) → w < length mid → Adds (IsPinAmong m pins (n + 1)) old (set mid w true)
-    pins_next n w a e within = adds_one w a within more (record { place = n; early = omega arith; wire = e }) from
-      where
-        more : (y : ℕ) → IsPinAmong m pins n y → IsPinAmong m pins (n + 1) y
-        more y p = record { place = p.place; early = (let early = p.early in omega (arith, early)); wire = p.wire }
-
-        from : (y : ℕ) → IsPinAmong m pins (n + 1) y → IsPinAmong m pins n y ⊎ (y ≡ w)
-        from y p = by (below_or n p.place p.early)
-          where
-            by : (p.place < n) ⊎ (p.place ≡ n) → IsPinAmong m pins n y ⊎ (y ≡ w)
-            by (inl l) = inl (record { place = p.place; early = l; wire = p.wire })
-            by (inr s) = inr (p.wire ∙ ap (λ k. pin_wire m (get_or pins k 0)) s ∙ sym e)
-
   module _ (crosses : List Cross) where
     pub ends_none : {marks : List Bool} → Adds (IsEndAmong m crosses 0) marks marks
     ends_none = adds_none no
@@ -77,23 +76,6 @@ module _ (m : Shape) where
             by : (j < n) ⊎ (j ≡ n) → WithTap n t y ⊎ (y ≡ l)
             by (inl k) = inl (earlier (line_among j x k at s))
             by (inr k) = inr (s ∙ ap (λ (z : Cross). (ends_of m z.0).1) (same j x k at) ∙ sym (ap (λ p. p.1) e))
-
-  module _ (t : ℕ) where
-    pub pins_of_table_none : {marks : List Bool} → Adds (IsPinOfTable m t 0) marks marks
-    pins_of_table_none = adds_none (λ x p. let early = p.early in let no : ⊥ = omega (arith, early) in no)
-
-    pub pins_of_table_next : (n w : ℕ) {old mid : List Bool} → Adds (IsPinOfTable m t n) old mid → w ≡ table_wire m t n → w < length mid → Adds (IsPinOfTable m t (n + 1)) old (set mid w true)
-    pins_of_table_next n w a e within = adds_one w a within more (record { pin = n; early = omega arith; wire = e }) from
-      where
-        more : (y : ℕ) → IsPinOfTable m t n y → IsPinOfTable m t (n + 1) y
-        more y p = record { pin = p.pin; early = (let early = p.early in omega (arith, early)); wire = p.wire }
-
-        from : (y : ℕ) → IsPinOfTable m t (n + 1) y → IsPinOfTable m t n y ⊎ (y ≡ w)
-        from y p = by (below_or n p.pin p.early)
-          where
-            by : (p.pin < n) ⊎ (p.pin ≡ n) → IsPinOfTable m t n y ⊎ (y ≡ w)
-            by (inl l) = inl (record { pin = p.pin; early = l; wire = p.wire })
-            by (inr s) = inr (p.wire ∙ ap (table_wire m t) s ∙ sym e)
 
   module _ (tables : List Table) where
     pub tables_none : {marks : List Bool} → Adds (IsTablePinAmong m tables 0) marks marks

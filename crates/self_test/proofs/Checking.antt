@@ -24,7 +24,7 @@ use Rattle.self_test.specs.Used.{AreUsed}
 use Rattle.self_test.proofs.Covering.{on_within, used_within}
 use Rattle.config_image.proofs.Keyed.{of_set, to_set}
 use Rattle.self_test.proofs.Counting.{list_fits}
-use Rattle.self_test.proofs.Looking.{on_of, routes_stay, tables_kept, tests_keep}
+use Rattle.self_test.proofs.Looking.{routes_stay, tables_kept, tests_keep}
 use Rattle.self_test.proofs.Wholly.{AreLaws, routes_known, seated}
 
 -- growth reaches all that an unharmed image needs
@@ -53,7 +53,7 @@ pub loads_tables : (k : Kept) (i : ImageValue) (tables : List Table) (before aft
     (ts : List ℕ) → HasTablesOn i ts → after ≤ before + 130 * length ts
 loads_tables k i tables before after counts loads ts on =
     let few = count_by-le-length (λ (t : Table). not (keeps_table k t.0)) tables in
-    let fits = list_fits (λ (t : Table). t.0) tables (λ q. is_some (setting_of i.config q)) counts ts (λ q e. on q (on_of i q e)) in
+    let fits = list_fits (λ (t : Table). t.0) tables (λ q. is_some (setting_of i.config q)) counts ts on in
     omega (arith, loads, fits, few)
 
 -- ---- in one field

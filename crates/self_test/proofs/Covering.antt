@@ -1,5 +1,5 @@
 -- A list of all that an image doesn't use covers the faults, where its parts are kept.
-use Rattle.std.proofs.Common.{◌≡◌, ◌≢◌, ◌⊎◌, ℕ, ◌+◌, ◌<◌, ◌≤◌, ◌++◌, ◌&&◌, Bool, true, false, not, Some, None, Option, List, length, get_or, refl, sym, ap, ◌∙◌, subst, inl, inr, arith}
+use Rattle.std.proofs.Common.{◌≡◌, ◌≢◌, ◌⊎◌, ℕ, ◌+◌, ◌<◌, ◌≤◌, ◌++◌, ◌&&◌, Bool, true, false, not, Some, None, List, length, get_or, refl, sym, ap, ◌∙◌, subst, inl, inr, arith}
 use Rattle.std.specs.Prelude.{◌==◌, IsSome, is_some}
 use Rattle.std.specs.List.{range_with_len, filter}
 use Rattle.std.specs.FinMap as map
@@ -48,21 +48,13 @@ unless : (b : Bool) → not b ≡ false → b ≡ true
 unless true e = refl
 unless false e = sym e
 
-some_of : (o : Option Setting) → is_some o ≡ true → IsSome o
-some_of (Some s) e = refl
-some_of None e = e
-
-true_of : (o : Option Setting) → IsSome o → is_some o ≡ true
-true_of (Some s) e = refl
-true_of None e = e
-
 -- a table that is on is one of the machine
 pub on_within : (i : ImageValue) → IsImage i → (t : ℕ) → IsSome (setting_of i.config t) → t < tables_of i.config.shape
 on_within i is t on = by (cases_lt t (length i.config.tables))
   where
     by : (t < length i.config.tables) ⊎ (length i.config.tables ≤ t) → t < tables_of i.config.shape
     by (inl l) = let len = is.config.tables in omega (arith, l, len)
-    by (inr l) = absurd (let off : setting_of i.config t ≡ None = get_or_past i.config.tables t None l in false≢true (sym (ap is_some off) ∙ true_of (setting_of i.config t) on))
+    by (inr l) = absurd (let off : setting_of i.config t ≡ None = get_or_past i.config.tables t None l in false≢true (sym (ap is_some off) ∙ on))
 
 module _ (i : ImageValue) (used : List Bool) (is : IsImage i) (are : AreUsed i used) where
   abbrev m : Shape
@@ -89,7 +81,7 @@ module _ (i : ImageValue) (used : List Bool) (is : IsImage i) (are : AreUsed i u
   cross_closed x l free = unless (is_closed i.config x) (sym (listed_is (λ y. not (is_closed i.config y)) (crosses_of m) x l) ∙ free.itself)
 
   table_on : (t : ℕ) → t < tables_of m → IsFreeTable m others t → IsSome (setting_of i.config t)
-  table_on t l free = some_of (setting_of i.config t) (unless (is_some (setting_of i.config t)) (sym (listed_is (λ u. not (is_some (setting_of i.config u))) (tables_of m) t l) ∙ free.itself))
+  table_on t l free = unless (is_some (setting_of i.config t)) (sym (listed_is (λ u. not (is_some (setting_of i.config u))) (tables_of m) t l) ∙ free.itself)
 
   pub image_free : IsFreeImage others i
   image_free = record {
@@ -99,7 +91,7 @@ module _ (i : ImageValue) (used : List Bool) (is : IsImage i) (are : AreUsed i u
       line = wire_free _ (at_line x closed refl);
     };
     tables = λ t on. record {
-      itself = listed_is (λ u. not (is_some (setting_of i.config u))) (tables_of m) t (on_within i is t on) ∙ ap not (true_of (setting_of i.config t) on);
+      itself = listed_is (λ u. not (is_some (setting_of i.config u))) (tables_of m) t (on_within i is t on) ∙ ap not on;
       pins = λ k l. wire_free _ (at_table t k on l refl);
     };
     pins = λ k d l. wire_free _ (at_pin (get_or (i.inputs ++ i.outputs) k d) (Contains-get_or (i.inputs ++ i.outputs) k d l) refl);

@@ -12,13 +12,15 @@ use Rattle.hierarchy.specs.declared.Cross.{Cross}
 use Rattle.hierarchy.specs.declared.Wire.{Wire}
 use Rattle.hierarchy.specs.Laws.{HasCrosses}
 use Rattle.hierarchy.specs.Shape.{crosses_of, ends_of, node_of, parent_of}
+use Rattle.known.specs.Field.{IsFieldOf}
 use Rattle.known.specs.Gains.{Gets, IsWireBefore}
+use Rattle.known.specs.declared.field.Field.{Field}
 use Rattle.self_test.specs.Fields.{IsCrossOf, IsBetween, IsCrossBefore, IsPicksOf, IsOfEither, of_own, of_lines, IsPickOf, IsJointOf, own_joint, up_joint, OfMarked, IsHungAt, IsHungOn}
 use Rattle.self_test.specs.Picked.{IsAmong}
 use Rattle.self_test.specs.declared.picks.Frame.{Frame}
 use Rattle.self_test.specs.declared.picks.Picks.{Picks}
 use Rattle.known.proofs.Getting.{below_or, gets_none, gets_one, gets_more, gets_fewer}
-use Rattle.self_test.proofs.Adding.{some_same}
+use Rattle.known.proofs.Places.{some_same}
 
 -- what holds of each element holds of that at a place
 pub all_at : {A : Type 0} (P : A → Type 0) (xs : List A) (i : ℕ) (x : A) → All P xs → slice_get xs i ≡ Some x → P x
@@ -136,3 +138,25 @@ module _ (marks : List Bool) (these : ℕ → ℕ → Type 0) where
           by : OfMarked marks these n y ⊎ ((has_number marks n ≡ true) × these n y) → OfMarked marks these n y
           by (inl q) = q
           by (inr q) = absurd (false≢true (sym out ∙ q.0))
+
+-- of a field: the wires and the crosspoints for each of the first n marked places
+pub record HasMarked (m : Shape) (marks : List Bool) (n : ℕ) (ws xs : ℕ → ℕ → Type 0) (few most : ℕ) (old new : Field) : Type 0 where
+  pub field_of : IsFieldOf m new
+  pub wires : Gets (OfMarked marks ws n) (few * size_of (take n marks)) old.wires new.wires
+  pub crosses : Gets (OfMarked marks xs n) (most * size_of (take n marks)) old.crosses new.crosses
+
+pub field_next : {m : Shape} {marks : List Bool} {ws xs : ℕ → ℕ → Type 0} (few most n : ℕ) {old mid new : Field} → HasMarked m marks n ws xs few most old mid → n < length marks → has_number marks n ≡ true →
+    Gets (ws n) few mid.wires new.wires → Gets (xs n) most mid.crosses new.crosses → HasMarked m marks (n + 1) ws xs few most old new
+field_next {marks = marks} {ws} {xs} few most n has within marked w c = record {
+  field_of = record { wires = w.len ∙ has.field_of.wires; crosses = c.len ∙ has.field_of.crosses };
+  wires = marked_next marks ws few n within has.wires marked w;
+  crosses = marked_next marks xs most n within has.crosses marked c;
+}
+
+pub field_pass : {m : Shape} {marks : List Bool} {ws xs : ℕ → ℕ → Type 0} (few most n : ℕ) {old mid : Field} → HasMarked m marks n ws xs few most old mid → n < length marks → has_number marks n ≡ false →
+    HasMarked m marks (n + 1) ws xs few most old mid
+field_pass {marks = marks} {ws} {xs} few most n has within out = record {
+  field_of = has.field_of;
+  wires = marked_pass marks ws few n within has.wires out;
+  crosses = marked_pass marks xs most n within has.crosses out;
+}

@@ -13,7 +13,7 @@ use Rattle.config_image.specs.Parts.{IsInvolved, by_wire, by_cross, Uses, at_lin
 use Rattle.self_test.specs.Marks.{Adds, IsNodeAmong, Rises}
 use Rattle.self_test.specs.Used.{AreUsed, AreInvolved}
 use Rattle.known.proofs.Getting.{below_or, marked_within, marked_here, marked_still, marked_from, none_marked}
-use Rattle.self_test.proofs.Adding.{some_same}
+use Rattle.known.proofs.Places.{some_same}
 use Rattle.self_test.proofs.Marking.{adds_none, adds_one, adds_same}
 
 module _ (m : Shape) where

@@ -1,15 +1,13 @@
 -- What the looks at an image say.
-use Rattle.std.proofs.Common.{◌≡◌, ◌≢◌, ◌⊎◌, ℕ, ◌<◌, ◌≤◌, true, Some, None, Option, List, All, get_or, refl, sym, ap, ◌∙◌, subst, inl, inr, arith}
-use Rattle.std.specs.Prelude.{IsSome, is_some, slice_get}
+use Rattle.std.proofs.Common.{◌≡◌, ◌≢◌, ◌⊎◌, ℕ, ◌<◌, ◌≤◌, true, Some, Option, List, All, get_or, sym, ap, ◌∙◌, subst, inl, inr, arith}
+use Rattle.std.specs.Prelude.{is_some, slice_get}
 use Rattle.std.proofs.lemmas.Bool.{cases_eq, cases_lt}
 use Rattle.std.proofs.lemmas.Option.{slice_get-get_or}
-use Rattle.tm_bits.specs.Numbers.{has_number}
 use Rattle.hierarchy.specs.declared.Table.{Table}
 use Rattle.hierarchy.specs.declared.Shape.{Shape}
 use Rattle.hierarchy.specs.Faults.{Faults}
 use Rattle.hierarchy.specs.Sound.{IsSoundTable}
 use Rattle.hierarchy.specs.Tight.{IsRightTable}
-use Rattle.config_set.specs.declared.Setting.{Setting}
 use Rattle.config_set.specs.Configuration.{setting_of}
 use Rattle.config_image.specs.Images.{ImageValue}
 use Rattle.evidence.specs.Kept.{Kept, HoldsFor, IsMore, keeps_wire, keeps_pair}
@@ -50,26 +48,15 @@ routes_stay more keeps = record {
 
 -- ---- tables
 
-some_of : (o : Option Setting) → is_some o ≡ true → IsSome o
-some_of (Some s) e = refl
-some_of None e = e
-
-pub true_of : (o : Option Setting) → IsSome o → is_some o ≡ true
-true_of (Some s) e = refl
-true_of None e = e
-
-pub on_of : (i : ImageValue) (t : ℕ) → is_some (setting_of i.config t) ≡ true → IsSome (setting_of i.config t)
-on_of i t e = some_of (setting_of i.config t) e
-
 pub tables_kept : (k : Kept) (i : ImageValue) → ((t : ℕ) → is_some (setting_of i.config t) ≡ true → KeepsTableOf k i t) → KeepsTables k i
 tables_kept k i each = record {
-  cells = λ t a on l. (each t (true_of (setting_of i.config t) on)).cells a l;
+  cells = λ t a on l. (each t on).cells a l;
   registers = λ t s on latched. (each t (ap is_some on)).register s on latched;
 }
 
 pub tables_each : (k : Kept) (i : ImageValue) → KeepsTables k i → (t : ℕ) → is_some (setting_of i.config t) ≡ true → KeepsTableOf k i t
 tables_each k i keeps t on = record {
-  cells = λ a l. keeps.cells t a (some_of (setting_of i.config t) on) l;
+  cells = λ a l. keeps.cells t a on l;
   register = λ s at latched. keeps.registers t s at latched;
 }
 
@@ -85,5 +72,5 @@ pub tests_keep : (told : Option Faults) (k l : Kept) (ss : List Step) (i : Image
     All (λ t. is_some (setting_of i.config t.0) ≡ true) tables → All (λ t. KeepsTableOf l i t.0) tables
 tests_keep told k l ss i f tables kept is holds parts seated on j d within =
     let t = get_or tables j d in
-    let is_on = on_of i t.0 (on j d within) in
+    let is_on = on j d within in
     whole_table l i t.0 ((kept.each j t (slice_get-get_or tables j d within)).at f is holds (seated t.0 is_on) (right_of (parts.tables t.0 is_on)))

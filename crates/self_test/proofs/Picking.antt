@@ -13,20 +13,7 @@ use Rattle.self_test.specs.Picked.{width_of, side_wire, IsAmong, IsOfSide, AreOf
 use Rattle.self_test.specs.declared.picks.Side.{Side}
 use Rattle.self_test.specs.declared.picks.Side.TheVariants.{Own, Lines}
 use Rattle.self_test.specs.declared.picks.Picks.{Picks}
-use Rattle.self_test.proofs.Adding.{some_same}
-
--- ---- what stands in a list with one more
-
-module _ {A : Type 0} where
-  pub get_pushed : (xs : List A) (x : A) (i : ℕ) (y : A) → slice_get (xs ++ x ∷ []) i ≡ Some y → (slice_get xs i ≡ Some y) ⊎ ((i ≡ length xs) × (x ≡ y))
-  get_pushed [] x zero y e = inr (refl, cc)
-  get_pushed [] x (suc i) y e = cc
-  get_pushed (z ∷ xs) x zero y e = inl e
-  get_pushed (z ∷ xs) x (suc i) y e = next (get_pushed xs x i y e)
-    where
-      next : (slice_get xs i ≡ Some y) ⊎ ((i ≡ length xs) × (x ≡ y)) → (slice_get xs i ≡ Some y) ⊎ ((suc i ≡ length (z ∷ xs)) × (x ≡ y))
-      next (inl h) = inl h
-      next (inr h) = inr (ap suc h.0, h.1)
+use Rattle.known.proofs.Places.{get_pushed, some_same}
 
 -- ---- the two sides
 

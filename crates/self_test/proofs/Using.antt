@@ -19,7 +19,6 @@ use Rattle.config_image.proofs.Keyed.{of_set, to_set}
 use Rattle.self_test.proofs.Covering.{on_within}
 use Rattle.self_test.proofs.Fielding.{all_at}
 use Rattle.known.proofs.Getting.{none_marked}
-use Rattle.self_test.proofs.Looking.{on_of, true_of}
 
 module _ (i : ImageValue) (closed : List Cross) (tables : List Table)
     (closed_counts : (x : ℕ) → count_by (λ (y : Cross). y.0 == x) closed ≡ (if is_closed i.config x then 1 else 0))
@@ -49,7 +48,7 @@ module _ (i : ImageValue) (closed : List Cross) (tables : List Table)
   by_ends w (line_among j x l here e) = at_line x.0 (all_at (λ (y : Cross). is_closed i.config y.0 ≡ true) closed j x are_closed here) e
 
   by_tables : (w : ℕ) → IsTablePinAmong m tables (length tables) w → Uses i w
-  by_tables w p = at_table p.table.0 p.pin.pin (on_of i p.table.0 (all_at (λ (y : Table). is_some (setting_of i.config y.0) ≡ true) tables p.place p.table are_on p.here)) p.pin.early p.pin.wire
+  by_tables w p = at_table p.table.0 p.pin.place (all_at (λ (y : Table). is_some (setting_of i.config y.0) ≡ true) tables p.place p.table are_on p.here) p.pin.early p.pin.wire
 
   only_last : (w : ℕ) → has_number last w ≡ true → Uses i w
   only_last w h = by_last (pins.only w h)
@@ -85,7 +84,7 @@ module _ (i : ImageValue) (closed : List Cross) (tables : List Table)
   all_last w (at_line x c e) = subst (λ u. has_number last u ≡ true) (sym e) (to_set (λ (y : Cross). y.0) closed (is_closed i.config) closed_counts (λ q. has_number last (ends_of m q).1 ≡ true)
       (λ j d l. pins.stays _ (ends.all _ (line_among j (get_or closed j d) l (slice_get-get_or closed j d l) refl))) x c)
   all_last w (at_table t k on l e) = subst (λ u. has_number last u ≡ true) (sym e) (to_set (λ (y : Table). y.0) tables (λ q. is_some (setting_of i.config q)) table_counts (λ q. has_number last (table_wire m q k) ≡ true)
-      (λ j d b. pins.all _ (record { place = j; table = get_or tables j d; early = b; here = slice_get-get_or tables j d b; pin = record { pin = k; early = l; wire = refl } })) t (true_of (setting_of i.config t) on))
+      (λ j d b. pins.all _ (record { place = j; table = get_or tables j d; early = b; here = slice_get-get_or tables j d b; pin = record { place = k; early = l; wire = refl } })) t on)
 
   pub are_used : AreUsed i last
   are_used = record { len = pins.len ∙ ends.len ∙ outputs.len ∙ inputs.len ∙ length-replicate (wires_of m) false; only = only_last; all = all_last }
@@ -106,7 +105,7 @@ module _ (i : ImageValue) (g : Configuration) (same : g ≡ i.config) where
 
     pub tables_within : IsImage i → (m : Shape) → m ≡ i.config.shape → All (λ t. t.0 < tables_of m) ts
     tables_within is m e = subst (λ (s : Shape). All (λ t. t.0 < tables_of s) ts) (sym e)
-        (of_set (λ (y : Table). y.0) ts (λ q. is_some (setting_of i.config q)) table_counts (λ q. q < tables_of i.config.shape) (λ q on. on_within i is q (on_of i q on)))
+        (of_set (λ (y : Table). y.0) ts (λ q. is_some (setting_of i.config q)) table_counts (λ q. q < tables_of i.config.shape) (λ q on. on_within i is q on))
 
 module _ (i : ImageValue) (is : IsImage i) (m : Shape) (e : m ≡ i.config.shape) (ps : List ℕ) where
   pub first_pins : ps ≡ i.inputs → All (λ k. k < pins_of m) ps

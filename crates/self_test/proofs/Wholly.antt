@@ -1,10 +1,9 @@
 -- All of an unharmed image's skeleton is known, and its tables are seated.
-use Rattle.std.proofs.Common.{◌≡◌, ◌≢◌, ◌⊎◌, ℕ, zero, suc, ◌<◌, true, Some, None, List, [], ◌∷◌, refl, sym, ap, ◌∙◌, subst, inl, inr, arith}
-use Rattle.std.specs.Prelude.{IsSome, slice_get}
+use Rattle.std.proofs.Common.{◌≡◌, ◌≢◌, ◌⊎◌, ℕ, zero, suc, ◌<◌, true, Some, None, List, refl, sym, ap, ◌∙◌, subst, inl, inr, arith}
+use Rattle.std.specs.Prelude.{IsSome}
 use Rattle.std.specs.FinMap as map
 use Rattle.std.specs.FinSet as set
 use Rattle.std.specs.Ordering.{nat_cmp}
-use Rattle.std.proofs.lemmas.Bool.{cases_eq}
 use Rattle.tm_bits.specs.Numbers.{has_number}
 use Rattle.hierarchy.specs.declared.Shape.{Shape}
 use Rattle.hierarchy.specs.Laws.{IsNumbered, IsTree, HasMeetings, HasParents}
@@ -27,6 +26,7 @@ use Rattle.self_test.specs.Looks.{AreRoutesKnown}
 use Rattle.self_test.specs.Skeleton.{IsMet, IsOwn, own_pin, own_port, HasSkeleton}
 use Rattle.self_test.specs.Soundly.{IsUnharmed}
 use Rattle.known.proofs.Getting.{marked_within}
+use Rattle.growth.proofs.Decided.{known_or}
 
 -- what is above a node is above those below it
 pub above_too : {m : Shape} {k n c : ℕ} → IsAbove m k n → IsAbove m n c → IsAbove m k c
@@ -36,20 +36,6 @@ above_too a (below b e) = below (above_too a b) e
 pub involved_too : (i : ImageValue) {k n : ℕ} → IsAbove i.config.shape k n → IsInvolved i n → IsInvolved i k
 involved_too i a (by_wire w uses b) = by_wire w uses (above_too a b)
 involved_too i a (by_cross x closed b) = by_cross x closed (above_too a b)
-
--- a wire is known or not
-pub known_or : (ss : List Step) (w : ℕ) → HasWire ss w ⊎ (HasWire ss w → ⊥)
-known_or [] w = inr (λ h. let e = h.at.here in cc)
-known_or (s ∷ ss) w = by (cases_eq s.wire.0 w) (known_or ss w)
-  where
-    by : (s.wire.0 ≡ w) ⊎ (s.wire.0 ≡ w → ⊥) → HasWire ss w ⊎ (HasWire ss w → ⊥) → HasWire (s ∷ ss) w ⊎ (HasWire (s ∷ ss) w → ⊥)
-    by (inl e) other = inl (record { place = 0; at = record { step = s; here = refl; wire = e } })
-    by (inr differs) (inl h) = inl (record { place = suc h.place; at = record { step = h.at.step; here = h.at.here; wire = h.at.wire } })
-    by (inr differs) (inr none) = inr (λ h. at_place h.place h.at.step h.at.here h.at.wire)
-      where
-        at_place : (j : ℕ) (t : Step) → slice_get (s ∷ ss) j ≡ Some t → t.wire.0 ≡ w → ⊥
-        at_place zero t here e = differs (let same : s ≡ t = cc in ap (λ (z : Step). z.wire.0) same ∙ e)
-        at_place (suc j) t here e = none (record { place = j; at = record { step = t; here = here; wire = e } })
 
 -- closed, over the shape of the image
 record IsClosedOver (m : Shape) (k : Kept) (f : Faults) (a : Field) (known : ℕ → Type 0) : Type 0 where

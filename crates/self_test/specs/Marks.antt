@@ -13,11 +13,15 @@ pub record Adds (these : ℕ → Type 0) (old new : List Bool) : Type 0 where
   pub all : (w : ℕ) → these w → has_number new w ≡ true
   pub only : (w : ℕ) → has_number new w ≡ true → (has_number old w ≡ true) ⊎ these w
 
--- one of the first n of these pins of the machine
-pub record IsPinAmong (m : Shape) (pins : List ℕ) (n w : ℕ) : Type 0 where
+-- one of the first n wires by this numbering
+pub record IsAmongFirst (wire_at : ℕ → ℕ) (n w : ℕ) : Type 0 where
   pub place : ℕ
   pub early : place < n
-  pub wire : w ≡ pin_wire m (slice_index pins place)
+  pub wire : w ≡ wire_at place
+
+-- one of the first n of these pins of the machine
+abbrev pub IsPinAmong : Shape → List ℕ → ℕ → ℕ → Type 0
+IsPinAmong m pins = IsAmongFirst (λ j. pin_wire m (slice_index pins j))
 
 -- an end of one of the first n of these crosspoints
 pub data IsEndAmong (m : Shape) (crosses : List Cross) (n w : ℕ) : Type 0 where
@@ -25,10 +29,8 @@ pub data IsEndAmong (m : Shape) (crosses : List Cross) (n w : ℕ) : Type 0 wher
   line_among : (j : ℕ) (x : Cross) → j < n → slice_get crosses j ≡ Some x → w ≡ (ends_of m x.0).1 → IsEndAmong m crosses n w
 
 -- one of the first n pins of a table
-pub record IsPinOfTable (m : Shape) (t n w : ℕ) : Type 0 where
-  pub pin : ℕ
-  pub early : pin < n
-  pub wire : w ≡ table_wire m t pin
+abbrev pub IsPinOfTable : Shape → ℕ → ℕ → ℕ → Type 0
+IsPinOfTable m t = IsAmongFirst (table_wire m t)
 
 -- a pin of one of the first n of these tables
 pub record IsTablePinAmong (m : Shape) (tables : List Table) (n w : ℕ) : Type 0 where

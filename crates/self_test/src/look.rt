@@ -16,39 +16,36 @@ use growth::Known;
 use hierarchy::{Cross, Table, Wire};
 use tm_bits::BitSet;
 
-// Whether all of these wires are kept.
-fn keeps_wires(proof: &Proof, used: &BitSet) -> bool
-    requires { length used.now ≡ wires_of proof.now.shape }
-    ensures { IsTrue result ↔ ((w : ℕ) → has_number used.now w ≡ true → keeps_wire proof.now w ≡ true) }
+// Whether a wire is kept and known.
+fn has_wire(proof: &Proof, known: &Known, w: Wire) -> bool
+    requires kept { w.0 < wires_of proof.now.shape }
+    requires known { w.0 < wires_of known.now.shape }
+    ensures { IsTrue result ↔ ((keeps_wire proof.now w.0 ≡ true) × HasWire known.now.steps w.0) }
+{
+    if !proof.keeps_wire(w) {
+        return false;
+    }
+    known.has(w)
+}
+
+// Whether all of these wires are kept and known.
+fn has_each(proof: &Proof, known: &Known, used: &BitSet) -> bool
+    requires kept { length used.now ≡ wires_of proof.now.shape }
+    requires known { length used.now ≡ wires_of known.now.shape }
+    ensures { IsTrue result ↔ ((w : ℕ) → has_number used.now w ≡ true → (keeps_wire proof.now w ≡ true) × HasWire known.now.steps w) }
 {
     'wires: for w in 0..used.len() {
         if !used.has(w) {
             continue;
         }
-        if !proof.keeps_wire(Wire(w)) {
+        if !has_wire(proof, known, Wire(w)) {
             return false;
         }
     }
     true
 }
 
-// Whether all of these wires are known.
-fn are_known(known: &Known, used: &BitSet) -> bool
-    requires { length used.now ≡ wires_of known.now.shape }
-    ensures { IsTrue result ↔ ((w : ℕ) → has_number used.now w ≡ true → HasWire known.now.steps w) }
-{
-    'wires: for w in 0..used.len() {
-        if !used.has(w) {
-            continue;
-        }
-        if !known.has(Wire(w)) {
-            return false;
-        }
-    }
-    true
-}
-
-// Whether all of these wires are kept and known. Each two known wires are kept apart, which no look at the wires one by one shows.
+// The same. Each two known wires are kept apart, which no look at the wires one by one shows.
 fn has_wires(proof: &Proof, known: &Known, used: &BitSet) -> bool
     requires known { IsKnown proof.now known.now }
     requires used { length used.now ≡ wires_of proof.now.shape }
@@ -59,9 +56,7 @@ fn has_wires(proof: &Proof, known: &Known, used: &BitSet) -> bool
         IsTrue result }
 {
     kept_facts_are_sound();
-    let all_kept = keeps_wires(proof, used);
-    let all_known = are_known(known, used);
-    all_kept && all_known
+    has_each(proof, known, used)
 }
 
 // Whether all of these crosspoints are kept.

@@ -46,6 +46,7 @@ fn mark_table(used: &mut BitSet, shape: &Shape, table: Table)
 }
 
 // Marks the pins of these tables.
+#[tactic(auto, using(crate::proofs::Adding::tables_none))]
 fn mark_tables(used: &mut BitSet, shape: &Shape, tables: &[Table])
     requires marks { length used.old ≡ wires_of shape.now }
     requires tables { All (λ t. t.0 < tables_of shape.now) tables.now }

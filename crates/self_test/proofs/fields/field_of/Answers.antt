@@ -21,29 +21,21 @@ add_crosses-requires c =
 
 pub returns-clause-whole : goal.returns-clause-whole
 returns-clause-whole c =
-    let i = c.args.image.now in
-    let used = c.args.parts.now.used in
-    let nodes = c.args.parts.now.nodes in
-    let frame = c.in_ok-frame.frame in
-    let e = c.shape-shape.ensures.shape ∙ ap (λ (g : Configuration). g.shape) c.config-config.ensures.config in
+    let m = c.args.image.now.config.shape in
     let field : Field = record { wires = c.hang_used.new.field.wires; crosses = c.add_crosses.new.marks } in
-    let built = built_of i c.shape-shape.result e used nodes frame c.closed.result.now c.in_ok-field.field c.join_nodes.new.field field c.hang_used.new.field.crosses
-    c.join_nodes.ensures.wires c.join_nodes.ensures.crosses c.hang_used.ensures.wires c.hang_used.ensures.crosses c.add_crosses.ensures in
-    let counts = closed_counts i c.config-config.result.now.config c.config-config.ensures.config c.closed.result.now c.closed.ensures in
-    let m = i.config.shape in
-    λ wide. built_skeleton i used nodes frame c.closed.result.now c.in_ok-field.field c.join_nodes.new.field field c.hang_used.new.field.crosses built counts c.args.most c.in_ok-frame.ensures.most
+    let e = c.shape-shape.ensures.shape ∙ ap (λ (g : Configuration). g.shape) c.config-config.ensures.config in
+    λ wide. built_skeleton c.args.image.now c.args.parts.now.used c.args.parts.now.nodes c.in_ok-frame.frame c.closed.result.now c.in_ok-field.field c.join_nodes.new.field field c.hang_used.new.field.crosses
+    (built_of c.args.image.now c.shape-shape.result e c.args.parts.now.used c.args.parts.now.nodes c.in_ok-frame.frame c.closed.result.now c.in_ok-field.field c.join_nodes.new.field field c.hang_used.new.field.crosses
+    c.join_nodes.ensures.wires c.join_nodes.ensures.crosses c.hang_used.ensures.wires c.hang_used.ensures.crosses c.add_crosses.ensures)
+    (closed_counts c.args.image.now c.config-config.result.now.config c.config-config.ensures.config c.closed.result.now c.closed.ensures) c.args.most c.in_ok-frame.ensures.most
     (c.the_numbering_is_sound.ensures.tree m) (c.the_numbering_is_sound.ensures.parents m) (c.the_crosspoints_are_sound.ensures.meetings m) (c.ports_and_lines_ascend.ensures m) c.requires.used c.requires.nodes c.requires.most
-    (picked_over c.shape-shape.result m nodes c.args.most frame.picks.items e c.in_ok-frame.ensures.picks) wide
+    (picked_over c.shape-shape.result m c.args.parts.now.nodes c.args.most c.in_ok-frame.frame.picks.items e c.in_ok-frame.ensures.picks) wide
 
 pub returns-clause-few : goal.returns-clause-few
 returns-clause-few c =
-    let i = c.args.image.now in
-    let used = c.args.parts.now.used in
-    let nodes = c.args.parts.now.nodes in
-    let frame = c.in_ok-frame.frame in
-    let e = c.shape-shape.ensures.shape ∙ ap (λ (g : Configuration). g.shape) c.config-config.ensures.config in
     let field : Field = record { wires = c.hang_used.new.field.wires; crosses = c.add_crosses.new.marks } in
-    let built = built_of i c.shape-shape.result e used nodes frame c.closed.result.now c.in_ok-field.field c.join_nodes.new.field field c.hang_used.new.field.crosses
-    c.join_nodes.ensures.wires c.join_nodes.ensures.crosses c.hang_used.ensures.wires c.hang_used.ensures.crosses c.add_crosses.ensures in
-    let counts = closed_counts i c.config-config.result.now.config c.config-config.ensures.config c.closed.result.now c.closed.ensures in
-    built_few i used nodes frame c.closed.result.now c.in_ok-field.field c.join_nodes.new.field field c.hang_used.new.field.crosses built counts c.args.most c.in_ok-frame.ensures.most c.in_ok-field.ensures.wires c.in_ok-field.ensures.crosses
+    let e = c.shape-shape.ensures.shape ∙ ap (λ (g : Configuration). g.shape) c.config-config.ensures.config in
+    built_few c.args.image.now c.args.parts.now.used c.args.parts.now.nodes c.in_ok-frame.frame c.closed.result.now c.in_ok-field.field c.join_nodes.new.field field c.hang_used.new.field.crosses
+    (built_of c.args.image.now c.shape-shape.result e c.args.parts.now.used c.args.parts.now.nodes c.in_ok-frame.frame c.closed.result.now c.in_ok-field.field c.join_nodes.new.field field c.hang_used.new.field.crosses
+    c.join_nodes.ensures.wires c.join_nodes.ensures.crosses c.hang_used.ensures.wires c.hang_used.ensures.crosses c.add_crosses.ensures)
+    (closed_counts c.args.image.now c.config-config.result.now.config c.config-config.ensures.config c.closed.result.now c.closed.ensures) c.args.most c.in_ok-frame.ensures.most c.in_ok-field.ensures.wires c.in_ok-field.ensures.crosses

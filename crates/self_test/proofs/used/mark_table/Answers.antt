@@ -1,17 +1,18 @@
 use Rattle.std.proofs.Common.{◌≡◌, ◌<◌, length, subst, arith}
+use Rattle.hierarchy.specs.Shape.{table_wire}
 use Rattle.self_test.specs.Marks.{Adds, IsPinOfTable}
-use Rattle.self_test.proofs.Adding.{pins_of_table_none, pins_of_table_next}
+use Rattle.self_test.proofs.Adding.{first_none, first_next}
 use Rattle.self_test.proofs.used.mark_table.Goals as goal
 
 pub pins-init : goal.pins-init
-pins-init c = pins_of_table_none c.args.shape.now c.args.table.0
+pins-init c = first_none (table_wire c.args.shape.now c.args.table.0)
 
 pub pins-preserved : goal.pins-preserved
 pins-preserved c =
     let w = c.pin_of.result.0 in
     let a = c.pins.invariant in
     let within : w < length c.pins.used = (let b = c.pin_of.ensures.within in let e = a.len in let d = c.requires.marks in omega (arith, b, e, d)) in
-    rw c.insert.ensures (pins_of_table_next c.args.shape.now c.args.table.0 c.pins.j w a c.pin_of.ensures.wire within)
+    rw c.insert.ensures (first_next (table_wire c.args.shape.now c.args.table.0) c.pins.j w a c.pin_of.ensures.wire within)
 
 pub returns : goal.returns
 returns c =

@@ -3,11 +3,8 @@ use Rattle.std.specs.Prelude.{slice_get, slice_index_or}
 use Rattle.std.proofs.lemmas.Option.{slice_get-get_or}
 use Rattle.hierarchy.specs.declared.Table.{Table}
 use Rattle.self_test.specs.Marks.{Adds, IsTablePinAmong}
-use Rattle.self_test.proofs.Adding.{tables_none, tables_next}
+use Rattle.self_test.proofs.Adding.{tables_next}
 use Rattle.self_test.proofs.used.mark_tables.Goals as goal
-
-pub tables-init : goal.tables-init
-tables-init c = tables_none c.args.shape.now c.args.tables.now
 
 pub tables-preserved : goal.tables-preserved
 tables-preserved c =

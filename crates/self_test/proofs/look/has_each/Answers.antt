@@ -1,6 +1,6 @@
 use Rattle.std.proofs.Common.{◌<◌, arith, refl}
 use Rattle.known.proofs.Getting.{marked_within}
-use Rattle.self_test.proofs.look.are_known.Goals as goal
+use Rattle.self_test.proofs.look.has_each.Goals as goal
 
 pub returns : goal.returns
 returns c = (
