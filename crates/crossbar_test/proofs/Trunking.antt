@@ -1,13 +1,13 @@
 -- Trunks over known wires, and when there is none.
-use Rattle.std.proofs.Common.{◌≡◌, ◌≢◌, ◌⊎◌, ℕ, zero, suc, ◌+◌, ◌*◌, ◌<◌, ◌≤◌, Bool, true, false, Some, None, Option, Result, Ok, Err, IfOk, List, [], ◌∷◌, length, refl, sym, ap, ◌∙◌, subst, inl, inr, arith}
-use Rattle.std.specs.Prelude.{slice_get, AllPairs, IfSome, IfNone}
+use Rattle.std.proofs.Common.{◌≡◌, ◌≢◌, ◌⊎◌, ℕ, ◌+◌, ◌*◌, ◌<◌, ◌≤◌, Bool, true, false, Some, None, Option, Result, Ok, Err, IfOk, List, length, refl, sym, ap, ◌∙◌, subst, inl, inr, arith}
+use Rattle.std.specs.Prelude.{AllPairs, IfSome, IfNone}
 use Rattle.std.proofs.lemmas.Bool.{cases_eq, false≢true}
 use Rattle.tm_bits.specs.Numbers.{has_number, size_of}
 use Rattle.hierarchy.specs.declared.Shape.{Shape}
 use Rattle.hierarchy.specs.declared.Wire.{Wire}
-use Rattle.hierarchy.specs.Shape.{pin_wire, pins_of, parent_of, node_of, IsPort, tap_child, itself}
+use Rattle.hierarchy.specs.Shape.{pin_wire, pins_of, parent_of, node_of, port_at, own_ports_of, IsPort, tap_child, itself}
 use Rattle.hierarchy.specs.Faults.{Faults, IsFaultless}
-use Rattle.hierarchy.specs.Sound.{IsSoundWire, HasTwo, IsServed}
+use Rattle.hierarchy.specs.Sound.{IsSoundWire, HasTwo}
 use Rattle.hierarchy.specs.Defects.{IsClear}
 use Rattle.hierarchy.specs.Tight.{IsAlone}
 use Rattle.hierarchy.proofs.Clear.{clear_of_sound}
@@ -24,10 +24,11 @@ use Rattle.known.specs.Known.{KnownWires, HasWire}
 use Rattle.known.specs.Routes.{IsKnownRoute, AreRoutesTo}
 use Rattle.known.specs.declared.field.Field.{Field}
 use Rattle.known.specs.declared.step.Step.{Step}
+use Rattle.growth.proofs.Decided.{known_or}
 use Rattle.crossbar_test.specs.Bars.{IsListOf, IsAtOneOf, IsKnownOf, IsTrunkTo, IsTrunkOf, AreTwoOf, FewPins, SoundPinsAreKnown}
-use Rattle.crossbar_test.specs.Held.{Findings, IsTrunkEnd, at_pin, at_port, IsHeldRoute, IsHeldTrunk, IsHeld, IsFull, FullIf, LoadsAtMost, UnservedIf, wire_numbers}
+use Rattle.crossbar_test.specs.Held.{Findings, IsTrunkEnd, at_pin, at_port, IsHeldRoute, IsHeldTrunk, IsHeld, FullIf, IsUnserved, LoadsAtMost, UnservedIf, wire_numbers}
 use Rattle.crossbar_test.specs.Laws.{AreLaws}
-use Rattle.crossbar_test.proofs.Fielding.{before_of}
+use Rattle.crossbar_test.proofs.Fielding.{before_of, ports_are}
 
 -- ---- trunks
 
@@ -76,20 +77,6 @@ end_node m laws n w (at_port p) = laws.tree.port_node n w p
 
 pub pin_end : (m : Shape) (count : ℕ) (ws : List ℕ) → count ≤ pins_of m → IsListOf (IsAtOneOf (pin_wire m) count) ws → (w : ℕ) → among ws w ≡ true → IsTrunkEnd m 0 w
 pin_end m count ws few list w is = let p = list.each w is in at_pin p.position refl (let early = p.early in omega (arith, early, few)) p.is
-
--- a wire is known or not
-pub known_or : (ss : List Step) (w : ℕ) → HasWire ss w ⊎ (HasWire ss w → ⊥)
-known_or [] w = inr (λ h. let e = h.at.here in cc)
-known_or (s ∷ ss) w = by (cases_eq s.wire.0 w) (known_or ss w)
-  where
-    by : (s.wire.0 ≡ w) ⊎ (s.wire.0 ≡ w → ⊥) → HasWire ss w ⊎ (HasWire ss w → ⊥) → HasWire (s ∷ ss) w ⊎ (HasWire (s ∷ ss) w → ⊥)
-    by (inl e) other = inl (record { place = 0; at = record { step = s; here = refl; wire = e } })
-    by (inr differs) (inl h) = inl (record { place = suc h.place; at = record { step = h.at.step; here = h.at.here; wire = h.at.wire } })
-    by (inr differs) (inr none) = inr (λ h. at_place h.place h.at.step h.at.here h.at.wire)
-      where
-        at_place : (j : ℕ) (t : Step) → slice_get (s ∷ ss) j ≡ Some t → t.wire.0 ≡ w → ⊥
-        at_place zero t here e = differs (let same : s ≡ t = cc in ap (λ (z : Step). z.wire.0) same ∙ e)
-        at_place (suc j) t here e = none (record { place = j; at = record { step = t; here = here; wire = e } })
 
 -- a sound wire that isn't known is shorted to no known one
 pub sound_alone : {m : Shape} {f : Faults} {ss : List Step} {w : ℕ} → IsSoundWire m f w → (HasWire ss w → ⊥) → IsAlone m f (HasWire ss) w
@@ -168,9 +155,13 @@ at_most_six told k before after first few h = record { at = λ f is faultless ho
 pub port_end : (m : Shape) (n : ℕ) (ws : List ℕ) → IsListOf (IsPort m n) ws → (w : ℕ) → among ws w ≡ true → IsTrunkEnd m n w
 port_end m n ws list w is = at_port (list.each w is)
 
+-- the ports of a child, over a shape that is that of the machine
+pub child_ports : (m : Shape) (laws : AreLaws m) (n : ℕ) (ws : List ℕ) {p : ℕ} {s : Shape} → parent_of m n ≡ Some p → s ≡ m → IsListOf (IsAtOneOf (port_at s n) (own_ports_of s n)) ws → IsListOf (IsPort m n) ws
+child_ports m laws n ws {p} up same list = ports_are m laws n ws (laws.parents.within n p up) (subst (λ (s : Shape). IsListOf (IsAtOneOf (port_at s n) (own_ports_of s n)) ws) same list)
+
 -- a served node below a full crossbar has two known ports
 pub unserved_child : (k : Kept) (known : KnownWires) (t : Findings) (n : ℕ) (ws : List ℕ) → AreLaws k.shape → parent_of k.shape n ≡ Some t.node → IsHeld k known t → IsListOf (IsPort k.shape n) ws →
-    ((w u : ℕ) → IsKnownOf known ws w → IsKnownOf known ws u → w ≡ u) → (f : Faults) → IsFull k f t → ¬ IsServed k.shape f n
+    ((w u : ℕ) → IsKnownOf known ws w → IsKnownOf known ws u → w ≡ u) → IsUnserved k t n
 unserved_child k known t n ws laws up held list one f full served = ports.different (one ports.one ports.two (is_known ports.one ports.first) (is_known ports.two ports.second))
   where
     not_root : n ≢ 0
@@ -190,7 +181,7 @@ trunks_end k known n (Err e) m laws same h = tt
 trunks_end k known n (Ok None) m laws same h = tt
 trunks_end k known n (Ok (Some t)) m laws same h = end_node m laws n t.left.end (subst (λ s. IsTrunkEnd s n t.left.end) same h.left_end)
 
-pub unserved_if : {E : Type 0} (r : Result (Option Trunk) E) (told : Option Faults) (k : Kept) (t : Findings) (n : ℕ) → FullIf told k k t → IfOk r (λ found. IfNone found ((f : Faults) → IsFull k f t → ¬ IsServed k.shape f n)) →
+pub unserved_if : {E : Type 0} (r : Result (Option Trunk) E) (told : Option Faults) (k : Kept) (t : Findings) (n : ℕ) → FullIf told k k t → IfOk r (λ found. IfNone found (IsUnserved k t n)) →
     IfOk r (λ found. IfNone found (UnservedIf told k n))
 unserved_if (Err e) told k t n full h = tt
 unserved_if (Ok (Some x)) told k t n full h = tt

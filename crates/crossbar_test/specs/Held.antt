@@ -87,6 +87,10 @@ pub record HasAll (k : Kept) (f : Faults) (t : Findings) : Type 0 where
 abbrev pub IsFull : Kept → Faults → Findings → Type 0
 IsFull k f t = IsServed k.shape f t.node → HasAll k f t
 
+-- under no faults under which it is full is this node served
+abbrev pub IsUnserved : Kept → Findings → ℕ → Type 0
+IsUnserved k t n = (f : Faults) → IsFull k f t → ¬ IsServed k.shape f n
+
 -- full, where faults are told of which it is true what was kept before
 pub record FullIf (told : Option Faults) (k l : Kept) (t : Findings) : Type 0 where
   pub at : (f : Faults) → told ≡ Some f → HoldsFor k f → IsFull l f t

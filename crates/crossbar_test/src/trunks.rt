@@ -1,13 +1,11 @@
 //! A trunk down to a crossbar.
 ghost use Rattle.std.specs.Prelude.{◌≡◌, ℕ, Err, Some, IfOk, IfSome, IfNone, IsErrOf};
 ghost use Rattle.tm_outside.specs.Counts.{Rose};
-ghost use Rattle.hierarchy.specs.Faults.{Faults};
 ghost use Rattle.hierarchy.specs.Shape.{node_of, parent_of};
-ghost use Rattle.hierarchy.specs.Sound.{IsServed};
 ghost use Rattle.rig.specs.Rig.{shape_of};
 ghost use Rattle.evidence.specs.Kept.{Advances};
 ghost use Rattle.known.specs.Known.{IsKnown, HasWire};
-ghost use Rattle.crossbar_test.specs.Held.{FullIf, IsFull, IsHeld, IsHeldTrunk, LoadsAtMost, UnservedIf};
+ghost use Rattle.crossbar_test.specs.Held.{FullIf, IsHeld, IsHeldTrunk, IsUnserved, LoadsAtMost, UnservedIf};
 
 use crate::laws::the_laws_hold;
 use crate::lists::ports_in;
@@ -33,8 +31,7 @@ fn child_trunk(
     requires child { parent_of proof.now.shape node.0 ≡ Some parent.now.node }
     requires held { IsHeld proof.now known.now parent.now }
     ensures held { IfOk result (λ found. IfSome found (λ t. IsHeldTrunk proof.now known.now node.0 t.left t.right)) }
-    ensures none { IfOk result (λ found. IfNone found
-        ((f : Faults) → IsFull proof.now f parent.now → ¬ IsServed proof.now.shape f node.0)) }
+    ensures none { IfOk result (λ found. IfNone found (IsUnserved proof.now parent.now node.0)) }
     ensures memory { result ≡ Err RigFail.Failed → ⊥ }
 {
     the_laws_hold();

@@ -1,13 +1,12 @@
 use Rattle.std.proofs.Common.{◌<◌, All, subst, sym}
 use Rattle.hierarchy.specs.declared.Shape.{Shape}
 use Rattle.hierarchy.specs.declared.Wire.{Wire}
-use Rattle.hierarchy.specs.Shape.{nodes_of, wires_of, port_at, own_ports_of}
+use Rattle.hierarchy.specs.Shape.{nodes_of, wires_of}
 use Rattle.test_configs.specs.declared.trunk.Trunk.{Trunk}
-use Rattle.crossbar_test.specs.Bars.{IsAtOneOf, IsListOf, IsTrunkOf}
+use Rattle.crossbar_test.specs.Bars.{IsTrunkOf}
 use Rattle.crossbar_test.specs.Held.{wire_numbers}
-use Rattle.crossbar_test.proofs.Fielding.{ports_are}
 use Rattle.crossbar_test.proofs.Laid.{if_some, if_none}
-use Rattle.crossbar_test.proofs.Trunking.{port_end, unserved_child}
+use Rattle.crossbar_test.proofs.Trunking.{child_ports, port_end, unserved_child}
 use Rattle.crossbar_test.proofs.trunks.child_trunk.Goals as goal
 
 pub ports_in-requires : goal.ports_in-requires
@@ -18,16 +17,11 @@ trunk_of-requires-clause-within c = rw c.deref.ensures.value (subst (λ (m : Sha
 
 pub returns-in-Ok-trunk_of-clause-held : goal.returns-in-Ok-trunk_of-clause-held
 returns-in-Ok-trunk_of-clause-held c =
-    let laws = c.the_laws_hold.ensures c.args.proof.now.shape in
-    let node = laws.parents.within c.args.node.0 c.args.parent.now.node c.requires.child in
-    let ports = ports_are c.args.proof.now.shape laws c.args.node.0 (wire_numbers c.in-Ok.ports.items) node
-    (subst (λ (m : Shape). IsListOf (IsAtOneOf (port_at m c.args.node.0) (own_ports_of m c.args.node.0)) (wire_numbers c.in-Ok.ports.items)) c.shape-shape.ensures c.in-Ok.ensures.ports) in
+    let ports = child_ports c.args.proof.now.shape (c.the_laws_hold.ensures c.args.proof.now.shape) c.args.node.0 (wire_numbers c.in-Ok.ports.items) c.requires.child c.shape-shape.ensures c.in-Ok.ensures.ports in
     if_some _ (rw (c.in-Ok-trunk_of.is, c.deref.ensures.value) at c.trunk_of.ensures.trunk) (λ (t : Trunk) (trunk : IsTrunkOf c.args.proof.now c.args.known.now (wire_numbers c.in-Ok.ports.items) t.left t.right). trunk.held c.args.node.0 (port_end c.args.proof.now.shape c.args.node.0 (wire_numbers c.in-Ok.ports.items) ports))
 
 pub returns-in-Ok-trunk_of-clause-none : goal.returns-in-Ok-trunk_of-clause-none
 returns-in-Ok-trunk_of-clause-none c =
     let laws = c.the_laws_hold.ensures c.args.proof.now.shape in
-    let node = laws.parents.within c.args.node.0 c.args.parent.now.node c.requires.child in
-    let ports = ports_are c.args.proof.now.shape laws c.args.node.0 (wire_numbers c.in-Ok.ports.items) node
-    (subst (λ (m : Shape). IsListOf (IsAtOneOf (port_at m c.args.node.0) (own_ports_of m c.args.node.0)) (wire_numbers c.in-Ok.ports.items)) c.shape-shape.ensures c.in-Ok.ensures.ports) in
+    let ports = child_ports c.args.proof.now.shape laws c.args.node.0 (wire_numbers c.in-Ok.ports.items) c.requires.child c.shape-shape.ensures c.in-Ok.ensures.ports in
     if_none _ (rw (c.in-Ok-trunk_of.is, c.deref.ensures.value) at c.trunk_of.ensures.none) (λ one. unserved_child c.args.proof.now c.args.known.now c.args.parent.now c.args.node.0 (wire_numbers c.in-Ok.ports.items) laws c.requires.child c.requires.held ports one)
