@@ -5,7 +5,7 @@ use Rattle.bench_gen.specs.Work.{bench_design}
 use Rattle.bench_laws.specs.Design.{bench_draft}
 use Rattle.bench_laws.proofs.Netlist.{is_netlist}
 use Rattle.bench_laws.proofs.Checked.{is_checked}
-use Rattle.bench_laws.proofs.the_bench_design_is_a_design.Goals as goal
+use Rattle.bench_laws.proofs.design.the_bench_design_is_a_design.Goals as goal
 
 is_design : IsDesign bench_design bench_draft
 is_design = record { models = bench_model ∷ []; text = text_is; netlist = is_netlist; checked = is_checked }

@@ -2,7 +2,7 @@ use Rattle.std.proofs.Common.{sym, subst}
 use Rattle.hierarchy.specs.declared.Counts.{Counts}
 use Rattle.hierarchy.specs.Served.{IsAmple}
 use Rattle.bench_laws.proofs.Parts.{tables_are, nets_are, sound_parts}
-use Rattle.bench_laws.proofs.generated_faults_leave_room.Goals as goal
+use Rattle.bench_laws.proofs.room.generated_faults_leave_room.Goals as goal
 
 pub returns-clause-tables : goal.returns-clause-tables
 returns-clause-tables c = tables_are
