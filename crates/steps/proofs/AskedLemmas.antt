@@ -72,7 +72,3 @@ ended-asked false old new e = inr e
 pub list_any-map : {A B : Type 0} (f : B → Bool) (g : A → B) (xs : List A) → list_any f (map g xs) ≡ list_any (λ x. f (g x)) xs
 list_any-map f g [] = refl
 list_any-map f g (x ∷ xs) = rw (list_any-map f g xs) refl
-
--- of none, where a test of the elements says so
-pub none-become : {A B : Type 0} (f : B → Bool) (g : A → B) (xs : List A) {t : Bool} → t ≡ list_any (λ x. f (g x)) xs → t ≡ false → list_any f (map g xs) ≡ false
-none-become f g xs is no = list_any-map f g xs ∙ (sym is ∙ no)

@@ -3,7 +3,7 @@ use Rattle.std.specs.List.{list_any}
 use Rattle.std.proofs.lemmas.List.{length-map}
 use Rattle.steps.specs.Outside.{outside}
 use Rattle.steps.specs.Words.{Asked, DoesAsked, is_dashed}
-use Rattle.steps.proofs.AskedLemmas.{does-none, does-job, list_any-map, none-become}
+use Rattle.steps.proofs.AskedLemmas.{does-none, does-job, list_any-map}
 use Rattle.tera_map.proofs.Fronts.{one-asked, three-asked, none-asked}
 use Rattle.tera_map.proofs.program.work.Goals as goal
 
@@ -14,25 +14,28 @@ returns-then-some_begins_dashed g c =
 
 pub returns-then-words-eq1 : goal.returns-then-words-eq1
 returns-then-words-eq1 g c =
+    let test = list_any-map is_dashed (string_bytes {Z = Global}) c.args.words.now in
+    let dashed = test ∙ (sym c.some_begins_dashed.ensures ∙ c.if-some_begins_dashed.false) in
     let words = map (string_bytes {Z = Global}) c.args.words.now in
-    let dashed = none-become is_dashed (string_bytes {Z = Global}) c.args.words.now c.some_begins_dashed.ensures c.if-some_begins_dashed.false in
-    let same = length-map c.args.words.now (string_bytes {Z = Global}) in
-    let asked = one-asked words dashed c.word-first.result.now (same ∙ c.if-words-eq1.true) c.word-first.ensures in
+    let count = length-map c.args.words.now (string_bytes {Z = Global}) ∙ c.if-words-eq1.true in
+    let asked = one-asked words dashed c.word-first.result.now count c.word-first.ensures in
     λ rig. rw (← asked) (does-job _ _ _ _ c.map_design.ensures.lawful (c.map_design.ensures.does rig))
 
 pub returns-then-words-eq3 : goal.returns-then-words-eq3
 returns-then-words-eq3 g c =
+    let test = list_any-map is_dashed (string_bytes {Z = Global}) c.args.words.now in
+    let dashed = test ∙ (sym c.some_begins_dashed.ensures ∙ c.if-some_begins_dashed.false) in
     let words = map (string_bytes {Z = Global}) c.args.words.now in
-    let dashed = none-become is_dashed (string_bytes {Z = Global}) c.args.words.now c.some_begins_dashed.ensures c.if-some_begins_dashed.false in
-    let same = length-map c.args.words.now (string_bytes {Z = Global}) in
-    let asked = three-asked words dashed c.word-first.result.now c.word-second.result.now c.word-third.result.now (same ∙ c.if-words-eq3.true)
+    let count = length-map c.args.words.now (string_bytes {Z = Global}) ∙ c.if-words-eq3.true in
+    let asked = three-asked words dashed c.word-first.result.now c.word-second.result.now c.word-third.result.now count
     c.word-first.ensures c.word-second.ensures c.word-third.ensures in
     λ rig. rw (← asked) (does-job _ _ _ _ c.fit_design.ensures.lawful (c.fit_design.ensures.does rig))
 
 pub returns : goal.returns
 returns g c =
+    let test = list_any-map is_dashed (string_bytes {Z = Global}) c.args.words.now in
+    let dashed = test ∙ (sym c.some_begins_dashed.ensures ∙ c.if-some_begins_dashed.false) in
     let words = map (string_bytes {Z = Global}) c.args.words.now in
-    let dashed = none-become is_dashed (string_bytes {Z = Global}) c.args.words.now c.some_begins_dashed.ensures c.if-some_begins_dashed.false in
     let same = length-map c.args.words.now (string_bytes {Z = Global}) in
     let one = c.if-words-eq1.false in
     let three = c.if-words-eq3.false in
