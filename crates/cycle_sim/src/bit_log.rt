@@ -1,69 +1,97 @@
-//! A list of bits that grows without moving.
+//! A list of bits, 64 to a word.
 
-ghost use Rattle.std.specs.Prelude.{◌≡◌, ℕ, ◌+◌, ◌*◌, ◌/◌, ◌%◌, ◌<◌, ◌≤◌, [], ◌∷◌, ◌++◌, max, length, take, All, OnOk};
-ghost use Rattle.cycle_sim.specs.BitLogs.{bit_in, bits_in, AreBlocks};
+ghost use Rattle.std.specs.Prelude.{◌≡◌, ◌≢◌, ℕ, false, ◌+◌, ◌*◌, ◌^◌, ◌<◌, ◌≤◌, [], ◌++◌, max, length, take, slice_index_or, OnOk};
+ghost use Rattle.tm_bits.specs.Words.{is_bit, is_bit_in};
+ghost use Rattle.cycle_sim.specs.BitLogs.{bits_in, AreWords};
 
 use std::alloc::{AllocError, Global};
 use std::marker::Model;
-use tm_bits::BitSet;
 
-/// How many bits a block has.
-const BLOCK: u64 = 4096;
+/// How many bits a word has.
+const WORD_BITS: u64 = 64;
 
 /// The most bits that there may be room for.
 const MOST_BITS: u64 = 1 << 61;
 
-/// A list of bits in blocks. Contracts see the bits, and for how many there is room.
+/// A list of bits. Contracts see the bits, and for how many there is room.
 #[derive(Drop)]
 pub struct BitLog {
-    alloc: Global,
-    blocks: Vec<BitSet>,
+    words: Vec<u64>,
     len: u64,
 }
 
 impl Model for BitLog {
     ghost use Rattle.std.specs.Prelude.{◌*◌, length};
-    ghost use Rattle.cycle_sim.specs.BitLogs.{Logged, coded_logged, bits_in, AreBlocks};
+    ghost use Rattle.cycle_sim.specs.BitLogs.{Logged, coded_logged, bits_in, AreWords};
 
     ghost Value = { Logged };
 
     ghost coded = { coded_logged };
 
-    ghost view = { λ a. record { bits = bits_in a.blocks.items a.len; room = 4096 * length a.blocks.items } };
+    ghost view = { λ a. record { bits = bits_in a.words.items a.len; room = 64 * length a.words.items } };
 
-    ghost invariant = { λ a. AreBlocks a.blocks.items a.len };
+    ghost invariant = { λ a. AreWords a.words.items a.len };
 }
 
-/// Sets a bit of the blocks.
-fn put_bit(blocks: &mut [BitSet], at: u64, bit: bool)
-    requires within { at < 4096 * length blocks.old }
-    requires full { All (λ b. length b ≡ 4096) blocks.old }
-    ensures full { All (λ b. length b ≡ 4096) blocks.new }
-    ensures len { length blocks.new ≡ length blocks.old }
-    ensures this { bit_in blocks.new at ≡ bit }
-    ensures others { (k : ℕ) → k < at → bit_in blocks.new k ≡ bit_in blocks.old k }
+/// A word with one bit set or cleared.
+fn word_with(word: u64, place: u64, bit: bool) -> u64
+    requires { place < 64 }
+    ensures this { is_bit result place ≡ bit }
+    ensures others { (k : ℕ) → k < 64 → k ≢ place → is_bit result k ≡ is_bit word k }
 {
-    let block = &mut blocks[(at / BLOCK) as usize];
-    let place = (at % BLOCK) as u32;
     if bit {
-        block.insert(place);
+        word | (1 << place)
     } else {
-        block.remove(place);
+        word & !(1 << place)
     }
 }
 
-/// Adds blocks, until there are so many.
-fn add_blocks(alloc: Global, blocks: &mut Vec<BitSet>, need: usize) -> Result<(), AllocError>
-    requires full { All (λ b. length b ≡ 4096) blocks.old.items }
-    ensures full { All (λ b. length b ≡ 4096) blocks.new.items }
-    ensures front { take (length blocks.old.items) blocks.new.items ≡ blocks.old.items }
-    ensures no_less { length blocks.old.items ≤ length blocks.new.items }
-    ensures few { length blocks.new.items ≤ max (length blocks.old.items) need }
-    ensures enough { OnOk result (need ≤ length blocks.new.items) }
+/// A word whose bits from a place on are so many of a list, from one of them on. Those before stay; what those behind are doesn't matter.
+fn fill_word(word: u64, place: u64, bits: &[bool], from: usize, count: u64) -> u64
+    requires place { place + count ≤ 64 }
+    requires bits { from + count ≤ length bits.now }
+    ensures these { (k : ℕ) → k < count → is_bit result (place + k) ≡ slice_index_or bits.now (from + k) false }
+    ensures front { (k : ℕ) → k < place → is_bit result k ≡ is_bit word k }
 {
-    'more: for _i in blocks.len()..need {
-        let block = BitSet::new(alloc, BLOCK as u32)?;
-        blocks.push(block)?;
+    let mut filled = word;
+    'bits: for k in 0..count {
+        filled = word_with(filled, place + k, bits[from + k as usize]);
+    }
+    filled
+}
+
+/// Puts bits in words from one on. Those before stay.
+fn put_bits(words: &mut [u64], at: u64, bits: &[bool])
+    requires room { at + length bits.now ≤ 64 * length words.old }
+    requires few { length words.old ≤ 2 ^ 55 }
+    ensures these { (k : ℕ) → k < length bits.now → is_bit_in words.new (at + k) ≡ slice_index_or bits.now k false }
+    ensures front { (k : ℕ) → k < at → is_bit_in words.new k ≡ is_bit_in words.old k }
+    ensures len { length words.new ≡ length words.old }
+{
+    let end = at + bits.len() as u64;
+    'words: for row in at / WORD_BITS..end.div_ceil(WORD_BITS) {
+        let begin = row * WORD_BITS;
+        let first = at.max(begin);
+        let count = end.min(begin + WORD_BITS) - first;
+        words[row as usize] = fill_word(
+            words[row as usize],
+            first - begin,
+            bits,
+            (first - at) as usize,
+            count,
+        );
+    }
+}
+
+/// Adds words, until there are so many.
+fn add_words(words: &mut Vec<u64>, need: usize) -> Result<(), AllocError>
+    ensures front { take (length words.old.items) words.new.items ≡ words.old.items }
+    ensures no_less { length words.old.items ≤ length words.new.items }
+    ensures few { length words.new.items ≤ max (length words.old.items) need }
+    ensures enough { OnOk result (need ≤ length words.new.items) }
+{
+    'more: for _i in words.len()..need {
+        words.push(0)?;
     }
     Ok(())
 }
@@ -74,8 +102,7 @@ impl BitLog {
         ensures { result ≡ record { bits = []; room = 0 } }
     {
         BitLog {
-            alloc,
-            blocks: Vec::new(alloc),
+            words: Vec::new(alloc),
             len: 0,
         }
     }
@@ -97,16 +124,16 @@ impl BitLog {
         if room > MOST_BITS {
             return Err(AllocError);
         }
-        add_blocks(self.alloc, &mut self.blocks, room.div_ceil(BLOCK) as usize)
+        add_words(&mut self.words, room.div_ceil(WORD_BITS) as usize)
     }
 
-    /// Adds a bit at the end. Takes no memory.
-    pub fn push(&mut self, bit: bool)
-        requires { length self.old.bits < self.old.room }
-        ensures bits { self.new.bits ≡ self.old.bits ++ bit ∷ [] }
+    /// Adds bits at the end. Takes no memory.
+    pub fn push_all(&mut self, bits: &[bool])
+        requires { length self.old.bits + length bits.now ≤ self.old.room }
+        ensures bits { self.new.bits ≡ self.old.bits ++ bits.now }
         ensures room { self.new.room ≡ self.old.room }
     {
-        put_bit(&mut self.blocks, self.len, bit);
-        self.len += 1;
+        put_bits(&mut self.words, self.len, bits);
+        self.len += bits.len() as u64;
     }
 }

@@ -79,9 +79,7 @@ fn push_pins(log: &mut BitLog, pins: &PinBits)
     ensures bits { log.new.bits ≡ log.old.bits ++ pins.now }
     ensures room { log.new.room ≡ log.old.room }
 {
-    'pins: for k in 0..pins.len() {
-        log.push(pins.get(k));
-    }
+    log.push_all(pins.as_slice());
 }
 
 impl Sim {
