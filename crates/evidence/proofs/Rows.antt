@@ -11,7 +11,7 @@ use Rattle.std.proofs.lemmas.List.FromFn.{length-range_with_len, length-map-rang
 use Rattle.std.proofs.lemmas.List.Elements.{All-map}
 use Rattle.std.proofs.Math.ListN.{drop_of_length-le}
 use Rattle.hierarchy.specs.Circuit.{Pins}
-use Rattle.evidence.specs.Looks.{differ, look_drives, none_driven, one_driven}
+use Rattle.evidence.specs.Looks.{differ, look_drives, none_driven, one_driven, parts}
 
 -- what a bit of a row is
 pub bit_of : (row : Pins) (k : ℕ) (b : Bool) → slice_get row k ≡ Some b → get_or row k true ≡ b
@@ -127,3 +127,12 @@ not_at_second false b e = refl
 
 pub all_three : (a b : Bool) → a ≡ true → b ≡ true → (a && b) ≡ true
 all_three a b p q = rw p q
+
+differ_self : (b : Bool) → differ b b ≡ false
+differ_self true = refl
+differ_self false = refl
+
+-- no pin parts from itself
+pub parts_self : (rows : List Pins) (a : ℕ) → parts rows a a ≡ false
+parts_self [] a = refl
+parts_self (row ∷ rows) a = ap (λ b. b || parts rows a a) (differ_self (get_or row a true)) ∙ parts_self rows a

@@ -151,8 +151,12 @@ impl Looks {
         requires b { b < self.now.pins }
         ensures { result ≡ parts self.now.rows a b }
     {
-        // Pins mostly part where one of them is driven: of many pins most rows needn't be looked at.
-        if parts_in(&self.rows, a as usize + 1, a, b) {
+        if a == b {
+            return false;
+        }
+        // Pins mostly part where one of them is driven: of many pins most rows needn't be looked at. Where many are compared with one,
+        // that is the second, so that its row is looked at over and over.
+        if parts_in(&self.rows, b as usize + 1, a, b) {
             return true;
         }
         parts(&self.rows, a, b)
