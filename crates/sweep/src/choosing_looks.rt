@@ -4,6 +4,7 @@ use crate::bad::Bad;
 use crate::board::{Mark, in_set};
 use crate::choosing::{Aim, Chooser, Link, Still, Told, flag_at, knows, set_flag};
 use crate::climbs::Walk;
+use crate::hangs::PINS_A_HANG;
 use crate::search::Search;
 use evidence::Proof;
 use hierarchy::{Cross, Wire};
@@ -320,7 +321,7 @@ impl Chooser {
         Ok(Vec::new(self.alloc))
     }
 
-    /// The next look. None where no wire is to be looked at, or none can.
+    /// The next look. None where no wire is to be looked at, none can, or so few hang that it isn't worth its cycles.
     pub(crate) fn lay_look(
         &mut self,
         search: &mut Search,
@@ -329,7 +330,9 @@ impl Chooser {
         bad: &Bad,
     ) -> Result<Option<Told>, AllocError> {
         let feet = self.next_feet(search, known, bad)?;
-        if feet.is_empty() {
+        let few = feet.len().saturating_mul(PINS_A_HANG) < search.board.pins() as usize;
+        if feet.is_empty() || few {
+            search.climbs.clear();
             return Ok(None);
         }
         let links = spread_links(self.alloc, known, search)?;

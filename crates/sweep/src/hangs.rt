@@ -20,7 +20,7 @@ const MOST_MISSES: u32 = 16;
 
 /// For how many pins of the machine a wire has to hang at least. A look goes over all pins for each of them: where they are many and few
 /// wires hang, growth takes less.
-const PINS_A_WIRE: usize = 1_000;
+pub(crate) const PINS_A_HANG: usize = 1_000;
 
 /// How high the pins of tables are.
 const TABLE_PINS: usize = 8;
@@ -148,7 +148,7 @@ impl Search {
                 misses = self.try_hang(unfit, w, misses)?;
             }
         }
-        if self.hangs.len().saturating_mul(PINS_A_WIRE) < self.board.pins() as usize {
+        if self.hangs.len().saturating_mul(PINS_A_HANG) < self.board.pins() as usize {
             self.hangs.clear();
         }
         Ok(())

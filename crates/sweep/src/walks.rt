@@ -31,6 +31,14 @@ struct Peak {
     place: u32,
 }
 
+// Whether a beginning was found that has so many left to try.
+fn has_left(found: Option<(u32, u32, Wire)>, least: u32) -> bool {
+    match found {
+        Some(found) => found.0 >= least,
+        None => false,
+    }
+}
+
 impl Search {
     /// Counts what is left to try, before the first load of walks. There are no groups yet.
     pub(crate) fn begin_walks(&mut self) {
@@ -47,8 +55,13 @@ impl Search {
 
     // The wire of a crossbar that isn't used and has most left to try, less than this many or the same at a later place; and its place.
     fn next_beginning(&self, node: u32, most: u32, from: u32) -> Option<(u32, u32, Wire)> {
+        let lines = self.heights.bar_lines(node);
         let mut best: Option<(u32, u32, Wire)> = None;
         'places: for place in 0..self.heights.bar_len(node) {
+            // The lines are the first. A tap stands in two crossbars at most, so of taps hardly one has more left than twice as many.
+            if place >= lines && has_left(best, lines.saturating_mul(2)) {
+                break;
+            }
             let Some(w) = self.heights.bar_wire(node, place) else {
                 continue;
             };
