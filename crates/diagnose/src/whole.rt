@@ -171,8 +171,10 @@ fn sweep_whole(
     ensures field { course.new.field ≡ course.old.field }
     ensures marks { AreMarksFor proof.old.shape bad.new }
     ensures right { TrueIf (rig_state rig.old).machine.faults proof.new known.new.steps bad.new }
-    ensures pays { worth course.new.field proof.new bad.new (rig_state rig.new).loads course.new.choices.left + 14 * size_of course.old.choices.paid
-        ≤ worth course.old.field proof.old bad.old (rig_state rig.old).loads course.old.choices.left + (pins_in proof.old.shape course.old.field + 14 * size_of course.new.choices.paid) }
+    ensures pays { worth course.new.field proof.new bad.new (rig_state rig.new).loads course.new.choices.left
+        + 14 * size_of course.old.choices.paid
+        ≤ worth course.old.field proof.old bad.old (rig_state rig.old).loads course.old.choices.left
+        + (pins_in proof.old.shape course.old.field + 14 * size_of course.new.choices.paid) }
     ensures few { IfFaultless (rig_state rig.old).machine.faults proof.old (course.new.choices.paid ≡ course.old.choices.paid) }
     ensures paid { length course.new.choices.paid ≡ length course.old.choices.paid }
     ensures advances { Advances (rig_state rig.old) (rig_state rig.new) proof.old proof.new }

@@ -68,7 +68,8 @@ fn spread_for(
 
 // The one with fewer crossings, or the second where both have as many.
 fn with_fewer_crossings(merged: Option<Smaller>, spread: Option<Smaller>) -> Option<Smaller>
-    ensures { (defects : DefectList) (draft : Draft) → IfSome merged (IsSmallerFor defects draft) → IfSome spread (IsSmallerFor defects draft) →
+    ensures { (defects : DefectList) (draft : Draft) →
+        IfSome merged (IsSmallerFor defects draft) → IfSome spread (IsSmallerFor defects draft) →
         IfSome result (IsSmallerFor defects draft) }
 {
     match (merged, spread) {

@@ -22,7 +22,8 @@ AreDue plan state m due = (word : ℕ) → word < m → AreDueIn plan state word
 -- what the tables of a word give is turned where the bits say so, and nothing else
 pub record AreTurnedBy (word due : ℕ) (old new : State) : Type 0 where
   pub inputs : new.inputs.items ≡ old.inputs.items
-  pub turned : (bit : ℕ) → bit < 64 → value_in new.values.items (64 * word + bit) ≡ flip (cell_at due bit) (value_in old.values.items (64 * word + bit))
+  pub turned : (bit : ℕ) → bit < 64 →
+      value_in new.values.items (64 * word + bit) ≡ flip (cell_at due bit) (value_in old.values.items (64 * word + bit))
   pub others : (t : ℕ) → ((bit : ℕ) → bit < 64 → t ≡ 64 * word + bit → ⊥) → value_in new.values.items t ≡ value_in old.values.items t
 
 -- each latched table gives the other value exactly where it differed

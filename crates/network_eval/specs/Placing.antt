@@ -22,7 +22,8 @@ pub record IsPlaced (n m : Network) : Type 0 where
   pub places : List ℕ
   pub count : length m.tables ≡ length n.tables
   pub inputs : m.inputs ≡ n.inputs
-  pub tables : (j : ℕ) → j < length n.tables → (named_by places j < length m.tables) × (table_at m (named_by places j) ≡ renamed_table (named_by places) (table_at n j))
+  pub tables : (j : ℕ) → j < length n.tables →
+      (named_by places j < length m.tables) × (table_at m (named_by places j) ≡ renamed_table (named_by places) (table_at n j))
   pub outputs : m.outputs ≡ map (renamed (named_by places)) n.outputs
 
 abbrev pub AreInsInRange : Network → ℕ → Type 0

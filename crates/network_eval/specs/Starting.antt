@@ -21,7 +21,8 @@ pub record IsAddress (ins : List Source) (inputs values : List Bool) (m address 
 -- the first m masks, of all, are those of tables that give these bits
 pub record HaveMasksTo (tables : List NetTable) (values : List Bool) (m : ℕ) (masks : List ℕ) : Type 0 where
   pub len : length masks ≡ length tables
-  pub cells : (t a : ℕ) → t < m → a < 64 → cell_at (number_at masks t) a ≡ flip (value_in values t) (cell_at (slice_index_or tables t no_table).cells a)
+  pub cells : (t a : ℕ) → t < m → a < 64 →
+      cell_at (number_at masks t) a ≡ flip (value_in values t) (cell_at (slice_index_or tables t no_table).cells a)
 
 -- the first m addresses, of all, have what their tables' pins read
 pub record HaveAddressesTo (n : Network) (inputs values : List Bool) (m : ℕ) (addresses : List ℕ) : Type 0 where

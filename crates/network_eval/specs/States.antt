@@ -29,7 +29,8 @@ pub record HavePins (n : Network) (inputs values : List Bool) (addresses : List 
 -- each table's mask has its cells, turned where it gives 1: so the mask's cell says whether the table differs from what it gives
 pub record HaveMasks (n : Network) (values : List Bool) (masks : List ℕ) : Type 0 where
   pub len : length masks ≡ length n.tables
-  pub cells : (t a : ℕ) → t < length n.tables → a < 64 → cell_at (number_at masks t) a ≡ flip (value_in values t) (cell_at (table_at n t).cells a)
+  pub cells : (t a : ℕ) → t < length n.tables → a < 64 →
+      cell_at (number_at masks t) a ≡ flip (value_in values t) (cell_at (table_at n t).cells a)
 
 -- a table reads an input, a latched table, or one before it
 abbrev pub IsLower : Network → ℕ → Source → Type 0

@@ -3,7 +3,8 @@
 ghost use Rattle.std.specs.Prelude.{◌≡◌, ◌+◌, ◌<◌, ◌≤◌, ◌∷◌, ℕ, List, Bool, true, length, IfOk};
 ghost use Rattle.table_map.specs.Rows.{RowsFrom};
 ghost use Rattle.network_eval.specs.States.{value_in, IsPlan};
-ghost use Rattle.network_eval.specs.Wires.{one_of, AreLatchedSame, AreTablesIn, AreTrueTo, AreWires, HaveInputs, HaveTakenTo, IsBusy, IsShaped};
+ghost use Rattle.network_eval.specs.Wires.{one_of, AreLatchedSame, AreTablesIn, AreTrueTo, AreWires, HaveInputs, HaveTakenTo};
+ghost use Rattle.network_eval.specs.Wires.{IsBusy, IsShaped};
 
 use crate::plan::Plan;
 use crate::showing::show;
@@ -156,7 +157,8 @@ fn take_bit(plan: &Plan, wires: &[usize], bits: &[bool], values: &mut [bool], ta
     requires table { table < length plan.now.network.tables }
     ensures len { length values.new ≡ length values.old }
     ensures taken { (inputs : List Bool) → HaveInputs plan.now.network inputs bits.now →
-        HaveTakenTo plan.now.network table inputs bits.now values.old → HaveTakenTo plan.now.network (table + 1) inputs bits.now values.new }
+        HaveTakenTo plan.now.network table inputs bits.now values.old →
+        HaveTakenTo plan.now.network (table + 1) inputs bits.now values.new }
 {
     let one = &plan.network.tables.as_slice()[table];
     if !one.latched {

@@ -62,7 +62,8 @@ impl NetworkEval {
         ensures network { self.new.network ≡ self.old.network }
         ensures len { length row.new ≡ length row.old }
         // Rows that go on from here are rows from before, behind this one.
-        ensures rows { (vectors rows : List (List Bool)) → RowsOn self.new vectors rows → RowsOn self.old (vector.now ∷ vectors) (row.new ∷ rows) }
+        ensures rows { (vectors rows : List (List Bool)) →
+            RowsOn self.new vectors rows → RowsOn self.old (vector.now ∷ vectors) (row.new ∷ rows) }
     {
         run_cycle(&mut self.run, vector, row);
     }

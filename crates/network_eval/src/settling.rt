@@ -49,7 +49,8 @@ fn settle_table(plan: &Plan, state: &mut State, table: usize)
     ensures kept { IsKept plan.now state.new }
     ensures before { AreGivenBefore plan.now.network state.old state.new }
     ensures this { IsCombinational plan.now.network table → differs_in state.new table ≡ false }
-    ensures lower { (t : ℕ) → t < table → IsCombinational plan.now.network t → differs_in state.old t ≡ false → differs_in state.new t ≡ false }
+    ensures lower { (t : ℕ) → t < table → IsCombinational plan.now.network t →
+        differs_in state.old t ≡ false → differs_in state.new t ≡ false }
 {
     if plan.network.tables.as_slice()[table].latched {
         return;

@@ -4,8 +4,8 @@
 //! or no session, that a failure is answered only where a count rose, which stays below 2^64, that want of memory for a cycle
 //! comes only where no room is left, that after a load the told faults are faults of the configuration's shape, and that where
 //! the faults are told all readings of a session are the run of its configuration. `load`, `cycle` and `cycles` are the same calls of a
-//! boxed rig. `LogRig` passes each load on once, and counts none that is refused. `FlakyRig` fails at exactly the chosen calls
-//! and doesn't reach the rig inside at these. Where it wants memory itself at `attach`, it doesn't reach that one either
+//! boxed rig. `LogRig` passes each load on once, and counts none that is refused. `FlakyRig` fails at the chosen calls,
+//! where it doesn't reach the rig inside, and at others only where that one does. Where it wants memory itself at `attach`, it doesn't reach that one either
 //! (`wanting`).
 #![tactic(auto)]
 

@@ -16,6 +16,7 @@ pub struct LogRig<R: Rig> {
 }
 
 impl<R: Rig> LogRig<R> {
+    /// Over a rig whose loads before aren't counted.
     pub fn new(inner: R) -> Self
         ensures { ⟦<LogRig<R> as Rig>⟧.rig_state result ≡ record (R.rig_state inner) { loads = 0 } }
     {

@@ -165,7 +165,8 @@ fn sweep_around(
     sweep(rig, proof, known, &mut bad, &field, config.tables_on())
 }
 
-// Sweeps around the image, and then tests it in two fields, the second with a further port and line of each node, for where one of the first is bad.
+// Sweeps around the image, and then tests it in two fields, the second with a further port and line of each node, for where one of
+// the first is bad.
 fn check_with(
     alloc: Global,
     rig: &mut Box<dyn Rig>,

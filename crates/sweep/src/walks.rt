@@ -125,8 +125,8 @@ impl Search {
         best
     }
 
-    // Of the links of a wire in a crossbar to wires that aren't used, with this mark, the first one whose wire has most left to try. No wire
-    // there has more than the peak, and none before the place of the peak has so much.
+    // Of the links of a wire in a crossbar to wires that aren't used, with this mark, the first one whose wire has most left to try. No
+    // wire there has more than the peak, and none before the place of the peak has so much.
     fn best_link(&self, node: u32, w: Wire, mark: Mark, peak: Peak) -> Option<(u32, Foot)> {
         let (first, end) = self.heights.within(w, node);
         let from = first.saturating_add(peak.place);

@@ -80,7 +80,8 @@ impl<'a> DesignEval<'a> {
         ensures netlist { self.new.netlist ≡ self.old.netlist }
         ensures len { length row.new ≡ length row.old }
         // Rows that go on from here are rows from before, behind this one.
-        ensures rows { (vectors rows : List (List Bool)) → RowsLeft self.new.run vectors rows → RowsLeft self.old.run (vector.now ∷ vectors) (row.new ∷ rows) }
+        ensures rows { (vectors rows : List (List Bool)) →
+            RowsLeft self.new.run vectors rows → RowsLeft self.old.run (vector.now ∷ vectors) (row.new ∷ rows) }
     {
         match &mut self.run {
             Run::Netlist(eval) => eval.step_ahead(vector, ahead, row),

@@ -27,7 +27,8 @@ abbrev pub design_laid : Draft → Laid
 design_laid draft = record { lays = λ d. lays d draft; width = length draft.inputs; rows = λ vectors rows. AreRows draft vectors rows }
 
 abbrev pub go_begin : Around → (machine design vectors : List ℕ) → RunBegin
-go_begin old machine design vectors = record { begun = old.store; failures = old.rig.failures; files = design ∷ machine ∷ []; vectors = vectors }
+go_begin old machine design vectors =
+    record { begun = old.store; failures = old.rig.failures; files = design ∷ machine ∷ []; vectors = vectors }
 
 -- The design is read, and the machine is listed
 abbrev pub design_read : (machine design vectors : List ℕ) → Around → Around → Shape → Course
