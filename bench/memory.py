@@ -1,8 +1,8 @@
 """Commands that find no memory: python3 bench/memory.py TERAMAC [FOLDER]
 
 Runs `go`, `compile`, `run`, `diagnose`, `check`, `repair`, `eval` and `pair` on the files of examples/ again and again, and refuses
-one allocation of each run: the first, the second and so on, until a run makes fewer. A library that is loaded before the C library
-does so (it is compiled in FOLDER, else in a temporary one). Each run must end as with ample memory, or with status 6 and, behind
+one allocation of each run: the first, the second and so on (of more than 5,000 some thousand, evenly spread). A library that is
+loaded before the C library does so (it is compiled in FOLDER, else in a temporary one). Each run must end as with ample memory, or with status 6 and, behind
 whole lines of what is written with ample memory, the line `refused memory`. The first few, before there are words, files and an
 output, write nothing. Says for each command how many allocations were refused and how these runs ended.
 """
@@ -69,7 +69,7 @@ COMMANDS = [
     ("check", ["check", "tiny.machine", "tiny.faults", "and.image"]),
     ("repair", ["repair", "tiny.machine", "tiny.defects", "and.image"]),
     ("go", ["go", "tiny.machine", "tiny.faults", "and.blif", "and.vec"]),
-    ("pair", ["pair", "small.machine", "small.faults", "and.blif", "counter.blif", "and.vec"]),
+    ("pair", ["pair", "small.machine", "small.faults", "counter.blif", "counter.blif", "and.vec"]),
 ]
 
 
@@ -103,7 +103,7 @@ def is_front(front, whole):
 def refuse_each(name, command, folder, preload):
     ample = run(command, folder, preload, -1)
     wrong, ended, early = [], 0, 0
-    for number in range(ample[2]):
+    for number in range(0, ample[2], 1 if ample[2] <= 5000 else ample[2] // 1000):
         status, written, _ = run(command, folder, preload, number)
         ended += status == 6
         if early == number and (status, written) == (6, b""):
