@@ -21,7 +21,7 @@ does-wrong {T} words result old is why = rw is (record {
   later = record { contents = refl; texts = refl; kind = refl; store = omega arith; rig = omega arith; sink = omega arith };
   asked = record { all = tt; some = refl };
   machines = refl;
-  written = ([], (refl, refl), Wrote-none old.sink.written);
+  written = ([], (refl, refl, refl), Wrote-none old.sink.written);
   counted = why;
 })
 

@@ -39,12 +39,12 @@ quiet files asks course right = record {
   has_begun = λ old new text. ⊥;
 }
 
--- what wrong words ask
+-- what wrong words ask: they are refused, and store and rig are as they were
 abbrev pub wrong_words : Job
 wrong_words = record {
   files = [];
   asks = λ old new. new.rig ≡ old.rig;
-  course = λ old new text next. (text ≡ []) × (next ≡ refuses Words);
+  course = λ old new text next. (text ≡ []) × (next ≡ refuses Words) × (new.store ≡ old.store);
   right = λ old new front. ⊥;
   short = λ old new front. ⊥;
   few = λ old new. Unit {0};

@@ -26,6 +26,11 @@ fn list_of_text(alloc: Global, shape: &Shape, text: &[u8]) -> Result<Defects, St
 }
 
 /// Reads the list of defects of a machine: its file up to one byte more than it may have.
+///
+/// # Errors
+///
+/// The store's, where it can't start or read the file; kind `Limit` at line 0, where the file is too long; else the first
+/// fault of its text as a list of this machine; or want of memory.
 pub fn read_list<S: Store>(
     alloc: Global,
     shape: &Shape,

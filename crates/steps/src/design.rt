@@ -44,6 +44,11 @@ fn netlist_of(alloc: Global, file: DesignFile, text: &[u8]) -> Result<Netlist, S
 }
 
 /// Reads a design: its file up to one byte more than it may have.
+///
+/// # Errors
+///
+/// The store's, where it can't start or read the file; kind `Limit` at line 0, where the file is too long; else the first
+/// fault of its text; or want of memory. A fault names which of the command's designs this is.
 pub fn read_design<S: Store>(
     alloc: Global,
     file: DesignFile,
@@ -76,6 +81,10 @@ fn with_netlist(alloc: Global, file: DesignFile, text: Vec<u8>) -> Result<Design
 }
 
 /// Reads a design as [`read_design`] does, and keeps its bytes.
+///
+/// # Errors
+///
+/// Those of [`read_design`].
 pub fn read_text<S: Store>(
     alloc: Global,
     file: DesignFile,

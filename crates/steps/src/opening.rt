@@ -7,6 +7,10 @@ use crate::refusal::Stop;
 use tm_outside::Store;
 
 /// Starts a file of vectors, and reads none.
+///
+/// # Errors
+///
+/// The store's, where it can't start the file: then no file is current, and its count rose; or want of memory.
 pub fn open_vectors<S: Store>(store: &mut S, name: &str) -> Result<(), Stop>
     // Whatever the rig and the sink are.
     ensures took { (rig : RigState) (sink : SinkState) →
