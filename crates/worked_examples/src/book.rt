@@ -3,7 +3,7 @@
 use crate::block::{Block, blocks};
 use crate::design::ports_of;
 use crate::judge::{Trial, Want, judge};
-use crate::step::{Each, Marks, Step};
+use crate::step::{Each, Just, Marks, Step};
 use crate::trial::Given;
 use example_words::{numbers_of, turn_of};
 use std::alloc::{AllocError, Global};
@@ -155,6 +155,13 @@ fn mark(
 ) -> Result<bool, AllocError> {
     match key {
         "some" => marks.some = Some(String::from_utf8_lossy(alloc, &body)?),
+        "just" => match first_of(&words).parse::<usize>() {
+            Ok(count) => {
+                let lines = String::from_utf8_lossy(alloc, &body)?;
+                marks.just = Some(Just { lines, count });
+            }
+            Err(_) => return Ok(false),
+        },
         "only" => {
             marks.only = String::from_utf8_lossy(alloc, &body)?;
             marks.words = words;
@@ -329,7 +336,9 @@ impl Book {
             "design" => self.ask_design(&words),
             "text" | "faults" | "file" => self.give(key, first, body),
             "cut" | "flip" => self.change(key, &words),
-            "some" | "only" | "last" => { mark(self.alloc, &mut self.step.marks, key, words, body) }
+            "some" | "just" | "only" | "last" => {
+                mark(self.alloc, &mut self.step.marks, key, words, body)
+            }
             "ends" => self.end(rt, first, &body, true),
             "begins" => self.end(rt, first, &body, false),
             "repeats" => self.repeat(rt, &words),

@@ -70,6 +70,19 @@ fn has_line(text: &str, line: &str) -> bool {
     text.lines().any(|other| other == line)
 }
 
+// How many of these lines a text has.
+fn count_had(text: &str, lines: &str) -> usize {
+    lines.lines().filter(|line| has_line(text, line)).count()
+}
+
+// Whether a text has as many of some lines as is said, if anything is.
+fn has_just(marks: &Marks, text: &str) -> bool {
+    match &marks.just {
+        Some(just) => count_had(text, just.lines.as_str()) == just.count,
+        None => true,
+    }
+}
+
 // Whether a line begins with one of these words.
 fn begins_with_one(line: &str, words: &[String]) -> bool {
     let first = line.split_whitespace().next().unwrap_or("");
@@ -154,6 +167,7 @@ fn try_piece(
     let right = is_wanted(&trial.want, &outcome)
         && is_within(trial.step.most_loads, outcome.loads)
         && is_marked(marks, text.as_str())
+        && has_just(marks, text.as_str())
         && is_design(alloc, marks, text.as_str())?
         && outcome.bytes.as_slice().ends_with(&marks.last);
     if !right {

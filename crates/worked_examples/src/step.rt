@@ -13,11 +13,19 @@ pub struct Each {
     pub last: Vec<u8>,
 }
 
+/// Lines of which so many are there.
+#[derive(Drop)]
+pub struct Just {
+    pub lines: String,
+    pub count: usize,
+}
+
 /// What is said of single lines of what is written, where it isn't known as a whole.
 #[derive(Drop)]
 pub struct Marks {
     /// Lines of which one is there.
     pub some: Option<String>,
+    pub just: Option<Just>,
     /// Words, and the only lines that begin with one of them.
     pub words: Vec<String>,
     pub only: String,
@@ -58,6 +66,7 @@ impl Marks {
     pub fn new(alloc: Global) -> Marks {
         Marks {
             some: None,
+            just: None,
             words: Vec::new(alloc),
             only: String::new(alloc),
             last: Vec::new(alloc),
