@@ -175,6 +175,15 @@ fn next(
     }
 }
 
+// Whether all questions up to here took no more loads than words say. None where they say no number.
+fn are_within(rig: &Box<dyn Rig>, words: &[String]) -> Option<bool> {
+    let [most] = words else {
+        return None;
+    };
+    let most = most.as_str().parse::<u64>().ok()?;
+    Some(rig.loads() <= most)
+}
+
 // What comes of a line. None where it says nothing.
 fn came_of(
     alloc: Global,
@@ -197,6 +206,7 @@ fn came_of(
     match key {
         "crossbar" => next(alloc, rig, proof, walk, bench, words),
         "separated" => yes_or_no(alloc, Some(are_separated(proof, walk))),
+        "altogether" => yes_or_no(alloc, are_within(rig, words)),
         "toggle" | "cell" | "register" | "swing" | "apart" => {
             asked(alloc, rig, proof, bench, key, words)
         }
