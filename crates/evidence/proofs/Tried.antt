@@ -1,5 +1,5 @@
 -- What a test of hangs leaves.
-use Rattle.std.proofs.Common.{◌≡◌, ◌≤◌, ℕ, Bool, true, false, Some, Option, List, All, refl, sym, ◌∙◌}
+use Rattle.std.proofs.Common.{◌≡◌, ◌≤◌, ◌+◌, ℕ, Bool, true, false, Some, Option, List, All, refl, sym, ◌∙◌}
 use Rattle.std.specs.Prelude.{map}
 use Rattle.std.proofs.lemmas.List.Elements.{All-map}
 use Rattle.hierarchy.specs.Faults.{Faults}
@@ -19,11 +19,11 @@ pub are_hung : {trees : Trees} {hs : List Hang} → AreHangs trees hs → AreHun
 are_hung h = record { over = h.over; other = h.other; wires = h.wires }
 
 module _ (told : Option Faults) (trees : Trees) (hs : List Hang) (views : Views) (yes : Bool) (viewed : HasViewed told trees hs views yes) (k l : Kept) where
-  pub tried_silent : (was were : List Bool) → yes ≡ false → l ≡ k → HasTried told trees hs k l was was were were
-  tried_silent was were e same = silent views.all.rows viewed.all (viewed.answers ∙ e) same refl refl
+  pub tried_silent : {before after : ℕ} (was were : List Bool) → yes ≡ false → after ≤ before + 1 → l ≡ k → HasTried told trees hs before after k l was was were were
+  tried_silent was were e once same = silent views.all.rows viewed.all (viewed.answers ∙ e) once same refl refl
 
   module _ (is_yes : yes ≡ true) {was is were are : List Bool} (learnt : HasLearnt trees hs views k l was is were are) where
-    pub tried_answered : HasTried told trees hs k l was is were are
+    pub tried_answered : {before after : ℕ} → HasTried told trees hs before after k l was is were are
     tried_answered = answered views.all.rows viewed.all (viewed.answers ∙ is_yes) (record {
       without_over = views.without_over.rows;
       over_look = viewed.without_over is_yes;

@@ -1,5 +1,5 @@
 -- Wires that are hung on forests, to be tested.
-use Rattle.std.specs.Prelude.{◌≡◌, ℕ, ◌<◌, ◌==◌, Bool, true, false, not, ◌&&◌, ◌||◌, Option, Some, None, List, ◌++◌, All, map}
+use Rattle.std.specs.Prelude.{◌≡◌, ℕ, ◌<◌, ◌≤◌, ◌+◌, ◌==◌, Bool, true, false, not, ◌&&◌, ◌||◌, Option, Some, None, List, ◌++◌, All, map}
 use Rattle.std.specs.Prelude.{filter, unwrap_or}
 use Rattle.std.specs.List.{list_any, list_all, range_with_len, IsDistinct}
 use Rattle.hierarchy.specs.Circuit.{Pins}
@@ -202,10 +202,13 @@ pub record HasHungOn (told : Option Faults) (trees : Trees) (hs : List Hang) (ro
   pub first_marks : HasMarked trees (others hs) without_over was some were few
   pub second_marks : HasMarked trees (overs hs) without_other some is few are
 
--- What `hang_each` leaves: where no pin answers in the first look, all as it was.
-pub data HasTried (told : Option Faults) (trees : Trees) (hs : List Hang) (old new : Kept) (was is were are : List Bool) : Type 0 where
+-- What `hang_each` leaves, where the rig counted so many loads before and after: where no pin answers in the first look, all as it was,
+-- and no other look is made.
+pub data HasTried (told : Option Faults) (trees : Trees) (hs : List Hang) (before after : ℕ) (old new : Kept)
+    (was is were are : List Bool) : Type 0 where
   silent : (rows : List Pins) → IsLook told trees.shape (closes trees (all_feet hs)) rows →
-      some_answers trees hs rows ≡ false → new ≡ old → is ≡ was → are ≡ were → HasTried told trees hs old new was is were are
+      some_answers trees hs rows ≡ false → after ≤ before + 1 → new ≡ old → is ≡ was → are ≡ were →
+      HasTried told trees hs before after old new was is were are
   answered : (rows : List Pins) → IsLook told trees.shape (closes trees (all_feet hs)) rows →
       some_answers trees hs rows ≡ true → HasHungOn told trees hs rows old new was is were are →
-      HasTried told trees hs old new was is were are
+      HasTried told trees hs before after old new was is were are

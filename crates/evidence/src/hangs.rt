@@ -1,5 +1,5 @@
 //! Wires that hang on two trees each over a crosspoint that isn't known, tested many at a time.
-ghost use Rattle.std.specs.Prelude.{◌≡◌, ◌≤◌, ◌<◌, ◌+◌, ◌++◌, ℕ, Bool, Some, All, map, length, IfOk, OnOk, OnErr, IsErrOf};
+ghost use Rattle.std.specs.Prelude.{◌≡◌, ◌≤◌, ◌<◌, ◌+◌, ◌++◌, ℕ, Bool, false, Some, All, map, length, IfOk, OnOk, OnErr, IsErrOf};
 ghost use Rattle.tm_outside.specs.Counts.{Rose};
 ghost use Rattle.hierarchy.specs.Shape.{wires_of, pins_of};
 ghost use Rattle.rig.specs.Rig.{shape_of};
@@ -209,6 +209,7 @@ impl Proof {
         ensures views { AreViews (pins_of self.old.shape) views.new }
         ensures viewed { IfOk result (HasViewed (rig_state rig.old).machine.faults forest.now hangs.now views.new) }
         ensures loads { LoadsUpTo 3 result (rig_state rig.old) (rig_state rig.new) }
+        ensures once { IfOk result (λ yes. yes ≡ false → (rig_state rig.new).loads ≤ (rig_state rig.old).loads + 1) }
         ensures session { OnOk result (HasLooked self.old.shape (rig_state rig.new)) }
         ensures wanting { IsErrOf result RigFail.Memory → WantsRoom self.old.shape (rig_state rig.old) (rig_state rig.new) }
     {
@@ -298,8 +299,8 @@ impl Proof {
         requires unfit { length unfit.old ≡ wires_of self.old.shape }
         requires unclear { length unclear.old ≡ wires_of self.old.shape }
 
-        ensures tried { OnOk result (HasTried (rig_state rig.old).machine.faults forest.now hangs.now self.old self.new
-            unfit.old unfit.new unclear.old unclear.new) }
+        ensures tried { OnOk result (HasTried (rig_state rig.old).machine.faults forest.now hangs.now (rig_state rig.old).loads
+            (rig_state rig.new).loads self.old self.new unfit.old unfit.new unclear.old unclear.new) }
         ensures unfit { (known : ℕ → Bool) → AreAllOf forest.now known →
             UnfitIf (rig_state rig.old).machine.faults self.old known unfit.old →
             UnfitIf (rig_state rig.old).machine.faults self.new known unfit.new }

@@ -110,21 +110,21 @@ one_unclear a hs of {trees} {rows} {were = were} m w on = by (or_cases (is_uncle
     by (inl new) = inr (wire_of_field a _ w hs of new)
     by (inr old) = inl old
 
-tried_unfit : (a : Field) (hs : List Hang) → AreOf a hs → {told : Option Faults} {trees : Trees} {k l : Kept} {was is were are : List Bool} → HasTried told trees hs k l was is were are → IsNewOf a was is
-tried_unfit a hs of {was = was} {is = is} (silent rows look none kept same also) = new_same a was is same
+tried_unfit : (a : Field) (hs : List Hang) → AreOf a hs → {told : Option Faults} {trees : Trees} {before after : ℕ} {k l : Kept} {was is were are : List Bool} → HasTried told trees hs before after k l was is were are → IsNewOf a was is
+tried_unfit a hs of {was = was} {is = is} (silent rows look none once kept same also) = new_same a was is same
 tried_unfit a hs of {was = was} {is = is} (answered rows look some h) = new_then a was h.some is (one_unfit a (map turned hs) (turned_of a hs of) h.first_marks) (one_unfit a hs of h.second_marks)
 
-tried_unclear : (a : Field) (hs : List Hang) → AreOf a hs → {told : Option Faults} {trees : Trees} {k l : Kept} {was is were are : List Bool} → HasTried told trees hs k l was is were are → IsNewOf a were are
-tried_unclear a hs of {were = were} {are = are} (silent rows look none kept same also) = new_same a were are also
+tried_unclear : (a : Field) (hs : List Hang) → AreOf a hs → {told : Option Faults} {trees : Trees} {before after : ℕ} {k l : Kept} {was is were are : List Bool} → HasTried told trees hs before after k l was is were are → IsNewOf a were are
+tried_unclear a hs of {were = were} {are = are} (silent rows look none once kept same also) = new_same a were are also
 tried_unclear a hs of {were = were} {are = are} (answered rows look some h) = new_then a were h.few are (one_unclear a (map turned hs) (turned_of a hs of) h.first_marks) (one_unclear a hs of h.second_marks)
 
-pub unfit_marks : (a : Field) (told : Option Faults) (trees : Trees) (hs : List Hang) (k l : Kept) (was is were are : List Bool) {T E : Type 0} (r : Result T E) → All (λ h. has_number a.wires h.wire.0 ≡ true) hs → length is ≡ length was → StayMarked was is →
-    OnOk r (HasTried told trees hs k l was is were are) → OnErr r (is ≡ was) → MarksSome (λ w. has_number a.wires w ≡ true) was is
+pub unfit_marks : (a : Field) (told : Option Faults) (trees : Trees) (hs : List Hang) (k l : Kept) (was is were are : List Bool) {before after : ℕ} {T E : Type 0} (r : Result T E) → All (λ h. has_number a.wires h.wire.0 ≡ true) hs → length is ≡ length was → StayMarked was is →
+    OnOk r (HasTried told trees hs before after k l was is were are) → OnErr r (is ≡ was) → MarksSome (λ w. has_number a.wires w ≡ true) was is
 unfit_marks a told trees hs k l was is were are (Ok v) of len stay tried same = record { len = len; stays = stay; within = tried_unfit a hs of tried }
 unfit_marks a told trees hs k l was is were are (Err e) of len stay tried same = record { len = len; stays = stay; within = new_same a was is same }
 
-pub unclear_marks : (a : Field) (told : Option Faults) (trees : Trees) (hs : List Hang) (k l : Kept) (was is were are : List Bool) {T E : Type 0} (r : Result T E) → All (λ h. has_number a.wires h.wire.0 ≡ true) hs → length are ≡ length were → StayMarked were are →
-    OnOk r (HasTried told trees hs k l was is were are) → OnErr r (are ≡ were) → MarksSome (λ w. has_number a.wires w ≡ true) were are
+pub unclear_marks : (a : Field) (told : Option Faults) (trees : Trees) (hs : List Hang) (k l : Kept) (was is were are : List Bool) {before after : ℕ} {T E : Type 0} (r : Result T E) → All (λ h. has_number a.wires h.wire.0 ≡ true) hs → length are ≡ length were → StayMarked were are →
+    OnOk r (HasTried told trees hs before after k l was is were are) → OnErr r (are ≡ were) → MarksSome (λ w. has_number a.wires w ≡ true) were are
 unclear_marks a told trees hs k l was is were are (Ok v) of len stay tried same = record { len = len; stays = stay; within = tried_unclear a hs of tried }
 unclear_marks a told trees hs k l was is were are (Err e) of len stay tried same = record { len = len; stays = stay; within = new_same a were are same }
 

@@ -6,7 +6,7 @@ use Rattle.evidence.proofs.proof.Proof.hang_each.Goals as goal
 
 pub returns-then-not-branch-clause-tried : goal.returns-then-not-branch-clause-tried
 returns-then-not-branch-clause-tried g c =
-    tried_silent _ c.args.forest.now c.args.hangs.now c.view.new.views c.in_ok-view.field-0 c.in_ok-view.ensures.viewed c.args.self.now c.view.new.self c.args.unfit.now c.args.unclear.now c.if-not-branch.true c.in_ok-view.ensures.same
+    tried_silent _ c.args.forest.now c.args.hangs.now c.view.new.views c.in_ok-view.field-0 c.in_ok-view.ensures.viewed c.args.self.now c.view.new.self c.args.unfit.now c.args.unclear.now c.if-not-branch.true (c.in_ok-view.ensures.once c.if-not-branch.true) c.in_ok-view.ensures.same
 
 pub returns-clause-tried : goal.returns-clause-tried
 returns-clause-tried g c =
