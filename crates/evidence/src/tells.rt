@@ -20,7 +20,7 @@ impl Proof {
     /// Takes a look while wires hang on a forest over one crosspoint each. A wire is marked unfit exactly where from the pin at which
     /// its crosspoint ends those of the others part, and this pin reads otherwise than 0 where it is driven, or otherwise than 1 where
     /// nothing is or another pin that hangs; and unclear besides where it reads the same driven as with nothing driven. Nothing is
-    /// kept. `reads` has what all pins read, after a refusal any readings. `unfit` and `unclear` have a mark for each wire.
+    /// kept. `reads` has what all pins read. `unfit` and `unclear` have a mark for each wire.
     pub fn tell_each(
         &mut self,
         rig: &mut Box<dyn Rig>,
@@ -52,15 +52,20 @@ impl Proof {
         ensures unmarked { OnErr result (unfit.new ≡ unfit.old) }
         ensures unmarked_too { OnErr result (unclear.new ≡ unclear.old) }
         ensures reads { reads.new.pins ≡ reads.old.pins }
+        ensures unread { OnErr result (reads.new ≡ reads.old) }
         ensures advances { Advances (rig_state rig.old) (rig_state rig.new) self.old self.new }
         ensures loads { (rig_state rig.new).loads ≤ (rig_state rig.old).loads + 1 }
         ensures session { OnOk result (HasLooked self.old.shape (rig_state rig.new)) }
         ensures cause { IsErrOf result RigFail.Failed → Rose (rig_state rig.old).failures (rig_state rig.new).failures }
         ensures wanting { IsErrOf result RigFail.Memory → WantsBefore (rig_state rig.old) (rig_state rig.new) }
     {
-        let drives = look_drives(self.alloc, forest.shape().pins())?;
-        self.look(rig, forest, hangs, &drives, reads)?;
-        mark_unfit(forest, hangs, reads, unfit, unclear);
+        let shape = forest.shape();
+        let drives = look_drives(self.alloc, shape.pins())?;
+        // A look that is refused part of the way has changed some rows.
+        let mut seen = Looks::new(self.alloc, &shape)?;
+        self.look(rig, forest, hangs, &drives, &mut seen)?;
+        mark_unfit(forest, hangs, &seen, unfit, unclear);
+        *reads = seen;
         Ok(())
     }
 }
