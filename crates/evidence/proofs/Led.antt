@@ -12,7 +12,7 @@ use Rattle.config_set.specs.Configuration.{Configuration}
 use Rattle.config_set.specs.Groups.{among}
 use Rattle.evidence.specs.declared.leads.Lead.{Lead}
 use Rattle.evidence.specs.Kept.{Kept, Gains, HoldsFor, keeps_cross}
-use Rattle.evidence.specs.Leads.{IsPathTest, StuckIf, arrives, led_over, held_up_at, is_only_unkept, these_crosses}
+use Rattle.evidence.specs.Leads.{IsPathTest, MarksStuck, StuckIf, arrives, led_over, held_up_at, is_only_unkept, these_crosses}
 use Rattle.evidence.specs.Readings.{ReadsOnce}
 use Rattle.evidence.proofs.KeptLemmas.{GainHoldsFor, mark_set, or_swapped}
 use Rattle.evidence.proofs.Found.{IsSome_of, some_of}
@@ -99,7 +99,30 @@ module _ (told : Option Faults) (k : Kept) (g : Configuration) (drive reading : 
           let both = and_parts (arrives reading (get_or ls s.place d)) (among (get_or ls s.place d).route.crosses x) (s.holds d) in
           free_where_arrives k g drive ls t f holds s.place d s.below x both.1 (reads.run f is) (not_true _ both.0)
 
-  -- and the marked ones are
+  -- and those at which one is held up are
+  held_up_stuck : (f : Faults) → told ≡ Some f → HoldsFor k f → (x : ℕ) → held_up_at k reading ls x ≡ true → stuck_cross f x ≢ None
+  held_up_stuck f same held x up = of_walk (some_of (λ l. not (arrives reading l) && is_only_unkept k l.route.crosses x) ls up)
+    where
+      of_walk : IsSome_of (λ l. not (arrives reading l) && is_only_unkept k l.route.crosses x) ls → stuck_cross f x ≢ None
+      of_walk s free =
+          let d : Lead = first_of ls s.place s.below in
+          let both = and_parts (not (arrives reading (get_or ls s.place d))) (is_only_unkept k (get_or ls s.place d).route.crosses x) (s.holds d) in
+          let only = only_of k (get_or ls s.place d).route.crosses x both.1 in
+          false≢true (sym (arrives_free k g drive ls t f held s.place d s.below (reads.run f same) (λ y h. by_other (only.others y h) free)) ∙ not_not_true _ both.0)
+        where
+          by_other : {y : ℕ} → (y ≡ x) ⊎ (keeps_cross k y ≡ true) → stuck_cross f x ≡ None → stuck_cross f y ≡ None
+          by_other (inl e) free = subst (λ z. stuck_cross f z ≡ None) (sym e) free
+          by_other {y} (inr h) free = held.crosses y h
+
+  -- so the newly marked ones are
+  pub newly_stuck : (was is : List Bool) → ((x : ℕ) → has_number is x ≡ (held_up_at k reading ls x || has_number was x)) → MarksStuck told k was is
+  newly_stuck was is marks f same holds x off on = by (or_cases (held_up_at k reading ls x) (has_number was x) (sym (marks x) ∙ on))
+    where
+      by : (held_up_at k reading ls x ≡ true) ⊎ (has_number was x ≡ true) → stuck_cross f x ≢ None
+      by (inl h) = held_up_stuck f same holds x h
+      by (inr h) = absurd (false≢true (sym off ∙ h))
+
+  -- and all, where the older ones are
   pub marked_stuck : (was is : List Bool) (l : Kept) → Gains (these_crosses (led_over reading ls)) k l → ((x : ℕ) → has_number is x ≡ (held_up_at k reading ls x || has_number was x)) → StuckIf told k was → StuckIf told l is
   marked_stuck was is l gains marks before f same holds x on = by (or_cases (held_up_at k reading ls x) (has_number was x) (sym (marks x) ∙ on))
     where
@@ -112,17 +135,6 @@ module _ (told : Option Faults) (k : Kept) (g : Configuration) (drive reading : 
         registers = λ u h. holds.registers u (gains.registers u ∙ h);
       }
 
-      of_walk : IsSome_of (λ l. not (arrives reading l) && is_only_unkept k l.route.crosses x) ls → stuck_cross f x ≢ None
-      of_walk s free =
-          let d : Lead = first_of ls s.place s.below in
-          let both = and_parts (not (arrives reading (get_or ls s.place d))) (is_only_unkept k (get_or ls s.place d).route.crosses x) (s.holds d) in
-          let only = only_of k (get_or ls s.place d).route.crosses x both.1 in
-          false≢true (sym (arrives_free k g drive ls t f held s.place d s.below (reads.run f same) (λ y h. by_other (only.others y h) free)) ∙ not_not_true _ both.0)
-        where
-          by_other : {y : ℕ} → (y ≡ x) ⊎ (keeps_cross k y ≡ true) → stuck_cross f x ≡ None → stuck_cross f y ≡ None
-          by_other (inl e) free = subst (λ z. stuck_cross f z ≡ None) (sym e) free
-          by_other {y} (inr h) free = held.crosses y h
-
       by : (held_up_at k reading ls x ≡ true) ⊎ (has_number was x ≡ true) → stuck_cross f x ≢ None
-      by (inl h) = of_walk (some_of (λ l. not (arrives reading l) && is_only_unkept k l.route.crosses x) ls h)
+      by (inl h) = held_up_stuck f same held x h
       by (inr h) = before f same held x h

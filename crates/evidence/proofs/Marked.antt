@@ -2,7 +2,7 @@
 use Rattle.std.proofs.Common.{◌≡◌, ◌⊎◌, inl, inr, ℕ, ◌<◌, Bool, true, false, ◌&&◌, ◌||◌, Some, Option, List, All, length, get_or, refl, sym, ap, ◌∙◌, subst, arith}
 use Rattle.std.specs.Prelude.{◌==◌, map}
 use Rattle.std.specs.List.{IsDistinct, list_any}
-use Rattle.std.proofs.lemmas.Bool.{and_parts, or_cases, or_right}
+use Rattle.std.proofs.lemmas.Bool.{false≢true, and_parts, or_cases, or_right}
 use Rattle.std.proofs.lemmas.Bool.Decides.{nat_tests}
 use Rattle.hierarchy.specs.Circuit.{Pins}
 use Rattle.hierarchy.specs.Faults.{Faults}
@@ -13,7 +13,7 @@ use Rattle.tm_bits.specs.Numbers.{has_number}
 use Rattle.evidence.specs.Kept.{Kept, HoldsFor, IsMore}
 use Rattle.evidence.specs.Forests.{Trees, IsForest, KnowsForest, is_hung}
 use Rattle.evidence.specs.Looks.{IsLook}
-use Rattle.evidence.specs.Hangs.{Foot, IsFoot, closes, pin_at, others_part, reads_oddly, reads_alike, shows_unfit, shows_unclear, is_unfit_in, is_unclear_in, UnfitIf, UnclearIf, AreAllOf, StayMarked, HasMarked}
+use Rattle.evidence.specs.Hangs.{Foot, IsFoot, closes, pin_at, others_part, reads_oddly, reads_alike, shows_unfit, shows_unclear, is_unfit_in, is_unclear_in, MarksUnfit, MarksUnclear, UnfitIf, UnclearIf, AreAllOf, StayMarked, HasMarked}
 use Rattle.evidence.proofs.Keeping.{holds_earlier}
 use Rattle.evidence.proofs.Found.{IsSome_of, some_of}
 use Rattle.evidence.proofs.Unfitting.{not_odd, not_alike}
@@ -43,6 +43,43 @@ unfit_same told k l known marks e h = subst (λ n. UnfitIf told n known marks) (
 pub unclear_same : (told : Option Faults) (k l : Kept) (marks : List Bool) → l ≡ k → UnclearIf told k marks → UnclearIf told l marks
 unclear_same told k l marks e h = subst (λ n. UnclearIf told n marks) (sym e) h
 
+-- what a look marks newly, and then another
+pub unfit_then : (told : Option Faults) (k : Kept) (trees : Trees) (was some is : List Bool) → MarksUnfit told k trees was some → MarksUnfit told k trees some is → MarksUnfit told k trees was is
+unfit_then told k trees was some is first second f e holds w off on = by (has_number some w) refl
+  where
+    by : (b : Bool) → has_number some w ≡ b → IsClear k.shape f w → ¬ IsAlone k.shape f (λ u. is_hung trees u ≡ true) w
+    by true h = first f e holds w off h
+    by false h = second f e holds w h on
+
+pub unclear_then : (told : Option Faults) (k : Kept) (were few are : List Bool) → MarksUnclear told k were few → MarksUnclear told k few are → MarksUnclear told k were are
+unclear_then told k were few are first second f e holds w off on = by (has_number few w) refl
+  where
+    by : (b : Bool) → has_number few w ≡ b → ¬ IsClear k.shape f w
+    by true h = first f e holds w off h
+    by false h = second f e holds w h on
+
+-- where none is marked newly
+pub unfit_none : (told : Option Faults) (k : Kept) (trees : Trees) (was : List Bool) → MarksUnfit told k trees was was
+unfit_none told k trees was f e holds w off on = absurd (false≢true (sym off ∙ on))
+
+pub unclear_none : (told : Option Faults) (k : Kept) (were : List Bool) → MarksUnclear told k were were
+unclear_none told k were f e holds w off on = absurd (false≢true (sym off ∙ on))
+
+-- Where the new marks are true, all are.
+pub unfit_all : (told : Option Faults) (k : Kept) (trees : Trees) (was is : List Bool) → MarksUnfit told k trees was is → (known : ℕ → Bool) → AreAllOf trees known → UnfitIf told k known was → UnfitIf told k known is
+unfit_all told k trees was is newly known all before f e holds w on clear alone = by (has_number was w) refl
+  where
+    by : (b : Bool) → has_number was w ≡ b → ⊥
+    by true h = before f e holds w h clear alone
+    by false h = newly f e holds w h on clear (λ u hung. alone u (all u hung))
+
+pub unclear_all : (told : Option Faults) (k : Kept) (were are : List Bool) → MarksUnclear told k were are → UnclearIf told k were → UnclearIf told k are
+unclear_all told k were are newly before f e holds w on = by (has_number were w) refl
+  where
+    by : (b : Bool) → has_number were w ≡ b → ¬ IsClear k.shape f w
+    by true h = before f e holds w h
+    by false h = newly f e holds w h on
+
 -- what a look at a forest and feet marks
 module _ (told : Option Faults) (k : Kept) (trees : Trees) (feet : List Foot) (rows : List Pins) (forest : IsForest trees) (knows : KnowsForest k trees) (each : All (IsFoot trees) feet)
     (once : IsDistinct (λ a b. a == b) (map (λ (foot : Foot). foot.0.0) feet)) (look : IsLook told trees.shape (closes trees feet) rows) {was is were are : List Bool} (marked : HasMarked trees feet rows was is were are) where
@@ -52,8 +89,8 @@ module _ (told : Option Faults) (k : Kept) (trees : Trees) (feet : List Foot) (r
   here : k.shape ≡ look.config.shape
   here = sym knows.keeps.shape ∙ sym look.shape
 
-  pub unfit_true : (known : ℕ → Bool) → AreAllOf trees known → UnfitIf told k known was → UnfitIf told k known is
-  unfit_true known all before f e holds w on clear alone = by (or_cases (is_unfit_in trees feet rows w) (has_number was w) (sym (marked.unfit w) ∙ on))
+  pub unfit_new : MarksUnfit told k trees was is
+  unfit_new f e holds w off on clear alone = by (or_cases (is_unfit_in trees feet rows w) (has_number was w) (sym (marked.unfit w) ∙ on))
     where
       of_foot : IsSome_of (λ (foot : Foot). (foot.0.0 == w) && shows_unfit trees feet rows foot) feet → ⊥
       of_foot s =
@@ -63,14 +100,14 @@ module _ (told : Option Faults) (k : Kept) (trees : Trees) (feet : List Foot) (r
           let same = same_number foot.0.0 w h.0 in
           not_odd trees feet rows forest each once look f e k knows holds s.place d s.below both.0
           (subst (λ m. IsClear m f foot.0.0) here (subst (IsClear k.shape f) (sym same) clear))
-          (λ u hung. subst (λ m. ¬ Shorted m f foot.0.0 u) here (subst (λ v. ¬ Shorted k.shape f v u) (sym same) (alone u (all u hung)))) both.1
+          (λ u hung. subst (λ m. ¬ Shorted m f foot.0.0 u) here (subst (λ v. ¬ Shorted k.shape f v u) (sym same) (alone u hung))) both.1
 
       by : (is_unfit_in trees feet rows w ≡ true) ⊎ (has_number was w ≡ true) → ⊥
       by (inl h) = of_foot (some_of _ feet h)
-      by (inr h) = before f e holds w h clear alone
+      by (inr h) = false≢true (sym off ∙ h)
 
-  pub unclear_true : UnclearIf told k were → UnclearIf told k are
-  unclear_true before f e holds w on clear = by (or_cases (is_unclear_in trees feet rows w) (has_number were w) (sym (marked.unclear w) ∙ on))
+  pub unclear_new : MarksUnclear told k were are
+  unclear_new f e holds w off on clear = by (or_cases (is_unclear_in trees feet rows w) (has_number were w) (sym (marked.unclear w) ∙ on))
     where
       of_foot : IsSome_of (λ (foot : Foot). (foot.0.0 == w) && shows_unclear trees feet rows foot) feet → ⊥
       of_foot s =
@@ -83,4 +120,4 @@ module _ (told : Option Faults) (k : Kept) (trees : Trees) (feet : List Foot) (r
 
       by : (is_unclear_in trees feet rows w ≡ true) ⊎ (has_number were w ≡ true) → ⊥
       by (inl h) = of_foot (some_of _ feet h)
-      by (inr h) = before f e holds w h clear
+      by (inr h) = false≢true (sym off ∙ h)

@@ -9,10 +9,10 @@ use Rattle.evidence.specs.declared.sheets.Sheet.{Sheet}
 use Rattle.evidence.specs.Forests.{Trees, KnowsForest}
 use Rattle.evidence.specs.Kept.{Kept, Gains, HoldsFor}
 use Rattle.evidence.specs.Sheets.{IsReadyFor, IsReadTwice}
-use Rattle.evidence.specs.TableRows.{AreOpposite, AreTablesOn, HasTabled, IsTableConfig, IsTableLoad, WrongIf, is_one_of, is_right_before, output_pin, right_parts}
+use Rattle.evidence.specs.TableRows.{AreOpposite, AreTablesOn, HasTabled, IsTableConfig, IsTableLoad, MarksWrong, WrongIf, is_one_of, is_right_before, output_pin, right_parts}
 use Rattle.evidence.proofs.KeptLemmas.{GainHoldsFor}
 use Rattle.evidence.proofs.Settings.{laid_again}
-use Rattle.evidence.proofs.Tabled.{right_holds, marks_wrong}
+use Rattle.evidence.proofs.Tabled.{right_holds, marks_wrong, newly_wrong}
 
 module _ (told : Option Faults) (trees : Trees) (ts : List Table) (old new : Sheet) (rig : RigState) (ready : IsReadyFor trees ts old) (read : IsReadTwice told ts old new rig) where
   first_load : IsTableLoad told trees ts new.setting old.drives.items new.reads.items
@@ -59,6 +59,10 @@ module _ (told : Option Faults) (trees : Trees) (ts : List Table) (old new : She
     module _ (known : KnowsForest k trees) (on : AreTablesOn trees ts) where
       pub holds_after : (f : Faults) → told ≡ Some f → HoldsFor k f → GainHoldsFor k.shape (right_parts trees ts new.setting new.reads.items new.opposite.items) f
       holds_after = right_holds told k trees ts ready.forest known on new.setting read.other latched opposed old.drives.items new.reads.items new.opposite.items ready.driven first_load second_load
+
+      pub newly_after : (was is : List Bool) →
+          ((t : ℕ) → has_number is t ≡ ((is_one_of ts t && not (is_right_before new.setting new.reads.items new.opposite.items (output_pin trees t) 65)) || has_number was t)) → MarksWrong told k was is
+      newly_after = newly_wrong told k trees ts ready.forest known on new.setting read.other latched opposed old.drives.items new.reads.items new.opposite.items ready.driven first_load second_load
 
       pub wrong_after : (was is : List Bool) (l : Kept) → Gains (right_parts trees ts new.setting new.reads.items new.opposite.items) k l →
           ((t : ℕ) → has_number is t ≡ ((is_one_of ts t && not (is_right_before new.setting new.reads.items new.opposite.items (output_pin trees t) 65)) || has_number was t)) → WrongIf told k was → WrongIf told l is

@@ -18,7 +18,7 @@ use Rattle.config_set.specs.Faulty.{IsRun}
 use Rattle.config_set.specs.Run.{number_of}
 use Rattle.evidence.specs.Forests.{Trees, IsForest, KnowsForest, pin_of}
 use Rattle.evidence.specs.Kept.{Kept, Gains, HoldsFor}
-use Rattle.evidence.specs.TableRows.{AreTablesOn, AreAddressDrives, AreOpposite, IsTableConfig, IsTableLoad, WrongIf, is_one_of, is_right_before, is_right_in, output_pin, right_parts}
+use Rattle.evidence.specs.TableRows.{AreTablesOn, AreAddressDrives, AreOpposite, IsTableConfig, IsTableLoad, MarksWrong, WrongIf, is_one_of, is_right_before, is_right_in, output_pin, right_parts}
 use Rattle.hierarchy.specs.Tight.{IsRightTable}
 use Rattle.evidence.specs.Looks.{read_at}
 use Rattle.evidence.proofs.Keeping.{holds_earlier}
@@ -193,7 +193,21 @@ module _ (told : Option Faults) (k : Kept) (trees : Trees) (ts : List Table) (fo
           let h : a < 64 = grind (arith, nat_tests, low) in
           cell_free f is holds t p.0 a h r.0 r.1
 
-  -- and what is marked is wrong
+  -- and a table that isn't right is wrong
+  not_right_wrong : (f : Faults) → told ≡ Some f → HoldsFor k f → (t : ℕ) → (is_one_of ts t && not (is_right_before s reads opposite (output_pin trees t) 65)) ≡ true → ¬ IsRightTable f t
+  not_right_wrong f same held t h r =
+      let p = and_parts (is_one_of ts t) (not (is_right_before s reads opposite (output_pin trees t) 65)) h in
+      false≢true (sym (not_true _ p.1) ∙ right_before f same held t p.0 r 65 (omega arith))
+
+  -- so what is newly marked is
+  pub newly_wrong : (was is : List Bool) → ((t : ℕ) → has_number is t ≡ ((is_one_of ts t && not (is_right_before s reads opposite (output_pin trees t) 65)) || has_number was t)) → MarksWrong told k was is
+  newly_wrong was is marks f same holds t off on = by (or_cases (is_one_of ts t && not (is_right_before s reads opposite (output_pin trees t) 65)) (has_number was t) (sym (marks t) ∙ on))
+    where
+      by : ((is_one_of ts t && not (is_right_before s reads opposite (output_pin trees t) 65)) ≡ true) ⊎ (has_number was t ≡ true) → ¬ IsRightTable f t
+      by (inl h) = not_right_wrong f same holds t h
+      by (inr h) = absurd (false≢true (sym off ∙ h))
+
+  -- and all, where the older marks are true
   pub marks_wrong : (was is : List Bool) (l : Kept) → Gains (right_parts trees ts s reads opposite) k l →
       ((t : ℕ) → has_number is t ≡ ((is_one_of ts t && not (is_right_before s reads opposite (output_pin trees t) 65)) || has_number was t)) → WrongIf told k was → WrongIf told l is
   marks_wrong was is l gains marks before f same holds t on = by (or_cases (is_one_of ts t && not (is_right_before s reads opposite (output_pin trees t) 65)) (has_number was t) (sym (marks t) ∙ on))
@@ -202,7 +216,5 @@ module _ (told : Option Faults) (k : Kept) (trees : Trees) (ts : List Table) (fo
       held = holds_earlier (more_by_gain (right_parts trees ts s reads opposite) k l gains) holds
 
       by : ((is_one_of ts t && not (is_right_before s reads opposite (output_pin trees t) 65)) ≡ true) ⊎ (has_number was t ≡ true) → ¬ IsRightTable f t
-      by (inl h) r =
-          let p = and_parts (is_one_of ts t) (not (is_right_before s reads opposite (output_pin trees t) 65)) h in
-          false≢true (sym (not_true _ p.1) ∙ right_before f same held t p.0 r 65 (omega arith))
-      by (inr h) r = before f same held t h r
+      by (inl h) = not_right_wrong f same held t h
+      by (inr h) = before f same held t h

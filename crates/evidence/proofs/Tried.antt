@@ -8,12 +8,12 @@ use Rattle.evidence.specs.declared.hangs.Hang.{Hang}
 use Rattle.evidence.specs.declared.hangs.Views.{Views}
 use Rattle.evidence.specs.Kept.{Kept, IsMore, Gains, Advances}
 use Rattle.evidence.specs.Forests.{Trees, IsForest, KnowsForest}
-use Rattle.evidence.specs.Hangs.{IsFoot, AreHangs, AreAllOf, UnfitIf, UnclearIf, StayMarked, HasTried, silent, answered, over_of, turned, overs, others, shown, seen_on}
+use Rattle.evidence.specs.Hangs.{IsFoot, AreHangs, AreAllOf, MarksUnfit, MarksUnclear, UnfitIf, UnclearIf, StayMarked, HasTried, silent, answered, over_of, turned, overs, others, shown, seen_on}
 use Rattle.evidence.specs.Plans.{HasViewed, HasLearnt}
 use Rattle.evidence.proofs.Keeping.{more_then}
 use Rattle.evidence.proofs.KeptLemmas.{more_by_gain}
 use Rattle.evidence.proofs.Hanging.{AreHung, hung_turned, overs_feet, overs_once, hung_advances}
-use Rattle.evidence.proofs.Marked.{still_unfit, still_unclear, unfit_true, unclear_true, unfit_later, unclear_later}
+use Rattle.evidence.proofs.Marked.{still_unfit, still_unclear, unfit_new, unclear_new, unfit_then, unclear_then, unfit_all, unclear_all, unfit_later, unclear_later}
 
 pub are_hung : {trees : Trees} {hs : List Hang} → AreHangs trees hs → AreHung trees hs
 are_hung h = record { over = h.over; other = h.other; wires = h.wires }
@@ -51,15 +51,21 @@ module _ (told : Option Faults) (trees : Trees) (hs : List Hang) (views : Views)
       other_feet : All (IsFoot trees) (others hs)
       other_feet = overs_feet (map turned hs) (hung_turned hung).over
 
+      pub newly_unfit : MarksUnfit told k trees was is
+      newly_unfit = unfit_then told k trees was learnt.some is
+          (unfit_new told k trees (others hs) views.without_over.rows forest knows other_feet (overs_once (hung_turned hung)) (viewed.without_over is_yes) learnt.first_marks)
+          (unfit_new told k trees (overs hs) views.without_other.rows forest knows (overs_feet hs hung.over) (overs_once hung) (viewed.without_other is_yes) learnt.second_marks)
+
+      pub newly_unclear : MarksUnclear told k were are
+      newly_unclear = unclear_then told k were learnt.few are
+          (unclear_new told k trees (others hs) views.without_over.rows forest knows other_feet (overs_once (hung_turned hung)) (viewed.without_over is_yes) learnt.first_marks)
+          (unclear_new told k trees (overs hs) views.without_other.rows forest knows (overs_feet hs hung.over) (overs_once hung) (viewed.without_other is_yes) learnt.second_marks)
+
       pub unfit_hung : (known : ℕ → Bool) → AreAllOf trees known → UnfitIf told k known was → UnfitIf told l known is
-      unfit_hung known all before = unfit_later told k l known is more
-          (unfit_true told k trees (overs hs) views.without_other.rows forest knows (overs_feet hs hung.over) (overs_once hung) (viewed.without_other is_yes) learnt.second_marks known all
-          (unfit_true told k trees (others hs) views.without_over.rows forest knows other_feet (overs_once (hung_turned hung)) (viewed.without_over is_yes) learnt.first_marks known all before))
+      unfit_hung known all before = unfit_later told k l known is more (unfit_all told k trees was is newly_unfit known all before)
 
       pub unclear_hung : UnclearIf told k were → UnclearIf told l are
-      unclear_hung before = unclear_later told k l are more
-          (unclear_true told k trees (overs hs) views.without_other.rows forest knows (overs_feet hs hung.over) (overs_once hung) (viewed.without_other is_yes) learnt.second_marks
-          (unclear_true told k trees (others hs) views.without_over.rows forest knows other_feet (overs_once (hung_turned hung)) (viewed.without_over is_yes) learnt.first_marks before))
+      unclear_hung before = unclear_later told k l are more (unclear_all told k were are newly_unclear before)
 
       pub tried_advances : {old new : RigState} → old.machine.faults ≡ told → new.machine ≡ old.machine → old.failures ≤ new.failures → old.loads ≤ new.loads → Advances old new k l
       tried_advances same machine later counted = hung_advances k trees hs views.all.rows views.without_over.rows views.without_other.rows forest knows.keeps hung viewed.all (viewed.without_over is_yes) (viewed.without_other is_yes)

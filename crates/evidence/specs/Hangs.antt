@@ -111,6 +111,17 @@ is_unfit_in trees feet rows w = list_any (λ foot. (foot.0.0 == w) && shows_unfi
 abbrev pub is_unclear_in : Trees → List Foot → List Pins → ℕ → Bool
 is_unclear_in trees feet rows w = list_any (λ foot. (foot.0.0 == w) && shows_unclear trees feet rows foot) feet
 
+-- Where the faults are told and what is kept is true of them, a wire that is newly marked unfit is shorted to a stuck wire or to one
+-- that hangs in the forest ..
+abbrev pub MarksUnfit : Option Faults → Kept → Trees → List Bool → List Bool → Type 0
+MarksUnfit told k trees was is = (f : Faults) → told ≡ Some f → HoldsFor k f → (w : ℕ) → has_number was w ≡ false →
+    has_number is w ≡ true → IsClear k.shape f w → ¬ IsAlone k.shape f (λ u. is_hung trees u ≡ true) w
+
+-- .. and one that is newly marked unclear to a stuck one
+abbrev pub MarksUnclear : Option Faults → Kept → List Bool → List Bool → Type 0
+MarksUnclear told k were are = (f : Faults) → told ≡ Some f → HoldsFor k f → (w : ℕ) → has_number were w ≡ false →
+    has_number are w ≡ true → ¬ IsClear k.shape f w
+
 -- Where the faults are told and what is kept is true of them, each marked wire is shorted to a stuck wire or to one of these ..
 abbrev pub UnfitIf : Option Faults → Kept → (ℕ → Bool) → List Bool → Type 0
 UnfitIf told k known marks = (f : Faults) → told ≡ Some f → HoldsFor k f → (w : ℕ) → has_number marks w ≡ true →

@@ -68,6 +68,11 @@ pub record HasLed (told : Option Faults) (g : Configuration) (drive : Pins) (ls 
   pub gains : Gains (these_crosses (led_over reading ls)) old new
   pub marks : (x : ℕ) → has_number is x ≡ (held_up_at old reading ls x || has_number was x)
 
--- the marked crosspoints are stuck, where the faults are told and what is kept is true of them
+-- a crosspoint that is newly marked is stuck, where the faults are told and what is kept is true of them
+abbrev pub MarksStuck : Option Faults → Kept → List Bool → List Bool → Type 0
+MarksStuck told k was is = (f : Faults) → told ≡ Some f → HoldsFor k f → (x : ℕ) → has_number was x ≡ false → has_number is x ≡ true →
+    stuck_cross f x ≢ None
+
+-- .. and all marked crosspoints are
 abbrev pub StuckIf : Option Faults → Kept → List Bool → Type 0
 StuckIf told k marks = (f : Faults) → told ≡ Some f → HoldsFor k f → (x : ℕ) → has_number marks x ≡ true → stuck_cross f x ≢ None

@@ -122,6 +122,11 @@ pub record HasTabled (told : Option Faults) (trees : Trees) (ts : List Table) (r
       ((is_one_of ts t && not (is_right_before setting reads opposite (output_pin trees t) 65)) || has_number was t)
   pub session : HasCycled second.config drives rig
 
--- the marked tables have a wrong cell or a stuck register, where the faults are told and what is kept is true of them
+-- a table that is newly marked has a wrong cell or a stuck register, where the faults are told and what is kept is true of them
+abbrev pub MarksWrong : Option Faults → Kept → List Bool → List Bool → Type 0
+MarksWrong told k was is = (f : Faults) → told ≡ Some f → HoldsFor k f → (t : ℕ) → has_number was t ≡ false → has_number is t ≡ true →
+    ¬ IsRightTable f t
+
+-- .. and all marked tables have
 abbrev pub WrongIf : Option Faults → Kept → List Bool → Type 0
 WrongIf told k marks = (f : Faults) → told ≡ Some f → HoldsFor k f → (t : ℕ) → has_number marks t ≡ true → ¬ IsRightTable f t

@@ -5,7 +5,7 @@ ghost use Rattle.hierarchy.specs.Shape.{wires_of, pins_of};
 ghost use Rattle.rig.specs.Rig.{shape_of};
 ghost use Rattle.evidence.specs.Kept.{Advances};
 ghost use Rattle.evidence.specs.Forests.{KnowsForest};
-ghost use Rattle.evidence.specs.Hangs.{AreHangs, AreAllOf, HasTried, UnfitIf, UnclearIf, StayMarked};
+ghost use Rattle.evidence.specs.Hangs.{AreHangs, AreAllOf, HasTried, MarksUnfit, MarksUnclear, UnfitIf, UnclearIf, StayMarked};
 ghost use Rattle.evidence.specs.Hangs.{IsFoot, over_of, turned, overs, is_shown, others_part_from, shown, some_answers};
 ghost use Rattle.evidence.specs.Looks.{HasLooked, WantsRoom};
 ghost use Rattle.evidence.specs.Readings.{LoadsUpTo};
@@ -301,6 +301,8 @@ impl Proof {
 
         ensures tried { OnOk result (HasTried (rig_state rig.old).machine.faults forest.now hangs.now (rig_state rig.old).loads
             (rig_state rig.new).loads self.old self.new unfit.old unfit.new unclear.old unclear.new) }
+        ensures newly { OnOk result (MarksUnfit (rig_state rig.old).machine.faults self.old forest.now unfit.old unfit.new) }
+        ensures newly_too { OnOk result (MarksUnclear (rig_state rig.old).machine.faults self.old unclear.old unclear.new) }
         ensures unfit { (known : ℕ → Bool) → AreAllOf forest.now known →
             UnfitIf (rig_state rig.old).machine.faults self.old known unfit.old →
             UnfitIf (rig_state rig.old).machine.faults self.new known unfit.new }

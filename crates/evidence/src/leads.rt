@@ -7,7 +7,8 @@ ghost use Rattle.config_set.specs.Groups.{among};
 ghost use Rattle.rig.specs.Rig.{shape_of};
 ghost use Rattle.test_configs.specs.Routes.{IsRoute};
 ghost use Rattle.evidence.specs.Kept.{Gains, Advances};
-ghost use Rattle.evidence.specs.Leads.{IsLead, IsPathTest, HasLed, StuckIf, is_only_unkept, held_up_at, led_over, these_crosses};
+ghost use Rattle.evidence.specs.Leads.{IsLead, IsPathTest, HasLed, MarksStuck, StuckIf};
+ghost use Rattle.evidence.specs.Leads.{is_only_unkept, held_up_at, led_over, these_crosses};
 ghost use Rattle.evidence.specs.Readings.{HasCycled, WantsBefore};
 
 use crate::Proof;
@@ -109,6 +110,7 @@ impl Proof {
 
         ensures led { OnOk result (HasLed (rig_state rig.old).machine.faults config.now.config drive.now leads.now self.old self.new
             stuck.old stuck.new) }
+        ensures newly { OnOk result (MarksStuck (rig_state rig.old).machine.faults self.old stuck.old stuck.new) }
         ensures stuck { StuckIf (rig_state rig.old).machine.faults self.old stuck.old → StuckIf (rig_state rig.old).machine.faults
             self.new stuck.new }
         ensures marks { length stuck.new ≡ length stuck.old }

@@ -8,8 +8,8 @@ ghost use Rattle.evidence.specs.Forests.{HangsOn, KnowsForest};
 ghost use Rattle.evidence.specs.Kept.{Advances, Gains};
 ghost use Rattle.evidence.specs.Readings.{WantsBefore};
 ghost use Rattle.evidence.specs.Sheets.{IsSheet, right_cells};
-ghost use Rattle.evidence.specs.TableRows.{AreTablesOn, HasTabled, WrongIf, is_one_of, is_right_before, is_right_in, output_pin};
-ghost use Rattle.evidence.specs.TableRows.{right_parts, shown_in};
+ghost use Rattle.evidence.specs.TableRows.{AreTablesOn, HasTabled, MarksWrong, WrongIf, is_one_of, is_right_before, is_right_in};
+ghost use Rattle.evidence.specs.TableRows.{output_pin, right_parts, shown_in};
 
 use crate::sheets::{CYCLES, Sheet, read_tables, sheet_of, table_at};
 use crate::{Forest, Proof};
@@ -146,6 +146,7 @@ impl Proof {
 
         ensures tabled { OnOk result (HasTabled (rig_state rig.old).machine.faults forest.now tables.now (rig_state rig.new) self.old
             self.new wrong.old wrong.new) }
+        ensures newly { OnOk result (MarksWrong (rig_state rig.old).machine.faults self.old wrong.old wrong.new) }
         ensures wrong { WrongIf (rig_state rig.old).machine.faults self.old wrong.old → WrongIf (rig_state rig.old).machine.faults self.new
             wrong.new }
         ensures marks { length wrong.new ≡ length wrong.old }

@@ -5,7 +5,7 @@ ghost use Rattle.hierarchy.specs.Shape.{wires_of, pins_of};
 ghost use Rattle.rig.specs.Rig.{shape_of};
 ghost use Rattle.evidence.specs.Kept.{Advances};
 ghost use Rattle.evidence.specs.Forests.{KnowsForest};
-ghost use Rattle.evidence.specs.Hangs.{AreFeet, AreAllOf, HasTold, UnfitIf, UnclearIf, StayMarked};
+ghost use Rattle.evidence.specs.Hangs.{AreFeet, AreAllOf, HasTold, MarksUnfit, MarksUnclear, UnfitIf, UnclearIf, StayMarked};
 ghost use Rattle.evidence.specs.Looks.{HasLooked};
 ghost use Rattle.evidence.specs.Readings.{WantsBefore};
 
@@ -39,6 +39,8 @@ impl Proof {
 
         ensures told { OnOk result (HasTold (rig_state rig.old).machine.faults forest.now hangs.now reads.new.rows
             unfit.old unfit.new unclear.old unclear.new) }
+        ensures newly { OnOk result (MarksUnfit (rig_state rig.old).machine.faults self.old forest.now unfit.old unfit.new) }
+        ensures newly_too { OnOk result (MarksUnclear (rig_state rig.old).machine.faults self.old unclear.old unclear.new) }
         ensures unfit { (known : ℕ → Bool) → AreAllOf forest.now known →
             UnfitIf (rig_state rig.old).machine.faults self.old known unfit.old →
             UnfitIf (rig_state rig.old).machine.faults self.new known unfit.new }

@@ -1,7 +1,8 @@
 use Rattle.std.proofs.Common.{◌≡◌, refl, subst}
 use Rattle.evidence.specs.Kept.{Kept}
 use Rattle.evidence.specs.Plans.{HasLearnt}
-use Rattle.evidence.proofs.Tried.{are_hung, tried_silent, tried_answered, stay_unfit, stay_unclear, unfit_hung, unclear_hung, tried_advances}
+use Rattle.evidence.proofs.Tried.{are_hung, tried_silent, tried_answered, stay_unfit, stay_unclear, newly_unfit, newly_unclear, unfit_hung, unclear_hung, tried_advances}
+use Rattle.evidence.proofs.Marked.{unfit_none, unclear_none}
 use Rattle.evidence.proofs.proof.Proof.hang_each.Goals as goal
 
 pub returns-then-not-branch-clause-tried : goal.returns-then-not-branch-clause-tried
@@ -12,6 +13,22 @@ pub returns-clause-tried : goal.returns-clause-tried
 returns-clause-tried g c =
     let learnt = subst (λ (k : Kept). HasLearnt c.args.forest.now c.args.hangs.now c.view.new.views k c.learn_hung.new.self c.args.unfit.now c.learn_hung.new.unfit c.args.unclear.now c.learn_hung.new.unclear) c.in_ok-view.ensures.same c.in_ok-learn_hung.ensures.learnt in
     tried_answered _ c.args.forest.now c.args.hangs.now c.view.new.views c.in_ok-view.field-0 c.in_ok-view.ensures.viewed c.args.self.now c.learn_hung.new.self c.if-not-branch.false learnt
+
+pub returns-then-not-branch-clause-newly : goal.returns-then-not-branch-clause-newly
+returns-then-not-branch-clause-newly g c = unfit_none _ c.args.self.now c.args.forest.now c.args.unfit.now
+
+pub returns-then-not-branch-clause-newly_too : goal.returns-then-not-branch-clause-newly_too
+returns-then-not-branch-clause-newly_too g c = unclear_none _ c.args.self.now c.args.unclear.now
+
+pub returns-clause-newly : goal.returns-clause-newly
+returns-clause-newly g c =
+    let learnt = subst (λ (k : Kept). HasLearnt c.args.forest.now c.args.hangs.now c.view.new.views k c.learn_hung.new.self c.args.unfit.now c.learn_hung.new.unfit c.args.unclear.now c.learn_hung.new.unclear) c.in_ok-view.ensures.same c.in_ok-learn_hung.ensures.learnt in
+    newly_unfit _ c.args.forest.now c.args.hangs.now c.view.new.views c.in_ok-view.field-0 c.in_ok-view.ensures.viewed c.args.self.now c.learn_hung.new.self c.if-not-branch.false learnt c.shape-shape.ensures.forest c.requires.forest (are_hung c.requires.hangs)
+
+pub returns-clause-newly_too : goal.returns-clause-newly_too
+returns-clause-newly_too g c =
+    let learnt = subst (λ (k : Kept). HasLearnt c.args.forest.now c.args.hangs.now c.view.new.views k c.learn_hung.new.self c.args.unfit.now c.learn_hung.new.unfit c.args.unclear.now c.learn_hung.new.unclear) c.in_ok-view.ensures.same c.in_ok-learn_hung.ensures.learnt in
+    newly_unclear _ c.args.forest.now c.args.hangs.now c.view.new.views c.in_ok-view.field-0 c.in_ok-view.ensures.viewed c.args.self.now c.learn_hung.new.self c.if-not-branch.false learnt c.shape-shape.ensures.forest c.requires.forest (are_hung c.requires.hangs)
 
 pub returns-clause-unfit : goal.returns-clause-unfit
 returns-clause-unfit g c known all before =

@@ -2,7 +2,7 @@ use Rattle.std.proofs.Common.{◌≡◌, ◌<◌, ◌+◌, sym, subst}
 use Rattle.evidence.specs.Kept.{Gains}
 use Rattle.evidence.specs.Leads.{these_crosses, led_over}
 use Rattle.evidence.proofs.Advancing.{advances_by}
-use Rattle.evidence.proofs.Led.{led_holds, marked_stuck}
+use Rattle.evidence.proofs.Led.{led_holds, marked_stuck, newly_stuck}
 use Rattle.evidence.proofs.proof.Proof.lead_each.Goals as goal
 
 pub returns-clause-advances : goal.returns-clause-advances
@@ -11,6 +11,11 @@ returns-clause-advances g c =
     advances_by (these_crosses (led_over c.in_ok-read.read c.args.leads.now)) c.in_ok-read.ensures.loads.machine c.in_ok-read.ensures.loads.later c.in_ok-read.ensures.loads.counted
     (subst (Gains (these_crosses (led_over c.in_ok-read.read c.args.leads.now)) c.args.self.now) (sym c.self-2.view_is) gains)
     (led_holds _ c.args.self.now c.args.config.now.config c.args.drive.now c.in_ok-read.read c.args.leads.now c.requires.paths c.in_ok-read.ensures.reads)
+
+pub returns-clause-newly : goal.returns-clause-newly
+returns-clause-newly g c =
+    newly_stuck _ c.args.self.now c.args.config.now.config c.args.drive.now c.in_ok-read.read c.args.leads.now c.requires.paths c.in_ok-read.ensures.reads
+    c.args.stuck.now c.mark_stuck.new.stuck (rw (← c.self.view_is) c.mark_stuck.ensures.marks)
 
 pub returns-clause-stuck : goal.returns-clause-stuck
 returns-clause-stuck g c =
