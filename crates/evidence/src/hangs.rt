@@ -285,6 +285,10 @@ impl Proof {
     /// A wire is marked unfit exactly where in one of these two looks the pins of the other hangs part from its own, which reads
     /// otherwise than 0 where it is driven, or otherwise than 1 where nothing is or another pin that hangs; and unclear besides where
     /// that pin reads the same driven as with nothing driven. `unfit` and `unclear` have a mark for each wire.
+    ///
+    /// # Errors
+    ///
+    /// `Failed` where a call of the rig failed, `Memory` where memory was wanting.
     pub fn hang_each(
         &mut self,
         rig: &mut Box<dyn Rig>,

@@ -95,6 +95,10 @@ impl Proof {
     /// Reads all pins once while walks over wires that are kept and kept apart are closed, each from a pin that is driven 0 to
     /// another pin. All crosspoints of a walk are kept exactly where its last pin reads 0. Where that reads 1 and all crosspoints
     /// of the walk but one are kept, this one is marked: it is stuck. `stuck` has a mark for each crosspoint.
+    ///
+    /// # Errors
+    ///
+    /// `Failed` where a call of the rig failed, `Memory` where memory was wanting.
     pub fn lead_each(
         &mut self,
         rig: &mut Box<dyn Rig>,

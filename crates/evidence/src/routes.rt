@@ -17,6 +17,10 @@ use test_configs::Route;
 impl Proof {
     /// Reads the pin of a route under two drives, in one session. True exactly where it reads 0 under one and 1 under the
     /// other, and then all wires of the route are kept.
+    ///
+    /// # Errors
+    ///
+    /// `Failed` where a call of the rig failed, `Memory` where memory was wanting.
     pub fn swing(
         &mut self,
         rig: &mut Box<dyn Rig>,
@@ -52,6 +56,10 @@ impl Proof {
 
     /// Reads the pins of two routes at one time. True exactly where they read different values, and then each wire of the
     /// left route and each of the right are a kept pair.
+    ///
+    /// # Errors
+    ///
+    /// `Failed` where a call of the rig failed, `Memory` where memory was wanting.
     pub fn apart(
         &mut self,
         rig: &mut Box<dyn Rig>,
@@ -88,6 +96,10 @@ impl Proof {
     }
     /// Reads all pins at one time. True exactly where the pin of the left route reads otherwise than that of each right
     /// one, and then each wire of the left route is a kept pair with each wire of each right one.
+    ///
+    /// # Errors
+    ///
+    /// `Failed` where a call of the rig failed, `Memory` where memory was wanting.
     pub fn all_apart(
         &mut self,
         rig: &mut Box<dyn Rig>,

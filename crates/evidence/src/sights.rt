@@ -76,6 +76,10 @@ impl Proof {
 
     /// Takes a look while just the crosspoints of a forest are closed. A wire that hangs is kept exactly where its pin reads 0 in one
     /// cycle and 1 in another, and two wires that hang are a kept pair exactly where their pins read different values in some cycle.
+    ///
+    /// # Errors
+    ///
+    /// `Failed` where a call of the rig failed, `Memory` where memory was wanting.
     pub fn look_each(&mut self, rig: &mut Box<dyn Rig>, forest: &Forest) -> Result<(), RigFail>
         requires attached { shape_of (rig_state rig.old) ≡ Some self.old.shape }
         requires forest { KeepsForest self.old forest.now }

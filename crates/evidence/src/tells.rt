@@ -21,6 +21,10 @@ impl Proof {
     /// its crosspoint ends those of the others part, and this pin reads otherwise than 0 where it is driven, or otherwise than 1 where
     /// nothing is or another pin that hangs; and unclear besides where it reads the same driven as with nothing driven. Nothing is
     /// kept. `reads` has what all pins read. `unfit` and `unclear` have a mark for each wire.
+    ///
+    /// # Errors
+    ///
+    /// `Failed` where a call of the rig failed, `Memory` where memory was wanting.
     pub fn tell_each(
         &mut self,
         rig: &mut Box<dyn Rig>,

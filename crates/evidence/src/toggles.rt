@@ -100,6 +100,10 @@ fn read_with(
 impl Proof {
     /// Reads a pin once with a closed crosspoint as it is, and once with it open. True exactly where the pin reads
     /// differently, and then the crosspoint is kept. The configuration is left as it was.
+    ///
+    /// # Errors
+    ///
+    /// `Failed` where a call of the rig failed, `Memory` where memory was wanting.
     pub fn toggle_cross(
         &mut self,
         rig: &mut Box<dyn Rig>,
@@ -143,6 +147,10 @@ impl Proof {
 
     /// Reads a pin once with a cell of a table that is on at 0, and once at 1. True exactly where the pin reads
     /// differently, and then the cell is kept. The configuration is left as it was.
+    ///
+    /// # Errors
+    ///
+    /// `Failed` where a call of the rig failed, `Memory` where memory was wanting.
     pub fn toggle_cell(
         &mut self,
         rig: &mut Box<dyn Rig>,
@@ -202,6 +210,10 @@ impl Proof {
     /// Reads a pin in the first cycle after a load, once with the initial bit of a table that is on and latched at 0, and
     /// once at 1. True exactly where the pin reads differently, and then the table's register is kept. The configuration
     /// is left as it was.
+    ///
+    /// # Errors
+    ///
+    /// `Failed` where a call of the rig failed, `Memory` where memory was wanting.
     pub fn toggle_register(
         &mut self,
         rig: &mut Box<dyn Rig>,

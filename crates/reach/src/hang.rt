@@ -87,6 +87,10 @@ fn hang(
 
 /// Toggles the crosspoint of an offer beside the one way to its known end, and then beside the other. True exactly where
 /// it is kept then.
+///
+/// # Errors
+///
+/// `Failed` where a call of the rig failed, `Memory` where memory was wanting.
 pub fn toggle_first(
     known: &Known,
     rig: &mut Box<dyn Rig>,

@@ -85,6 +85,10 @@ fn toggle(
 }
 
 /// Toggles a crosspoint between two known wires. It is kept then, unless it is stuck.
+///
+/// # Errors
+///
+/// `Failed` where a call of the rig failed, `Memory` where memory was wanting.
 pub fn toggle_known(
     known: &Known,
     rig: &mut Box<dyn Rig>,
@@ -116,6 +120,10 @@ pub fn toggle_known(
 
 /// Toggles a crosspoint to a wire that isn't known, and hangs on another known wire over a kept one. True exactly where
 /// it is kept then.
+///
+/// # Errors
+///
+/// `Failed` where a call of the rig failed, `Memory` where memory was wanting.
 pub fn toggle_over(
     known: &Known,
     rig: &mut Box<dyn Rig>,

@@ -162,6 +162,10 @@ fn test_seated(
 /// none for the others. Where the faults are told and what was kept is true of them, each of these tables that is seated in the
 /// known wires and the kept crosspoints, has no wrong cell and no stuck register has its 64 cells and its register kept after an
 /// Ok. At every end no other facts are new.
+///
+/// # Errors
+///
+/// `Failed` where a call of the rig failed, `Memory` where memory was wanting.
 pub fn test_tables(
     rig: &mut Box<dyn Rig>,
     proof: &mut Proof,

@@ -148,6 +148,10 @@ fn test_register(
 /// Tests the 64 cells and the register of a table. Where the faults are told and what was kept is true of them, all of
 /// them are kept after an Ok, if no cell is wrong and the register isn't stuck. At every end no other facts are new, and at
 /// most 130 loads were made.
+///
+/// # Errors
+///
+/// `Failed` where a call of the rig failed, `Memory` where memory was wanting.
 pub fn test_table(
     alloc: Global,
     rig: &mut Box<dyn Rig>,

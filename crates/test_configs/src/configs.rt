@@ -21,6 +21,10 @@ fn close_route(config: &mut Config, route: &Route) -> Result<(), AllocError>
 }
 
 /// Closes these crosspoints besides, and changes nothing else.
+///
+/// # Errors
+///
+/// Want of memory.
 pub fn close_all(config: &mut Config, ties: &[Cross]) -> Result<(), AllocError>
     requires { All (λ c. c.0 < crosses_of config.old.config.shape) ties.now }
     ensures { OnOk result (Closes (cross_numbers ties.now) config.old.config config.new.config) }
@@ -33,6 +37,10 @@ pub fn close_all(config: &mut Config, ties: &[Cross]) -> Result<(), AllocError>
 
 /// Makes a configuration that of [`loop_config`], which costs what is closed in it before and after, and nothing that
 /// grows with the machine.
+///
+/// # Errors
+///
+/// Want of memory.
 pub fn close_loop(
     config: &mut Config,
     left: &Route,
@@ -52,6 +60,10 @@ pub fn close_loop(
 }
 
 /// Closes the crosspoints of two routes and the ties, and no other. Nothing is on, and a cycle has one tick.
+///
+/// # Errors
+///
+/// Want of memory.
 pub fn loop_config(
     alloc: Global,
     shape: &Shape,
@@ -70,6 +82,10 @@ pub fn loop_config(
 }
 
 /// The same, with a table on that has these cells, isn't latched, and has the initial bit 1.
+///
+/// # Errors
+///
+/// Want of memory.
 pub fn cell_config(
     alloc: Global,
     shape: &Shape,
