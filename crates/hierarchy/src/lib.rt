@@ -7,7 +7,7 @@
 //! Each number of a wire has one meaning, and `Shape::meaning` tells it: a pin of the machine, a line or a port of a node, or a
 //! pin of a table. Taps ascend; a crosspoint and its two ends determine each other: its tap and its line are a tap and a line of
 //! its node, and each tap and line of a node have a crosspoint there; the crossbars are a tree; names and numbers are one to one,
-//! and a node's and a table's name is the name of the node above, a dot, and its letter and position (`laws`). `Shape::new`
+//! and the name of a chip, of a hextant and of a table is that of the node above, a dot, and its letter and position (`laws`). `Shape::new`
 //! refuses exactly the counts that make no shape. Here stand the definitions of faults, joined and shorted wires, wire values,
 //! defect lists that cover, what is sound, which nodes are served, and what is fair; `joining` proves that joined is an
 //! equivalence that grows with what is closed and says the same as a finite list of wires, that each wire has exactly one value,

@@ -57,7 +57,8 @@ fn put_lines(text: &mut Vec<u8>, counts: &Counts) -> Result<(), AllocError>
     Ok(())
 }
 
-/// The text of a machine of this shape: nine lines, with single spaces. Reading it gives the shape again.
+/// The text of a machine of this shape: nine lines, with single spaces. Reading it gives the shape again, unless memory is
+/// wanting.
 pub fn machine_text(alloc: Global, shape: &Shape) -> Result<Vec<u8>, AllocError>
     ensures text { IfOk result (λ text. text.items ≡ text_of shape.now.counts) }
     ensures machine { IfOk result (λ text. IsMachine text.items shape.now.counts) }

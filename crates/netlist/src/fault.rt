@@ -12,7 +12,7 @@ use thiserror::Error;
 pub enum DesignKind {
     /// A byte that no text of a design may have.
     Byte,
-    /// A line with the wrong number of words, or with a word of the wrong form.
+    /// A line with the wrong number of words, or with a word of the wrong form; a row where none belongs; a line behind `.end`.
     Word,
     /// A line of a kind that is not known.
     Unknown,
@@ -20,7 +20,7 @@ pub enum DesignKind {
     NoModel,
     /// A model of this name stands earlier.
     SameModel,
-    /// A row where none belongs, or of the wrong length or letters.
+    /// A row of the wrong length or letters.
     Row,
     /// A row for 0 beside one for 1.
     RowMixed,

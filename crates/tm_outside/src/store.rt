@@ -35,7 +35,7 @@ pub trait Store {
 
     /// Reads the next bytes of the current file to the front of `into`, and gives their number.
     ///
-    /// It is 0 at the end of the file, and only there. After `Failed`, the only refusal, no file is
+    /// It is 0 at the end of the file, and only there where the contents are told. After `Failed`, the only refusal, no file is
     /// current, the count rose and `into` is as it was. Takes no memory.
     fn read(&mut self, into: &mut [u8]) -> Result<usize, StoreFail>
         requires room { 0 < length into.old }

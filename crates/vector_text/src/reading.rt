@@ -13,7 +13,7 @@ use std::alloc::{AllocError, Global};
 use std::marker::Model;
 use tm_outside::Store;
 
-/// How many bytes of a vector file are read at most.
+/// How many bytes of a vector file are looked at at most.
 const LIMIT: u64 = 1_099_511_627_776;
 
 /// Reads a vector file from a store, vector by vector. Contracts see where it stands in the file.
@@ -32,8 +32,8 @@ impl Model for VectorText {
 }
 
 impl VectorText {
-    /// Reads vectors of this width, one bit for each input. Takes a buffer of 65,536 bytes, and reads at most
-    /// 1,099,511,627,776 bytes of the file.
+    /// Reads vectors of this width, one bit for each input. Takes a buffer of 65,536 bytes, and looks at
+    /// 1,099,511,627,776 bytes of the file at most. An error is want of memory.
     pub fn new(alloc: Global, width: u32) -> Result<Self, AllocError>
         ensures { IfOk result (λ t. t ≡ new_reading width 1099511627776) }
     {
