@@ -1,10 +1,11 @@
 //! A machine behind a port: a board that is asked and answers by lines of text.
 //!
 //! `specs/Lines` and `specs/Requests` are the protocol, `specs/Answers` what a machine does at a request, `specs/Ports` what a port
-//! means. `PortBoard` is a board over any port: where the port tells its machine, the board tells it too, what was sent means the
-//! configuration that was asked for, and it fails only where the port did (`alarm`, `up`). `FilePort` is a port over files, which
-//! tells none; `RigPort` is the other end over a rig, which shows that a port can tell one. How lines are made and read may change, as
-//! long as they are spelled so; the tool takes a reply byte by byte (docs/PORT.md).
+//! means. `PortBoard` is a board over any port: where the port tells its machine, the board tells it too, and what was sent means the
+//! configuration that was asked for. It fails then only where the port did (`alarm`), or in `set_up` where it isn't up; it is up from an
+//! `Ok` of `find` until a refusal of `find` or of a cycle (`up`, `down`, `stays`). `FilePort` is a port over files, which tells none;
+//! `RigPort` is the other end over a rig, which shows that a port can tell one. How lines are made and read may change, as long as they
+//! are spelled so; the tool takes a reply byte by byte (docs/PORT.md).
 #![tactic(auto)]
 
 mod edits;

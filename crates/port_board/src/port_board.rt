@@ -39,7 +39,8 @@ fn room_for(pins: u32) -> usize
 
 /// A machine behind a port, as a board: it speaks the lines of its protocol, and tells the machine that its port tells.
 ///
-/// It is up from an `Ok` of `find` until the first failure. A load goes out with the cycles that follow it.
+/// It is up from an `Ok` of `find` until a `find` is refused or `cycle` or `cycles` fails; want of memory in `set_up` leaves it up. A
+/// load goes out with the cycles that follow it.
 #[derive(Drop)]
 pub struct PortBoard<P: Port> {
     alloc: Global,
@@ -211,7 +212,12 @@ impl<P: Port> PortBoard<P> {
 impl<P: Port> Board for PortBoard<P> {
     ghost board_state = { board_of };
 
-    /// Where a machine of this shape is told, it answers `Failed` only where the port failed.
+    /// Opens the port, and asks the machine what it is. The board is up after an `Ok`, and isn't after a refusal. Where a machine of
+    /// this shape is told, it answers `Failed` only where the port failed.
+    ///
+    /// # Errors
+    ///
+    /// `Failed` where the port fails, or another machine answers. Want of memory.
     fn find(&mut self, shape: &Shape, name: &str) -> Result<(), RigFail>
         ensures later { (⟦<PortBoard<P> as Board>⟧.board_state self.old).failures
             ≤ (⟦<PortBoard<P> as Board>⟧.board_state self.new).failures }
@@ -222,6 +228,8 @@ impl<P: Port> Board for PortBoard<P> {
             (⟦<PortBoard<P> as Board>⟧.board_state self.new).failures }
         ensures alarm { IsErrOf result RigFail.Failed → IfSome self.new.device (λ d. d.shape ≡ shape.now →
             Rose self.old.port_failures self.new.port_failures) }
+        ensures up { OnOk result (self.new.is_up ≡ true) }
+        ensures down { OnErr result (self.new.is_up ≡ false) }
     {
         self.found = None;
         self.link = None;
@@ -245,7 +253,11 @@ impl<P: Port> Board for PortBoard<P> {
         Ok(())
     }
 
-    /// It sends nothing, and answers `Failed` only where the board isn't up.
+    /// It sends nothing, and leaves the board up, or not up, as it was.
+    ///
+    /// # Errors
+    ///
+    /// `Failed` exactly where the board isn't up. Want of memory; then the next one sets all anew.
     fn set_up(&mut self, config: &Config) -> Result<(), RigFail>
         requires { (⟦<PortBoard<P> as Board>⟧.board_state self.old).found ≡ Some config.now.config.shape }
 
@@ -260,6 +272,8 @@ impl<P: Port> Board for PortBoard<P> {
         ensures refused { IsErrOf result RigFail.Failed → Rose (⟦<PortBoard<P> as Board>⟧.board_state self.old).failures
             (⟦<PortBoard<P> as Board>⟧.board_state self.new).failures }
         ensures up { IsErrOf result RigFail.Failed → self.old.is_up ≡ false }
+        ensures down { self.old.is_up ≡ false → IsErrOf result RigFail.Failed }
+        ensures stays { self.new.is_up ≡ self.old.is_up }
         ensures unsent { self.new.port_failures ≡ self.old.port_failures }
     {
         let Some(mut link) = self.link.take() else {
@@ -274,7 +288,12 @@ impl<P: Port> Board for PortBoard<P> {
         }
     }
 
-    /// Where a machine is told, it answers `Failed` only where the port failed.
+    /// Sends what is due with a drive, and reads what comes. The board is up after an `Ok`, and isn't after a refusal. Where a machine
+    /// is told, it answers `Failed` only where the port failed.
+    ///
+    /// # Errors
+    ///
+    /// `Failed` where the port fails, or the line isn't that of a reading.
     fn cycle(&mut self, drive: &PinBits, read: &mut PinBits) -> Result<(), RigFail>
         requires session { (⟦<PortBoard<P> as Board>⟧.board_state self.old).in_session ≡ true }
         requires drive_pins { width_found (⟦<PortBoard<P> as Board>⟧.board_state self.old) ≡ Some (length drive.now) }
@@ -293,6 +312,8 @@ impl<P: Port> Board for PortBoard<P> {
         ensures refused { IfErr result (λ e. HasFailed e (⟦<PortBoard<P> as Board>⟧.board_state self.old)
             (⟦<PortBoard<P> as Board>⟧.board_state self.new)) }
         ensures alarm { OnErr result (IsSome self.old.device → Rose self.old.port_failures self.new.port_failures) }
+        ensures up { OnOk result (self.new.is_up ≡ true) }
+        ensures down { OnErr result (self.new.is_up ≡ false) }
     {
         let Some(mut link) = self.link.take() else {
             unreachable!()
@@ -310,7 +331,12 @@ impl<P: Port> Board for PortBoard<P> {
         Ok(())
     }
 
-    /// Where a machine is told, it answers `Failed` only where the port failed.
+    /// Sends what is due with the drives, in as few requests as their replies allow, and reads what comes. The board is up after an
+    /// `Ok`, and isn't after a refusal. Where a machine is told, it answers `Failed` only where the port failed.
+    ///
+    /// # Errors
+    ///
+    /// `Failed` where the port fails, or a line isn't that of as many readings as were asked.
     fn cycles(&mut self, drives: &[PinBits], reads: &mut [PinBits]) -> Result<(), RigFail>
         requires session { (⟦<PortBoard<P> as Board>⟧.board_state self.old).in_session ≡ true }
         requires drive_pins { AreRowsOf (⟦<PortBoard<P> as Board>⟧.board_state self.old) drives.now }
@@ -330,6 +356,8 @@ impl<P: Port> Board for PortBoard<P> {
         ensures refused { IfErr result (λ e. HasFailed e (⟦<PortBoard<P> as Board>⟧.board_state self.old)
             (⟦<PortBoard<P> as Board>⟧.board_state self.new)) }
         ensures alarm { OnErr result (IsSome self.old.device → Rose self.old.port_failures self.new.port_failures) }
+        ensures up { OnOk result (self.new.is_up ≡ true) }
+        ensures down { OnErr result (self.new.is_up ≡ false) }
     {
         let Some(mut link) = self.link.take() else {
             unreachable!()
