@@ -1,7 +1,10 @@
 -- Two rigs side by side.
-use Rattle.std.specs.Prelude.{◌≡◌, ℕ, ◌+◌, ◌≤◌, List, Option, None, Some, IfSome, length, option_map}
+use Rattle.std.specs.Prelude.{◌≡◌, ◌⊎◌, ℕ, ◌+◌, ◌≤◌, List, Option, None, Some, IfSome, length, option_map}
 use Rattle.hierarchy.specs.Circuit.{Pins}
 use Rattle.rig.specs.Rig.{Asked, Session, Refused, RigState, shape_of, config_of, width_of, cycles_of, spare_of, GoesOn, GoesOnBy}
+use Rattle.rig.specs.Rig.{Attaches, AttachFails, IsDetached}
+use Rattle.rig.specs.declared.rig.AttachFail.{AttachFail}
+use Rattle.rig.specs.declared.rig.AttachFail.TheVariants as attach
 use Rattle.doubled_rig.specs.Repeats.{HaveWidth}
 use Rattle.doubled_rig.specs.declared.pairs.Pair.{Pair}
 
@@ -9,6 +12,8 @@ use Rattle.doubled_rig.specs.declared.pairs.Pair.{Pair}
 pub record Twins (A B : Type 0) : Type 0 where
   pub first : A
   pub second : B
+  -- the name under which the second is attached
+  pub second_name : List ℕ
   pub asked : List Asked
   pub attached : Option Asked
   pub refused : Refused
@@ -30,6 +35,34 @@ twin_state first second t = record {
   loads = t.loads;
   failures = t.failures;
 }
+
+-- the first was attached as this machine, and the second as one of its shape under its own name
+pub record BothAttach (machine : Asked) (second_name : List ℕ) (one one_new other other_new : RigState) : Type 0 where
+  pub first : Attaches machine one one_new
+  pub second : Attaches (record machine { name = second_name }) other other_new
+
+-- the first refused to be attached as this machine, and the second wasn't reached
+pub record FirstRefuses (e : AttachFail) (machine : Asked) (one one_new other other_new : RigState) : Type 0 where
+  pub refused : AttachFails e machine one one_new
+  pub detached : IsDetached one_new
+  pub unreached : other_new ≡ other
+
+-- the first was attached as this machine, and the second refused to be so under its own name
+pub record SecondRefuses (e : AttachFail) (machine : Asked) (second_name : List ℕ) (one one_new other other_new : RigState) : Type 0 where
+  pub attached : Attaches machine one one_new
+  pub refused : AttachFails e (record machine { name = second_name }) other other_new
+  pub detached : IsDetached other_new
+
+-- memory was wanting, and neither was reached
+pub record NeitherReached (e : AttachFail) (one one_new other other_new : RigState) : Type 0 where
+  pub wanting : e ≡ attach.Memory
+  pub first : one_new ≡ one
+  pub second : other_new ≡ other
+
+-- whose refusal is handed on: that of the first, or else of the second
+abbrev pub OneRefuses : AttachFail → Asked → List ℕ → RigState → RigState → RigState → RigState → Type 0
+OneRefuses e machine second_name one one_new other other_new =
+    FirstRefuses e machine one one_new other other_new ⊎ SecondRefuses e machine second_name one one_new other other_new
 
 -- the session of this rig has this configuration and these cycles
 pub record HasSession (s : Session) (rig : RigState) : Type 0 where

@@ -6,7 +6,7 @@ ghost use Rattle.hierarchy.specs.Shape.{pins_of};
 ghost use Rattle.tm_outside.specs.Counts.{Rose};
 ghost use Rattle.rig.specs.Rig.{shape_of, width_of, spare_of, AreRows, Begins, CyclesFail, GoesOn, GoesOnBy, HasFaultsOf, KeepLengths};
 ghost use Rattle.doubled_rig.specs.Repeats.{HaveWidth};
-ghost use Rattle.doubled_rig.specs.Twins.{ArePaired, BothGoOn, BothGoOnBy, paired};
+ghost use Rattle.doubled_rig.specs.Twins.{ArePaired, BothAttach, BothGoOn, BothGoOnBy, OneRefuses, paired};
 
 use crate::rows::{are_same, blank_rows, is_same};
 use config_set::Config;
@@ -61,6 +61,10 @@ pub fn attach_both<A: Rig, B: Rig>(
     ensures first { OnOk result (shape_of (A.rig_state first.new) ≡ Some shape.now) }
     ensures second { OnOk result (shape_of (B.rig_state second.new) ≡ Some shape.now) }
     ensures faults { OnOk result (HasFaultsOf shape.now (B.rig_state second.new)) }
+    ensures both { OnOk result (BothAttach (record { shape = shape.now; name = name.now }) other.now
+        (A.rig_state first.old) (A.rig_state first.new) (B.rig_state second.old) (B.rig_state second.new)) }
+    ensures refused { IfErr result (λ e. OneRefuses e (record { shape = shape.now; name = name.now }) other.now
+        (A.rig_state first.old) (A.rig_state first.new) (B.rig_state second.old) (B.rig_state second.new)) }
     ensures caused { IsErrOf result AttachFail.Failed → Rose (A.rig_state first.old).failures (A.rig_state first.new).failures
         ⊎ Rose (B.rig_state second.old).failures (B.rig_state second.new).failures }
 {

@@ -4,7 +4,7 @@ ghost use Rattle.hierarchy.specs.Faults.{Faults};
 ghost use Rattle.tm_outside.specs.Counts.{Rose, next_count};
 ghost use Rattle.rig.specs.Rig.{shape_of, width_of, IsDetached, Attaches, AttachFails, HasFaultsOf, Begins, LoadFails, GoesOn, CycleFails};
 ghost use Rattle.rig.specs.Rig.{GoesOnBy, CyclesFail, AreRows, KeepLengths};
-ghost use Rattle.doubled_rig.specs.Twins.{ShareSession, twin_state};
+ghost use Rattle.doubled_rig.specs.Twins.{BothAttach, NeitherReached, OneRefuses, ShareSession, twin_state};
 
 use crate::pairs::{Pair, attach_both, cycle_both, cycles_both, load_both};
 use config_set::Config;
@@ -26,7 +26,7 @@ pub struct TwinRig<A: Rig, B: Rig> {
     first: A,
     second: B,
     // The name under which the second is attached.
-    other: String,
+    second_name: String,
     asked: AskedMachines,
     machine: Option<AskedMachine>,
     pair: Option<Pair>,
@@ -45,6 +45,7 @@ impl<A: Rig, B: Rig> Model for TwinRig<A, B> {
     ghost view = { λ a. record {
       first = a.first;
       second = a.second;
+      second_name = string_bytes a.second_name;
       asked = a.asked;
       attached = option_map (λ m. record { shape = m.shape; name = string_bytes m.name }) a.machine;
       refused = record { times = a.refused; last = a.last };
@@ -63,6 +64,7 @@ impl<A: Rig, B: Rig> TwinRig<A, B> {
         ensures { result ≡ record {
           first = first;
           second = second;
+          second_name = string_bytes name;
           asked = [];
           attached = None;
           refused = record { times = 0; last = None };
@@ -75,7 +77,7 @@ impl<A: Rig, B: Rig> TwinRig<A, B> {
             alloc,
             first,
             second,
-            other: name,
+            second_name: name,
             asked: AskedMachines::new(alloc),
             machine: None,
             pair: None,
@@ -90,7 +92,8 @@ impl<A: Rig, B: Rig> TwinRig<A, B> {
 impl<A: Rig, B: Rig> Rig for TwinRig<A, B> {
     ghost rig_state = { λ t. twin_state (A.rig_state t.first) (B.rig_state t.second) t };
 
-    /// A failure is one of the two rigs.
+    /// The first is attached under this name, then the second under its own. A failure or a refused text is that of one of the
+    /// two rigs: the first's, and then the second isn't reached, or the second's.
     fn attach(&mut self, shape: &Shape, name: &str) -> Result<(), AttachFail>
         ensures texts { (⟦<TwinRig<A, B> as Rig>⟧.rig_state self.new).machine.texts ≡
             (⟦<TwinRig<A, B> as Rig>⟧.rig_state self.old).machine.texts }
@@ -105,6 +108,14 @@ impl<A: Rig, B: Rig> Rig for TwinRig<A, B> {
             (⟦<TwinRig<A, B> as Rig>⟧.rig_state self.old)
             (⟦<TwinRig<A, B> as Rig>⟧.rig_state self.new)) }
 
+        ensures second_name { self.new.second_name ≡ self.old.second_name }
+        ensures both { OnOk result (BothAttach (record { shape = shape.now; name = name.now }) self.old.second_name
+            (A.rig_state self.old.first) (A.rig_state self.new.first) (B.rig_state self.old.second) (B.rig_state self.new.second)) }
+        ensures handed { IfErr result (λ e.
+            NeitherReached e (A.rig_state self.old.first) (A.rig_state self.new.first) (B.rig_state self.old.second)
+            (B.rig_state self.new.second)
+            ⊎ OneRefuses e (record { shape = shape.now; name = name.now }) self.old.second_name
+            (A.rig_state self.old.first) (A.rig_state self.new.first) (B.rig_state self.old.second) (B.rig_state self.new.second)) }
         ensures rises { IsErrOf result AttachFail.Failed → self.new.failures ≡ next_count self.old.failures }
         ensures caused { IsErrOf result AttachFail.Failed → Rose (A.rig_state self.old.first).failures (A.rig_state self.new.first).failures
             ⊎ Rose (B.rig_state self.old.second).failures (B.rig_state self.new.second).failures }
@@ -119,7 +130,13 @@ impl<A: Rig, B: Rig> Rig for TwinRig<A, B> {
         if self.asked.add(shape, name).is_err() {
             return Err(AttachFail::Memory);
         }
-        match attach_both(&mut self.first, &mut self.second, shape, name, &self.other) {
+        match attach_both(
+            &mut self.first,
+            &mut self.second,
+            shape,
+            name,
+            &self.second_name,
+        ) {
             Ok(()) => {
                 self.machine = Some(AskedMachine {
                     shape: *shape,
@@ -160,6 +177,7 @@ impl<A: Rig, B: Rig> Rig for TwinRig<A, B> {
         ensures refused { IfErr result (λ e. LoadFails e (⟦<TwinRig<A, B> as Rig>⟧.rig_state self.old)
             (⟦<TwinRig<A, B> as Rig>⟧.rig_state self.new)) }
 
+        ensures second_name { self.new.second_name ≡ self.old.second_name }
         ensures shared { ShareSession (⟦<TwinRig<A, B> as Rig>⟧.rig_state self.new) (A.rig_state self.new.first)
             (B.rig_state self.new.second) }
         ensures spare { OnOk result (self.new.spare ≡ Some room) }
@@ -200,6 +218,7 @@ impl<A: Rig, B: Rig> Rig for TwinRig<A, B> {
         ensures refused { IfErr result (λ e. CycleFails e (⟦<TwinRig<A, B> as Rig>⟧.rig_state self.old)
             (⟦<TwinRig<A, B> as Rig>⟧.rig_state self.new)) }
 
+        ensures second_name { self.new.second_name ≡ self.old.second_name }
         ensures shared { ShareSession (⟦<TwinRig<A, B> as Rig>⟧.rig_state self.new) (A.rig_state self.new.first)
             (B.rig_state self.new.second) }
         ensures rises { IsErrOf result RigFail.Failed → self.new.failures ≡ next_count self.old.failures }
@@ -243,6 +262,7 @@ impl<A: Rig, B: Rig> Rig for TwinRig<A, B> {
         ensures refused { IfErr result (λ e. CyclesFail e (length drives.now) (⟦<TwinRig<A, B> as Rig>⟧.rig_state self.old)
             (⟦<TwinRig<A, B> as Rig>⟧.rig_state self.new)) }
 
+        ensures second_name { self.new.second_name ≡ self.old.second_name }
         ensures shared { ShareSession (⟦<TwinRig<A, B> as Rig>⟧.rig_state self.new) (A.rig_state self.new.first)
             (B.rig_state self.new.second) }
         ensures rises { IsErrOf result RigFail.Failed → self.new.failures ≡ next_count self.old.failures }
