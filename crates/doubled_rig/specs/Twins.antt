@@ -99,9 +99,19 @@ pub record BothGoOnBy (drives readings : List Pins) (old new : Pair) (one one_ne
   pub paired : ArePaired new one_new other_new
   pub spare : old.spare ≡ new.spare + length drives
 
+-- so many places of a session's room were taken, and no more
+pub record TakesRoom (count : ℕ) (had has : Option ℕ) : Type 0 where
+  pub rest : ℕ
+  pub taken : had ≡ Some (rest + count)
+  pub left_over : has ≡ Some rest
+
+-- for how many further cycles a session of both has room, if there is one
+abbrev pub room_of : Option Pair → Option ℕ
+room_of pair = option_map (λ (p : Pair). p.spare) pair
+
 -- the session of both, over the machine that is told
 abbrev pub paired : Option Pair → RigState → RigState → RigState
-paired pair first second = record second { session = session_with (option_map (λ (p : Pair). p.spare) pair) first.session }
+paired pair first second = record second { session = session_with (room_of pair) first.session }
 
 -- what is attached is attached to both, and a session of both is paired
 pub record IsTwinned (machine : Option Asked) (pair : Option Pair) (first second : RigState) : Type 0 where

@@ -6,7 +6,7 @@ ghost use Rattle.hierarchy.specs.Shape.{pins_of};
 ghost use Rattle.tm_outside.specs.Counts.{Rose};
 ghost use Rattle.rig.specs.Rig.{shape_of, width_of, spare_of, AreRows, Begins, CyclesFail, GoesOn, GoesOnBy, HasFaultsOf, KeepLengths};
 ghost use Rattle.doubled_rig.specs.Repeats.{HaveWidth};
-ghost use Rattle.doubled_rig.specs.Twins.{ArePaired, BothAttach, BothGoOn, BothGoOnBy, OneRefuses, paired};
+ghost use Rattle.doubled_rig.specs.Twins.{ArePaired, BothAttach, BothGoOn, BothGoOnBy, OneRefuses, TakesRoom, paired, room_of};
 
 use crate::rows::{are_same, blank_rows, is_same};
 use config_set::Config;
@@ -154,6 +154,8 @@ pub fn cycle_both<A: Rig, B: Rig>(
     ensures paired { IfSome pair.new (λ p. ArePaired p (A.rig_state first.new) (B.rig_state second.new)) }
     ensures cycles { OnOk result (GoesOn drive.now read.new (paired pair.old (A.rig_state first.old) (B.rig_state second.old))
         (paired pair.new (A.rig_state first.new) (B.rig_state second.new))) }
+    ensures room { OnOk result (TakesRoom 1 (room_of pair.old) (room_of pair.new)) }
+    ensures beyond { room_of pair.old ≡ Some 0 → IsErrOf result RigFail.Memory }
     ensures kept { OnErr result (read.new ≡ read.old) }
     ensures failed { IsErrOf result RigFail.Failed → pair.new ≡ None }
     ensures full { IsErrOf result RigFail.Memory → (spare_of (paired pair.old (A.rig_state first.old) (B.rig_state second.old)) ≡ 0)
@@ -254,6 +256,8 @@ pub fn cycles_both<A: Rig, B: Rig>(
     ensures paired { IfSome pair.new (λ p. ArePaired p (A.rig_state first.new) (B.rig_state second.new)) }
     ensures cycles { OnOk result (GoesOnBy drives.now reads.new (paired pair.old (A.rig_state first.old) (B.rig_state second.old))
         (paired pair.new (A.rig_state first.new) (B.rig_state second.new))) }
+    ensures room { OnOk result (TakesRoom (length drives.now) (room_of pair.old) (room_of pair.new)) }
+    ensures beyond { IfSome (room_of pair.old) (λ spare. spare < length drives.now → IsErrOf result RigFail.Memory) }
     ensures failed { IsErrOf result RigFail.Failed → pair.new ≡ None }
     ensures full { IsErrOf result RigFail.Memory →
         (spare_of (paired pair.old (A.rig_state first.old) (B.rig_state second.old)) < length drives.now)

@@ -1,10 +1,10 @@
 //! Two machines side by side.
-ghost use Rattle.std.specs.Prelude.{◌≡◌, ◌⊎◌, ◌^◌, ◌<◌, ◌≤◌, [], None, Some, length, string_bytes, IsSome, IfErr, OnOk, OnErr, IsErrOf};
+ghost use Rattle.std.specs.Prelude.{◌≡◌, ◌⊎◌, ◌^◌, ◌<◌, ◌≤◌, [], None, Some, length, string_bytes, IsSome, IfSome, IfErr, OnOk, OnErr, IsErrOf};
 ghost use Rattle.hierarchy.specs.Faults.{Faults};
 ghost use Rattle.tm_outside.specs.Counts.{Rose, next_count};
 ghost use Rattle.rig.specs.Rig.{shape_of, width_of, IsDetached, Attaches, AttachFails, HasFaultsOf, Begins, LoadFails, GoesOn, CycleFails};
 ghost use Rattle.rig.specs.Rig.{GoesOnBy, CyclesFail, AreRows, KeepLengths};
-ghost use Rattle.doubled_rig.specs.Twins.{BothAttach, NeitherReached, OneRefuses, ShareSession, twin_state};
+ghost use Rattle.doubled_rig.specs.Twins.{BothAttach, NeitherReached, OneRefuses, ShareSession, TakesRoom, twin_state};
 
 use crate::pairs::{Pair, attach_both, cycle_both, cycles_both, load_both};
 use config_set::Config;
@@ -202,7 +202,8 @@ impl<A: Rig, B: Rig> Rig for TwinRig<A, B> {
         }
     }
 
-    /// Both sessions have this pair of drive and reading. Where both rigs tell the same faults, a failure is one of theirs.
+    /// Both sessions have this pair of drive and reading, and one place of the room is taken; where none is left, neither rig is
+    /// reached. Where both rigs tell the same faults, a failure is one of theirs.
     fn cycle(&mut self, drive: &PinBits, read: &mut PinBits) -> Result<(), RigFail>
         requires drive_pins { width_of (⟦<TwinRig<A, B> as Rig>⟧.rig_state self.old) ≡ Some (length drive.now) }
         requires read_pins { width_of (⟦<TwinRig<A, B> as Rig>⟧.rig_state self.old) ≡ Some (length read.old) }
@@ -221,6 +222,8 @@ impl<A: Rig, B: Rig> Rig for TwinRig<A, B> {
         ensures second_name { self.new.second_name ≡ self.old.second_name }
         ensures shared { ShareSession (⟦<TwinRig<A, B> as Rig>⟧.rig_state self.new) (A.rig_state self.new.first)
             (B.rig_state self.new.second) }
+        ensures room { OnOk result (TakesRoom 1 self.old.spare self.new.spare) }
+        ensures beyond { self.old.spare ≡ Some 0 → IsErrOf result RigFail.Memory }
         ensures rises { IsErrOf result RigFail.Failed → self.new.failures ≡ next_count self.old.failures }
         ensures unreached { IsErrOf result RigFail.Memory → self.new ≡ self.old }
         ensures caused { (f : Faults) → (A.rig_state self.old.first).machine.faults ≡ Some f →
@@ -245,7 +248,8 @@ impl<A: Rig, B: Rig> Rig for TwinRig<A, B> {
         }
     }
 
-    /// Both sessions have these pairs of drive and reading. Where both rigs tell the same faults, a failure is one of theirs.
+    /// Both sessions have these pairs of drive and reading, and as many places of the room are taken; where fewer are left, neither
+    /// rig is reached. Where both rigs tell the same faults, a failure is one of theirs.
     fn cycles(&mut self, drives: &[PinBits], reads: &mut [PinBits]) -> Result<(), RigFail>
         requires session { IsSome (⟦<TwinRig<A, B> as Rig>⟧.rig_state self.old).session }
         requires drive_pins { AreRows (⟦<TwinRig<A, B> as Rig>⟧.rig_state self.old) drives.now }
@@ -265,6 +269,8 @@ impl<A: Rig, B: Rig> Rig for TwinRig<A, B> {
         ensures second_name { self.new.second_name ≡ self.old.second_name }
         ensures shared { ShareSession (⟦<TwinRig<A, B> as Rig>⟧.rig_state self.new) (A.rig_state self.new.first)
             (B.rig_state self.new.second) }
+        ensures room { OnOk result (TakesRoom (length drives.now) self.old.spare self.new.spare) }
+        ensures beyond { IfSome self.old.spare (λ spare. spare < length drives.now → IsErrOf result RigFail.Memory) }
         ensures rises { IsErrOf result RigFail.Failed → self.new.failures ≡ next_count self.old.failures }
         ensures unreached { IsErrOf result RigFail.Memory → self.new ≡ self.old }
         ensures caused { (f : Faults) → (A.rig_state self.old.first).machine.faults ≡ Some f →
