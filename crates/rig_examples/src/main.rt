@@ -115,9 +115,10 @@ fn try_lost(rt: &HostRuntime, name: &str) -> io::Result<bool> {
     }
     match load_twice(alloc, &mut rig, &shape) {
         Ok(found) => {
-            let reading = found.reading;
+            let first = found.first;
+            let second = found.second;
             let again = found.again;
-            println!(rt; "reads {reading}, {again} loads made again")?;
+            println!(rt; "reads {first}, then {second}, {again} loads made again")?;
         }
         Err(_) => return Ok(false),
     }
