@@ -1,16 +1,15 @@
-//! Commands over rigs that compare readings, and over a machine behind files.
+//! Commands over rigs that compare readings, and over a machine behind files or behind a port in memory.
 //!
 //! The text that the command line names has a case in each line; its head says how they are written. Each is printed, with
 //! what the command wrote and its status.
 #![tactic(auto)]
 
+mod faults;
 mod lost;
 
-ghost use Rattle.std.specs.Prelude.{◌≡◌, None, IfOk};
-
+use crate::faults::sim_of;
 use crate::lost::load_twice;
 use board_rig::BoardRig;
-use cycle_sim::SimRig;
 use doubled_rig::{RepeatRig, TwinRig};
 use example_words::{TINY, verdict, words_of};
 use hierarchy::Shape;
@@ -21,31 +20,8 @@ use std::alloc::Global;
 use std::process::ExitCode;
 use std::{fs, io};
 use tera_top::teramac;
-use tm_outside::{File, FileStore, MemoryStore, StdSink};
+use tm_outside::{FileStore, StdSink};
 use turn_rig::TurnRig;
-
-/// The fault texts that simulated rigs find, by name.
-const FAULTS: [(&str, &str); 5] = [
-    ("none", ""),
-    ("2xnone", ""),
-    ("3xnone", ""),
-    ("stuck", "stuck0 r.l0\n"),
-    ("wrong", "stuck2 r.l0\n"),
-];
-
-// A simulated rig, in no session.
-fn sim_of(alloc: Global) -> io::Result<SimRig<MemoryStore>>
-    ensures { IfOk result (λ rig. (⟦<SimRig<MemoryStore> as Rig>⟧.rig_state rig).session ≡ None) }
-{
-    let mut files = Vec::new(alloc);
-    for (name, text) in FAULTS {
-        files.push(File {
-            name: String::from_str(alloc, name)?,
-            bytes: Vec::from_slice(alloc, text.as_bytes())?,
-        })?;
-    }
-    Ok(SimRig::new(alloc, MemoryStore::new(alloc, files, Vec::new(alloc))))
-}
 
 // A number; 0 where the word is none.
 fn number_of(word: &str) -> u64 {
@@ -61,7 +37,7 @@ fn tell(rt: &HostRuntime, status: u8) -> io::Result<bool> {
 // Over a rig that asks again, over one that turns the reading of a number.
 fn try_repeat(rt: &HostRuntime, turned: &str, words: &[String]) -> io::Result<bool> {
     let alloc: Global = rt.alloc();
-    let inner = TurnRig::new(sim_of(alloc)?, number_of(turned));
+    let inner = TurnRig::new(sim_of(rt)?, number_of(turned));
     let mut rig: Box<dyn Rig> = Box::new(alloc, RepeatRig::new(alloc, inner))?;
     let mut store = FileStore::new(alloc, rt.clone()?);
     let mut sink = StdSink::new(rt.clone()?);
@@ -72,7 +48,7 @@ fn try_repeat(rt: &HostRuntime, turned: &str, words: &[String]) -> io::Result<bo
 fn try_twin(rt: &HostRuntime, name: &str, words: &[String]) -> io::Result<bool> {
     let alloc: Global = rt.alloc();
     let name = String::from_str(alloc, name)?;
-    let twin = TwinRig::new(alloc, sim_of(alloc)?, sim_of(alloc)?, name);
+    let twin = TwinRig::new(alloc, sim_of(rt)?, sim_of(rt)?, name);
     let mut rig: Box<dyn Rig> = Box::new(alloc, twin)?;
     let mut store = FileStore::new(alloc, rt.clone()?);
     let mut sink = StdSink::new(rt.clone()?);
@@ -95,7 +71,7 @@ fn try_end(rt: &HostRuntime, words: &[String]) -> io::Result<bool> {
     let Ok(shape) = Shape::new(TINY) else {
         return Ok(false);
     };
-    let board = PortBoard::new(alloc, RigPort::new(alloc, sim_of(alloc)?, shape));
+    let board = PortBoard::new(alloc, RigPort::new(alloc, sim_of(rt)?, shape));
     let mut store = FileStore::new(alloc, rt.clone()?);
     let mut sink = StdSink::new(rt.clone()?);
     let mut rig: Box<dyn Rig> = Box::new(alloc, BoardRig::new(alloc, board))?;
@@ -108,7 +84,7 @@ fn try_lost(rt: &HostRuntime, name: &str) -> io::Result<bool> {
     let Ok(shape) = Shape::new(TINY) else {
         return Ok(false);
     };
-    let board = PortBoard::new(alloc, RigPort::new(alloc, sim_of(alloc)?, shape));
+    let board = PortBoard::new(alloc, RigPort::new(alloc, sim_of(rt)?, shape));
     let mut rig: Box<dyn Rig> = Box::new(alloc, BoardRig::new(alloc, board))?;
     if rig.attach(&shape, name).is_err() {
         return Ok(false);
