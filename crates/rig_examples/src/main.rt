@@ -6,9 +6,11 @@
 
 mod faults;
 mod lost;
+mod telling_rig;
 
 use crate::faults::sim_of;
 use crate::lost::load_twice;
+use crate::telling_rig::TellingRig;
 use board_rig::BoardRig;
 use doubled_rig::{RepeatRig, TwinRig};
 use example_words::{TINY, verdict, words_of};
@@ -17,7 +19,9 @@ use port_board::{FileBoard, PortBoard, RigPort};
 use program_words::texts;
 use rig::Rig;
 use std::alloc::Global;
+use std::cell::Cell;
 use std::process::ExitCode;
+use std::rc::Rc;
 use std::{fs, io};
 use tera_top::teramac;
 use tm_outside::{FileStore, StdSink};
@@ -42,6 +46,22 @@ fn try_repeat(rt: &HostRuntime, turned: &str, words: &[String]) -> io::Result<bo
     let mut store = FileStore::new(alloc, rt.clone()?);
     let mut sink = StdSink::new(rt.clone()?);
     tell(rt, teramac(alloc, words, &mut store, &mut rig, &mut sink))
+}
+
+// Over a rig that asks again. False where its inner rig wasn't loaded so often for each load but the last, and once for that.
+fn try_passes(rt: &HostRuntime, times: &str, words: &[String]) -> io::Result<bool> {
+    let alloc: Global = rt.alloc();
+    let loads = Rc::new(alloc, Cell::new(0u64))?;
+    let inner = TellingRig::new(sim_of(rt)?, loads.clone()?);
+    let mut rig: Box<dyn Rig> = Box::new(alloc, RepeatRig::new(alloc, inner))?;
+    let mut store = FileStore::new(alloc, rt.clone()?);
+    let mut sink = StdSink::new(rt.clone()?);
+    let status = teramac(alloc, words, &mut store, &mut rig, &mut sink);
+    let but_last = rig.loads().saturating_sub(1);
+    let due = but_last.saturating_mul(number_of(times)).saturating_add(1);
+    let right = 0 < but_last && loads.get() == due;
+    println!(rt; "status {status}, each load but the last was made {times} times: {right}")?;
+    Ok(right)
 }
 
 // Over two rigs side by side, the second under this name.
@@ -110,6 +130,11 @@ fn try_line(rt: &HostRuntime, line: &str) -> io::Result<bool> {
         [kind, turned, words @ ..] if kind.as_str() == "repeat" => try_repeat(
             rt,
             turned.as_str(),
+            words,
+        ),
+        [kind, times, words @ ..] if kind.as_str() == "passes" => try_passes(
+            rt,
+            times.as_str(),
             words,
         ),
         [kind, name, words @ ..] if kind.as_str() == "twin" => try_twin(rt, name.as_str(), words),
