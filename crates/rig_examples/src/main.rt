@@ -1,4 +1,5 @@
-//! Commands over rigs that compare readings, and over a machine behind files or behind a port in memory.
+//! Commands over rigs that compare readings, and over a machine behind files or behind a port in memory; and boards and ports, step by
+//! step.
 //!
 //! The text that the command line names has a case in each line; its head says how they are written. Each is printed, with
 //! what the command wrote and its status.
@@ -6,10 +7,15 @@
 
 mod faults;
 mod lost;
+mod memory_board;
+mod steps;
+mod table_port;
+mod talk;
 mod telling_rig;
 
 use crate::faults::sim_of;
 use crate::lost::load_twice;
+use crate::steps::{try_answers, try_asks, try_board};
 use crate::telling_rig::TellingRig;
 use board_rig::BoardRig;
 use doubled_rig::{RepeatRig, TwinRig};
@@ -141,6 +147,18 @@ fn try_line(rt: &HostRuntime, line: &str) -> io::Result<bool> {
         [kind, words @ ..] if kind.as_str() == "port" => try_port(rt, words),
         [kind, words @ ..] if kind.as_str() == "end" => try_end(rt, words),
         [kind, name] if kind.as_str() == "lost" => try_lost(rt, name.as_str()),
+        [kind, words @ ..] if kind.as_str() == "board" => try_board(rt, words),
+        [kind, pins, table, words @ ..] if kind.as_str() == "asks" => try_asks(
+            rt,
+            pins.as_str(),
+            table.as_str(),
+            words,
+        ),
+        [kind, pins, table] if kind.as_str() == "answers" => try_answers(
+            rt,
+            pins.as_str(),
+            table.as_str(),
+        ),
         _ => Ok(false),
     }
 }
