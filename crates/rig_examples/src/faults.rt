@@ -12,7 +12,7 @@ fn fault_files(rt: &HostRuntime) -> io::Result<Vec<File>> {
     let alloc: Global = rt.alloc();
     let text = fs::read_to_string(rt, "faults")?;
     let mut files: Vec<File> = Vec::new(alloc);
-    for line in text.lines() {
+    'lines: for line in text.lines() {
         if let Some(name) = line.strip_prefix("= ") {
             files.push(File {
                 name: String::from_str(alloc, name)?,

@@ -91,7 +91,7 @@ fn take_steps<R: Rig>(
     orders: &Orders,
     words: &[String],
 ) -> io::Result<bool> {
-    for word in words {
+    'steps: for word in words {
         if !step(rt, talk, orders, word.as_str())? {
             return Ok(false);
         }

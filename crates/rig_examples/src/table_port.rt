@@ -19,7 +19,7 @@ pub struct Exchange {
 /// The requests and replies of a text: a line for each, in which the reply stands behind spaces and begins with `=`.
 pub fn exchanges_of(alloc: Global, text: &str) -> Result<Vec<Exchange>, AllocError> {
     let mut table = Vec::new(alloc);
-    for line in text.lines() {
+    'lines: for line in text.lines() {
         if line.starts_with("#") {
             continue;
         }

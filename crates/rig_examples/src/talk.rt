@@ -72,7 +72,7 @@ fn row_of(alloc: Global, pins: u32, text: &str) -> Result<PinBits, AllocError>
 // A digit for each pin.
 fn put_row(text: &mut String, row: &PinBits) -> Result<(), AllocError> {
     text.push(' ')?;
-    for bit in row.as_slice() {
+    'bits: for bit in row.as_slice() {
         text.push(if *bit { '1' } else { '0' })?;
     }
     Ok(())
@@ -219,7 +219,7 @@ impl<R: Rig> Talk<R> {
         let mut rows = rows_of(alloc, self.config.shape().pins(), drives)?;
         match self.rig.cycles(&rows.drives, &mut rows.reads) {
             Ok(()) => {
-                for read in rows.reads.iter() {
+                'reads: for read in rows.reads.iter() {
                     put_row(text, read)?;
                 }
                 Ok(Answer::Done)

@@ -1,4 +1,4 @@
-use Rattle.std.proofs.Common.{◌≡◌, ◌<◌, ◌≤◌, ◌∙◌, length, ap, arith}
+use Rattle.std.proofs.Common.{◌<◌, ◌∙◌, length, ap, arith}
 use Rattle.std.specs.Prelude.{option_map}
 use Rattle.hierarchy.specs.Shape.{pins_of}
 use Rattle.board_rig.proofs.OneByOne.{rows_kept, lengths_set, cycled_next}
