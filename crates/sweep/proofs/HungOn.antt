@@ -118,15 +118,15 @@ tried_unclear : (a : Field) (hs : List Hang) → AreOf a hs → {told : Option F
 tried_unclear a hs of {were = were} {are = are} (silent rows look none once kept same also) = new_same a were are also
 tried_unclear a hs of {were = were} {are = are} (answered rows look some h) = new_then a were h.few are (one_unclear a (map turned hs) (turned_of a hs of) h.first_marks) (one_unclear a hs of h.second_marks)
 
-pub unfit_marks : (a : Field) (told : Option Faults) (trees : Trees) (hs : List Hang) (k l : Kept) (was is were are : List Bool) {before after : ℕ} {T E : Type 0} (r : Result T E) → All (λ h. has_number a.wires h.wire.0 ≡ true) hs → length is ≡ length was → StayMarked was is →
+pub unfit_marks : (a : Field) (told : Option Faults) (trees : Trees) (hs : List Hang) (before after : ℕ) (k l : Kept) (was is were are : List Bool) {T E : Type 0} (r : Result T E) → All (λ h. has_number a.wires h.wire.0 ≡ true) hs → length is ≡ length was → StayMarked was is →
     OnOk r (HasTried told trees hs before after k l was is were are) → OnErr r (is ≡ was) → MarksSome (λ w. has_number a.wires w ≡ true) was is
-unfit_marks a told trees hs k l was is were are (Ok v) of len stay tried same = record { len = len; stays = stay; within = tried_unfit a hs of tried }
-unfit_marks a told trees hs k l was is were are (Err e) of len stay tried same = record { len = len; stays = stay; within = new_same a was is same }
+unfit_marks a told trees hs before after k l was is were are (Ok v) of len stay tried same = record { len = len; stays = stay; within = tried_unfit a hs of tried }
+unfit_marks a told trees hs before after k l was is were are (Err e) of len stay tried same = record { len = len; stays = stay; within = new_same a was is same }
 
-pub unclear_marks : (a : Field) (told : Option Faults) (trees : Trees) (hs : List Hang) (k l : Kept) (was is were are : List Bool) {before after : ℕ} {T E : Type 0} (r : Result T E) → All (λ h. has_number a.wires h.wire.0 ≡ true) hs → length are ≡ length were → StayMarked were are →
+pub unclear_marks : (a : Field) (told : Option Faults) (trees : Trees) (hs : List Hang) (before after : ℕ) (k l : Kept) (was is were are : List Bool) {T E : Type 0} (r : Result T E) → All (λ h. has_number a.wires h.wire.0 ≡ true) hs → length are ≡ length were → StayMarked were are →
     OnOk r (HasTried told trees hs before after k l was is were are) → OnErr r (are ≡ were) → MarksSome (λ w. has_number a.wires w ≡ true) were are
-unclear_marks a told trees hs k l was is were are (Ok v) of len stay tried same = record { len = len; stays = stay; within = tried_unclear a hs of tried }
-unclear_marks a told trees hs k l was is were are (Err e) of len stay tried same = record { len = len; stays = stay; within = new_same a were are same }
+unclear_marks a told trees hs before after k l was is were are (Ok v) of len stay tried same = record { len = len; stays = stay; within = tried_unclear a hs of tried }
+unclear_marks a told trees hs before after k l was is were are (Err e) of len stay tried same = record { len = len; stays = stay; within = new_same a were are same }
 
 -- a test that marks wires, and was paid for
 pub hang_goes : {told : Option Faults} {a : Field} {tables : List Table} {k l : Kept} {known : KnownWires} {bad : Bad} {unfit unclear : List Bool} {purse : Purse} {before after : ℕ} (n : ℕ) → IsHand a (in_hand k known bad purse before) → before + n ≤ purse.most → after ≤ before + n → IsMore k l →
