@@ -71,7 +71,12 @@ fn are_rows(len: usize, rows: &[Cube]) -> bool
 {
     match rows {
         [] => true,
-        [row, rest @ ..] => row.as_slice().len() == len && are_rows(len, rest),
+        [row, rest @ ..] => {
+            if row.as_slice().len() != len {
+                return false;
+            }
+            are_rows(len, rest)
+        }
     }
 }
 
@@ -91,7 +96,12 @@ fn have_right_rows(pieces: &[Piece]) -> bool
 {
     match pieces {
         [] => true,
-        [piece, rest @ ..] => has_right_rows(piece) && have_right_rows(rest),
+        [piece, rest @ ..] => {
+            if !has_right_rows(piece) {
+                return false;
+            }
+            have_right_rows(rest)
+        }
     }
 }
 
@@ -101,7 +111,12 @@ fn are_right(models: &[Model]) -> bool
 {
     match models {
         [] => true,
-        [model, rest @ ..] => have_right_rows(model.pieces.as_slice()) && are_right(rest),
+        [model, rest @ ..] => {
+            if !have_right_rows(model.pieces.as_slice()) {
+                return false;
+            }
+            are_right(rest)
+        }
     }
 }
 
