@@ -8,14 +8,14 @@
 mod faults;
 mod lost;
 mod memory_board;
-mod steps;
+mod step_cases;
 mod table_port;
 mod talk;
 mod telling_rig;
 
 use crate::faults::sim_of;
 use crate::lost::load_twice;
-use crate::steps::{try_answers, try_asks, try_board};
+use crate::step_cases::{try_answers, try_asks, try_board};
 use crate::telling_rig::TellingRig;
 use board_rig::BoardRig;
 use doubled_rig::{RepeatRig, TwinRig};
