@@ -1,6 +1,7 @@
 -- What a rig answers as the other end of a port.
-use Rattle.std.proofs.Common.{◌≡◌, ℕ, suc, zero, Bool, true, false, List, [], ◌∷◌, ◌++◌, length, map, All, Option, None, Some, refl, sym, ap, ◌∙◌, arith, subst}
+use Rattle.std.proofs.Common.{◌≡◌, ℕ, suc, zero, ◌<◌, ◌≤◌, Bool, true, false, List, [], ◌∷◌, ◌++◌, length, map, All, Option, None, Some, refl, sym, ap, ◌∙◌, arith, subst}
 use Rattle.std.proofs.lemmas.Bool.{false≢true}
+use Rattle.std.proofs.lemmas.List.{length-map}
 use Rattle.std.specs.Prelude.{IfSome, IsSome, option_map, if◌then◌else◌}
 use Rattle.std.specs.Option.{option_map_or}
 use Rattle.hierarchy.specs.declared.Shape.{Shape}
@@ -9,14 +10,15 @@ use Rattle.hierarchy.specs.Circuit.{Pins}
 use Rattle.hierarchy.specs.Faults.{Faults}
 use Rattle.config_set.specs.Configuration.{Configuration, cleared}
 use Rattle.config_set.specs.Faulty.{IsRun}
-use Rattle.rig.specs.Rig.{RigState, Exchange, Session, Asked, GoesOnBy, shape_of, config_of, cycles_of, drives_of, readings_of, IsTold}
+use Rattle.rig.specs.Rig.{RigState, Exchange, Session, Asked, GoesOnBy, shape_of, config_of, cycles_of, drives_of, readings_of, IsTold, KeepLengths}
+use Rattle.board_rig.proofs.OneByOne.{lengths_kept}
 use Rattle.board_rig.specs.Device.{Device, IsInSession, HasRunSession, WhereTold}
 use Rattle.port_board.specs.Lines.{counts_line, reading_line}
 use Rattle.port_board.specs.Requests.{Edit, edited, IsEditOf, AreDrivesOf, attach_line, load_line, drives_line}
 use Rattle.port_board.specs.Answers.{Answers, Reads, IsFresh, Loads, Drives, start_of}
 use Rattle.port_board.specs.declared.wanted.Change.{Change}
 use Rattle.port_board.specs.declared.wanted.Wanted.{Wanted}
-use Rattle.port_board.specs.RigPorts.{IsNoRequest, IsWantedOf, edit_of, edits_of, wanted_line, rig_device, IsDriven, IsAnswered, IsReady, start_from}
+use Rattle.port_board.specs.RigPorts.{IsNoRequest, IsShort, asks_counts, asks_load, asks_cycles, IsWantedOf, edit_of, edits_of, wanted_line, rig_device, IsDriven, IsAnswered, IsReady, start_from}
 use Rattle.port_board.proofs.Requested.{AreEditsOf, IsSameLoad, attach_no_load, attach_no_drives, load_no_drives, one_load, one_drives_line}
 
 -- an answer to one form is an answer
@@ -200,3 +202,50 @@ no_wanted m k w request shape right is none = by_loads w.loads refl where
   by_loads : (b : Bool) → w.loads ≡ b → ⊥
   by_loads true at = none.load w.anew (edits_of w.changes.items) w.drives.items (edits_all m w.changes.items wanted.edits) wanted.drives (is ∙ line_loads w at)
   by_loads false at = none.drives w.drives.items wanted.drives (is ∙ line_drives w at)
+
+-- what a machine says of itself is the line that answers to `a`
+pub attach_fits : (m : Shape) (request line : List ℕ) (room : ℕ) → request ≡ attach_line → line ≡ counts_line m.counts → length line ≤ room → IsShort m request room → ⊥
+attach_fits m request line room asked is fits (asks_counts _ short) = let same = ap length is in omega (arith, same, fits, short)
+attach_fits m request line room asked is fits (asks_load anew edits drives readings _ _ other _ _) = attach_no_load anew edits drives (sym asked ∙ other)
+attach_fits m request line room asked is fits (asks_cycles drives readings right other _ _) = attach_no_drives m drives right (sym asked ∙ other)
+
+same_many : (drives readings : List Pins) → KeepLengths drives readings → length readings ≡ length drives
+same_many drives readings keep = sym (length-map readings length) ∙ ap length keep ∙ length-map drives length
+
+-- where each line of as many readings fits as there are drives, none is too long
+pub wanted_fits : (m k : Shape) (w : Wanted) (request : List ℕ) (room pins count : ℕ) → k ≡ m → IsWantedOf k w → request ≡ wanted_line w
+    → pins ≡ pins_of k → count ≡ length w.drives.items
+    → ((rows : List Pins) → 0 < count → length rows ≡ count → All (λ row. length row ≡ pins) rows → length (reading_line rows) ≤ room)
+    → IsShort m request room → ⊥
+wanted_fits m k w request room pins count shape right is width many fits short = by_loads w.loads refl short where
+  wanted : IsWantedOf m w
+  wanted = subst (λ s. IsWantedOf s w) shape right
+
+  edits : AreEditsOf m (edits_of w.changes.items)
+  edits = edits_all m w.changes.items wanted.edits
+
+  too_long : (drives readings : List Pins) → w.drives.items ≡ drives → KeepLengths drives readings → room < length (reading_line readings) → ⊥
+  too_long drives readings same keep long =
+      let some = wanted.drives.0 in
+      let kept = subst (λ ds. KeepLengths ds readings) (sym same) keep in
+      let wide = lengths_kept (λ l. l ≡ pins_of m) w.drives.items readings kept wanted.drives.1 in
+      let within = fits readings (omega (arith, some, many)) (same_many w.drives.items readings kept ∙ sym many)
+      (subst (λ n. All (λ row. length row ≡ n) readings) (sym (width ∙ ap pins_of shape)) wide) in
+      omega (arith, within, long)
+
+  by_loads : (b : Bool) → w.loads ≡ b → IsShort m request room → ⊥
+  by_loads true at (asks_counts other _) = attach_no_load w.anew (edits_of w.changes.items) w.drives.items (sym other ∙ is ∙ line_loads w at)
+  by_loads true at (asks_load anew es ds readings all asked other keep long) =
+      let same = one_load m w.anew anew (edits_of w.changes.items) es w.drives.items ds edits all wanted.drives asked (sym (is ∙ line_loads w at) ∙ other) in
+      too_long ds readings same.drives keep long
+  by_loads true at (asks_cycles ds readings asked other keep long) =
+      load_no_drives m w.anew (edits_of w.changes.items) w.drives.items ds asked (sym (is ∙ line_loads w at) ∙ other)
+  by_loads false at (asks_counts other _) = attach_no_drives m w.drives.items wanted.drives (sym other ∙ is ∙ line_drives w at)
+  by_loads false at (asks_load anew es ds readings all asked other keep long) =
+      load_no_drives m anew es ds w.drives.items wanted.drives (sym other ∙ is ∙ line_drives w at)
+  by_loads false at (asks_cycles ds readings asked other keep long) =
+      too_long ds readings (one_drives_line m w.drives.items ds wanted.drives asked (sym (is ∙ line_drives w at) ∙ other)) keep long
+
+pub for_some : {A : Type 0} (o : Option A) (m : Shape) (request : List ℕ) (room : ℕ) → (IsShort m request room → ⊥) → IfSome o (λ _. IsShort m request room → ⊥)
+for_some None m request room never = tt
+for_some (Some x) m request room never = never

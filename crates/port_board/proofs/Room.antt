@@ -1,14 +1,17 @@
 -- That lines have room.
-use Rattle.std.proofs.Common.{◌≡◌, ℕ, suc, ◌+◌, ◌*◌, ◌/◌, ◌<◌, ◌≤◌, List, [], ◌∷◌, take, drop, length, get_or, sym, ap, ◌∙◌, arith}
+use Rattle.std.proofs.Common.{◌≡◌, ℕ, suc, ◌+◌, ◌*◌, ◌/◌, ◌%◌, ◌<◌, ◌≤◌, List, [], ◌∷◌, ◌++◌, take, drop, length, get_or, refl, sym, ap, ◌∙◌, arith}
 use Rattle.std.proofs.Math.Nat.{zero-mul, suc-mul, mul-suc, div-mul-le_self, le-mul_of_pos_right, mul-le-mul_right}
 use Rattle.std.proofs.Math.Seq.{take-suc}
-use Rattle.std.proofs.lemmas.List.{length-take}
+use Rattle.std.proofs.lemmas.List.{length-take, length-append}
 use Rattle.std.proofs.lemmas.List.Sums.{sum_by-cons, sum_by_push, sum_by-take-le}
+use Rattle.std.specs.Prelude.{flat_map, sum}
 use Rattle.std.specs.Int.{div_ceil}
 use Rattle.std.specs.List.{sum_by}
+use Rattle.hex.specs.Hex.{encode_lower, encode_with}
 use Rattle.hierarchy.specs.Circuit.{Pins}
-use Rattle.port_board.specs.Lines.{word_room, turn_room}
-use Rattle.port_board.proofs.Readings.{AreOf}
+use Rattle.port_board.specs.Lines.{word_room, turn_room, pin_text, reading_body, reading_line}
+use Rattle.port_board.proofs.Spelled.{led}
+use Rattle.port_board.proofs.Readings.{AreOf, sealed, at_end, length_text}
 
 abbrev word : ℕ → ℕ
 word n = 2 * div_ceil n 8 + 2
@@ -66,3 +69,42 @@ words_within xs k = sum_by-take-le word_room xs k
 -- a piece has no more rows than it is long
 pub piece_few : (xs : List Pins) (at n : ℕ) → length (take n (drop at xs)) ≤ n
 piece_few xs at n = let len = length-take n (drop at xs) in omega (arith, len)
+
+length_sealed : (body : List ℕ) → length (sealed body) ≡ 4
+unfolding encode_with
+length_sealed body = refl
+
+texts_length : (n : ℕ) (xs : List Pins) → AreOf n xs → length (flat_map (led pin_text) xs) ≡ length xs * (2 * div_ceil n 8 + 1)
+texts_length n [] a = sym (zero-mul (2 * div_ceil n 8 + 1))
+texts_length n (x ∷ xs) a =
+    let one : length (pin_text x) ≡ 2 * div_ceil n 8 = length_text x ∙ ap (λ m. 2 * div_ceil m 8) (a 0 [] (omega arith)) in
+    let both : length (led pin_text x ++ flat_map (led pin_text) xs) ≡ suc (length (pin_text x)) + length (flat_map (led pin_text) xs)
+    = length-append (led pin_text x) (flat_map (led pin_text) xs) in
+    let more = texts_length n xs (λ k d lt. a (suc k) d (omega (arith, lt))) in
+    let all : suc (length xs) * (2 * div_ceil n 8 + 1) ≡ length xs * (2 * div_ceil n 8 + 1) + (2 * div_ceil n 8 + 1) = suc-mul (length xs) (2 * div_ceil n 8 + 1) in
+    both ∙ rest (length (pin_text x)) (2 * div_ceil n 8) (length (flat_map (led pin_text) xs)) (length xs * (2 * div_ceil n 8 + 1)) (suc (length xs) * (2 * div_ceil n 8 + 1)) one more all where
+      rest : (a w b c s : ℕ) → a ≡ w → b ≡ c → s ≡ c + (w + 1) → suc a + b ≡ s
+      rest a w b c s e f g = omega (arith, e, f, g)
+
+-- how long a line of readings is
+line_length : (n : ℕ) (xs : List Pins) → AreOf n xs → 0 < length xs → length (reading_line xs) ≡ length xs * (2 * div_ceil n 8 + 1) + 4
+line_length n [] a some = absurd (omega (arith, some))
+line_length n (x ∷ xs) a some =
+    let body = reading_body (x ∷ xs) in
+    let text : length body ≡ length (x ∷ xs) * (2 * div_ceil n 8 + 1) = texts_length n (x ∷ xs) a in
+    ap length (at_end body (42 ∷ []) (encode_lower (sum body % 256 ∷ [])) (10 ∷ [])) ∙ length-append body (sealed body)
+    ∙ rest (length body) (length (sealed body)) (length (x ∷ xs) * (2 * div_ceil n 8 + 1)) text (length_sealed body) where
+      rest : (a b c : ℕ) → a ≡ c → b ≡ 4 → a + b ≡ c + 4
+      rest a b c e f = omega (arith, e, f)
+
+-- a line for which there was room fits
+pub line_fits : (n count room : ℕ) (xs : List Pins) → count * (2 * div_ceil n 8 + 1) + 4 ≤ room → 0 < count → length xs ≡ count → AreOf n xs → length (reading_line xs) ≤ room
+line_fits n count room xs fits some len a =
+    let is = line_length n xs a (omega (arith, some, len)) in
+    let same : length xs * (2 * div_ceil n 8 + 1) ≡ count * (2 * div_ceil n 8 + 1) = ap (λ k. k * (2 * div_ceil n 8 + 1)) len in
+    rest (length (reading_line xs)) (length xs * (2 * div_ceil n 8 + 1)) (count * (2 * div_ceil n 8 + 1)) is same fits where
+      rest : (l a b : ℕ) → l ≡ a + 4 → a ≡ b → b + 4 ≤ room → l ≤ room
+      rest l a b e f g = omega (arith, e, f, g)
+
+pub room_is : (b words whole room : ℕ) → words ≡ b → whole ≡ words + 4 → whole ≤ room → b + 4 ≤ room
+room_is b words whole room e f g = omega (arith, e, f, g)

@@ -1,14 +1,14 @@
 -- A rig as the other end of a port.
-use Rattle.std.specs.Prelude.{◌≡◌, ℕ, ◌-◌, ◌^◌, min, Bool, true, false, List, [], ◌++◌, map, length, All, Option, Some, None, IfSome, IsSome, is_some, option_map, if◌then◌else◌}
+use Rattle.std.specs.Prelude.{◌≡◌, ℕ, ◌-◌, ◌^◌, ◌<◌, min, Bool, true, false, List, [], ◌++◌, map, length, All, Option, Some, None, IfSome, IsSome, is_some, option_map, if◌then◌else◌}
 use Rattle.std.specs.Option.{option_map_or}
 use Rattle.hierarchy.specs.declared.Shape.{Shape}
 use Rattle.hierarchy.specs.Shape.{pins_of}
 use Rattle.hierarchy.specs.Circuit.{Pins}
 use Rattle.config_set.specs.Configuration.{Configuration, cleared}
-use Rattle.rig.specs.Rig.{RigState, Exchange, shape_of, config_of, cycles_of, drives_of, readings_of, IsTold}
+use Rattle.rig.specs.Rig.{RigState, Exchange, shape_of, config_of, cycles_of, drives_of, readings_of, IsTold, KeepLengths}
 use Rattle.board_rig.specs.Device.{Device, WhereTold}
 use Rattle.port_board.specs.Answers.{Answers}
-use Rattle.port_board.specs.Lines.{reading_line}
+use Rattle.port_board.specs.Lines.{counts_line, reading_line}
 use Rattle.port_board.specs.Requests.{Edit, Close, Open, On, Off, Tick, IsEditOf, AreDrivesOf, attach_line, load_line, drives_line}
 use Rattle.port_board.specs.Ports.{PortState}
 use Rattle.port_board.specs.declared.wanted.Change.{Change}
@@ -89,3 +89,12 @@ pub record IsNoRequest (m : Shape) (request : List ℕ) : Type 0 where
   pub load : (anew : Bool) (edits : List Edit) (drives : List Pins) → All (IsEditOf m) edits → AreDrivesOf m drives →
       request ≡ load_line anew edits drives → ⊥
   pub drives : (drives : List Pins) → AreDrivesOf m drives → request ≡ drives_line drives → ⊥
+
+-- it is one of the four requests of a machine of this shape, and a line that answers it has more bytes than these; all that answer it
+-- have as many
+pub data IsShort (m : Shape) (request : List ℕ) (room : ℕ) : Type 0 where
+  asks_counts : request ≡ attach_line → room < length (counts_line m.counts) → IsShort m request room
+  asks_load : (anew : Bool) (edits : List Edit) (drives readings : List Pins) → All (IsEditOf m) edits → AreDrivesOf m drives →
+      request ≡ load_line anew edits drives → KeepLengths drives readings → room < length (reading_line readings) → IsShort m request room
+  asks_cycles : (drives readings : List Pins) → AreDrivesOf m drives → request ≡ drives_line drives → KeepLengths drives readings →
+      room < length (reading_line readings) → IsShort m request room

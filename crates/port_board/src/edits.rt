@@ -190,6 +190,10 @@ fn give_all(line: &mut Vec<u8>, set: &mut Config, config: &Config) -> Result<(),
 }
 
 /// Adds the words that make the one configuration of the other, and makes it here. The words cost what differs.
+///
+/// # Errors
+///
+/// Want of memory. The one is on the way to the other then.
 pub fn put_edits(
     alloc: Global,
     line: &mut Vec<u8>,

@@ -164,6 +164,10 @@ impl<R: Files + Drop> Port for FilePort<R> {
     ghost port_state = { λ p. file_port_state (is_some p.ends) p.failures };
 
     /// What was open is closed first, and what was read is dropped. The number of asks stays.
+    ///
+    /// # Errors
+    ///
+    /// `Failed` where a file can't be opened. Want of memory.
     fn open(&mut self, name: &str) -> Result<(), PortFail>
         ensures later { (⟦<FilePort<R> as Port>⟧.port_state self.old).failures ≤ (⟦<FilePort<R> as Port>⟧.port_state self.new).failures }
         ensures count { (⟦<FilePort<R> as Port>⟧.port_state self.new).failures < 2 ^ 64 }
@@ -188,6 +192,10 @@ impl<R: Files + Drop> Port for FilePort<R> {
     }
 
     /// One ask more, whatever it answers.
+    ///
+    /// # Errors
+    ///
+    /// `Failed` where a write or a read fails, the file ends before the line does, `reply` is full before, or the line begins with `!`.
     fn ask(&mut self, request: &[u8], reply: &mut [u8]) -> Result<usize, PortFail>
         requires { (⟦<FilePort<R> as Port>⟧.port_state self.old).is_open ≡ true }
 

@@ -21,7 +21,11 @@ pub enum PortFail {
 pub trait Port: Drop {
     ghost port_state: { Self → PortState };
 
-    /// Opens the port of this name. A refusal leaves it closed. After `Failed` the count rose.
+    /// Opens the port of this name. A refusal leaves it closed.
+    ///
+    /// # Errors
+    ///
+    /// `Failed` where it can't be opened; the count rose. Want of memory.
     fn open(&mut self, name: &str) -> Result<(), PortFail>
         ensures later { (port_state self.old).failures ≤ (port_state self.new).failures }
         ensures count { (port_state self.new).failures < 2 ^ 64 }
@@ -29,8 +33,13 @@ pub trait Port: Drop {
         ensures closed { OnErr result ((port_state self.new).is_open ≡ false) }
         ensures refused { IsErrOf result PortFail.Failed → Rose (port_state self.old).failures (port_state self.new).failures };
 
-    /// Sends a request, and reads the line that answers to the front of `reply`; answers its length. It takes no memory and
-    /// never answers `Memory`. A refusal leaves the port closed, and any bytes in `reply`; the count rose.
+    /// Sends a request, and reads the line that answers to the front of `reply`; answers its length. A refusal leaves the port closed,
+    /// and any bytes in `reply`. It takes no memory, but for what an end that is code takes in the same process (`RigPort`).
+    ///
+    /// # Errors
+    ///
+    /// `Failed` where the request doesn't go out, no whole line comes that `reply` has room for, or the other end refuses; the count
+    /// rose. Never `Memory`.
     fn ask(&mut self, request: &[u8], reply: &mut [u8]) -> Result<usize, PortFail>
         requires { (port_state self.old).is_open ≡ true }
 

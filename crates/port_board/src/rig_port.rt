@@ -1,19 +1,20 @@
 //! A rig as the other end of a port.
-ghost use Rattle.std.specs.Prelude.{◌≡◌, ◌+◌, ◌^◌, ◌<◌, ◌≤◌, ◌++◌, ◌∷◌, [], true, false, length, take, None, Some, All};
+ghost use Rattle.std.specs.Prelude.{◌≡◌, ◌+◌, ◌^◌, ◌<◌, ◌≤◌, ◌++◌, ◌∷◌, [], true, false, List, length, take, None, Some, All};
 ghost use Rattle.std.specs.Prelude.{vec_len, option_map, IfOk, IfErr, IfSome, IsSome, IsTrue, OnOk, OnErr, IsErrOf};
 ghost use Rattle.std.specs.List.{sum_by};
 ghost use Rattle.hierarchy.specs.Shape.{pins_of, crosses_of, tables_of};
+ghost use Rattle.hierarchy.specs.Circuit.{Pins};
 ghost use Rattle.config_set.specs.Configuration.{Configuration, cleared};
 ghost use Rattle.tm_outside.specs.Counts.{Rose};
 ghost use Rattle.rig.specs.Rig.{Attaches, shape_of, config_of, cycles_of};
 ghost use Rattle.board_rig.specs.Device.{WhereTold};
-ghost use Rattle.port_board.specs.Lines.{AreCounts, line_of, counts_line, word_room};
+ghost use Rattle.port_board.specs.Lines.{AreCounts, line_of, counts_line, reading_line, word_room};
 ghost use Rattle.std.specs.Vec.{vec_capacity};
 ghost use Rattle.port_board.specs.Requests.{IsEditOf, edit_text, edits_text, drives_text, attach_line, load_line, AreDrivesOf, edited, edited_by};
 ghost use Rattle.port_board.specs.Answers.{Answers};
 ghost use Rattle.port_board.specs.Ports.{machine_told, Opens, AskFails};
 ghost use Rattle.port_board.specs.RigPorts.{edit_of, edits_of, wanted_line, IsWantedOf, rig_port_state, IsReady};
-ghost use Rattle.port_board.specs.RigPorts.{IsNoRequest, rig_device, IsDriven, IsAnswered, start_from};
+ghost use Rattle.port_board.specs.RigPorts.{IsNoRequest, IsShort, rig_device, IsDriven, IsAnswered, start_from};
 
 use crate::port::{Port, PortFail};
 use crate::port_board::is_line;
@@ -30,7 +31,8 @@ use std::marker::Model;
 /// A rig of a shape as the other end of a port: it takes the four requests, and tells the machine that its rig tells.
 ///
 /// What it answers comes from loads and cycles of its rig. A request that isn't spelled, byte by byte, as one of the four fails, and
-/// doesn't reach the rig.
+/// doesn't reach the rig; nor does one for whose answer there is no room. It takes memory for its rig, so one that is right may fail
+/// where memory is wanting: no clause says when it is answered.
 #[derive(Drop)]
 pub struct RigPort<R: Rig> {
     alloc: Global,
@@ -475,16 +477,20 @@ fn is_attach(request: &[u8]) -> bool
     is_line(request, b"a*61\n".as_slice())
 }
 
-// Clears what is set, and says what the machine is. False where memory is wanting.
-fn answer_attach(set: &mut Config, line: &mut Vec<u8>) -> bool
+// Clears what is set, and says what the machine is. False where memory is wanting, or the line is longer than the room.
+fn answer_attach(set: &mut Config, room: usize, line: &mut Vec<u8>) -> bool
     requires empty { line.old.items ≡ [] }
 
     ensures cleared { set.new.config ≡ cleared set.old.config.shape }
     ensures line { IsTrue result → line.new.items ≡ counts_line set.old.config.shape.counts }
+    ensures room { IsTrue result → length line.new.items ≤ room }
 {
     let shape = set.shape();
     set.clear();
-    put_counts(line, shape.counts()).is_ok()
+    if put_counts(line, shape.counts()).is_err() {
+        return false;
+    }
+    line.len() <= room
 }
 
 // Answers what a request asks, and says whether something runs then: it does. None where that fails.
@@ -528,14 +534,23 @@ struct Standing {
     room: usize,
 }
 
-// Whether there is room for a line of so many readings.
-fn has_room(room: usize, pins: u32, count: usize) -> bool {
+// Whether there is room for a line of so many readings, whatever they are.
+fn has_room(room: usize, pins: u32, count: usize) -> bool
+    ensures { IsTrue result → (rows : List Pins) → 0 < count → length rows ≡ count → All (λ row. length row ≡ pins) rows →
+        length (reading_line rows) ≤ room }
+{
     let word = pins.div_ceil(8) as usize * 2 + 1;
-    count.saturating_mul(word).saturating_add(4) <= room
+    let Some(words) = count.checked_mul(word) else {
+        return false;
+    };
+    let Some(whole) = words.checked_add(4) else {
+        return false;
+    };
+    whole <= room
 }
 
 // Answers a request, byte by byte spelled as the four forms are, and says whether something runs then. None where it isn't so spelled,
-// or that fails; what isn't so spelled doesn't reach the rig.
+// or the room is short, or that fails; what isn't so spelled, or for whose line the room is short, doesn't reach the rig.
 #[tactic(auto, using(crate::proofs::Answered::no_wanted))]
 fn answer<R: Rig>(
     alloc: Global,
@@ -554,9 +569,11 @@ fn answer<R: Rig>(
         (R.rig_state inner.old) set.new.config runs (R.rig_state inner.new)) }
     ensures unreached { IsNoRequest set.old.config.shape request.now → R.rig_state inner.new ≡ R.rig_state inner.old }
     ensures other { IfSome result (λ _. IsNoRequest set.old.config.shape request.now → ⊥) }
+    ensures short { IsShort set.old.config.shape request.now standing.room → R.rig_state inner.new ≡ R.rig_state inner.old }
+    ensures fits { IfSome result (λ _. IsShort set.old.config.shape request.now standing.room → ⊥) }
 {
     if is_attach(request) {
-        if answer_attach(set, line) {
+        if answer_attach(set, standing.room, line) {
             return Some(false);
         }
         return None;
@@ -618,6 +635,8 @@ fn reply_to<R: Rig>(
         (R.rig_state inner.old) set.new.config r.runs (R.rig_state inner.new)) }
     ensures unreached { IsNoRequest set.old.config.shape request.now → R.rig_state inner.new ≡ R.rig_state inner.old }
     ensures other { IfSome result (λ _. IsNoRequest set.old.config.shape request.now → ⊥) }
+    ensures short { IsShort set.old.config.shape request.now (length reply.old) → R.rig_state inner.new ≡ R.rig_state inner.old }
+    ensures fits { IfSome result (λ _. IsShort set.old.config.shape request.now (length reply.old) → ⊥) }
 {
     let mut line = Vec::new(alloc);
     let standing = Standing {
@@ -664,6 +683,10 @@ impl<R: Rig> Port for RigPort<R> {
     ghost port_state = { λ p. rig_port_state (R.rig_state p.inner) p };
 
     /// Attaches its shape under this whole name to the rig.
+    ///
+    /// # Errors
+    ///
+    /// `Failed` where the rig fails, or refuses the fault text of the name. Want of memory.
     fn open(&mut self, name: &str) -> Result<(), PortFail>
         ensures later { (⟦<RigPort<R> as Port>⟧.port_state self.old).failures ≤ (⟦<RigPort<R> as Port>⟧.port_state self.new).failures }
         ensures count { (⟦<RigPort<R> as Port>⟧.port_state self.new).failures < 2 ^ 64 }
@@ -693,8 +716,12 @@ impl<R: Rig> Port for RigPort<R> {
         }
     }
 
-    /// Answers from its rig. What its rig fails in, and want of memory, is `Failed`. So is what is none of the four requests, or a
-    /// `reply` without room for the line; neither reaches its rig.
+    /// Answers from its rig.
+    ///
+    /// # Errors
+    ///
+    /// `Failed` where its rig fails or memory is wanting, and for drives where nothing was loaded. So too for what is none of the four
+    /// requests, and where `reply` has no room for the line; neither of these reaches its rig.
     fn ask(&mut self, request: &[u8], reply: &mut [u8]) -> Result<usize, PortFail>
         requires { (⟦<RigPort<R> as Port>⟧.port_state self.old).is_open ≡ true }
 
@@ -713,6 +740,8 @@ impl<R: Rig> Port for RigPort<R> {
         ensures shape { self.new.shape ≡ self.old.shape }
         ensures unreached { IsNoRequest self.old.shape request.now → R.rig_state self.new.inner ≡ R.rig_state self.old.inner }
         ensures other { IfOk result (λ _. IsNoRequest self.old.shape request.now → ⊥) }
+        ensures short { IsShort self.old.shape request.now (length reply.old) → R.rig_state self.new.inner ≡ R.rig_state self.old.inner }
+        ensures fits { IfOk result (λ _. IsShort self.old.shape request.now (length reply.old) → ⊥) }
     {
         let Some(mut set) = self.set.take() else {
             unreachable!()

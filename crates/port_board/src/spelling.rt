@@ -83,6 +83,10 @@ fn put_gap(line: &mut Vec<u8>, k: usize)
 }
 
 /// Adds a word of a letter and a number.
+///
+/// # Errors
+///
+/// Want of memory.
 pub fn put_word(line: &mut Vec<u8>, letter: u8, n: u32) -> Result<(), AllocError>
     ensures { OnOk result (line.new.items ≡ line.old.items ++ (letter ∷ [] ++ decimal n ++ 32 ∷ [])) }
 {
@@ -93,6 +97,10 @@ pub fn put_word(line: &mut Vec<u8>, letter: u8, n: u32) -> Result<(), AllocError
 }
 
 /// Adds a word that switches a table on.
+///
+/// # Errors
+///
+/// Want of memory.
 pub fn put_setting(line: &mut Vec<u8>, t: u32, s: Setting) -> Result<(), AllocError>
     ensures cells { s.cells < 2 ^ 64 }
     ensures spelled { OnOk result (line.new.items ≡ line.old.items ++ (edit_text (On t s) ++ 32 ∷ [])) }
@@ -163,6 +171,10 @@ fn put_numbers(line: &mut Vec<u8>, numbers: &[u16]) -> Result<(), AllocError>
 }
 
 /// Adds the line by which a machine says what it is.
+///
+/// # Errors
+///
+/// Want of memory.
 pub fn put_counts(line: &mut Vec<u8>, c: Counts) -> Result<(), AllocError>
     requires { line.old.items ≡ [] }
     ensures right { OnOk result (AreCounts c) }
