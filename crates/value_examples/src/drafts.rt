@@ -8,51 +8,38 @@ use netlist::{
 use std::alloc::Global;
 use tm_items::Items;
 
-/// What is wrong with a design.
+/// What is wrong with a signal.
 #[derive(Clone, Copy, Debug, PartialEq, Eq)]
-pub enum Wrong {
-    NoSuchModel,
-    Formal,
-    Recursive,
-    Control,
+enum Wrong {
     Doubled,
     Undriven,
     Cyclic,
 }
 
 /// An AND: the signals that it reads, and the one that it drives.
-pub type Gate<'a> = (&'a [u32], u32);
+type Gate<'a> = (&'a [u32], u32);
 
 /// A design of gates: the names of its signals, its inputs, its outputs and its gates.
 #[derive(Clone, Copy)]
-pub struct Gates<'a> {
-    pub names: &'a [&'a str],
-    pub inputs: &'a [u32],
-    pub outputs: &'a [u32],
-    pub gates: &'a [Gate<'a>],
+struct Gates<'a> {
+    names: &'a [&'a str],
+    inputs: &'a [u32],
+    outputs: &'a [u32],
+    gates: &'a [Gate<'a>],
 }
 
-// What is wrong, and the name that belongs to it.
+// What is wrong with a signal, and its name.
 fn named(kind: &DesignKind) -> Option<(Wrong, &[u8])> {
     match kind {
-        DesignKind::NoSuchModel { name } => Some((Wrong::NoSuchModel, name.as_slice())),
-        DesignKind::Formal { name } => Some((Wrong::Formal, name.as_slice())),
-        DesignKind::Recursive { name } => Some((Wrong::Recursive, name.as_slice())),
         DesignKind::Doubled { name } => Some((Wrong::Doubled, name.as_slice())),
         DesignKind::Undriven { name } => Some((Wrong::Undriven, name.as_slice())),
         DesignKind::Cyclic { name } => Some((Wrong::Cyclic, name.as_slice())),
-        DesignKind::Control => Some((Wrong::Control, &[])),
         _ => None,
     }
 }
 
 /// Whether a design is refused at this line, for this, with this name.
-pub fn is_refused(
-    found: &Result<Netlist, DesignFault>,
-    line: u64,
-    wrong: Wrong,
-    name: &str,
-) -> bool {
+fn is_refused(found: &Result<Netlist, DesignFault>, line: u64, wrong: Wrong, name: &str) -> bool {
     match found {
         Err(DesignFault::At { line: at, kind }) => {
             *at == line && named(kind) == Some((wrong, name.as_bytes()))
@@ -62,12 +49,12 @@ pub fn is_refused(
 }
 
 /// The name that this text is.
-pub fn name_of(alloc: Global, text: &str) -> Option<Name> {
+fn name_of(alloc: Global, text: &str) -> Option<Name> {
     Some(Items::new(Vec::from_slice(alloc, text.as_bytes()).ok()?))
 }
 
 /// Ports on one line.
-pub fn ports_of(alloc: Global, signals: &[u32], line: u64) -> Option<Items<PortDef>> {
+fn ports_of(alloc: Global, signals: &[u32], line: u64) -> Option<Items<PortDef>> {
     let mut ports = Items::empty(alloc);
     'signals: for signal in signals {
         let signal = *signal;
@@ -86,7 +73,7 @@ fn ones(alloc: Global, count: usize) -> Option<Cube> {
 }
 
 /// A gate as a cover on this line.
-pub fn cover_of(alloc: Global, gate: Gate, line: u64) -> Option<Cover> {
+fn cover_of(alloc: Global, gate: Gate, line: u64) -> Option<Cover> {
     let mut rows = Items::empty(alloc);
     rows.push(ones(alloc, gate.0.len())?).ok()?;
     Some(Cover {
@@ -152,7 +139,7 @@ fn are_gates(covers: &[Cover], gates: &[Gate]) -> bool {
 }
 
 /// Whether a design has these five lists, whatever the lines are.
-pub fn has_lists(alloc: Global, netlist: &Netlist, due: Gates) -> Option<bool> {
+fn has_lists(alloc: Global, netlist: &Netlist, due: Gates) -> Option<bool> {
     let parts = netlist.parts();
     let named = are_names(alloc, &parts.names, due.names)?;
     Some(

@@ -8,7 +8,6 @@ mod drafts;
 mod generated;
 mod graphs;
 mod images;
-mod models;
 mod networks;
 mod outside;
 mod sets;
@@ -69,17 +68,10 @@ fn of_machines(alloc: Global) -> [Value; 10] {
 }
 
 // Designs by hand, and networks of designs.
-fn of_designs(alloc: Global) -> [Value; 11] {
+fn of_designs(alloc: Global) -> [Value; 7] {
     [
         ("cyclic-undriven-doubled", drafts::faulty_drafts(alloc)),
         ("text-of-a-netlist", drafts::text_of_netlist(alloc)),
-        ("two-and-instances", models::two_instances(alloc)),
-        ("subckt-refusals", models::refused_uses(alloc)),
-        (
-            "instance-within-an-instance",
-            models::nested_instances(alloc),
-        ),
-        ("controls-of-instances", models::controls_of_uses(alloc)),
         ("repeated-input-cover", networks::repeated_input(alloc)),
         ("seven-input-nand", networks::seven_input_nand(alloc)),
         ("toggling-latch", networks::toggling_latch(alloc)),
