@@ -11,7 +11,7 @@ use crate::choices::choose_once;
 use crate::fields::{Task, area_of, draw_part, unmarked, whole};
 use crate::flags::Parts;
 use crate::judge::{Judge, judge_of};
-use crate::picture::{Marks, Picture, Stage};
+use crate::picture::{Picture, Stage};
 use crate::purse::{most_of_growth, most_of_sweep, most_of_tables};
 use bench_gen::Draws;
 use evidence::Proof;
@@ -84,26 +84,6 @@ fn sweep_once(
         return Err("a sweep has too many loads");
     }
     Ok(())
-}
-
-// A sweep of all of the machine, and what is marked behind it.
-fn sweep_all(
-    rig: &mut Box<dyn Rig>,
-    stage: &mut Stage,
-    judge: &Judge,
-) -> Result<Marks, &'static str>
-    requires attached { shape_of (rig_state rig.old) ≡ Some stage.old.proof.shape }
-    requires stage { IsStageOf stage.old.proof.shape stage.old }
-{
-    let shape = stage.proof.shape();
-    let mut draws = Draws::new(0);
-    let Ok(all) = whole(judge.alloc, &mut draws, &shape) else {
-        return Err("no memory");
-    };
-    let area = area_of(judge.alloc, &shape, &all).ok().ok_or("no memory")?;
-    sweep_once(rig, stage, judge, &all, &area)?;
-    let picture = judge.picture(stage)?;
-    Ok(picture.marks)
 }
 
 // A growth in what isn't marked of a field.
@@ -234,23 +214,6 @@ fn know_all(
         return Err("no memory");
     };
     know_whole(rig, stage, judge, &all)
-}
-
-/// Sweeps all of a machine of which nothing is known, looks at what that leaves, and gives the marks.
-///
-/// # Errors
-///
-/// What is wrong with facts and marks, or with the loads.
-pub fn marks_of_sweep(
-    alloc: Global,
-    rig: &mut Box<dyn Rig>,
-    faults: &FaultSet,
-) -> Result<Marks, &'static str>
-    requires attached { shape_of (rig_state rig.old) ≡ Some faults.now.shape }
-{
-    let judge = judge_of(alloc, faults)?;
-    let mut stage = first_stage(alloc, &faults.shape())?;
-    sweep_all(rig, &mut stage, &judge)
 }
 
 /// Sweeps, chooses and grows over a part of a machine and then over all of it, tests its tables, and looks at what each call leaves:

@@ -2,8 +2,7 @@
 //!
 //! What a list, a fact and a mark have to be is looked at in plain numbers, by what is said of them and not by how they come about.
 //! Each group of machines has faults of its own kinds; a line tells how many of it are right, and lines before it what is wrong with
-//! the others. The word says how many machines a group has. One machine before them has faults that are said and not drawn. The status
-//! is 0 where all are right.
+//! the others. The word says how many machines a group has. The status is 0 where all are right.
 #![tactic(auto)]
 
 mod calls;
@@ -18,7 +17,6 @@ mod flags;
 mod groups;
 mod judge;
 mod looks;
-mod marked;
 mod marks;
 mod picture;
 mod purse;
@@ -32,14 +30,13 @@ use program_words::texts;
 use std::io;
 use std::process::ExitCode;
 
-// Tries the one machine, and as many of each group as the word says.
+// Tries as many machines of each group as the word says.
 fn run(rt: &HostRuntime) -> io::Result<bool> {
     let mut many = 0u32;
     'words: for word in texts(rt)?.iter() {
         many = word.parse::<u32>().unwrap_or(0);
     }
-    let said = marked::try_said(rt)?;
-    Ok(groups::try_all(rt, many)? && many > 0 && said)
+    Ok(groups::try_all(rt, many)? && many > 0)
 }
 
 fn main(rt: HostRuntime) -> ExitCode {

@@ -1,5 +1,5 @@
-//! A machine behind a port that has a load made again. Where a configuration finds no memory on its way, the other end has the one before,
-//! and what the board keeps is that with some of the new one; so the next load has to say all anew.
+//! A machine behind a port that has a load made again: where a configuration finds no memory on its way, what is set at the other
+//! end may be some of it and some of the one before, and the next load has to say all anew.
 ghost use Rattle.std.specs.Prelude.{◌≡◌, Some, OnOk, length};
 ghost use Rattle.rig.specs.Rig.{config_of, shape_of};
 
@@ -8,11 +8,10 @@ use hierarchy::{Cross, Shape};
 use rig::{PinBits, Rig, RigFail, cycle, load};
 use std::alloc::{AllocError, Global};
 
-/// What the pins read behind the first load and behind the second, a digit a pin, and how many loads were made again.
+/// What the pins read at last, a digit a pin, and how many loads were made again.
 #[derive(Drop)]
 pub struct Outcome {
-    pub first: String,
-    pub second: String,
+    pub reading: String,
     pub again: u32,
 }
 
@@ -69,38 +68,27 @@ fn read_pins(alloc: Global, rig: &mut Box<dyn Rig>, config: &Config) -> Result<S
     Ok(text)
 }
 
-/// Joins the first two pins of the machine that is attached, makes a cycle, and then joins the third and the fourth in their place, and
-/// makes another. Each load is made again where memory was wanting.
+/// Joins the first two pins of the machine that is attached, and then the third and the fourth in their place. Each load is made again
+/// where memory was wanting.
 ///
 /// # Errors
 ///
-/// What a second load, or a cycle, fails with.
+/// What a second load, or the cycle, fails with.
 pub fn load_twice(alloc: Global, rig: &mut Box<dyn Rig>, shape: &Shape) -> Result<Outcome, RigFail>
     requires { shape_of (rig_state rig.old) ≡ Some shape.now }
 {
     let mut config = Config::with_room(alloc, *shape, 0)?;
     close(&mut config, 0)?;
     close(&mut config, 4)?;
-    let first_again = loaded(rig, &config)?;
-    // A load goes out with the cycles behind it.
-    let first = read_pins(alloc, rig, &config)?;
+    let first = loaded(rig, &config)?;
     open(&mut config, 0);
     open(&mut config, 4);
     close(&mut config, 9)?;
     close(&mut config, 13)?;
-    // Crosspoints of the hextant, far from the pins: so many that the board has to take memory for them.
-    close(&mut config, 100)?;
-    close(&mut config, 104)?;
-    close(&mut config, 108)?;
-    close(&mut config, 112)?;
-    close(&mut config, 116)?;
-    close(&mut config, 120)?;
-    close(&mut config, 124)?;
-    let second_again = loaded(rig, &config)?;
-    let second = read_pins(alloc, rig, &config)?;
+    let second = loaded(rig, &config)?;
+    let reading = read_pins(alloc, rig, &config)?;
     Ok(Outcome {
-        first,
-        second,
-        again: first_again as u32 + second_again as u32,
+        reading,
+        again: first as u32 + second as u32,
     })
 }

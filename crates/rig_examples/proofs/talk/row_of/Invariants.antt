@@ -1,5 +1,0 @@
-use Rattle.std.proofs.Common.{◌≡◌, length}
-use Rattle.rig_examples.proofs.talk.row_of.Given as goal
-
-abbrev pub invariant-pins : goal.invariant-pins
-invariant-pins l = length l.row ≡ l.fn.pins

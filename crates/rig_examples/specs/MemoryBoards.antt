@@ -1,8 +1,0 @@
--- What a board in memory means.
-use Rattle.std.specs.Prelude.{None}
-use Rattle.board_rig.specs.Boards.{BoardState}
-use Rattle.rig_examples.specs.declared.memory_board.MemoryBoard.{MemoryBoard}
-
--- it tells no machine
-abbrev pub state_of : MemoryBoard → BoardState
-state_of b = record { found = b.found; in_session = b.is_set; device = None; failures = b.failures }
