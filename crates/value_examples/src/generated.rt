@@ -1,6 +1,6 @@
 //! Values of the generator that were made elsewhere.
 
-use bench_gen::{Draws, bench_counts, bench_design, bench_faults, bench_vector};
+use bench_gen::{Draws, bench_counts, bench_design, bench_vector};
 use blif_read::read_blif;
 use hierarchy::Shape;
 use std::alloc::Global;
@@ -12,12 +12,6 @@ pub fn generator_seven() -> Option<bool> {
     let shape = Shape::new(bench_counts()).ok()?;
     let sized = shape.wires() == 2188 && shape.crosses() == 63360 && shape.tables() == 128;
     Some(drawn && state && sized)
-}
-
-pub fn bench_faults_seven(alloc: Global) -> Option<bool> {
-    let shape = Shape::new(bench_counts()).ok()?;
-    let faults = bench_faults(alloc, 7, &shape).ok()?;
-    Some(faults.count() == 127)
 }
 
 // Whether the vectors of 7 are these, from the first on.
