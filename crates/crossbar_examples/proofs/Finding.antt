@@ -4,18 +4,18 @@ use native.Mathlib.Decide.{dec_lt}
 use Rattle.std.specs.Prelude.{slice_get}
 use Rattle.std.proofs.lemmas.List.{get_or_append_left, length-append}
 use Rattle.std.proofs.Math.Seq.{get_or-append_seam}
-use Rattle.hierarchy.specs.declared.Shape.{Shape}
-use Rattle.hierarchy.specs.Shape.{nodes_of, node_of, parent_of}
-use Rattle.hierarchy.specs.Laws.{HasParents}
-use Rattle.hierarchy.specs.Faults.{Faults}
+use Rattle.machine_shape.specs.declared.Shape.{Shape}
+use Rattle.machine_shape.specs.Shape.{nodes_of, node_of, parent_of}
+use Rattle.machine_shape.specs.Laws.{HasParents}
+use Rattle.machine_shape.specs.Faults.{Faults}
 use Rattle.rig.specs.Rig.{RigState, Machine}
-use Rattle.test_configs.specs.Routes.{Walk}
-use Rattle.evidence.specs.Kept.{Kept, IsMore, Advances}
-use Rattle.evidence.proofs.Keeping.{holds_earlier, more_then}
-use Rattle.known.specs.Known.{KnownWires, IsKnown}
-use Rattle.known.specs.declared.step.Step.{Step}
-use Rattle.crossbar_test.specs.Held.{Findings, IsHeld, IsHeldTrunk, FullIf, IsLater}
-use Rattle.crossbar_test.proofs.Staying.{held_later, full_later}
+use Rattle.diag_tests.specs.Routes.{Walk}
+use Rattle.diag_evidence.specs.Kept.{Kept, IsMore, Advances}
+use Rattle.diag_evidence.proofs.Keeping.{holds_earlier, more_then}
+use Rattle.diag_known.specs.Known.{KnownWires, IsKnown}
+use Rattle.diag_known.specs.declared.step.Step.{Step}
+use Rattle.diag_published.specs.Held.{Findings, IsHeld, IsHeldTrunk, FullIf, IsLater}
+use Rattle.diag_published.proofs.Staying.{held_later, full_later}
 use Rattle.crossbar_examples.specs.Found.{IsFoundAt, AreFound}
 
 -- nothing is known and found at first

@@ -1,11 +1,11 @@
 -- What is closed where two routes and more are.
 use Rattle.std.proofs.Common.{◌≡◌, ℕ, List, ◌∙◌}
 use Rattle.std.proofs.lemmas.Bool.{or_left, or_right}
-use Rattle.hierarchy.specs.declared.Shape.{Shape}
-use Rattle.config_set.specs.Configuration.{Configuration, is_closed}
-use Rattle.config_set.specs.Groups.{among}
-use Rattle.test_configs.specs.Configs.{IsLoopConfig, IsCellConfig, is_laid}
-use Rattle.test_configs.specs.Routes.{Walk, IsRoute}
+use Rattle.machine_shape.specs.declared.Shape.{Shape}
+use Rattle.machine_config.specs.Configuration.{Configuration, is_closed}
+use Rattle.machine_config.specs.Groups.{among}
+use Rattle.diag_tests.specs.Configs.{IsLoopConfig, IsCellConfig, is_laid}
+use Rattle.diag_tests.specs.Routes.{Walk, IsRoute}
 use Rattle.crossbar_examples.specs.Laid.{IsLaid}
 
 -- the crosspoints of both routes are closed where these are closed

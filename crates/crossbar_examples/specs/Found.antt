@@ -1,9 +1,9 @@
 -- Tested crossbars, by the numbers of their nodes.
 use Rattle.std.specs.Prelude.{◌≡◌, ◌<◌, ℕ, Option, List, length, get_or}
-use Rattle.hierarchy.specs.Faults.{Faults}
-use Rattle.evidence.specs.Kept.{Kept}
-use Rattle.known.specs.Known.{KnownWires, IsKnown}
-use Rattle.crossbar_test.specs.Held.{Findings, IsHeld, FullIf}
+use Rattle.machine_shape.specs.Faults.{Faults}
+use Rattle.diag_evidence.specs.Kept.{Kept}
+use Rattle.diag_known.specs.Known.{KnownWires, IsKnown}
+use Rattle.diag_published.specs.Held.{Findings, IsHeld, FullIf}
 
 -- it is of this node, held, and full where the faults are told
 pub record IsFoundAt (told : Option Faults) (k : Kept) (known : KnownWires) (n : ℕ) (t : Findings) : Type 0 where

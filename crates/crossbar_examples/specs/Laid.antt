@@ -1,9 +1,9 @@
 -- Configurations that close two routes, and more.
 use Rattle.std.specs.Prelude.{◌≡◌, ℕ, true}
-use Rattle.hierarchy.specs.declared.Shape.{Shape}
-use Rattle.config_set.specs.Configuration.{Configuration, is_closed}
-use Rattle.config_set.specs.Groups.{among}
-use Rattle.test_configs.specs.Routes.{Walk, IsRoute}
+use Rattle.machine_shape.specs.declared.Shape.{Shape}
+use Rattle.machine_config.specs.Configuration.{Configuration, is_closed}
+use Rattle.machine_config.specs.Groups.{among}
+use Rattle.diag_tests.specs.Routes.{Walk, IsRoute}
 
 -- both are routes of the machine, and their crosspoints are closed
 pub record IsLaid (m : Shape) (left right : Walk) (g : Configuration) : Type 0 where

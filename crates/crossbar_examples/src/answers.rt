@@ -1,17 +1,17 @@
 //! Questions to a machine that a test of `evidence` answers.
 ghost use Rattle.std.specs.Prelude.{◌≡◌, ℕ, true, Some, IsTrue};
-ghost use Rattle.config_set.specs.Groups.{among};
+ghost use Rattle.machine_config.specs.Groups.{among};
 ghost use Rattle.rig.specs.Rig.{shape_of};
-ghost use Rattle.test_configs.specs.Routes.{IsRoute};
-ghost use Rattle.evidence.specs.Kept.{Advances, keeps_cross};
+ghost use Rattle.diag_tests.specs.Routes.{IsRoute};
+ghost use Rattle.diag_evidence.specs.Kept.{Advances, keeps_cross};
 
 use crate::setup::{Laid, Setup, lay};
-use evidence::Proof;
-use evidence::laws::tests_add_up;
-use hierarchy::{Cross, Table, Wire};
+use diag_evidence::Proof;
+use diag_evidence::laws::tests_add_up;
+use diag_tests::Route;
+use machine_shape::{Cross, Table, Wire};
 use rig::{PinBits, Rig, RigFail};
 use std::alloc::Global;
-use test_configs::Route;
 
 // Toggles a closed crosspoint, and reads a pin.
 fn toggle_cross(

@@ -1,8 +1,8 @@
 //! A text of examples, case by case.
 
 use crate::lines::try_case;
-use example_words::{Fails, numbers_of, turn_of, words_of};
-use hierarchy::{Counts, Shape};
+use example_kit::{Fails, numbers_of, turn_of, words_of};
+use machine_shape::{Counts, Shape};
 use std::alloc::{AllocError, Global};
 
 /// A line of a case: what it says, and what has to come of it.

@@ -1,7 +1,7 @@
 //! The lines of a case: what comes of each, and whether it is what has to come.
 ghost use Rattle.std.specs.Prelude.{◌≡◌, Some};
 ghost use Rattle.rig.specs.Rig.{shape_of};
-ghost use Rattle.evidence.specs.Kept.{Advances};
+ghost use Rattle.diag_evidence.specs.Kept.{Advances};
 ghost use Rattle.crossbar_examples.specs.Found.{AreFound};
 
 use crate::answers::{answer, keeps};
@@ -11,11 +11,11 @@ use crate::machine::rig_of;
 use crate::routes::seen;
 use crate::walk::{Loads, Progress, are_separated, test_next};
 use crate::words::{text_of, word, yes_or_no};
-use crossbar_test::Tested;
-use evidence::Proof;
-use evidence::laws::tests_add_up;
-use example_words::numbers_of;
-use hierarchy::{Node, Wire};
+use diag_evidence::Proof;
+use diag_evidence::laws::tests_add_up;
+use diag_published::Tested;
+use example_kit::numbers_of;
+use machine_shape::{Node, Wire};
 use rig::{Rig, RigFail};
 use std::alloc::{AllocError, Global};
 

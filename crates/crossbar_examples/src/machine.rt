@@ -1,11 +1,11 @@
 //! The machine of a case.
 
 use crate::book::Case;
-use cycle_sim::SimRig;
-use example_words::Turn;
+use base_io::{File, MemoryStore};
+use example_kit::Turn;
 use rig::{FlakyRig, LogRig};
+use rig_simulated::SimRig;
 use std::alloc::{AllocError, Global};
-use tm_outside::{File, MemoryStore};
 
 /// A rig of which the calls of the case fail, over a machine with the faults of the case in the file `faults`.
 pub fn rig_of(

@@ -14,8 +14,8 @@ mod walk;
 mod words;
 
 use book::Book;
-use example_words::verdict;
-use program_words::texts;
+use example_kit::verdict;
+use program_main::texts;
 use std::process::ExitCode;
 use std::{fs, io};
 

@@ -1,12 +1,12 @@
 //! What is to be seen of routes and configurations that are set.
 ghost use Rattle.std.specs.Prelude.{IfOk, IfSome};
-ghost use Rattle.test_configs.specs.Routes.{IsRoute};
+ghost use Rattle.diag_tests.specs.Routes.{IsRoute};
 
 use crate::setup::{Setup, laid_of, route_of};
 use crate::words::{text_of, word, yes_or_no};
-use hierarchy::{Cross, Shape, Wire};
+use diag_tests::{Route, extended};
+use machine_shape::{Cross, Shape, Wire};
 use std::alloc::{AllocError, Global};
-use test_configs::{Route, extended};
 
 // The route that goes on over a crosspoint. None where that isn't at its end.
 fn longer(

@@ -1,15 +1,15 @@
 //! What is set before a machine is asked: routes, closed crosspoints, a table and driven pins.
 ghost use Rattle.std.specs.Prelude.{◌≡◌, ◌<◌, All, IfOk, IfSome, OnOk, length};
-ghost use Rattle.hierarchy.specs.Shape.{crosses_of, pins_of};
-ghost use Rattle.test_configs.specs.Routes.{IsRoute};
+ghost use Rattle.machine_shape.specs.Shape.{crosses_of, pins_of};
+ghost use Rattle.diag_tests.specs.Routes.{IsRoute};
 ghost use Rattle.crossbar_examples.specs.Laid.{IsLaid};
 
-use config_set::{Config, Setting};
-use example_words::numbers_of;
-use hierarchy::{Cross, Shape, Table};
+use diag_tests::{Route, cell_config, loop_config, route_at};
+use example_kit::numbers_of;
+use machine_config::{Config, Setting};
+use machine_shape::{Cross, Shape, Table};
 use rig::{PinBits, RigFail};
 use std::alloc::{AllocError, Global};
-use test_configs::{Route, cell_config, loop_config, route_at};
 
 /// Two routes, each by its pin and its crosspoints.
 #[derive(Drop)]

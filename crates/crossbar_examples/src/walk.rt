@@ -1,23 +1,23 @@
 //! The crossbars of a machine, from the root down.
 ghost use Rattle.std.specs.Prelude.{◌≡◌, ◌<◌, ◌≤◌, ◌+◌, ◌++◌, ◌∷◌, [], ℕ, Some, None, IfOk, IfSome, IfNone, IfErr, IsErrOf, OnOk};
 ghost use Rattle.std.specs.Prelude.{OnErr, All, IsTrue, false, length};
-ghost use Rattle.tm_outside.specs.Counts.{Rose};
-ghost use Rattle.hierarchy.specs.Shape.{node_of, nodes_of, parent_of, wires_of};
+ghost use Rattle.base_io.specs.Counts.{Rose};
+ghost use Rattle.machine_shape.specs.Shape.{node_of, nodes_of, parent_of, wires_of};
 ghost use Rattle.rig.specs.Rig.{shape_of};
 ghost use Rattle.rig.specs.declared.rig.RigFail.TheVariants as work;
-ghost use Rattle.evidence.specs.Kept.{Advances};
-ghost use Rattle.known.specs.Known.{HasWire, IsKnown};
-ghost use Rattle.crossbar_test.specs.Held.{IsHeld, IsHeldTrunk, UnservedIf};
+ghost use Rattle.diag_evidence.specs.Kept.{Advances};
+ghost use Rattle.diag_known.specs.Known.{HasWire, IsKnown};
+ghost use Rattle.diag_published.specs.Held.{IsHeld, IsHeldTrunk, UnservedIf};
 ghost use Rattle.crossbar_examples.specs.Found.{AreFound};
 
-use crossbar_test::{Tested, find_trunk, separate_all, test_crossbar};
-use evidence::Proof;
-use evidence::laws::tests_add_up;
-use hierarchy::{Node, Shape, Wire, the_numbering_is_sound};
-use known::Known;
+use diag_evidence::Proof;
+use diag_evidence::laws::tests_add_up;
+use diag_known::Known;
+use diag_published::{Tested, find_trunk, separate_all, test_crossbar};
+use diag_tests::Trunk;
+use machine_shape::{Node, Shape, Wire, the_numbering_is_sound};
 use rig::{Rig, RigFail};
 use std::alloc::{AllocError, Global};
-use test_configs::Trunk;
 
 /// How many loads the last step took: the search for a trunk, and what came after it.
 #[derive(Clone, Copy, Drop)]

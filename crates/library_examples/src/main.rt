@@ -8,8 +8,8 @@
 
 mod plans;
 
-use example_words::verdict;
-use program_words::texts;
+use example_kit::verdict;
+use program_main::texts;
 use std::io;
 use std::process::ExitCode;
 

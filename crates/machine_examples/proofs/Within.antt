@@ -2,7 +2,7 @@
 use Rattle.std.proofs.Common.{◌≡◌, ℕ, ◌<◌, List, ◌∷◌, ◌++◌, [], sym, subst}
 use Rattle.std.specs.Prelude.{All}
 use Rattle.std.proofs.lemmas.List.Elements.{All-push}
-use Rattle.hierarchy.specs.declared.Table.{Table}
+use Rattle.machine_shape.specs.declared.Table.{Table}
 
 -- one table more, whose number is below the bound
 pub one_more : (m : ℕ) (old : List Table) (t : Table) (new : List Table) → new ≡ old ++ t ∷ [] → t.0 < m → All (λ (u : Table). u.0 < m) old →

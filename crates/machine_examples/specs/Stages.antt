@@ -1,8 +1,8 @@
 -- What a diagnosis has of a machine between two calls.
 use Rattle.std.specs.Prelude.{◌≡◌}
-use Rattle.hierarchy.specs.declared.Shape.{Shape}
-use Rattle.known.specs.Known.{IsKnown}
-use Rattle.sweep.specs.Marks.{AreMarksFor}
+use Rattle.machine_shape.specs.declared.Shape.{Shape}
+use Rattle.diag_known.specs.Known.{IsKnown}
+use Rattle.diag_sweep.specs.Marks.{AreMarksFor}
 use Rattle.machine_examples.specs.declared.picture.Stage.{Stage}
 
 -- it is of this machine, what is known is known by what is kept, and there is a mark for each part

@@ -1,10 +1,10 @@
 //! The calls of a diagnosis one by one: what each leaves is held against the faults of the machine.
 ghost use Rattle.std.specs.Prelude.{◌≡◌, ◌<◌, All, Some, IfOk};
 ghost use Rattle.rig.specs.Rig.{shape_of};
-ghost use Rattle.hierarchy.specs.Shape.{tables_of};
-ghost use Rattle.known.specs.Field.{IsFieldOf};
-ghost use Rattle.known.specs.Known.{IsKnown};
-ghost use Rattle.sweep.specs.Marks.{AreMarksFor};
+ghost use Rattle.machine_shape.specs.Shape.{tables_of};
+ghost use Rattle.diag_known.specs.Field.{IsFieldOf};
+ghost use Rattle.diag_known.specs.Known.{IsKnown};
+ghost use Rattle.diag_sweep.specs.Marks.{AreMarksFor};
 ghost use Rattle.machine_examples.specs.Stages.{IsStageOf};
 
 use crate::choices::choose_once;
@@ -13,15 +13,15 @@ use crate::flags::Parts;
 use crate::judge::{Judge, judge_of};
 use crate::picture::{Picture, Stage};
 use crate::purse::{most_of_growth, most_of_sweep, most_of_tables};
-use bench_gen::Draws;
-use evidence::Proof;
-use fault_model::FaultSet;
-use growth::{grow, test_tables};
-use hierarchy::{Shape, Table};
-use known::Known;
+use diag_evidence::Proof;
+use diag_growth::{grow, test_tables};
+use diag_known::Known;
+use diag_sweep::{Bad, sweep, without_bad};
+use machine_bench::Draws;
+use machine_faults::FaultSet;
+use machine_shape::{Shape, Table};
 use rig::Rig;
 use std::alloc::Global;
-use sweep::{Bad, sweep, without_bad};
 
 // What is kept, known and marked, of one machine.
 fn stage_of(shape: &Shape, proof: Proof, known: Known, bad: Bad) -> Stage

@@ -1,7 +1,7 @@
 //! A choice between shorted wires, and the sweep behind it.
 ghost use Rattle.std.specs.Prelude.{◌≡◌, Some};
 ghost use Rattle.rig.specs.Rig.{shape_of};
-ghost use Rattle.known.specs.Field.{IsFieldOf};
+ghost use Rattle.diag_known.specs.Field.{IsFieldOf};
 ghost use Rattle.machine_examples.specs.Stages.{IsStageOf};
 
 use crate::fields::Task;
@@ -9,8 +9,8 @@ use crate::flags::Parts;
 use crate::judge::Judge;
 use crate::picture::Stage;
 use crate::purse::worth;
+use diag_sweep::{Choices, choose, sweep_with};
 use rig::Rig;
-use sweep::{Choices, choose, sweep_with};
 
 // The choice. It spends of what is left, and of two loads for each crosspoint that it decides.
 fn choose_now(

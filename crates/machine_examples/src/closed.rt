@@ -5,7 +5,7 @@ use crate::flags::{Flags, Parts};
 use crate::picture::Picture;
 use crate::purse::keeps_table;
 use crate::sight::Sight;
-use hierarchy::Meaning;
+use machine_shape::Meaning;
 use std::alloc::{AllocError, Global};
 
 // Each wire of the area that is clear, is shorted to no known one, and is a pin of the machine or has two crosspoints of the area that

@@ -1,8 +1,8 @@
 //! Small machines, as numbers make them.
 ghost use Rattle.std.specs.Prelude.{◌≢◌};
 
-use bench_gen::Draws;
-use hierarchy::Counts;
+use machine_bench::Draws;
+use machine_shape::Counts;
 
 /// How large machines are.
 #[derive(Clone, Copy)]

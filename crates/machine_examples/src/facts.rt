@@ -3,8 +3,8 @@
 use crate::flags::Flags;
 use crate::picture::{Facts, Picture};
 use crate::sight::{Sight, WireSeen, all_hold};
-use hierarchy::Meaning;
-use known::{Foot, Stand, Step};
+use diag_known::{Foot, Stand, Step};
+use machine_shape::Meaning;
 
 // A kept crosspoint isn't stuck.
 fn crosses_are_true(sight: &Sight, kept: &Facts) -> bool {

@@ -1,10 +1,10 @@
 //! Faults of a machine, as numbers make them.
 ghost use Rattle.std.specs.Prelude.{◌≡◌, IsTrue, IfOk};
-ghost use Rattle.fault_model.specs.Adding.{CanHave};
+ghost use Rattle.machine_faults.specs.Adding.{CanHave};
 
-use bench_gen::Draws;
-use fault_model::{AddFault, Fault, FaultSet};
-use hierarchy::{Cross, Shape, Table, Wire};
+use machine_bench::Draws;
+use machine_faults::{AddFault, Fault, FaultSet};
+use machine_shape::{Cross, Shape, Table, Wire};
 use std::alloc::{AllocError, Global};
 
 /// The kinds of faults.

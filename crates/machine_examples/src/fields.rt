@@ -1,15 +1,15 @@
 //! Fields and tables that are looked at: all of a machine, or a part that numbers make.
 ghost use Rattle.std.specs.Prelude.{◌≡◌, ◌<◌, All, IfOk, length};
-ghost use Rattle.hierarchy.specs.Shape.{tables_of};
-ghost use Rattle.known.specs.Field.{IsFieldOf};
+ghost use Rattle.machine_shape.specs.Shape.{tables_of};
+ghost use Rattle.diag_known.specs.Field.{IsFieldOf};
 
 use crate::flags::{Flags, Parts};
 use crate::picture::Marks;
-use bench_gen::Draws;
-use hierarchy::{Shape, Table};
-use known::Field;
+use base_bits::BitSet;
+use diag_known::Field;
+use machine_bench::Draws;
+use machine_shape::{Shape, Table};
 use std::alloc::{AllocError, Global};
-use tm_bits::BitSet;
 
 /// What a call looks at.
 #[derive(Drop)]

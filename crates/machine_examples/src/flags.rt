@@ -1,8 +1,8 @@
 //! Marks by number.
 
+use base_bits::BitSet;
 use std::alloc::{AllocError, Global};
 use std::slice::Iter;
-use tm_bits::BitSet;
 
 /// Of numbers from 0 on, whether each is marked.
 #[derive(Drop)]

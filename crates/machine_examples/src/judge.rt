@@ -6,7 +6,7 @@ use crate::looks::is_tight;
 use crate::picture::{Picture, Stage, picture_of};
 use crate::sight::{Sight, free_nothing, sight_of};
 use crate::{facts, marks};
-use fault_model::FaultSet;
+use machine_faults::FaultSet;
 use std::alloc::Global;
 
 /// What is held against what: the machine as it is, and how many faults it has.

@@ -4,7 +4,7 @@ use crate::feet::on_two;
 use crate::flags::Flags;
 use crate::seating::is_seated;
 use crate::sight::Sight;
-use hierarchy::Meaning;
+use machine_shape::Meaning;
 use std::alloc::{AllocError, Global};
 
 /// No free crosspoint is stuck, no free table is wrong, and no free wire is shorted to a stuck one or to another free one.

@@ -1,13 +1,13 @@
 //! What is kept, known and marked at one time, in plain lists by number.
 ghost use Rattle.std.specs.Prelude.{◌<◌};
-ghost use Rattle.hierarchy.specs.Shape.{tables_of, wires_of};
+ghost use Rattle.machine_shape.specs.Shape.{tables_of, wires_of};
 
 use crate::flags::{Flags, Rows};
-use evidence::Proof;
-use hierarchy::{Cross, Table, Wire};
-use known::{Known, Step};
+use diag_evidence::Proof;
+use diag_known::{Known, Step};
+use diag_sweep::Bad;
+use machine_shape::{Cross, Table, Wire};
 use std::alloc::{AllocError, Global};
-use sweep::Bad;
 
 /// What a diagnosis has of a machine between two calls.
 #[derive(Drop)]

@@ -3,7 +3,7 @@
 use crate::flags::Parts;
 use crate::picture::{Facts, Picture};
 use crate::sight::Sight;
-use hierarchy::Meaning;
+use machine_shape::Meaning;
 
 // How many pins of the machine are looked at.
 fn pins_in(sight: &Sight, area: &Parts) -> u64 {

@@ -3,7 +3,7 @@
 use crate::feet::on_two;
 use crate::flags::Flags;
 use crate::sight::{Sight, TableSeen};
-use hierarchy::{Meaning, Node};
+use machine_shape::{Meaning, Node};
 use std::alloc::{AllocError, Global};
 
 // The free wires that are neither lines of the hextant nor pins of its tables, and are pins of the machine or of these.

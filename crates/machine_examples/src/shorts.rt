@@ -1,7 +1,7 @@
 //! Which wires are shorted: bridges and crosspoints that are stuck closed lead from one to the other.
 
-use fault_model::FaultSet;
-use hierarchy::Cross;
+use machine_faults::FaultSet;
+use machine_shape::Cross;
 use std::alloc::{AllocError, Global};
 
 // Makes one group of those of two wires.

@@ -1,12 +1,12 @@
 //! What is wrong and what is free of each wire, crosspoint and table, by number.
 ghost use Rattle.std.specs.Prelude.{◌≡◌, ◌<◌, IfOk};
-ghost use Rattle.hierarchy.specs.Shape.{tables_of};
+ghost use Rattle.machine_shape.specs.Shape.{tables_of};
 
 use crate::flags::{Flags, Parts};
 use crate::shorts::groups_of;
-use defect_db::Defects;
-use fault_model::FaultSet;
-use hierarchy::{Cross, Meaning, Node, Shape, Table, Wire};
+use machine_defects::Defects;
+use machine_faults::FaultSet;
+use machine_shape::{Cross, Meaning, Node, Shape, Table, Wire};
 use std::alloc::{AllocError, Global};
 
 /// A wire. Those that are shorted have one group; it is clear where none of them is stuck.

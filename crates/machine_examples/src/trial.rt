@@ -6,15 +6,15 @@ use crate::counts::{Size, draw_counts};
 use crate::faults::{Kind, draw_faults};
 use crate::looks::{covers, is_tight};
 use crate::sight::{free_by_list, sight_of};
-use bench_gen::Draws;
-use cycle_sim::SimRig;
-use defect_db::Defects;
-use diagnose::diagnose;
-use fault_model::{FaultSet, faults_text};
-use hierarchy::Shape;
+use base_io::{File, MemoryStore};
+use diag_machine::diagnose;
+use machine_bench::Draws;
+use machine_defects::Defects;
+use machine_faults::{FaultSet, faults_text};
+use machine_shape::Shape;
 use rig::Rig;
+use rig_simulated::SimRig;
 use std::alloc::Global;
-use tm_outside::{File, MemoryStore};
 
 /// Machines of one size with faults of some kinds, fewer than so many for a hundred crosspoints.
 #[derive(Clone, Copy)]

@@ -2,7 +2,7 @@
 
 use crate::numbers::node_of;
 use crate::reach::Nodes;
-use same_rows::And;
+use design_equal::And;
 use std::alloc::{AllocError, Global};
 
 /// Words of nodes, those that were put since the last beginning.

@@ -12,9 +12,9 @@ use crate::products::{Product, cheaper_of};
 use crate::puts::put_tables;
 use crate::reach::{Nodes, reach_of};
 use crate::tables::layout_of;
-use netlist::{Cover, Cube, Draft, LatchDef, Lit, Name, Names, Netlist, PortDef};
+use base_lists::Items;
+use design_netlist::{Cover, Cube, Draft, LatchDef, Lit, Name, Names, Netlist, PortDef};
 use std::alloc::{AllocError, Global};
-use tm_items::Items;
 
 /// A design, and a label for each of its signals.
 #[derive(Debug, Drop)]

@@ -8,10 +8,10 @@ use crate::numbers::{at, set, small};
 use crate::sums::sum_of;
 use crate::way::Way;
 use crate::words::{Narrow, narrow_of};
-use netlist::{Cover, Draft, LatchDef, Netlist};
-use same_rows::{And, Graph, GraphLatch};
+use base_lists::Items;
+use design_equal::{And, Graph, GraphLatch};
+use design_netlist::{Cover, Draft, LatchDef, Netlist};
 use std::alloc::{AllocError, Global};
-use tm_items::Items;
 
 /// How often latches that are alike are looked for.
 const MOST_TURNS: u32 = 20;

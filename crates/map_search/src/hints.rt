@@ -3,7 +3,7 @@
 use crate::cuts::{Cut, cut_of_leaves};
 use crate::numbers::{at, node_of};
 use crate::reach::Nodes;
-use netlist::{Cover, Draft};
+use design_netlist::{Cover, Draft};
 use std::alloc::{AllocError, Global};
 
 /// A cut of a node.

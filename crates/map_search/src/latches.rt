@@ -1,7 +1,7 @@
 //! Latches that are alike.
 
 use crate::numbers::at;
-use netlist::LatchDef;
+use design_netlist::LatchDef;
 use std::alloc::{AllocError, Global};
 use std::collections::HashMap;
 

@@ -1,9 +1,9 @@
 //! Names that are free.
 
-use netlist::{Name, Names};
-use numerals::{put_number, read_number};
+use base_lists::Items;
+use base_text::{put_number, read_number};
+use design_netlist::{Name, Names};
 use std::alloc::{AllocError, Global};
-use tm_items::Items;
 
 /// The names of a letter and a number that are free, in order.
 #[derive(Debug, Drop)]

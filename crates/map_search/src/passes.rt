@@ -5,7 +5,7 @@ use crate::cuts::{Cut, NO_CUT, cut_of, union};
 use crate::draws::Draws;
 use crate::hints::Hint;
 use crate::reach::{Nodes, Reach};
-use same_rows::And;
+use design_equal::And;
 use std::alloc::{AllocError, Global};
 
 /// How many passes go by flow, and how many in all.

@@ -1,8 +1,8 @@
 //! Nodes that outputs need.
 
 use crate::numbers::{mark, marked, node_of, small};
-use netlist::Draft;
-use same_rows::{And, Graph};
+use design_equal::{And, Graph};
+use design_netlist::Draft;
 use std::alloc::{AllocError, Global};
 
 /// The nodes of a graph: the first of its ANDs, and the ANDs.

@@ -1,6 +1,6 @@
 //! Sums of products of any width.
 
-use netlist::{Cover, Lit};
+use design_netlist::{Cover, Lit};
 use std::alloc::{AllocError, Global};
 
 /// Products, each as its literals in order, one list behind the other, and where each ends.

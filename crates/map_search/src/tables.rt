@@ -5,8 +5,8 @@ use crate::layout::{Layout, NOWHERE, Register, with_leaf};
 use crate::numbers::{at, literal_of, node_of, set};
 use crate::passes::Chosen;
 use crate::reach::{Nodes, Reach, needs_latch};
-use netlist::{Draft, LatchDef, PortDef};
-use same_rows::Graph;
+use design_equal::Graph;
+use design_netlist::{Draft, LatchDef, PortDef};
 use std::alloc::{AllocError, Global};
 
 /// A new design while it is made.

@@ -1,10 +1,10 @@
 //! The text of a design.
 
 use crate::names::name_of;
-use netlist::{Cover, Cube, Draft, LatchDef, Lit, Names, Netlist, PortDef};
+use base_lists::Items;
+use design_netlist::{Cover, Cube, Draft, LatchDef, Lit, Names, Netlist, PortDef};
 use std::alloc::{AllocError, Global};
 use std::collections::HashMap;
-use tm_items::Items;
 
 /// How many names of inputs or outputs stand on a line.
 const NAMES_OF_LINE: usize = 16;

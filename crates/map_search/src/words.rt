@@ -1,8 +1,8 @@
 //! Functions of at most six inputs as words of 64 cells: bit a is what the function gives at address a.
 
-use netlist::{Cover, Lit};
+use base_lists::TABLE_INPUTS;
+use design_netlist::{Cover, Lit};
 use std::alloc::{AllocError, Global};
-use tm_items::TABLE_INPUTS;
 
 const PINS: [u64; 6] = [
     0xaaaa_aaaa_aaaa_aaaa,

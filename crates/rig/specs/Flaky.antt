@@ -1,6 +1,6 @@
 -- A rig that fails at chosen calls.
 use Rattle.std.specs.Prelude.{ℕ, ◌+◌, ◌-◌, ◌^◌, min, Bool, List, None, if◌then◌else◌, Contains}
-use Rattle.tm_outside.specs.Counts.{next_count}
+use Rattle.base_io.specs.Counts.{next_count}
 use Rattle.rig.specs.Rig.{Asked, RigState, IsDetached, AttachFails}
 use Rattle.rig.specs.declared.rig.AttachFail.TheVariants as attach
 

@@ -1,23 +1,23 @@
 -- A rig: a machine that is attached by name, loaded and driven.
 use Rattle.std.specs.Prelude.{◌≡◌, ℕ, ◌+◌, ◌<◌, ◌≤◌, List, [], ◌∷◌, ◌++◌, map, length, All, Option, None, Some, IfSome, option_map}
 use Rattle.std.specs.Option.{option_map_or}
-use Rattle.hierarchy.specs.declared.Shape.{Shape}
-use Rattle.hierarchy.specs.Shape.{pins_of}
-use Rattle.hierarchy.specs.Circuit.{Pins}
-use Rattle.hierarchy.specs.Faults.{Faults, AreFaultsOf}
-use Rattle.config_set.specs.Configuration.{Configuration}
-use Rattle.config_set.specs.Faulty.{IsRun}
-use Rattle.fault_model.specs.declared.kind.FaultsKind.{FaultsKind}
-use Rattle.fault_model.specs.declared.kind.FaultsFault.{FaultsFault}
-use Rattle.fault_model.specs.declared.kind.FaultsFault.TheVariants as text
-use Rattle.fault_model.specs.Text.{IsFaultText}
-use Rattle.tm_text.specs.Size.{most_bytes}
-use Rattle.fault_model.specs.Refusals.{IsFaultAt}
+use Rattle.machine_shape.specs.declared.Shape.{Shape}
+use Rattle.machine_shape.specs.Shape.{pins_of}
+use Rattle.machine_shape.specs.Circuit.{Pins}
+use Rattle.machine_shape.specs.Faults.{Faults, AreFaultsOf}
+use Rattle.machine_config.specs.Configuration.{Configuration}
+use Rattle.machine_config.specs.Faulty.{IsRun}
+use Rattle.machine_faults.specs.declared.kind.FaultsKind.{FaultsKind}
+use Rattle.machine_faults.specs.declared.kind.FaultsFault.{FaultsFault}
+use Rattle.machine_faults.specs.declared.kind.FaultsFault.TheVariants as text
+use Rattle.machine_faults.specs.Text.{IsFaultText}
+use Rattle.base_text.specs.Size.{most_bytes}
+use Rattle.machine_faults.specs.Refusals.{IsFaultAt}
 use Rattle.rig.specs.declared.rig.AttachFail.{AttachFail}
 use Rattle.rig.specs.declared.rig.AttachFail.TheVariants as attach
 use Rattle.rig.specs.declared.rig.RigFail.{RigFail}
 use Rattle.rig.specs.declared.rig.RigFail.TheVariants as work
-use Rattle.tm_outside.specs.Counts.{Rose, next_count}
+use Rattle.base_io.specs.Counts.{Rose, next_count}
 
 -- a machine as it was asked for
 pub record Asked : Type 0 where

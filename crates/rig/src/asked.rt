@@ -1,7 +1,7 @@
 //! The machines that a rig was asked for.
 ghost use Rattle.std.specs.Prelude.{◌≡◌, ◌-◌, ◌<◌, length, take, [], ◌∷◌, ◌++◌, OnOk, OnErr};
 
-use hierarchy::Shape;
+use machine_shape::Shape;
 use std::alloc::{AllocError, Global};
 use std::marker::Model;
 

@@ -1,11 +1,11 @@
 //! Calls of a rig in a box.
 ghost use Rattle.std.specs.Prelude.{◌≡◌, ◌^◌, ◌<◌, ◌≤◌, None, Some, IsSome, IfErr, OnOk, OnErr, length};
-ghost use Rattle.tm_outside.specs.Counts.{next_count};
+ghost use Rattle.base_io.specs.Counts.{next_count};
 ghost use Rattle.rig.specs.Rig.{shape_of, width_of, HasFaultsOf, Begins, LoadFails, GoesOn, CycleFails, GoesOnBy};
 ghost use Rattle.rig.specs.Rig.{CyclesFail, AreRows, KeepLengths};
 
 use crate::{PinBits, Rig, RigFail};
-use config_set::Config;
+use machine_config::Config;
 
 /// Loads a configuration, as [`Rig::load`] does. What it says has names here, which proofs cite.
 pub fn load(rig: &mut Box<dyn Rig>, config: &Config, room: u32) -> Result<(), RigFail>

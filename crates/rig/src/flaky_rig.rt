@@ -1,13 +1,13 @@
 //! A rig that fails at chosen calls.
 ghost use Rattle.std.specs.Prelude.{◌≡◌, ◌⊎◌, ◌-◌, ◌^◌, ◌<◌, ◌≤◌, [], None, Some, IsSome, min, length, IfErr, OnOk, OnErr, IsErrOf};
-ghost use Rattle.tm_outside.specs.Counts.{Rose, next_count};
+ghost use Rattle.base_io.specs.Counts.{Rose, next_count};
 ghost use Rattle.rig.specs.Rig.{Asked, shape_of, width_of, IsDetached, Attaches, AttachFails, HasFaultsOf, Begins, LoadFails, GoesOn};
 ghost use Rattle.rig.specs.Rig.{CycleFails, GoesOnBy, CyclesFail, AreRows, KeepLengths};
 ghost use Rattle.rig.specs.Flaky.{flaky_state, IsChosen, WantsMemory};
 
 use crate::{AskedMachines, AttachFail, PinBits, Rig, RigFail};
-use config_set::Config;
-use hierarchy::Shape;
+use machine_config::Config;
+use machine_shape::Shape;
 use std::alloc::Global;
 
 /// Fails at chosen calls of `attach`, `load`, `cycle` and `cycles`, which are numbered together from 1.

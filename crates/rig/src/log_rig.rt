@@ -1,12 +1,12 @@
 //! A rig that counts its loads.
 ghost use Rattle.std.specs.Prelude.{◌≡◌, ◌^◌, ◌<◌, ◌≤◌, None, Some, IsSome, IfErr, OnOk, OnErr, length};
-ghost use Rattle.tm_outside.specs.Counts.{next_count};
+ghost use Rattle.base_io.specs.Counts.{next_count};
 ghost use Rattle.rig.specs.Rig.{shape_of, width_of, IsDetached, Attaches, AttachFails, HasFaultsOf, Begins, LoadFails, GoesOn, CycleFails};
 ghost use Rattle.rig.specs.Rig.{GoesOnBy, CyclesFail, AreRows, KeepLengths};
 
 use crate::{AttachFail, PinBits, Rig, RigFail};
-use config_set::Config;
-use hierarchy::Shape;
+use machine_config::Config;
+use machine_shape::Shape;
 
 /// Passes every call on, and counts the loads itself.
 #[derive(Drop)]

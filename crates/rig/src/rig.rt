@@ -1,13 +1,13 @@
 //! A rig as a trait.
 ghost use Rattle.std.specs.Prelude.{◌≡◌, ◌^◌, ◌<◌, ◌≤◌, None, Some, IsSome, IfErr, OnOk, OnErr, length};
-ghost use Rattle.tm_outside.specs.Counts.{next_count};
+ghost use Rattle.base_io.specs.Counts.{next_count};
 ghost use Rattle.rig.specs.Rig.{RigState, shape_of, width_of, IsDetached, Attaches, AttachFails, HasFaultsOf, Begins, LoadFails, GoesOn};
 ghost use Rattle.rig.specs.Rig.{CycleFails, GoesOnBy, CyclesFail, AreRows, KeepLengths};
 
 use crate::PinBits;
-use config_set::Config;
-use fault_model::FaultsFault;
-use hierarchy::Shape;
+use machine_config::Config;
+use machine_faults::FaultsFault;
+use machine_shape::Shape;
 use std::alloc::AllocError;
 
 /// Why a rig attaches nothing.

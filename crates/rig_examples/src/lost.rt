@@ -3,8 +3,8 @@
 ghost use Rattle.std.specs.Prelude.{◌≡◌, Some, OnOk, length};
 ghost use Rattle.rig.specs.Rig.{config_of, shape_of};
 
-use config_set::Config;
-use hierarchy::{Cross, Shape};
+use machine_config::Config;
+use machine_shape::{Cross, Shape};
 use rig::{PinBits, Rig, RigFail, cycle, load};
 use std::alloc::{AllocError, Global};
 

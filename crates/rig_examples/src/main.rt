@@ -9,20 +9,20 @@ mod lost;
 ghost use Rattle.std.specs.Prelude.{◌≡◌, None, IfOk};
 
 use crate::lost::load_twice;
-use board_rig::BoardRig;
-use cycle_sim::SimRig;
-use doubled_rig::{RepeatRig, TwinRig};
-use example_words::{TINY, verdict, words_of};
-use hierarchy::Shape;
-use port_board::{FileBoard, PortBoard, RigPort};
-use program_words::texts;
+use base_io::{File, FileStore, MemoryStore, StdSink};
+use cmd_top::teramac;
+use example_kit::{TINY, verdict, words_of};
+use example_rigs::TurnRig;
+use machine_shape::Shape;
+use program_main::texts;
 use rig::Rig;
+use rig_board::BoardRig;
+use rig_doubled::{RepeatRig, TwinRig};
+use rig_port::{FileBoard, PortBoard, RigPort};
+use rig_simulated::SimRig;
 use std::alloc::Global;
 use std::process::ExitCode;
 use std::{fs, io};
-use tera_top::teramac;
-use tm_outside::{File, FileStore, MemoryStore, StdSink};
-use turn_rig::TurnRig;
 
 /// The fault texts that simulated rigs find, by name.
 const FAULTS: [(&str, &str); 5] = [

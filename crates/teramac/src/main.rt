@@ -1,13 +1,13 @@
 //! The program: real files, standard output, and a simulated rig.
 #![tactic(auto)]
 
-use cycle_sim::SimRig;
-use program_words::{exit_code, surroundings_of};
+use base_io::FileStore;
+use cmd_top::teramac;
+use program_main::{exit_code, surroundings_of};
 use rig::{LogRig, Rig};
+use rig_simulated::SimRig;
 use std::alloc::{AllocError, Global};
 use std::process::ExitCode;
-use tera_top::teramac;
-use tm_outside::FileStore;
 
 // Runs the program over real files, standard output and a simulated rig with files of its own, and answers its status.
 fn run(rt: &HostRuntime) -> Result<u8, AllocError> {

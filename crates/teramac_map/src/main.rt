@@ -1,10 +1,10 @@
 //! The mapper: real files and standard output.
 #![tactic(auto)]
 
-use program_words::{exit_code, surroundings_of};
+use cmd_map::teramac_map;
+use program_main::{exit_code, surroundings_of};
 use std::alloc::{AllocError, Global};
 use std::process::ExitCode;
-use tera_map::teramac_map;
 
 // Runs the mapper over real files and standard output, and answers its status.
 fn run(rt: &HostRuntime) -> Result<u8, AllocError> {

@@ -4,14 +4,14 @@
 //! each session is asked again so often that it was asked so many times in all.
 #![tactic(auto)]
 
-use board_rig::BoardRig;
-use doubled_rig::RepeatRig;
-use port_board::FileBoard;
-use program_words::{exit_code, surroundings_of};
+use cmd_top::teramac;
+use program_main::{exit_code, surroundings_of};
 use rig::Rig;
+use rig_board::BoardRig;
+use rig_doubled::RepeatRig;
+use rig_port::FileBoard;
 use std::alloc::{AllocError, Global};
 use std::process::ExitCode;
-use tera_top::teramac;
 
 // Runs the program over real files, standard output and the machine behind the port, and answers its status.
 fn run(rt: &HostRuntime) -> Result<u8, AllocError> {

@@ -1,9 +1,9 @@
 //! The parts of the nodes of one level.
 ghost use Rattle.std.specs.Prelude.{◌<◌};
-ghost use Rattle.hierarchy.specs.Shape.{nodes_of};
+ghost use Rattle.machine_shape.specs.Shape.{nodes_of};
 
-use defect_db::Defects;
-use hierarchy::{Node, Shape};
+use machine_defects::Defects;
+use machine_shape::{Node, Shape};
 
 /// How many of a level's parts there are, and what a list leaves of them.
 #[derive(Clone, Copy, Debug)]

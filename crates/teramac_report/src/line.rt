@@ -1,7 +1,7 @@
 //! Lines of words and numbers.
 
+use base_text::put_number;
 use std::alloc::AllocError;
-use tm_text::put_number;
 
 // Adds a word and a number.
 fn put_count(text: &mut Vec<u8>, word: &str, number: u64) -> Result<(), AllocError> {

@@ -1,9 +1,9 @@
 //! The entries of a list of defects.
 ghost use Rattle.std.specs.Prelude.{◌<◌};
-ghost use Rattle.hierarchy.specs.Shape.{crosses_of, tables_of};
+ghost use Rattle.machine_shape.specs.Shape.{crosses_of, tables_of};
 
-use defect_db::Defects;
-use hierarchy::{Cross, Table, Wire};
+use machine_defects::Defects;
+use machine_shape::{Cross, Table, Wire};
 
 // Whether a crosspoint stands on a list: it isn't free, and its wires are.
 fn lists_cross(list: &Defects, cross: Cross) -> bool

@@ -7,13 +7,13 @@ mod listed;
 mod plans;
 mod report;
 
-use cycle_sim::SimRig;
-use program_words::{exit_code, surroundings_of};
+use base_io::FileStore;
+use program_main::{exit_code, surroundings_of};
 use report::report;
 use rig::{LogRig, Rig};
+use rig_simulated::SimRig;
 use std::alloc::{AllocError, Global};
 use std::process::ExitCode;
-use tm_outside::FileStore;
 
 // Reports over real files, standard output and a simulated rig with files of its own, and answers the status.
 fn run(rt: &HostRuntime) -> Result<u8, AllocError> {

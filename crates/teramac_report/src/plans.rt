@@ -1,15 +1,15 @@
 //! The plans of a design: in order for its plain network, in order for the one with fewer tables, and with fewer crossings.
 ghost use Rattle.std.specs.Prelude.{IfOk, IfSome};
-ghost use Rattle.table_map.specs.Networks.{IsNetwork};
-ghost use Rattle.place.specs.Plans.{FitsInOrder};
+ghost use Rattle.map_network.specs.Networks.{IsNetwork};
+ghost use Rattle.place_plan.specs.Plans.{FitsInOrder};
 
 use crate::line::put_counts;
-use defect_db::Defects;
-use netlist::Netlist;
-use partition::{crossings_of, improve};
-use place::{PlaceFail, Plan, fits, in_order};
+use design_netlist::Netlist;
+use machine_defects::Defects;
+use map_network::{Network, depth, merged, plain};
+use place_anneal::{crossings_of, improve};
+use place_plan::{PlaceFail, Plan, fits, in_order};
 use std::alloc::{AllocError, Global};
-use table_map::{Network, depth, merged, plain};
 
 // Adds a plan's name and what its network takes; the line goes on.
 fn put_network(

@@ -5,12 +5,12 @@ use crate::level::level_at;
 use crate::line::put_line;
 use crate::listed::{listed_crosses, listed_tables, listed_wires};
 use crate::plans::put_plans;
-use defect_db::Defects;
-use diagnose::{Parts, diagnose_in_parts};
+use base_io::{Sink, Store};
+use cmd_steps::{DesignFile, Refusal, Stop, attach, finish, read_design, read_shape, write};
+use diag_machine::{Parts, diagnose_in_parts};
+use machine_defects::Defects;
 use rig::Rig;
 use std::alloc::{AllocError, Global};
-use steps::{DesignFile, Refusal, Stop, attach, finish, read_design, read_shape, write};
-use tm_outside::{Sink, Store};
 
 /// The names of the levels, from the root down.
 const LEVELS: [&str; 4] = ["root", "module", "chip", "hextant"];

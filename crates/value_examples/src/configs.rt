@@ -1,8 +1,8 @@
 //! A configuration after its calls, and bits of pins.
 
-use config_set::{Config, Setting};
-use example_words::TINY;
-use hierarchy::{Cross, Shape, Table};
+use example_kit::TINY;
+use machine_config::{Config, Setting};
+use machine_shape::{Cross, Shape, Table};
 use rig::PinBits;
 use std::alloc::Global;
 

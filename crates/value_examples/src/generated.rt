@@ -1,8 +1,8 @@
 //! Values of the generator that were made elsewhere.
 
-use bench_gen::{Draws, bench_counts, bench_design, bench_vector};
-use blif_read::read_blif;
-use hierarchy::Shape;
+use design_blif::read_blif;
+use machine_bench::{Draws, bench_counts, bench_design, bench_vector};
+use machine_shape::Shape;
 use std::alloc::Global;
 
 pub fn generator_seven() -> Option<bool> {

@@ -1,10 +1,10 @@
 //! Designs that are labelled by a graph, and designs that are not.
 
-use blif_read::read_blif;
-use netlist::{Draft, Names, check};
-use same_rows::{And, Graph, GraphLatch, agree, cells_at, is_labelled};
+use base_lists::Items;
+use design_blif::read_blif;
+use design_equal::{And, Graph, GraphLatch, agree, cells_at, is_labelled};
+use design_netlist::{Draft, Names, check};
 use std::alloc::Global;
-use tm_items::Items;
 
 /// A graph: how many inputs it has, its latches and its ANDs.
 #[derive(Clone, Copy)]

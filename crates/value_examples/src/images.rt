@@ -1,10 +1,10 @@
 //! The bytes of an image.
 ghost use Rattle.std.specs.Prelude.{◌≡◌};
 
-use config_image::{Image, ImageFault, ImageKind, read_image, touches_none, write_image};
-use defect_db::Defects;
-use example_words::TINY;
-use hierarchy::{Cross, Shape, Table, Wire};
+use example_kit::TINY;
+use machine_defects::Defects;
+use machine_image::{Image, ImageFault, ImageKind, read_image, touches_none, write_image};
+use machine_shape::{Cross, Shape, Table, Wire};
 use std::alloc::{AllocError, Global};
 
 // Two inputs and an output, one table that is on, 24 closed crosspoints.

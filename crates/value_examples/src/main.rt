@@ -14,7 +14,7 @@ mod shapes;
 mod texts;
 mod vectors;
 
-use example_words::verdict;
+use example_kit::verdict;
 use std::alloc::Global;
 use std::io;
 use std::process::ExitCode;

@@ -1,8 +1,8 @@
 //! Plain networks and their depths.
 
-use blif_read::read_blif;
+use design_blif::read_blif;
+use map_network::{Network, Source, depth, merged, plain};
 use std::alloc::Global;
-use table_map::{Network, Source, depth, merged, plain};
 
 /// A table: its inputs, its cells, and whether it is latched.
 type Wanted<'a> = (&'a [Source], u64, bool);

@@ -1,7 +1,7 @@
 //! The store of files of the system, and standard output.
 
+use base_io::{FileStore, Sink, StdSink, Store, StoreFail, read_within};
 use std::fs;
-use tm_outside::{FileStore, Sink, StdSink, Store, StoreFail, read_within};
 
 /// Lies in the folder that the program runs in, for as long as it runs.
 const PATH: &str = "value_examples_file_store";

@@ -1,8 +1,8 @@
 //! Sets of numbers and of pairs, and numerals.
 
+use base_bits::{BitSet, PairSet};
+use base_text::{put_number, read_number};
 use std::alloc::Global;
-use tm_bits::{BitSet, PairSet};
-use tm_text::{put_number, read_number};
 
 // Whether the set has these three numbers, and no other.
 fn has_three(set: &BitSet) -> bool {

@@ -1,7 +1,7 @@
 //! Numbers and names of a small machine.
 
-use example_words::TINY;
-use hierarchy::{Counts, Cross, Field, Node, Shape, ShapeFault, Table, Which, Wire};
+use example_kit::TINY;
+use machine_shape::{Counts, Cross, Field, Node, Shape, ShapeFault, Table, Which, Wire};
 
 // Whether the wire has the name, and the name is the wire's.
 fn is_named(shape: &Shape, name: &[u8], number: u32) -> bool {

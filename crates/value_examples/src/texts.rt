@@ -1,10 +1,10 @@
 //! Texts that are written.
 
-use defect_db::{Defects, defects_text};
-use example_words::TINY;
-use fault_model::{AddFault, Fault, faults_text, read_faults};
-use hierarchy::{Cross, Node, Shape, Table, Wire};
-use machine_file::{machine_text, read_machine};
+use example_kit::TINY;
+use machine_defects::{Defects, defects_text};
+use machine_faults::{AddFault, Fault, faults_text, read_faults};
+use machine_shape::{Cross, Node, Shape, Table, Wire};
+use machine_text::{machine_text, read_machine};
 use std::alloc::Global;
 
 pub fn machine_text_of_tiny(alloc: Global) -> Option<bool> {

@@ -1,9 +1,9 @@
 //! A limit on the bytes of a vector file.
 ghost use Rattle.std.specs.Prelude.{◌<◌, ◌-◌, ◌^◌};
 
+use base_io::{File, MemoryStore, Store};
+use design_vectors::{RowText, VectorKind, VectorText, VectorsFail};
 use std::alloc::{AllocError, Global};
-use tm_outside::{File, MemoryStore, Store};
-use vector_text::{RowText, VectorKind, VectorText, VectorsFail};
 
 /// The lines of vectors, each with LF, and what came behind the last.
 type Read = (Vec<u8>, Result<bool, VectorsFail>);

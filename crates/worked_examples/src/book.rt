@@ -5,9 +5,9 @@ use crate::design::ports_of;
 use crate::judge::{Trial, Want, judge};
 use crate::step::{Each, Just, Marks, Step};
 use crate::trial::Given;
-use example_words::{numbers_of, turn_of};
+use base_io::File;
+use example_kit::{numbers_of, turn_of};
 use std::alloc::{AllocError, Global};
-use tm_outside::File;
 
 /// Why a text of examples isn't tried to its end.
 #[derive(Drop)]

@@ -3,7 +3,7 @@
 use crate::design::has_ports;
 use crate::step::{Each, Marks, Step};
 use crate::trial::{Given, Manner, Outcome, outcome_of};
-use example_words::Fails;
+use example_kit::Fails;
 use std::alloc::{AllocError, Global};
 
 /// So many calls fail in turn at most.

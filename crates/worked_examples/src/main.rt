@@ -11,8 +11,8 @@ mod step;
 mod trial;
 
 use book::{Book, Trouble};
-use example_words::verdict;
-use program_words::texts;
+use example_kit::verdict;
+use program_main::texts;
 use std::process::ExitCode;
 use std::{fs, io};
 

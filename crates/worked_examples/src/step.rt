@@ -1,7 +1,7 @@
 //! A command to be tried: its words, what is given besides, and which calls fail.
 
 use crate::design::Ports;
-use example_words::{Fails, Turn};
+use example_kit::{Fails, Turn};
 use std::alloc::Global;
 
 /// What every end has to be where calls fail in turn.

@@ -1,12 +1,12 @@
 //! A command over files, a rig and a sink in memory.
 
-use cycle_sim::SimRig;
-use example_words::{Fails, Turn};
+use base_io::{CutSink, File, MemorySink, MemoryStore, Sink};
+use cmd_map::teramac_map;
+use cmd_top::teramac;
+use example_kit::{Fails, Turn};
 use rig::{FlakyRig, LogRig, Rig};
+use rig_simulated::SimRig;
 use std::alloc::{AllocError, Global};
-use tera_map::teramac_map;
-use tera_top::teramac;
-use tm_outside::{CutSink, File, MemorySink, MemoryStore, Sink};
 
 /// The files that a command finds.
 #[derive(Drop)]

@@ -1,17 +1,17 @@
 //! What is to be seen of a design's plans.
 ghost use Rattle.std.specs.Prelude.{IfSome};
-ghost use Rattle.table_map.specs.Networks.{IsNetwork};
-ghost use Rattle.place.specs.Plans.{IsPlan};
+ghost use Rattle.map_network.specs.Networks.{IsNetwork};
+ghost use Rattle.place_plan.specs.Plans.{IsPlan};
 
 use crate::plans::texts::Texts;
-use blif_read::read_blif;
-use crossbar_route::route;
-use defect_db::{Defects, read_defects};
-use machine_file::read_machine;
-use partition::{crossings_of, improve};
-use place::{Plan, fits, in_order};
+use design_blif::read_blif;
+use machine_defects::{Defects, read_defects};
+use machine_text::read_machine;
+use map_network::{Network, plain};
+use place_anneal::{crossings_of, improve};
+use place_plan::{Plan, fits, in_order};
+use place_route::route;
 use std::alloc::{AllocError, Global};
-use table_map::{Network, plain};
 
 /// How often the nets of a plan cross nodes, in sum, and how many crosspoints an image by it closes, where it fits.
 #[derive(Clone, Copy)]

@@ -1,13 +1,13 @@
 //! What is to be seen of two designs on one machine.
 ghost use Rattle.std.specs.Prelude.{◌<◌, ◌+◌, IsTrue, length};
-ghost use Rattle.table_map.specs.Networks.{IsNetwork};
+ghost use Rattle.map_network.specs.Networks.{IsNetwork};
 
 use crate::plans::figures::{defects_of, network_of};
 use crate::plans::texts::Texts;
-use config_image::Image;
+use machine_image::Image;
+use map_network::Network;
+use place_pair::lay_pair;
 use std::alloc::{AllocError, Global};
-use table_map::Network;
-use tenants::lay_pair;
 
 /// How many crosspoints the image of both closes, and the image of each.
 #[derive(Clone, Copy)]

@@ -1,6 +1,6 @@
 use Rattle.std.proofs.Common.{◌≡◌, ◌<◌, ◌∙◌, true, length, sym, arith}
-use Rattle.evidence.specs.Kept.{keeps_cross}
-use Rattle.test_configs.proofs.Closings.{among_at}
+use Rattle.diag_evidence.specs.Kept.{keeps_cross}
+use Rattle.diag_tests.proofs.Closings.{among_at}
 use Rattle.crossbar_examples.proofs.Keeping.{kept_next}
 use Rattle.crossbar_examples.proofs.answers.keeps_route.Goals as goal
 

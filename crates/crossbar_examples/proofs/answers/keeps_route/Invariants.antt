@@ -1,6 +1,6 @@
 use Rattle.std.proofs.Common.{◌≡◌, ℕ, true, take}
-use Rattle.config_set.specs.Groups.{among}
-use Rattle.evidence.specs.Kept.{keeps_cross}
+use Rattle.machine_config.specs.Groups.{among}
+use Rattle.diag_evidence.specs.Kept.{keeps_cross}
 use Rattle.crossbar_examples.proofs.answers.keeps_route.Given as goal
 
 abbrev pub invariant-steps : goal.invariant-steps

@@ -1,4 +1,4 @@
-use Rattle.known.proofs.Later.{known_later}
+use Rattle.diag_known.proofs.Later.{known_later}
 use Rattle.crossbar_examples.proofs.Finding.{found_later, all_held}
 use Rattle.crossbar_examples.proofs.lines.came_of.Goals as goal
 

@@ -1,6 +1,6 @@
 use Rattle.std.proofs.Common.{◌<◌}
 use Rattle.std.specs.Prelude.{All}
-use Rattle.hierarchy.specs.Shape.{crosses_of}
+use Rattle.machine_shape.specs.Shape.{crosses_of}
 use Rattle.crossbar_examples.proofs.setup.crosses_of.Given as goal
 
 abbrev pub invariant-numbers : goal.invariant-numbers

@@ -1,5 +1,5 @@
 use Rattle.std.proofs.Common.{◌≡◌, length}
-use Rattle.hierarchy.specs.Shape.{pins_of}
+use Rattle.machine_shape.specs.Shape.{pins_of}
 use Rattle.crossbar_examples.proofs.setup.drive_of.Given as goal
 
 abbrev pub invariant-pins : goal.invariant-pins

@@ -1,4 +1,4 @@
-use Rattle.test_configs.specs.Routes.{IsRoute}
+use Rattle.diag_tests.specs.Routes.{IsRoute}
 use Rattle.crossbar_examples.proofs.setup.route_over.Given as goal
 
 abbrev pub invariant-crosses : goal.invariant-crosses

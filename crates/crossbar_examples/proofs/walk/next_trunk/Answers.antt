@@ -1,6 +1,6 @@
 use Rattle.std.proofs.Common.{◌≡◌, ◌<◌, ◌≤◌, ℕ, Some, subst, arith}
-use Rattle.hierarchy.specs.declared.Shape.{Shape}
-use Rattle.hierarchy.specs.Shape.{nodes_of, parent_of}
+use Rattle.machine_shape.specs.declared.Shape.{Shape}
+use Rattle.machine_shape.specs.Shape.{nodes_of, parent_of}
 use Rattle.crossbar_examples.proofs.Finding.{has_one_above}
 use Rattle.crossbar_examples.proofs.walk.next_trunk.Goals as goal
 

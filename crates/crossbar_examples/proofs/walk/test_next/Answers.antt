@@ -1,7 +1,7 @@
 use Rattle.std.proofs.Common.{◌∙◌, ap}
-use Rattle.hierarchy.specs.declared.Shape.{Shape}
-use Rattle.hierarchy.specs.Shape.{node_of}
-use Rattle.evidence.proofs.Keeping.{advances_then}
+use Rattle.machine_shape.specs.declared.Shape.{Shape}
+use Rattle.machine_shape.specs.Shape.{node_of}
+use Rattle.diag_evidence.proofs.Keeping.{advances_then}
 use Rattle.crossbar_examples.proofs.Finding.{found_later, found_next, later_then, trunk_at, full_since}
 use Rattle.crossbar_examples.proofs.walk.test_next.Goals as goal
 

@@ -1,6 +1,6 @@
 use Rattle.std.proofs.Common.{◌<◌, length}
 use Rattle.std.specs.Prelude.{All}
-use Rattle.hierarchy.specs.declared.Table.{Table}
+use Rattle.machine_shape.specs.declared.Table.{Table}
 use Rattle.machine_examples.proofs.fields.tables_in.Given as goal
 
 abbrev pub invariant-tables : goal.invariant-tables

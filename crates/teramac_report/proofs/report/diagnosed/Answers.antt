@@ -1,7 +1,7 @@
 use Rattle.std.proofs.Common.{ap}
 use Rattle.std.specs.Option.{option_map}
 use Rattle.rig.specs.Rig.{Asked}
-use Rattle.steps.proofs.Making.{nothing}
+use Rattle.cmd_steps.proofs.Making.{nothing}
 use Rattle.teramac_report.proofs.report.diagnosed.Goals as goal
 
 pub diagnose_in_parts-requires : goal.diagnose_in_parts-requires

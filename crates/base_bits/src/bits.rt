@@ -1,0 +1,148 @@
+//! A list of bits, 64 to a word.
+
+ghost use Rattle.std.specs.Prelude.{◌≡◌, ◌≢◌, ℕ, ◌*◌, ◌/◌, ◌%◌, ◌-◌, ◌+◌, ◌<◌, ◌≤◌, ◌==◌, ◌||◌, ◌⊎◌, false, Bool, List, length, replicate};
+ghost use Rattle.std.specs.Prelude.{IfOk, slice_set, slice_index, slice_index_or};
+ghost use Rattle.base_bits.specs.Words.{is_bit, is_bit_in, bits_of};
+
+use std::alloc::{AllocError, Global};
+use std::marker::Model;
+
+/// How many bits a word has.
+const WORD_BITS: u64 = 64;
+
+/// A list of bits. Contracts see it as such.
+#[derive(Debug, Drop)]
+pub struct Bits {
+    len: u64,
+    words: Vec<u64>,
+}
+
+impl Model for Bits {
+    ghost use Rattle.std.specs.Prelude.{List, Bool, ◌≤◌, ◌*◌, ◌<◌, length};
+    ghost use Rattle.base_bits.specs.Words.{bits_of};
+
+    ghost Value = { List Bool };
+
+    ghost view = { λ b. bits_of b.len b.words.items };
+
+    ghost invariant = { λ b. b.len ≤ 64 * length b.words.items };
+}
+
+/// A word with one bit set or cleared.
+fn word_with(word: u64, place: u64, bit: bool) -> u64
+    requires { place < 64 }
+    ensures this { is_bit result place ≡ bit }
+    ensures others { (k : ℕ) → k < 64 → k ≢ place → is_bit result k ≡ is_bit word k }
+{
+    if bit {
+        word | (1 << place)
+    } else {
+        word & !(1 << place)
+    }
+}
+
+/// Sets or clears one bit of some words.
+fn put_bit(words: &mut [u64], i: u64, bit: bool)
+    requires { i < 64 * length words.old }
+    ensures bits { (len : ℕ) → len ≤ 64 * length words.old → bits_of len words.new ≡ slice_set (bits_of len words.old) i bit }
+    ensures len { length words.new ≡ length words.old }
+{
+    let at = (i / WORD_BITS) as usize;
+    words[at] = word_with(words[at], i % WORD_BITS, bit);
+}
+
+/// Whether a bit of some words is set.
+fn bit_at(words: &[u64], i: u64) -> bool
+    requires { i < 64 * length words.now }
+    ensures { result ≡ is_bit_in words.now i }
+{
+    let word = words[(i / WORD_BITS) as usize];
+    (word >> (i % WORD_BITS)) & 1 == 1
+}
+
+/// The bits that are set in one of two words.
+fn word_or(left: u64, right: u64) -> u64
+    ensures { (b : ℕ) → is_bit result b ≡ (is_bit left b || is_bit right b) }
+{
+    left | right
+}
+
+/// Sets in some words, from one of them on, what is set in as many others.
+fn join_words(words: &mut [u64], first: usize, others: &[u64], count: usize)
+    requires here { first + count ≤ length words.old }
+    requires there { count ≤ length others.now }
+    ensures joined { (k b : ℕ) → k < count → is_bit (slice_index words.new (first + k)) b
+        ≡ (is_bit (slice_index words.old (first + k)) b || is_bit (slice_index others.now k) b) }
+    ensures kept { (k : ℕ) → (k < first) ⊎ (first + count ≤ k) → slice_index words.new k ≡ slice_index words.old k }
+    ensures len { length words.new ≡ length words.old }
+{
+    'words: for k in 0..count {
+        let at = first + k;
+        words[at] = word_or(words[at], others[k]);
+    }
+}
+
+/// Clears some words.
+fn clear_words(words: &mut [u64])
+    ensures none { (k : ℕ) → slice_index words.new k ≡ 0 }
+    ensures len { length words.new ≡ length words.old }
+{
+    'words: for k in 0..words.len() {
+        words[k] = 0;
+    }
+}
+
+impl Bits {
+    /// So many bits, none of them set.
+    pub fn new(alloc: Global, len: u64) -> Result<Bits, AllocError>
+        ensures { IfOk result (λ bits. bits ≡ replicate len false) }
+    {
+        let count = len.div_ceil(WORD_BITS) as usize;
+        let words = vec![in alloc; 0u64; count]?;
+        Ok(Bits { len, words })
+    }
+
+    /// How many bits there are.
+    pub fn len(&self) -> u64
+        ensures { result ≡ length self.now }
+    {
+        self.len
+    }
+
+    /// Whether a bit is set.
+    pub fn get(&self, i: u64) -> bool
+        requires { i < length self.now }
+        ensures { result ≡ slice_index_or self.now i false }
+    {
+        bit_at(&self.words, i)
+    }
+
+    /// Sets or clears a bit.
+    pub fn put(&mut self, i: u64, bit: bool)
+        requires { i < length self.old }
+        ensures { self.new ≡ slice_set self.old i bit }
+    {
+        put_bit(&mut self.words, i, bit);
+    }
+
+    /// Clears all bits.
+    pub fn clear(&mut self)
+        ensures { self.new ≡ replicate (length self.old) false }
+    {
+        clear_words(&mut self.words);
+    }
+
+    /// Sets what is set in other bits, whose first stands at a word here. So many words of theirs are joined; what comes
+    /// after the last bit in the last of them is unknown.
+    pub fn join(&mut self, first: usize, count: usize, other: &Bits)
+        requires here { 64 * (first + count) ≤ length self.old }
+        requires there { 64 * count < length other.now + 64 }
+        ensures joined { (i : ℕ) → i < 64 * count → i < length other.now → slice_index_or self.new (64 * first + i) false
+            ≡ (slice_index_or self.old (64 * first + i) false || slice_index_or other.now i false) }
+        ensures kept { (i : ℕ) → i < length self.old → (i < 64 * first) ⊎ (64 * (first + count) ≤ i)
+            → slice_index_or self.new i false ≡ slice_index_or self.old i false }
+        ensures len { length self.new ≡ length self.old }
+    {
+        join_words(&mut self.words, first, &other.words, count);
+    }
+}

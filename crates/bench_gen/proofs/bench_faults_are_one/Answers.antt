@@ -1,5 +1,0 @@
-use Rattle.bench_gen.proofs.Turns.{turns_one}
-use Rattle.bench_gen.proofs.bench_faults_are_one.Goals as goal
-
-pub returns : goal.returns
-returns c = λ m n f g. turns_one

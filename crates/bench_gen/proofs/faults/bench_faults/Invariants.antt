@@ -1,6 +1,0 @@
-use Rattle.std.proofs.Common.{◌≡◌}
-use Rattle.bench_gen.specs.Faults.{turn_state, AfterTurns}
-use Rattle.bench_gen.proofs.faults.bench_faults.Given as goal
-
-abbrev pub invariant-turns : goal.invariant-turns
-invariant-turns l = (l.set.shape ≡ l.shape) × (l.draws ≡ turn_state l.n l.turn) × AfterTurns l.shape l.n l.turn l.set.faults

@@ -1,6 +1,0 @@
-use Rattle.std.proofs.Common.{arith}
-use Rattle.bench_gen.proofs.Counted.{has_tables}
-use Rattle.bench_gen.proofs.faults.draw_table.Goals as goal
-
-pub draw-requires : goal.draw-requires
-draw-requires c = λ e. let h = has_tables c.args.shape.now in let q = c.tables.ensures.tables in omega arith

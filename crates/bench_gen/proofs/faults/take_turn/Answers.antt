@@ -1,7 +1,0 @@
-use Rattle.std.proofs.Common.{refl, sym, ◌∙◌, subst}
-use Rattle.std.proofs.lemmas.Bool.{false≢true}
-use Rattle.bench_gen.specs.Faults.{not_allowed, IsAllowed}
-use Rattle.bench_gen.proofs.faults.take_turn.Goals as goal
-
-pub returns-then-not-is_allowed-clause-taken : goal.returns-then-not-is_allowed-clause-taken
-returns-then-not-is_allowed-clause-taken c = not_allowed (λ a. false≢true (sym c.if-not-is_allowed.true ∙ c.is_allowed.ensures.1 (subst (IsAllowed c.args.shape.now) (sym c.draw_fault-fault.ensures.fault) a))) refl

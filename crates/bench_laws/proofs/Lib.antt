@@ -1,8 +1,0 @@
--- What is cited above.
-pub mod Shapes
--- For the proofs of this crate alone.
-mod Below
-mod Text
-mod Netlist
-mod Checked
-mod Parts

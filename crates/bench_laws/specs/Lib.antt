@@ -1,2 +1,0 @@
--- What the generated design is.
-pub mod Design

@@ -1,6 +1,0 @@
-use Rattle.std.proofs.Common.{◌≡◌, ◌++◌, map, drop}
-use Rattle.blif_read.specs.Parts.{pairs_of}
-use Rattle.blif_read.proofs.lines.pair_defs.Given as goal
-
-abbrev pub invariant-formals : goal.invariant-formals
-invariant-formals l = l.pairs.items ++ pairs_of (map (λ w. w.now) (drop l.k l.formals)) (drop l.k l.actuals) ≡ pairs_of (map (λ w. w.now) l.formals) l.actuals

@@ -1,9 +1,0 @@
-use Rattle.std.proofs.Common.{◌∙◌}
-use Rattle.flatten.proofs.NameLemmas.{any_view}
-use Rattle.blif_read.proofs.names.ModelNames.contains.Goals as goal
-
-pub returns-in-Some : goal.returns-in-Some
-returns-in-Some c = c.in-Some.ensures.found ∙ any_view c.args.word.now c.self.inside.set.keys c.args.self.now c.self.view_is
-
-pub returns-in-None : goal.returns-in-None
-returns-in-None c = c.in-None.ensures.found ∙ any_view c.args.word.now c.self.inside.set.keys c.args.self.now c.self.view_is

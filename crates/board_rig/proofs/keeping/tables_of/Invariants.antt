@@ -1,5 +1,0 @@
-use Rattle.std.proofs.Common.{◌≡◌, take}
-use Rattle.board_rig.proofs.keeping.tables_of.Given as goal
-
-abbrev pub invariant-tables : goal.invariant-tables
-invariant-tables l = l.tables.items ≡ take l.t l.config.config.tables

@@ -1,0 +1,29 @@
+-- How the steps of `check` follow one another, over plain states.
+use Rattle.std.proofs.Common.{◌≡◌, ℕ, Bool, List, [], subst}
+use Rattle.std.specs.Prelude.{Result, Ok}
+use Rattle.base_io.specs.Store.{StoreState}
+use Rattle.machine_image.specs.Images.{ImageValue}
+use Rattle.cmd_steps.specs.Outside.{Outside}
+use Rattle.cmd_steps.specs.Took.{Took, Follows}
+use Rattle.cmd_steps.specs.declared.refusal.Stop.{Stop}
+use Rattle.cmd_steps.proofs.Keeping.{kept-gives}
+use Rattle.cmd_check.specs.Testing.{tests_now}
+use Rattle.cmd_check.specs.Check.{image_tried, image_tested}
+
+module _ (files : List (List ℕ)) (begun : StoreState) (i : ImageValue) (result : Result (Unit {0}) Stop) (old new : Outside) where
+  -- the image is tested where so many loads were made
+  abbrev tested-from : ℕ → Type 0
+  tested-from n = Follows ⊥ [] (new.rig.machine ≡ old.rig.machine) (image_tested files begun new.store new.rig n i) result old new
+
+  pub tested-since : (before : ℕ) → old.rig.loads ≡ before → tested-from old.rig.loads → tested-from before
+  tested-since before loads is = subst (λ n. tested-from n) loads is
+
+  -- the test stays what it is while the machine stays, and what follows is by what was found
+  pub tested-then : (mid : Outside) (found sound : Bool) → Took [] (tests_now i old.rig mid.rig) (Ok found) old mid →
+      mid.rig.machine ≡ old.rig.machine → found ≡ sound → Follows ⊥ [] (new.rig.machine ≡ mid.rig.machine)
+      (image_tried files begun new.store new.rig i (record { sound = sound; loads = mid.rig.loads })) result mid new →
+      tested-from old.rig.loads
+  tested-then mid found sound took same is follows =
+      let machine = follows.machines in
+      kept-gives _ _ _ (tests_now i old.rig mid.rig) found (record { sound = found; loads = mid.rig.loads }) result old mid new took
+      (λ t. record { sound = rw machine t.sound; whole = rw machine t.whole; few = t.few }) same (rw is follows)

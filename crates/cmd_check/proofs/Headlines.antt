@@ -1,0 +1,72 @@
+-- What a `check` that is done has done, from its course.
+use Rattle.std.proofs.Common.{◌≡◌, ◌∙◌, ℕ, Bool, true, false, List, [], ◌∷◌, ◌++◌, Some, refl, sym, ap, subst, inl, inr}
+use Rattle.std.proofs.lemmas.Bool.{false≢true}
+use Rattle.base_io.specs.Sink.{Wrote}
+use Rattle.machine_shape.specs.declared.Shape.{Shape}
+use Rattle.machine_shape.specs.Faults.{Faults}
+use Rattle.machine_shape.specs.Defects.{Covers}
+use Rattle.machine_shape.specs.Tight.{IsTight}
+use Rattle.machine_image.specs.Images.{ImageValue}
+use Rattle.diag_check.specs.Soundly.{IsUnharmed, TakesForParts}
+use Rattle.cmd_steps.specs.Outside.{Outside, around}
+use Rattle.cmd_steps.specs.Courses.{ends}
+use Rattle.cmd_steps.specs.Texts.{reads_machine, reads_image}
+use Rattle.cmd_steps.proofs.QuietJobs.{line-ended}
+use Rattle.cmd_check.specs.Answers.{IsTrueUnder, answer_line}
+use Rattle.cmd_check.specs.Testing.{Tried, IsTried}
+use Rattle.cmd_check.specs.Check.{StandsLoaded, answer_written, machine_listed, by_test, check_course}
+use Rattle.cmd_check.specs.Headline.{IsFound, tested, listed, IsChecked}
+use Rattle.cmd_check.specs.declared.answer.Answer.{Answer}
+use Rattle.cmd_check.specs.declared.answer.Answer.TheVariants.{Sound}
+
+module _ (machine name image : List ℕ) (old new : Outside) (text : List ℕ)
+    (asked : new.store.asked ≡ old.store.asked ++ machine ∷ image ∷ []) (wrote : Wrote old.sink.written new.sink.written text)
+    (m : Shape) (read : (reads_machine (old.store.contents machine)).gives m)
+    (attached : new.rig.machine.attached ≡ Some (record { shape = m; name = name })) (i : ImageValue)
+    (is : (reads_image (old.store.contents image) m).gives i) where
+  -- the line of an answer was written
+  answered : (loads : ℕ) (a : Answer) → answer_written (image ∷ machine ∷ []) old.store new.store new.rig loads i a text ends →
+      (new.rig.loads ≡ loads → IsFound i old.rig.loads new.rig a) → ((f : Faults) → new.rig.machine.faults ≡ Some f → IsTrueUnder f i a) →
+      ((f : Faults) → new.rig.machine.faults ≡ Some f → IsUnharmed f i → (a ≡ Sound) × TakesForParts i old.rig.loads loads) →
+      IsChecked machine name image old new
+  answered loads a at found right whole =
+      let here = StandsLoaded (image ∷ machine ∷ []) old.store new.store new.rig loads in
+      let line = line-ended (answer_line i.config.shape a) here text at in
+      record {
+        shape = m;
+        given = i;
+        answer = a;
+        asked = asked;
+        machine_is = read;
+        attached = attached;
+        image_of = is.0;
+        image_is = is.1;
+        found = found line.1.1;
+        written = subst (λ t. Wrote old.sink.written new.sink.written t) (line.0 ∙ ap (λ (s : Shape). answer_line s a) is.0) wrote;
+        right = right;
+        whole = λ f told unharmed. let all = whole f told unharmed in (all.0, rw line.1.1 all.1);
+      }
+
+  -- by the test, or by a list: a machine whose faults leave the image unharmed isn't listed
+  by-test : (t : Tried) → IsTried i old.rig.loads new.rig t → (sound : Bool) → t.sound ≡ sound →
+      by_test sound (answer_written (image ∷ machine ∷ []) old.store new.store new.rig t.loads i Sound)
+      (machine_listed (image ∷ machine ∷ []) old.store new.store new.rig i t) text ends → IsChecked machine name image old new
+  by-test t tried true found at =
+      answered t.loads Sound at (λ loads. tested t tried found refl loads) (λ f told. tried.sound.at f told found)
+      (λ f told unharmed. (refl, tried.few))
+  by-test t tried false found (inl h) = absurd h.1
+  by-test t tried false found (inr (l, list, inl h)) = absurd h.1
+  by-test t tried false found (inr (l, list, inr (a, said, at))) =
+      answered l.loads a at (λ loads. listed t l tried found list said.by_list loads)
+      (λ f told. subst (λ (s : Shape). Covers s l.list.list f → IsTight s l.list.list f → IsTrueUnder f i a) list.shape (said.right f)
+      (list.right.covers f told) (list.right.tight f told))
+      (λ f told unharmed. absurd (false≢true (sym found ∙ tried.whole.at f told unharmed)))
+
+module _ (machine name image : List ℕ) (old new : Outside) where
+  pub checked : (text : List ℕ) → new.store.asked ≡ old.store.asked ++ machine ∷ image ∷ [] → Wrote old.sink.written new.sink.written text → check_course machine name image (around old) (around new) text ends → IsChecked machine name image old new
+  checked text asked wrote (inl h) = absurd h.1
+  checked text asked wrote (inr (m, read, inl h)) = absurd h.1
+  checked text asked wrote (inr (m, read, inr (u, attached, inl h))) = absurd h.1
+  checked text asked wrote (inr (m, read, inr (u, attached, inr (i, is, inl h)))) = absurd h.1
+  checked text asked wrote (inr (m, read, inr (u, attached, inr (i, is, inr (t, tried, at))))) =
+      by-test machine name image old new text asked wrote m read attached i is t tried t.sound refl at

@@ -1,0 +1,42 @@
+-- What a `check` that is done has done.
+use Rattle.std.specs.Prelude.{◌≡◌, ℕ, true, false, List, [], ◌∷◌, ◌++◌, Some}
+use Rattle.base_io.specs.Told.{IfTold}
+use Rattle.base_io.specs.Sink.{Wrote}
+use Rattle.machine_shape.specs.declared.Shape.{Shape}
+use Rattle.machine_shape.specs.Faults.{Faults}
+use Rattle.machine_image.specs.Images.{ImageValue, Reads}
+use Rattle.rig.specs.Rig.{RigState}
+use Rattle.diag_check.specs.Soundly.{IsUnharmed, TakesForParts}
+use Rattle.cmd_steps.specs.Outside.{Outside}
+use Rattle.cmd_steps.specs.Texts.{IsMachineText}
+use Rattle.diag_list.specs.Lists.{Listed, IsListed}
+use Rattle.cmd_check.specs.Answers.{IsByList, IsTrueUnder, answer_line}
+use Rattle.cmd_check.specs.Testing.{Tried, IsTried}
+use Rattle.cmd_check.specs.declared.answer.Answer.{Answer}
+use Rattle.cmd_check.specs.declared.answer.Answer.TheVariants.{Sound}
+
+-- How the answer came: the image was tested and found sound; or it wasn't, the machine's defects were listed, and the list says so. No
+-- load was made but for this
+pub data IsFound (i : ImageValue) (before : ℕ) (rig : RigState) (a : Answer) : Type 0 where
+  tested : (t : Tried) → IsTried i before rig t → t.sound ≡ true → a ≡ Sound → rig.loads ≡ t.loads → IsFound i before rig a
+  listed : (t : Tried) (l : Listed) → IsTried i before rig t → t.sound ≡ false → IsListed i.config.shape t.loads rig l
+      → IsByList l.list.list i a → rig.loads ≡ l.loads → IsFound i before rig a
+
+-- The machine of the text is attached under the name, and one line is written: that the image of the file is sound, or its first part
+-- that isn't free on a list of the machine's defects. Where the machine's faults are told, an image that is called sound runs soundly
+-- under them, and a part that is in doubt isn't sound, or is out of reach; and where no fault is near the image and the machine is wide
+-- enough for it, it is called sound, with at most 256 loads for each part and each involved node
+pub record IsChecked (machine name image : List ℕ) (old new : Outside) : Type 0 where
+  pub shape : Shape
+  pub given : ImageValue
+  pub answer : Answer
+  pub asked : new.store.asked ≡ old.store.asked ++ machine ∷ image ∷ []
+  pub machine_is : IfTold (old.store.contents machine) (λ bytes. IsMachineText bytes shape)
+  pub attached : new.rig.machine.attached ≡ Some (record { shape = shape; name = name })
+  pub image_of : given.config.shape ≡ shape
+  pub image_is : IfTold (old.store.contents image) (λ bytes. Reads shape bytes given)
+  pub found : IsFound given old.rig.loads new.rig answer
+  pub written : Wrote old.sink.written new.sink.written (answer_line shape answer)
+  pub right : (f : Faults) → new.rig.machine.faults ≡ Some f → IsTrueUnder f given answer
+  pub whole : (f : Faults) → new.rig.machine.faults ≡ Some f → IsUnharmed f given →
+      (answer ≡ Sound) × TakesForParts given old.rig.loads new.rig.loads

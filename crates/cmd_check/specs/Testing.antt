@@ -1,0 +1,30 @@
+-- An image is tested on the machine that is attached, as a step.
+use Rattle.std.specs.Prelude.{ℕ, Bool}
+use Rattle.machine_image.specs.Images.{ImageValue}
+use Rattle.rig.specs.Rig.{RigState}
+use Rattle.diag_check.specs.Soundly.{SoundIf, YesIf, TakesForParts}
+use Rattle.cmd_steps.specs.Courses.{Step}
+use Rattle.cmd_steps.specs.Texts.{FailsOnRig}
+
+-- what a test found, and how many loads the rig counted then
+pub record Tried : Type 0 where
+  pub sound : Bool
+  pub loads : ℕ
+
+-- Where the machine's faults are told: what is found sound runs soundly under them, and where they leave the image unharmed, it is found
+-- sound. It took few loads from so many that the rig counted before
+pub record IsTried (i : ImageValue) (before : ℕ) (rig : RigState) (t : Tried) : Type 0 where
+  pub sound : SoundIf rig.machine.faults i t.sound
+  pub whole : YesIf rig.machine.faults i t.sound
+  pub few : TakesForParts i before t.loads
+
+-- an image is tested, with few loads, also where the test isn't made
+abbrev pub tests : ImageValue → (before : ℕ) → RigState → Step Tried
+tests i before rig = record { stops = λ refusal. FailsOnRig refusal × TakesForParts i before rig.loads; gives = IsTried i before rig }
+
+-- the same of what it found alone, from the rig as it was before to the rig as it is then
+abbrev pub tests_now : ImageValue → (old new : RigState) → Step Bool
+tests_now i old new = record {
+  stops = λ refusal. FailsOnRig refusal × TakesForParts i old.loads new.loads;
+  gives = λ sound. IsTried i old.loads new (record { sound = sound; loads = new.loads });
+}

@@ -1,0 +1,74 @@
+-- What the command `compile` is.
+use Rattle.std.specs.Prelude.{◌≡◌, ℕ, List, [], ◌∷◌}
+use Rattle.base_io.specs.Told.{Told}
+use Rattle.base_io.specs.Store.{StoreState}
+use Rattle.machine_text.specs.Machine.{IsMachine}
+use Rattle.machine_defects.specs.Lists.{DefectList}
+use Rattle.machine_defects.specs.Faults.{IsText}
+use Rattle.design_netlist.specs.declared.draft.Draft.{Draft}
+use Rattle.design_blif.specs.Designs.{IsDesign}
+use Rattle.machine_image.specs.Images.{ImageValue, image_bytes}
+use Rattle.cmd_steps.specs.Outside.{StandsIn}
+use Rattle.cmd_steps.specs.Courses.{Course, after, write, done}
+use Rattle.cmd_steps.specs.Beginnings.{listed_course}
+use Rattle.cmd_steps.specs.Texts.{IsRightFile, reads_design}
+use Rattle.cmd_steps.specs.Jobs.{Job}
+use Rattle.cmd_steps.specs.declared.design_file.DesignFile.TheVariants.{Design}
+use Rattle.place_design.specs.Laying.{lays, HasRoom, LacksRoom}
+
+-- ---- the steps
+
+-- The bytes of an image are written at one go
+abbrev pub image_written : (files : List (List ℕ)) → StoreState → StoreState → ImageValue → Course
+image_written files old new i = write (image_bytes i) (StandsIn files old new) (done (StandsIn files old new))
+
+-- The design is laid on what the list leaves free, and its image is written
+abbrev pub design_laid : (files : List (List ℕ)) → StoreState → StoreState → DefectList → Draft → Course
+design_laid files old new d draft = after (lays d draft) (StandsIn files old new) (image_written files old new)
+
+-- The machine is read, then the list and the design, which is laid
+abbrev pub compile_course : (machine defects design : List ℕ) → StoreState → StoreState → Course
+compile_course machine defects design = listed_course (λ told m. reads_design Design told) design_laid machine defects design
+
+-- ---- the files
+
+-- what is told of the files
+pub record CompileFiles : Type 0 where
+  pub machine : Told
+  pub defects : Told
+  pub design : Told
+
+-- all files are told and right
+pub record AreRightFiles (t : CompileFiles) : Type 0 where
+  pub list : DefectList
+  pub draft : Draft
+  pub machine : IsRightFile t.machine (λ bytes. IsMachine bytes list.shape.counts)
+  pub defects : IsRightFile t.defects (λ bytes. IsText list.shape bytes list)
+  pub design : IsRightFile t.design (λ bytes. IsDesign bytes draft)
+
+-- and there is room for the design
+pub record CompileRight (t : CompileFiles) : Type 0 where
+  pub files : AreRightFiles t
+  pub room : HasRoom files.list files.draft
+
+-- or there is none
+pub record CompileShort (t : CompileFiles) : Type 0 where
+  pub files : AreRightFiles t
+  pub lacks : LacksRoom files.list files.draft
+
+abbrev pub compile_files : StoreState → (machine defects design : List ℕ) → CompileFiles
+compile_files old machine defects design =
+    record { machine = old.contents machine; defects = old.contents defects; design = old.contents design }
+
+-- ---- the command
+
+abbrev pub compile_job : (machine defects design : List ℕ) → Job
+compile_job machine defects design = record {
+  files = machine ∷ defects ∷ design ∷ [];
+  asks = λ old new. new.rig ≡ old.rig;
+  course = λ old new. compile_course machine defects design old.store new.store;
+  right = λ old new front. CompileRight (compile_files old.store machine defects design);
+  short = λ old new front. CompileShort (compile_files old.store machine defects design);
+  few = λ old new. Unit {0};
+  has_begun = λ old new text. ⊥;
+}

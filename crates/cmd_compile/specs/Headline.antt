@@ -1,0 +1,24 @@
+-- What a `compile` that is done has done.
+use Rattle.std.specs.Prelude.{◌≡◌, ℕ, List, [], ◌∷◌, ◌++◌}
+use Rattle.base_io.specs.Told.{IfTold}
+use Rattle.base_io.specs.Sink.{Wrote}
+use Rattle.machine_defects.specs.Lists.{DefectList}
+use Rattle.design_netlist.specs.declared.draft.Draft.{Draft}
+use Rattle.machine_image.specs.Images.{ImageValue, image_bytes}
+use Rattle.cmd_steps.specs.Outside.{Outside}
+use Rattle.cmd_steps.specs.Texts.{IsMachineText, IsDefectsText, IsDesignText}
+use Rattle.place_design.specs.Laying.{IsImageFor, HasRoom}
+
+-- The bytes of an image are written that touches only what the list leaves free, closes and switches on nothing idle, and is right
+-- for the design under all faults that the list covers. There is room for the design on the list
+pub record IsCompiled (machine defects design : List ℕ) (old new : Outside) : Type 0 where
+  pub list : DefectList
+  pub draft : Draft
+  pub image : ImageValue
+  pub asked : new.store.asked ≡ old.store.asked ++ machine ∷ defects ∷ design ∷ []
+  pub machine_is : IfTold (old.store.contents machine) (λ bytes. IsMachineText bytes list.shape)
+  pub list_is : IfTold (old.store.contents defects) (λ bytes. IsDefectsText list.shape bytes list)
+  pub design_is : IfTold (old.store.contents design) (λ bytes. IsDesignText bytes draft)
+  pub image_for : IsImageFor list draft image
+  pub room : HasRoom list draft
+  pub written : Wrote old.sink.written new.sink.written (image_bytes image)

@@ -1,0 +1,61 @@
+-- What the command `eval` is.
+use Rattle.std.specs.Prelude.{◌≡◌, ℕ, List, [], ◌∷◌, ◌++◌, length, Option, Some}
+use Rattle.base_io.specs.Told.{Told}
+use Rattle.base_io.specs.Store.{StoreState, StorePlace}
+use Rattle.design_netlist.specs.declared.draft.Draft.{Draft}
+use Rattle.design_netlist.specs.Rows.{AreRows}
+use Rattle.design_blif.specs.Designs.{IsDesign}
+use Rattle.cmd_steps.specs.Files.{AreRightVectors}
+use Rattle.cmd_steps.specs.Lines.{outputs_line}
+use Rattle.cmd_steps.specs.Outside.{StandsIn}
+use Rattle.cmd_steps.specs.Courses.{Course, RowWork, after, write, all_rows}
+use Rattle.cmd_steps.specs.Texts.{IsRightFile, reads_design, opens}
+use Rattle.cmd_steps.specs.Jobs.{Job}
+use Rattle.cmd_steps.specs.declared.design_file.DesignFile.TheVariants.{Design}
+
+-- the rows of a design, for which no memory is wanted
+abbrev pub eval_rows : Draft → Told → Option StorePlace → RowWork
+eval_rows draft told place = record {
+  width = length draft.inputs;
+  told = told;
+  place = place;
+  are = λ vectors rows. AreRows draft vectors rows;
+  session = λ vectors rows. Unit {0};
+  lost = ⊥;
+  lacks = λ count. ⊥;
+}
+
+-- no vector was read yet
+abbrev pub IsAtFirst : (vectors : List ℕ) → StoreState → Type 0
+IsAtFirst vectors store = store.current ≡ Some (record { name = vectors; at = 0 })
+
+-- the vectors are opened, the line `outputs` is written before the first of them is read, and then the rows. These files were
+-- read before, the last first
+abbrev pub design_evaluated : (vectors : List ℕ) → (files : List (List ℕ)) → StoreState → StoreState → Draft → Course
+design_evaluated vectors files old new draft =
+    after (opens (old.contents vectors)) (StandsIn (vectors ∷ files) old new) (λ _.
+    write outputs_line (IsAtFirst vectors new)
+    (all_rows (eval_rows draft (old.contents vectors) new.current)))
+
+-- the design is read and evaluated
+abbrev pub eval_course : (design vectors : List ℕ) → StoreState → StoreState → Course
+eval_course design vectors old new =
+    after (reads_design Design (old.contents design)) (StandsIn (design ∷ []) old new)
+    (design_evaluated vectors (design ∷ []) old new)
+
+-- both texts are told and right
+pub record EvalRight (design vectors : Told) : Type 0 where
+  pub draft : Draft
+  pub file : IsRightFile design (λ bytes. IsDesign bytes draft)
+  pub said : AreRightVectors vectors (length draft.inputs)
+
+abbrev pub eval_job : (design vectors : List ℕ) → Job
+eval_job design vectors = record {
+  files = design ∷ vectors ∷ [];
+  asks = λ old new. new.rig ≡ old.rig;
+  course = λ old new. eval_course design vectors old.store new.store;
+  right = λ old new front. EvalRight (old.store.contents design) (old.store.contents vectors);
+  short = λ old new front. ⊥;
+  few = λ old new. Unit {0};
+  has_begun = λ old new text. (more : List ℕ) × (text ≡ outputs_line ++ more);
+}

@@ -1,0 +1,21 @@
+-- What an `eval` that is done has done.
+use Rattle.std.specs.Prelude.{◌≡◌, ℕ, Bool, List, [], ◌∷◌, ◌++◌, length}
+use Rattle.base_io.specs.Told.{IfTold}
+use Rattle.base_io.specs.Sink.{Wrote}
+use Rattle.design_netlist.specs.declared.draft.Draft.{Draft}
+use Rattle.design_netlist.specs.Rows.{AreRows}
+use Rattle.cmd_steps.specs.Files.{AreAll}
+use Rattle.cmd_steps.specs.Lines.{output_text}
+use Rattle.cmd_steps.specs.Outside.{Outside}
+use Rattle.cmd_steps.specs.Texts.{IsDesignText}
+
+-- The line `outputs` and the design's rows for the vectors of the file are written, and the vectors were read to their end
+pub record IsEvaled (design vectors : List ℕ) (old new : Outside) : Type 0 where
+  pub draft : Draft
+  pub all_vectors : List (List Bool)
+  pub rows : List (List Bool)
+  pub asked : new.store.asked ≡ old.store.asked ++ design ∷ vectors ∷ []
+  pub design_is : IfTold (old.store.contents design) (λ bytes. IsDesignText bytes draft)
+  pub are_all : AreAll (length draft.inputs) (old.store.contents vectors) all_vectors
+  pub written : Wrote old.sink.written new.sink.written (output_text rows)
+  pub rows_are : AreRows draft all_vectors rows

@@ -1,0 +1,65 @@
+-- What a `go` that is done has done.
+use Rattle.std.specs.Prelude.{◌≡◌, ℕ, Bool, List, [], ◌∷◌, ◌++◌, length, Some}
+use Rattle.base_io.specs.Counts.{next_count}
+use Rattle.base_io.specs.Told.{IfTold}
+use Rattle.base_io.specs.Sink.{Wrote}
+use Rattle.machine_shape.specs.declared.Shape.{Shape}
+use Rattle.machine_shape.specs.Faults.{Faults}
+use Rattle.machine_shape.specs.Defects.{Covers, IsFair}
+use Rattle.machine_shape.specs.Tight.{IsTight}
+use Rattle.machine_defects.specs.Lists.{DefectList, IsDefectList}
+use Rattle.machine_defects.specs.Text.{text_of}
+use Rattle.design_netlist.specs.declared.draft.Draft.{Draft}
+use Rattle.design_netlist.specs.Rows.{AreRows}
+use Rattle.machine_image.specs.Images.{ImageValue}
+use Rattle.place_route.specs.RightImages.{IsRightImage}
+use Rattle.diag_machine.specs.Diagnosis.{TakesFewLoads}
+use Rattle.cmd_steps.specs.Outside.{Outside}
+use Rattle.cmd_steps.specs.Texts.{IsMachineText, IsDesignText}
+use Rattle.diag_list.specs.Lists.{Listed}
+use Rattle.place_design.specs.Laying.{HasRoom, IsRoutedDesign}
+use Rattle.run_image.specs.Headline.{IsAskedInOrder, IsWrittenWhole, UsesNothingListed, IsAsRead}
+
+-- Of the rig's one session: its configuration, with a list of input pins and a list of output pins, is `image`
+pub record IsGone (machine name design vectors : List ℕ) (old new : Outside) : Type 0 where
+  pub shape : Shape
+  pub draft : Draft
+  pub made : Listed
+  pub image : ImageValue
+  pub all_vectors : List (List Bool)
+  pub rows : List (List Bool)
+  pub design_is : IfTold (old.store.contents design) (λ bytes. IsDesignText bytes draft)
+  pub list_shape : made.list.shape ≡ shape
+  pub asked_in_order : IsAskedInOrder machine name (design ∷ vectors ∷ []) shape old new
+  pub written_whole : IsWrittenWhole vectors made.list (length draft.inputs) all_vectors rows old new
+  pub covers_every_fault : (f : Faults) → new.rig.machine.faults ≡ Some f → Covers shape made.list.list f
+  pub uses_nothing_listed : UsesNothingListed made.list image new.rig
+  -- a pin for each input and each output of the design, all different
+  pub inputs : length image.inputs ≡ length draft.inputs
+  pub outputs : length image.outputs ≡ length draft.outputs
+  -- for all vectors
+  pub image_right : (f : Faults) → new.rig.machine.faults ≡ Some f → IsRightImage f image draft
+  pub as_the_machine_read : IsAsRead image all_vectors rows new.rig
+  pub exactly_the_outputs : (f : Faults) → new.rig.machine.faults ≡ Some f → AreRows draft all_vectors rows
+
+-- And what it has done besides
+pub record IsWellGone (machine name design vectors : List ℕ) (old new : Outside) : Type 0 where
+  pub gone : IsGone machine name design vectors old new
+  -- no table is on and no crosspoint closed that the design doesn't need
+  pub routed : IsRoutedDesign gone.made.list gone.draft gone.image
+  -- the list is tight, and so fair; few loads were made for it, and exactly one after it
+  pub tight : (f : Faults) → new.rig.machine.faults ≡ Some f → IsTight gone.shape gone.made.list.list f
+  pub fair : (f : Faults) → new.rig.machine.faults ≡ Some f → IsFair gone.shape gone.made.list.list f
+  pub few : TakesFewLoads new.rig.machine.faults gone.shape old.rig.loads gone.made.loads
+  pub loaded_once : new.rig.loads ≡ next_count gone.made.loads
+
+-- The plain network of the design fits, in order, on the list that stands written
+pub record HasRoomLeft (machine design : List ℕ) (old new : Outside) : Type 0 where
+  pub draft : Draft
+  pub list : DefectList
+  pub rest : List ℕ
+  pub machine_is : IfTold (old.store.contents machine) (λ bytes. IsMachineText bytes list.shape)
+  pub design_is : IfTold (old.store.contents design) (λ bytes. IsDesignText bytes draft)
+  pub is_list : IsDefectList list
+  pub written : Wrote old.sink.written new.sink.written (text_of list ++ rest)
+  pub room : HasRoom list draft

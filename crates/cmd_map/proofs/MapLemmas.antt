@@ -1,0 +1,45 @@
+-- The steps of the mapper.
+use Rattle.std.proofs.Common.{◌≡◌, [], refl}
+use Rattle.std.specs.Prelude.{Result, Ok, Err}
+use Rattle.machine_defects.specs.Lists.{DefectList}
+use Rattle.design_netlist.specs.declared.draft.Draft.{Draft}
+use Rattle.map_network.specs.Plain.{plain_network}
+use Rattle.map_text.specs.Remapped.{HasPlan, MayStandFor}
+use Rattle.map_text.specs.declared.text.Remapped.{Remapped}
+use Rattle.place_design.specs.Laying.{HasRoom}
+use Rattle.place_design.specs.Wants.{PlanStops}
+use Rattle.cmd_steps.specs.Outside.{Around, Outside}
+use Rattle.cmd_steps.specs.Stops.{StepStops, IsCounted}
+use Rattle.cmd_steps.specs.Took.{Took}
+use Rattle.cmd_steps.specs.Jobs.{IsExcused}
+use Rattle.cmd_steps.specs.declared.design.DesignText.{DesignText}
+use Rattle.cmd_steps.specs.declared.refusal.Refusal.{Refusal}
+use Rattle.cmd_steps.specs.declared.refusal.Refusal.TheVariants as refused
+use Rattle.cmd_steps.specs.declared.refusal.Stop.{Stop}
+use Rattle.cmd_steps.specs.declared.refusal.Stop.TheVariants.{Refused}
+use Rattle.cmd_steps.proofs.Taking.{took-stop}
+use Rattle.cmd_map.specs.Maps.{NotMapped, maps_within}
+
+-- a plan of the plain network is room
+pub room-of : (d : DefectList) (draft : Draft) → HasPlan d draft → HasRoom d draft
+room-of d draft h = record { network = plain_network draft; plan = h.plan; plain = refl; fits = h.fits }
+
+-- there is no plan for the design as given, and so no text
+fit-stops : (d : DefectList) (read : DesignText) (stop : Stop) → PlanStops d (plain_network read.netlist) stop → StepStops (maps_within d read) stop
+fit-stops d read (Refused (refused.Room place)) stops =
+    record { network = plain_network read.netlist; plain = refl; shape = stops.0; short = stops.1 }
+fit-stops d read (Refused refused.Memory) stops = tt
+fit-stops d read stop stops = absurd stops
+
+fit-counted : (d : DefectList) (read : DesignText) (stop : Stop) (o : Outside) → PlanStops d (plain_network read.netlist) stop → IsCounted ⊥ stop o o
+fit-counted d read (Refused (refused.Room place)) o stops = tt
+fit-counted d read (Refused refused.Memory) o stops = tt
+fit-counted d read stop o stops = absurd stops
+
+pub fit-took : (d : DefectList) (read : DesignText) (stop : Stop) (o : Outside) → PlanStops d (plain_network read.netlist) stop → Took {T = Remapped} [] (maps_within d read) (Err stop) o o
+fit-took d read stop o stops = took-stop (maps_within d read) stop o (fit-stops d read stop stops) (fit-counted d read stop o stops)
+
+-- want of memory is excused
+pub map-excused : (old new : Around) (refusal : Refusal) → NotMapped refusal → IsExcused refusal old new
+map-excused old new refused.Memory stops = tt
+map-excused old new refusal stops = absurd stops

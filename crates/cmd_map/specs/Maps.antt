@@ -1,0 +1,80 @@
+-- What the mapper does: for a design, and for a design and a machine.
+use Rattle.std.specs.Prelude.{◌≡◌, ℕ, List, [], ◌∷◌}
+use Rattle.base_io.specs.Told.{Told}
+use Rattle.base_io.specs.Store.{StoreState}
+use Rattle.machine_defects.specs.Lists.{DefectList}
+use Rattle.design_netlist.specs.declared.draft.Draft.{Draft}
+use Rattle.design_blif.specs.Designs.{IsDesign}
+use Rattle.map_text.specs.Remapped.{MayStandFor}
+use Rattle.map_text.specs.declared.text.Remapped.{Remapped}
+use Rattle.place_design.specs.Laying.{NotLaid, HasRoom}
+use Rattle.cmd_steps.specs.Outside.{Around, StandsIn}
+use Rattle.cmd_steps.specs.Courses.{Course, Step, after, write, done}
+use Rattle.cmd_steps.specs.Beginnings.{listed_course}
+use Rattle.cmd_steps.specs.Texts.{IsRightFile, reads_text}
+use Rattle.cmd_steps.specs.Jobs.{Job, quiet}
+use Rattle.cmd_steps.specs.declared.design.DesignText.{DesignText}
+use Rattle.cmd_steps.specs.declared.design_file.DesignFile.TheVariants.{Design}
+use Rattle.cmd_steps.specs.declared.refusal.Refusal.{Refusal}
+use Rattle.cmd_steps.specs.declared.refusal.Refusal.TheVariants as refused
+use Rattle.cmd_compile.specs.Compile.{compile_files, CompileRight}
+
+-- ---- the steps
+
+-- memory alone may be wanting
+abbrev pub NotMapped : Refusal → Type 0
+NotMapped refused.Memory = Unit {0}
+NotMapped refusal = ⊥
+
+-- a design is remapped
+abbrev pub maps : DesignText → Step Remapped
+maps read = record { stops = NotMapped; gives = MayStandFor read.netlist read.text }
+
+-- and there is room for what it becomes. Room is wanting only where it is for the design as given
+abbrev pub maps_within : DefectList → DesignText → Step Remapped
+maps_within d read =
+    record { stops = NotLaid d read.netlist; gives = λ r. MayStandFor read.netlist read.text r × HasRoom d r.netlist }
+
+-- ---- the courses
+
+-- a text is written at one go
+abbrev pub text_written : (files : List (List ℕ)) → StoreState → StoreState → Remapped → Course
+text_written files old new r = write r.text (StandsIn files old new) (done (StandsIn files old new))
+
+-- the design is remapped, and the text written
+abbrev pub design_mapped : (files : List (List ℕ)) → StoreState → StoreState → DesignText → Course
+design_mapped files old new read = after (maps read) (StandsIn files old new) (text_written files old new)
+
+-- the same, with room on a list
+abbrev pub design_fitted : (files : List (List ℕ)) → StoreState → StoreState → DefectList → DesignText → Course
+design_fitted files old new d read = after (maps_within d read) (StandsIn files old new) (text_written files old new)
+
+-- the design is read and remapped
+abbrev pub map_course : (design : List ℕ) → StoreState → StoreState → Course
+map_course design old new =
+    after (reads_text Design (old.contents design)) (StandsIn (design ∷ []) old new) (design_mapped (design ∷ []) old new)
+
+-- the machine is read, then the list and the design, which is remapped
+abbrev pub fit_course : (machine defects design : List ℕ) → StoreState → StoreState → Course
+fit_course machine defects design = listed_course (λ told m. reads_text Design told) design_fitted machine defects design
+
+-- ---- the jobs
+
+-- the design's file is told and right
+pub record MapRight (design : Told) : Type 0 where
+  pub draft : Draft
+  pub file : IsRightFile design (λ bytes. IsDesign bytes draft)
+
+-- The rig isn't asked
+abbrev pub HasSameRig : Around → Around → Type 0
+HasSameRig old new = new.rig ≡ old.rig
+
+abbrev pub map_job : (design : List ℕ) → Job
+map_job design =
+    quiet (design ∷ []) HasSameRig (λ old new. map_course design old.store new.store) (λ old. MapRight (old.store.contents design))
+
+-- all is right where it is for `compile` with the same names
+abbrev pub fit_job : (machine defects design : List ℕ) → Job
+fit_job machine defects design =
+    quiet (machine ∷ defects ∷ design ∷ []) HasSameRig (λ old new. fit_course machine defects design old.store new.store)
+    (λ old. CompileRight (compile_files old.store machine defects design))

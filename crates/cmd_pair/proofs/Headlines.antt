@@ -1,0 +1,88 @@
+-- What a `pair` has done, from its course.
+use Rattle.std.proofs.Common.{◌≡◌, ℕ, List, [], ◌∷◌, ◌++◌}
+use Rattle.std.specs.Prelude.{Result, Ok, Err, OnOk}
+use Rattle.base_io.specs.Sink.{Wrote}
+use Rattle.cmd_steps.specs.Outside.{Outside, around}
+use Rattle.cmd_steps.specs.Courses.{Course, ends}
+use Rattle.cmd_steps.specs.Stops.{Asks, IsWritten}
+use Rattle.cmd_steps.specs.Texts.{LoadsOnce}
+use Rattle.cmd_steps.specs.declared.refusal.Stop.{Stop}
+use Rattle.cmd_steps.proofs.Standing.{Standing}
+use Rattle.diag_list.specs.Lists.{MadeFewLoads}
+use Rattle.run_image.specs.Headline.{BeginsWithList}
+use Rattle.run_image.proofs.Headlines as done
+use Rattle.cmd_pair.specs.Pair.{pair_course}
+use Rattle.cmd_pair.specs.Headline.{IsPaired, HaveRoomLeft}
+use Rattle.cmd_pair.proofs.PairLaws.{words}
+
+module _ (machine name first second vectors : List ℕ) (old new : Outside) where
+  abbrev course : Course
+  course = pair_course machine name first second vectors (around old) (around new)
+
+  -- wherever it ends
+  pub begins : Standing course old.sink new.sink → BeginsWithList machine name old new
+  begins s = done.begins (words machine name first second vectors) old new s
+
+  pub few-loads : Standing course old.sink new.sink → MadeFewLoads machine name LoadsOnce (around old) (around new)
+  few-loads s = done.few-loads (words machine name first second vectors) old new s
+
+  -- all is done
+  pub paired : (text : List ℕ) → new.store.asked ≡ old.store.asked ++ machine ∷ first ∷ second ∷ vectors ∷ []
+      → Wrote old.sink.written new.sink.written text → course text ends
+      → IsPaired machine name first second vectors old new × HaveRoomLeft machine first second old new
+  paired text asked wrote at =
+      let h = done.has-done (words machine name first second vectors) old new text wrote at in
+      let r = h.ran.2.2 in
+      let both = r.laid.0 in (
+        record {
+          shape = h.shape;
+          first_draft = h.ran.0;
+          second_draft = h.ran.2.0;
+          made = r.made;
+          image = r.image;
+          all_vectors = r.vectors;
+          rows = r.rows;
+          first_is = h.ran.1;
+          second_is = h.ran.2.1;
+          list_shape = r.list.shape;
+          asked_in_order = record { asked = asked; machine_is = h.machine_is; attached = h.attached };
+          written_whole = r.written_whole;
+          covers_every_fault = r.list.right.covers;
+          uses_nothing_listed = r.uses_nothing_listed;
+          inputs = both.inputs;
+          outputs = both.outputs;
+          routed = both.routed;
+          image_right = r.right;
+          as_the_machine_read = r.as_read;
+          exactly_the_outputs = r.outputs;
+          first_image = both.first_image;
+          second_image = both.second_image;
+          tenants = both.tenants;
+          apart = λ f told. both.apart f (r.covers f told);
+          first_right = λ f told. both.first_right f (r.covers f told);
+          second_right = λ f told. both.second_right f (r.covers f told);
+          tight = r.list.right.tight;
+          fair = r.list.right.fair;
+          few = r.list.few;
+          loaded_once = r.loaded;
+        },
+        record {
+          first_draft = h.ran.0;
+          second_draft = h.ran.2.0;
+          list = r.made.list;
+          rest = r.rest;
+          machine_is = r.machine_is;
+          first_is = h.ran.1;
+          second_is = h.ran.2.1;
+          is_list = r.list.kept;
+          written = r.stands;
+          room = r.laid.1;
+        },
+      )
+
+  -- at the end of a body
+  pub paired-done : {U : Type 0} (result : Result U Stop) → Asks (machine ∷ first ∷ second ∷ vectors ∷ []) result old.store new.store
+      → IsWritten course result old.sink new.sink
+      → OnOk result (IsPaired machine name first second vectors old new) × OnOk result (HaveRoomLeft machine first second old new)
+  paired-done (Ok u) asks w = paired w.0 asks.all w.2 w.1
+  paired-done (Err stop) asks w = (tt, tt)

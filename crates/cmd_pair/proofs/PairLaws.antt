@@ -1,0 +1,69 @@
+-- What the command `pair` does with its words, and what it comes to.
+use Rattle.std.proofs.Common.{ℕ, List}
+use Rattle.machine_shape.specs.declared.Shape.{Shape}
+use Rattle.cmd_steps.specs.Outside.{Around}
+use Rattle.cmd_steps.specs.Jobs.{IsLawful}
+use Rattle.cmd_steps.specs.declared.design_file.DesignFile.TheVariants.{First, Second}
+use Rattle.diag_list.proofs.Texts.{AreNamed}
+use Rattle.place_design.proofs.Rooms.{AreDecided}
+use Rattle.run_image.specs.Laid.{Laid}
+use Rattle.run_image.proofs.Scripts.{Words, reads, runs, IsRight}
+use Rattle.run_image.proofs.Ends.{Fits, Lacks, HasFew, run-well, run-short, run-few}
+use Rattle.cmd_pair.specs.Both.{both_laid}
+use Rattle.cmd_pair.specs.Pair.{pair_files, pair_job, PairFiles, ArePairTexts, PairRight, PairShort, PairFew}
+use Rattle.cmd_pair.proofs.BothLemmas.{never-both-lack, both-excused, both-short}
+
+module _ (machine name first second vectors : List ℕ) where
+  abbrev pub words : Words
+  words = record {
+    machine = machine;
+    name = name;
+    vectors = vectors;
+    script = reads First first (λ one. reads Second second (λ other. runs (both_laid one other) (λ d i is.
+        record { image = is.0.image; shape = is.0.shape; inputs = is.0.inputs; free = is.0.free; right = is.0.right })));
+  }
+
+  module _ (old new : Around) where
+    abbrev files : PairFiles
+    files = pair_files old machine first second vectors
+
+    -- the files are right, and this is so of what they say
+    right-files : (t : ArePairTexts files) (P : Shape → Laid → Type 0) → P t.shape (both_laid t.first_draft t.second_draft)
+        → IsRight words old P
+    right-files t P is = record {
+      machine = record { shape = t.shape; text = t.machine };
+      designs = (record { draft = t.first_draft; text = t.first }, (record { draft = t.second_draft; text = t.second }, is));
+    }
+
+    few-vectors : PairFew files → IsRight words old (HasFew words old new)
+    few-vectors r =
+        let t = r.texts in
+        right-files t (HasFew words old new) (record { file = t.vectors.bytes; is_told = t.vectors.is_told; few = r.few })
+
+    module _ (decided : AreDecided) (front : List ℕ) where
+      fits : PairRight files front → IsRight words old (Fits words old new front)
+      fits r =
+          let t = r.texts in
+          right-files t (Fits words old new front) (record {
+            vectors = t.vectors;
+            room = λ l list same refusal stops.
+                let room = r.room l.list list.shape list.kept same in
+                both-excused l.list t.first_draft t.second_draft old new decided room refusal stops;
+          })
+
+      lacks-room : PairShort files front → IsRight words old (Lacks words old new front)
+      lacks-room r =
+          let one = r.texts.first_draft in
+          let other = r.texts.second_draft in
+          right-files r.texts (Lacks words old new front) (record {
+            short = λ d refusal stops. both-short d one other old new refusal stops;
+            never = λ l list same i laid. never-both-lack l.list one other decided laid.1 (r.room l.list list.shape list.kept same);
+          })
+
+  pub pair-lawful : AreDecided → AreNamed → IsLawful (pair_job machine name first second vectors)
+  pair-lawful decided named = record {
+    right = λ old new text next is. run-well words old new text next (λ front more eq. fits old new decided front (is front more eq));
+    short = λ old new text next is.
+        run-short words old new text next (λ front more eq. lacks-room old new decided front (is front more eq));
+    few = λ old new few text begun. run-few words old new named (few-vectors old new few) text begun;
+  }

@@ -1,0 +1,28 @@
+use Rattle.run_image.proofs.Headlines.{begins-done}
+use Rattle.cmd_pair.proofs.PairLaws.{words, pair-lawful}
+use Rattle.cmd_pair.proofs.Headlines.{paired-done}
+use Rattle.cmd_pair.proofs.command.pair.Goals as goal
+
+pub returns-clause-lawful : goal.returns-clause-lawful
+returns-clause-lawful g c =
+    let room = c.in_order_plans_are_decided.ensures.never_both in
+    pair-lawful c.args.machine.now c.args.name.now c.args.first.now c.args.second.now c.args.vectors.now room (record {
+      names = c.names_are_one_to_one.ensures;
+      crosses = c.the_crosspoints_are_sound.ensures.crosses;
+      numbered = c.the_numbering_is_sound.ensures.numbered;
+    })
+
+pub returns-clause-listed : goal.returns-clause-listed
+returns-clause-listed g c =
+    let w = words c.args.machine.now c.args.name.now c.args.first.now c.args.second.now c.args.vectors.now in
+    begins-done w _ _ c.work.result c.work.ensures.does.written
+
+pub returns-clause-paired : goal.returns-clause-paired
+returns-clause-paired g c =
+    let e = c.work.ensures.does in
+    (paired-done c.args.machine.now c.args.name.now c.args.first.now c.args.second.now c.args.vectors.now _ _ c.work.result e.asked e.written).0
+
+pub returns-clause-room : goal.returns-clause-room
+returns-clause-room g c =
+    let e = c.work.ensures.does in
+    (paired-done c.args.machine.now c.args.name.now c.args.first.now c.args.second.now c.args.vectors.now _ _ c.work.result e.asked e.written).1

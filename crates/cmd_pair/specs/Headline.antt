@@ -1,0 +1,75 @@
+-- What a `pair` that is done has done.
+use Rattle.std.specs.Prelude.{◌≡◌, ℕ, ◌+◌, Bool, List, [], ◌∷◌, ◌++◌, length, Some}
+use Rattle.base_io.specs.Counts.{next_count}
+use Rattle.base_io.specs.Told.{IfTold}
+use Rattle.base_io.specs.Sink.{Wrote}
+use Rattle.machine_shape.specs.declared.Shape.{Shape}
+use Rattle.machine_shape.specs.Faults.{Faults}
+use Rattle.machine_shape.specs.Defects.{Covers, IsFair}
+use Rattle.machine_shape.specs.Tight.{IsTight}
+use Rattle.machine_defects.specs.Lists.{DefectList, IsDefectList}
+use Rattle.machine_defects.specs.Text.{text_of}
+use Rattle.design_netlist.specs.declared.draft.Draft.{Draft}
+use Rattle.machine_image.specs.Images.{ImageValue}
+use Rattle.place_route.specs.RightImages.{IsRightImage, ReadsRows}
+use Rattle.place_route.specs.RoutedImages.{IsRoutedInOrder}
+use Rattle.place_pair.specs.Tenants.{AreTenants, StandApart}
+use Rattle.diag_machine.specs.Diagnosis.{TakesFewLoads}
+use Rattle.cmd_steps.specs.Outside.{Outside}
+use Rattle.cmd_steps.specs.Texts.{IsMachineText, IsDesignText}
+use Rattle.diag_list.specs.Lists.{Listed}
+use Rattle.run_image.specs.Headline.{IsAskedInOrder, IsWrittenWhole, UsesNothingListed, IsAsRead}
+use Rattle.cmd_pair.specs.Both.{AreBothRows, BothHaveRoom, joint_of}
+
+-- Of the rig's one session: its configuration, with a list of input pins and a list of output pins, is `image`. The parts of it
+-- that are each design's, `first_image` and `second_image`, share no wire
+pub record IsPaired (machine name first second vectors : List ℕ) (old new : Outside) : Type 0 where
+  pub shape : Shape
+  pub first_draft : Draft
+  pub second_draft : Draft
+  pub made : Listed
+  pub image : ImageValue
+  pub all_vectors : List (List Bool)
+  pub rows : List (List Bool)
+  pub first_is : IfTold (old.store.contents first) (λ bytes. IsDesignText bytes first_draft)
+  pub second_is : IfTold (old.store.contents second) (λ bytes. IsDesignText bytes second_draft)
+  pub list_shape : made.list.shape ≡ shape
+  pub asked_in_order : IsAskedInOrder machine name (first ∷ second ∷ vectors ∷ []) shape old new
+  pub written_whole : IsWrittenWhole vectors made.list (length first_draft.inputs + length second_draft.inputs) all_vectors rows old new
+  pub covers_every_fault : (f : Faults) → new.rig.machine.faults ≡ Some f → Covers shape made.list.list f
+  pub uses_nothing_listed : UsesNothingListed made.list image new.rig
+  -- a pin for each input of the first design and then of the second, and so for each output, all different
+  pub inputs : length image.inputs ≡ length first_draft.inputs + length second_draft.inputs
+  pub outputs : length image.outputs ≡ length first_draft.outputs + length second_draft.outputs
+  -- no table is on and no crosspoint closed that the designs don't need, on the in-order plan of their joint network
+  pub routed : IsRoutedInOrder made.list.shape made.list.list (joint_of first_draft second_draft) image
+  -- for all vectors the readings are the rows of both designs side by side
+  pub image_right : (f : Faults) → new.rig.machine.faults ≡ Some f → ReadsRows f image (AreBothRows first_draft second_draft)
+  pub as_the_machine_read : IsAsRead image all_vectors rows new.rig
+  -- and so are the rows that were written
+  pub exactly_the_outputs : (f : Faults) → new.rig.machine.faults ≡ Some f → AreBothRows first_draft second_draft all_vectors rows
+  -- each design runs as it would alone
+  pub first_image : ImageValue
+  pub second_image : ImageValue
+  pub tenants : AreTenants image first_image second_image
+  pub apart : (f : Faults) → new.rig.machine.faults ≡ Some f → StandApart f image first_image second_image
+  pub first_right : (f : Faults) → new.rig.machine.faults ≡ Some f → IsRightImage f first_image first_draft
+  pub second_right : (f : Faults) → new.rig.machine.faults ≡ Some f → IsRightImage f second_image second_draft
+  -- the list is tight besides, and so fair; few loads were made for it, and exactly one after it
+  pub tight : (f : Faults) → new.rig.machine.faults ≡ Some f → IsTight shape made.list.list f
+  pub fair : (f : Faults) → new.rig.machine.faults ≡ Some f → IsFair shape made.list.list f
+  pub few : TakesFewLoads new.rig.machine.faults shape old.rig.loads made.loads
+  pub loaded_once : new.rig.loads ≡ next_count made.loads
+
+-- The in-order plan of the joint network of the plain networks of the two designs fits the list that stands written
+pub record HaveRoomLeft (machine first second : List ℕ) (old new : Outside) : Type 0 where
+  pub first_draft : Draft
+  pub second_draft : Draft
+  pub list : DefectList
+  pub rest : List ℕ
+  pub machine_is : IfTold (old.store.contents machine) (λ bytes. IsMachineText bytes list.shape)
+  pub first_is : IfTold (old.store.contents first) (λ bytes. IsDesignText bytes first_draft)
+  pub second_is : IfTold (old.store.contents second) (λ bytes. IsDesignText bytes second_draft)
+  pub is_list : IsDefectList list
+  pub written : Wrote old.sink.written new.sink.written (text_of list ++ rest)
+  pub room : BothHaveRoom list first_draft second_draft

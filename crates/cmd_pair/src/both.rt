@@ -1,0 +1,84 @@
+//! Two designs as what is laid on a machine.
+ghost use Rattle.std.specs.Prelude.{◌↔◌, IsTrue, [], IfOk, IfErr};
+ghost use Rattle.cmd_steps.specs.Vocabulary.{Outside, Took};
+ghost use Rattle.cmd_steps.specs.Stops.{StepStops};
+ghost use Rattle.cmd_pair.specs.Both.{CanBeNumbered, both_laid, lays_both};
+
+use cmd_steps::{Refusal, Stop};
+use design_netlist::Netlist;
+use machine_defects::Defects;
+use machine_image::Image;
+use map_network::{Network, plain};
+use place_design::no_place;
+use place_pair::lay_pair;
+use run_image::Lays;
+use std::alloc::Global;
+
+/// How many inputs, or tables, a network may have and no more.
+const END: u64 = 4_294_967_296;
+
+/// The two designs of a command.
+#[derive(Drop)]
+pub struct TwoDesigns {
+    pub first: Netlist,
+    pub second: Netlist,
+}
+
+// Whether the inputs and the tables of two networks can be numbered together.
+fn are_few(first: &Network, second: &Network) -> bool
+    ensures { IsTrue result ↔ CanBeNumbered first.now second.now }
+{
+    let inputs = u64::from(first.inputs) + u64::from(second.inputs);
+    let tables = first.tables.as_slice().len() as u64;
+    let more = second.tables.as_slice().len() as u64;
+    inputs < END && tables < END && more < END - tables
+}
+
+// The image of both, or why there is none.
+fn image_for(
+    alloc: Global,
+    first: &Netlist,
+    second: &Netlist,
+    list: &Defects,
+) -> Result<Image, Stop>
+    ensures found { IfOk result (lays_both list.now first.now second.now).gives }
+    ensures refused { IfErr result (StepStops (lays_both list.now first.now second.now)) }
+{
+    let one = plain(alloc, first)?;
+    let other = plain(alloc, second)?;
+    if !are_few(&one, &other) {
+        return Err(Stop::Refused(Refusal::Memory));
+    }
+    let pair = match lay_pair(alloc, &one, &other, list) {
+        Ok(pair) => pair,
+        Err(fail) => return Err(no_place(alloc, list.shape(), fail)),
+    };
+    // Its contract says that the value is an image.
+    pair.whole.config();
+    Ok(pair.whole)
+}
+
+// An image of both designs on what the list leaves free, by the in-order plan of the joint network of their plain networks. More
+// tables than can be numbered are want of memory.
+fn lay_both(alloc: Global, first: &Netlist, second: &Netlist, list: &Defects) -> Result<Image, Stop>
+    // Whatever is around it.
+    ensures took { (o : Outside) → Took [] (lays_both list.now first.now second.now) result o o }
+{
+    image_for(alloc, first, second, list)
+}
+
+impl Lays for TwoDesigns {
+    ghost laid = { λ designs. both_laid designs.first designs.second };
+
+    fn lay(&self, alloc: Global, list: &Defects) -> Result<Image, Stop> {
+        lay_both(alloc, &self.first, &self.second, list)
+    }
+
+    ghost right = { λ designs d i is. record {
+      image = is.0.image;
+      shape = is.0.shape;
+      inputs = is.0.inputs;
+      free = is.0.free;
+      right = is.0.right;
+    } };
+}

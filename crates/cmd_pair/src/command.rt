@@ -1,0 +1,91 @@
+//! The command that runs two designs side by side on a machine of the rig.
+ghost use Rattle.std.specs.Prelude.{◌≡◌, OnOk};
+ghost use Rattle.cmd_steps.specs.Vocabulary.{outside, Does, IsLawful};
+ghost use Rattle.run_image.specs.Headline.{BeginsWithList};
+ghost use Rattle.cmd_pair.specs.Pair.{pair_job};
+ghost use Rattle.cmd_pair.specs.Headline.{IsPaired, HaveRoomLeft};
+
+use crate::both::TwoDesigns;
+use base_io::{Sink, Store};
+use cmd_steps::{DesignFile, Stop, attach, read_design, read_shape};
+use place_plan::in_order_plans_are_decided;
+use rig::Rig;
+use run_image::list_and_run;
+use std::alloc::Global;
+
+// Reads a machine and attaches it, reads two designs, writes the list of the machine's defects, and runs both designs on what
+// the list leaves free.
+fn work<S: Store, K: Sink>(
+    alloc: Global,
+    machine: &str,
+    name: &str,
+    first: &str,
+    second: &str,
+    vectors: &str,
+    store: &mut S,
+    rig: &mut Box<dyn Rig>,
+    sink: &mut K,
+) -> Result<(), Stop>
+    ensures does { let old = outside (S.store_state store.old) (rig_state rig.old) (K.sink_state sink.old) in
+        let new = outside (S.store_state store.new) (rig_state rig.new) (K.sink_state sink.new) in
+        Does ⊥ (pair_job machine.now name.now first.now second.now vectors.now) result old new }
+{
+    let shape = read_shape(alloc, store, machine)?;
+    attach(rig, &shape, name)?;
+    let one = read_design(alloc, DesignFile::First, store, first)?;
+    let other = read_design(alloc, DesignFile::Second, store, second)?;
+    let both = TwoDesigns {
+        first: one,
+        second: other,
+    };
+    list_and_run(alloc, &shape, &both, vectors, store, rig, sink)
+}
+
+/// Reads a machine and attaches it under a name, reads two designs, and writes the list of the machine's defects. Then both
+/// designs are laid side by side on what the list leaves free and loaded, and the line `outputs` is written and, for each vector,
+/// what the machine read at the output pins. A vector has the first design's inputs and then the second's, a row the first
+/// design's outputs and then the second's.
+///
+/// # Errors
+///
+/// The first step that refuses, in this order: the machine is read and attached, the first design is read and then the second,
+/// the defects are listed and the list is written; there is room for both designs, by the in-order plan of the joint network of
+/// their plain networks; their image is loaded, the file of vectors is started, the line is written, and then each vector is
+/// read and driven and its row written.
+// The condition always holds: see `attach` of `steps`.
+pub fn pair<S: Store, K: Sink>(
+    alloc: Global,
+    machine: &str,
+    name: &str,
+    first: &str,
+    second: &str,
+    vectors: &str,
+    store: &mut S,
+    rig: &mut Box<dyn Rig>,
+    sink: &mut K,
+) -> Result<(), Stop>
+    requires always { name.now ≡ name.now }
+
+    ensures lawful { IsLawful (pair_job machine.now name.now first.now second.now vectors.now) }
+    ensures does { let old = outside (S.store_state store.old) (rig_state rig.old) (K.sink_state sink.old) in
+        let new = outside (S.store_state store.new) (rig_state rig.new) (K.sink_state sink.new) in
+        Does ⊥ (pair_job machine.now name.now first.now second.now vectors.now) result old new }
+    // The list that stands written covers the machine's faults and is tight to them, whatever the end.
+    ensures listed { let old = outside (S.store_state store.old) (rig_state rig.old) (K.sink_state sink.old) in
+        let new = outside (S.store_state store.new) (rig_state rig.new) (K.sink_state sink.new) in
+        BeginsWithList machine.now name.now old new }
+    ensures paired { let old = outside (S.store_state store.old) (rig_state rig.old) (K.sink_state sink.old) in
+        let new = outside (S.store_state store.new) (rig_state rig.new) (K.sink_state sink.new) in
+        OnOk result (IsPaired machine.now name.now first.now second.now vectors.now old new) }
+    ensures room { let old = outside (S.store_state store.old) (rig_state rig.old) (K.sink_state sink.old) in
+        let new = outside (S.store_state store.new) (rig_state rig.new) (K.sink_state sink.new) in
+        OnOk result (HaveRoomLeft machine.now first.now second.now old new) }
+{
+    in_order_plans_are_decided();
+    machine_shape::names_are_one_to_one();
+    machine_shape::the_crosspoints_are_sound();
+    machine_shape::the_numbering_is_sound();
+    work(
+        alloc, machine, name, first, second, vectors, store, rig, sink,
+    )
+}

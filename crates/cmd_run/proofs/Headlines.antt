@@ -1,0 +1,35 @@
+-- What a `run` that is done has done, from its course.
+use Rattle.std.proofs.Common.{◌≡◌, ℕ, List, [], ◌∷◌, ◌++◌, subst, inl, inr}
+use Rattle.base_io.specs.Sink.{Wrote}
+use Rattle.cmd_steps.specs.Outside.{Outside, around}
+use Rattle.cmd_steps.specs.Courses.{ends}
+use Rattle.run_image.specs.Rows.{image_rows}
+use Rattle.run_image.proofs.CourseLemmas.{image-ends}
+use Rattle.cmd_run.specs.Run.{run_course}
+use Rattle.cmd_run.specs.Headline.{IsRan}
+
+module _ (machine name image vectors : List ℕ) (old new : Outside) where
+  pub ran : (text : List ℕ) → new.store.asked ≡ old.store.asked ++ machine ∷ image ∷ vectors ∷ [] → Wrote old.sink.written new.sink.written text → run_course machine name image vectors (around old) (around new) text ends → IsRan machine name image vectors old new
+  ran text asked wrote (inl h) = absurd h.1
+  ran text asked wrote (inr (m, read, inl h)) = absurd h.1
+  ran text asked wrote (inr (m, read, inr (u, attached, inl h))) = absurd h.1
+  ran text asked wrote (inr (m, read, inr (u, attached, inr (i, is, h)))) =
+      let run = image-ends (image_rows i (old.store.contents vectors) new.store.current old.rig.failures new.rig) (record { image = i; vectors = vectors; files = image ∷ machine ∷ []; begun = old.store; before = old.rig.loads }) (around new) text h in
+      let rows = run.rows in
+      record {
+        shape = m;
+        loaded = i;
+        all_vectors = rows.has.vectors;
+        rows = rows.has.rows;
+        asked = asked;
+        machine_is = read;
+        attached = attached;
+        image_is = is.1;
+        are_all = run.all;
+        written = subst (λ t. Wrote old.sink.written new.sink.written t) run.text_is wrote;
+        config = rows.session.config;
+        drives = rows.session.drives;
+        rows_are = rows.session.rows_are;
+        rows_right = rows.has.are;
+        loads = run.loaded;
+      }

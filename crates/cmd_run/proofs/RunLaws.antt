@@ -1,0 +1,58 @@
+-- What the command `run` comes to.
+use Rattle.std.proofs.Common.{◌≡◌, ◌∙◌, ℕ, ◌≤◌, List, [], ◌∷◌, ◌++◌, length, refl, subst, inl, inr}
+use Rattle.machine_image.specs.Images.{ImageValue}
+use Rattle.cmd_steps.specs.Files.{vectors_at}
+use Rattle.cmd_steps.specs.Lines.{outputs_line}
+use Rattle.cmd_steps.specs.Outside.{Around}
+use Rattle.cmd_steps.specs.Courses.{RowWork, refuses}
+use Rattle.cmd_steps.specs.Jobs.{IsLawful, EndsWell}
+use Rattle.cmd_steps.specs.declared.refusal.Refusal.TheVariants.{Memory}
+use Rattle.cmd_steps.proofs.Excused.{attach-excused}
+use Rattle.cmd_steps.proofs.ShapeLemmas.{one-machine, one-image}
+use Rattle.cmd_steps.proofs.Sure.{IsLed, Excuses, led-after, led-sure, machine-sure, image-sure}
+use Rattle.run_image.specs.Rows.{most_rows, RowsBegin, image_rows}
+use Rattle.run_image.proofs.CourseLemmas.{image-well, image-few}
+use Rattle.cmd_run.specs.Run.{run_course, run_files, run_job, RunFiles, RunRight, RunFew}
+
+module _ (machine name image vectors : List ℕ) (old new : Around) where
+  abbrev t : RunFiles
+  t = run_files old machine image vectors
+
+  -- the rows of an image, and where its work begins
+  abbrev rows : ImageValue → RowWork
+  rows i = image_rows i t.vectors new.store.current old.rig.failures new.rig
+
+  abbrev begin : ImageValue → RowsBegin
+  begin i = record { image = i; vectors = vectors; files = image ∷ machine ∷ []; begun = old.store; before = old.rig.loads }
+
+  run-right : RunRight t → IsLed (EndsWell old new) (run_course machine name image vectors old new)
+  run-right right =
+      let m = right.shape in
+      let i = right.image in
+      let excused : Excuses old new (EndsWell old new) = λ refusal h. h in
+      led-sure (machine-sure right.machine.is_told right.machine.within m right.machine.says) excused
+      (led-after (attach-excused old new (record { shape = m; name = name })) (λ _ _.
+      led-sure (image-sure right.file.is_told right.file.within m i right.file.says.image right.file.says.shape right.file.says.text) excused
+      (record {
+        leads = λ text next. image-well (rows i) (begin i) old new right.vectors.bytes right.vectors.is_told right.vectors.no_fault text next tt;
+      })))
+
+  -- after the line `outputs` memory is wanting only for more rows than there was room for
+  run-few : RunFew t → (text more : List ℕ) → text ≡ outputs_line ++ more →
+      run_course machine name image vectors old new text (refuses Memory) → ⊥
+  run-few few text more begins (inl h) = let empty = h.0 in absurd (cc)
+  run-few few text more begins (inr (m, read, inl h)) = let empty = h.0 in absurd (cc)
+  run-few few text more begins (inr (m, read, inr (u, attached, inl h))) = let empty = h.0 in absurd (cc)
+  run-few few text more begins (inr (m, read, inr (u, attached, inr (i, given, h)))) =
+      let r = few.right in
+      let shape = r.file.says.shape ∙ one-machine t.machine r.machine.bytes r.shape m r.machine.is_told r.machine.says read in
+      let same = one-image t.image r.file.bytes m r.image i r.file.is_told shape r.file.says.image r.file.says.text given in
+      let most = subst (λ (w : ImageValue). length (vectors_at (length w.inputs) r.vectors.bytes) ≤ most_rows) same few.few in
+      image-few (rows i) (begin i) new r.vectors.bytes r.vectors.is_told (λ count most. most) most text more begins h
+
+pub run-lawful : (machine name image vectors : List ℕ) → IsLawful (run_job machine name image vectors)
+run-lawful machine name image vectors = record {
+  right = λ old new text next is. (run-right machine name image vectors old new (is [] text refl)).leads text next;
+  short = λ old new text next is at. absurd (is [] text refl);
+  few = λ old new few text begun at. run-few machine name image vectors old new few text begun.0 begun.1 at;
+}

@@ -1,0 +1,34 @@
+-- What a `run` that is done has done.
+use Rattle.std.specs.Prelude.{◌≡◌, ℕ, Bool, List, [], ◌∷◌, ◌++◌, map, length, Some}
+use Rattle.base_io.specs.Counts.{next_count}
+use Rattle.base_io.specs.Told.{IfTold}
+use Rattle.base_io.specs.Sink.{Wrote}
+use Rattle.machine_shape.specs.declared.Shape.{Shape}
+use Rattle.machine_image.specs.Images.{ImageValue, Reads, drive_of, image_row}
+use Rattle.rig.specs.Rig.{config_of, cycles_of, drives_of, readings_of}
+use Rattle.cmd_steps.specs.Files.{AreAll}
+use Rattle.cmd_steps.specs.Lines.{output_text}
+use Rattle.cmd_steps.specs.Outside.{Outside}
+use Rattle.cmd_steps.specs.Texts.{IsMachineText}
+use Rattle.run_image.specs.Rows.{AreRowsOf}
+
+-- The machine of the text is attached under the name, the session's configuration is that of the image, and it has a cycle for
+-- each vector of the file, which it drove. The line `outputs` is written and what was read at the output pins
+pub record IsRan (machine name image vectors : List ℕ) (old new : Outside) : Type 0 where
+  pub shape : Shape
+  pub loaded : ImageValue
+  pub all_vectors : List (List Bool)
+  pub rows : List (List Bool)
+  pub asked : new.store.asked ≡ old.store.asked ++ machine ∷ image ∷ vectors ∷ []
+  pub machine_is : IfTold (old.store.contents machine) (λ bytes. IsMachineText bytes shape)
+  pub attached : new.rig.machine.attached ≡ Some (record { shape = shape; name = name })
+  pub image_is : IfTold (old.store.contents image) (λ bytes. Reads shape bytes loaded)
+  pub are_all : AreAll (length loaded.inputs) (old.store.contents vectors) all_vectors
+  pub written : Wrote old.sink.written new.sink.written (output_text rows)
+  pub config : config_of new.rig ≡ Some loaded.config
+  pub drives : drives_of (cycles_of new.rig) ≡ map (drive_of loaded) all_vectors
+  pub rows_are : rows ≡ map (image_row loaded) (readings_of (cycles_of new.rig))
+  -- and where the machine's faults are told, the readings are the machine's under them
+  pub rows_right : AreRowsOf new.rig loaded all_vectors rows
+  -- one load was made in all
+  pub loads : new.rig.loads ≡ next_count old.rig.loads

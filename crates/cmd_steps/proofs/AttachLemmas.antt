@@ -1,0 +1,42 @@
+-- Machines that weren't attached.
+use Rattle.std.proofs.Common.{◌≡◌, ◌≤◌, [], Some, refl, inl, inr, arith}
+use Rattle.std.specs.Prelude.{Ok, Err}
+use Rattle.base_io.specs.Store.{StoreState}
+use Rattle.base_io.specs.Sink.{SinkState}
+use Rattle.rig.specs.Rig.{RigState, Asked, AttachFails, IsDetached}
+use Rattle.rig.specs.declared.rig.AttachFail.{AttachFail}
+use Rattle.rig.specs.declared.rig.AttachFail.TheVariants as attach
+use Rattle.machine_faults.specs.declared.kind.FaultsFault.TheVariants as text
+use Rattle.cmd_steps.specs.Outside.{outside, IsLater}
+use Rattle.cmd_steps.specs.Stops.{StepStops, IsCounted, stop_of_attach}
+use Rattle.cmd_steps.specs.Took.{Took}
+use Rattle.cmd_steps.specs.Texts.{attaches, MayAsk}
+use Rattle.cmd_steps.proofs.Making.{took-quietly, stopped-quietly}
+
+module _ (machine : Asked) (old new : RigState) where
+  attach-stops : (fail : AttachFail) → IsDetached new → AttachFails fail machine old new → StepStops (attaches machine old new) (stop_of_attach fail)
+  attach-stops attach.Failed none fails = none
+  attach-stops (attach.Faults (text.At line kind)) none fails = (fails.1, none)
+  attach-stops (attach.Faults text.Memory) none fails = none
+  attach-stops attach.Memory none fails = none
+
+  pub attach-asks : (fail : AttachFail) → AttachFails fail machine old new → MayAsk machine old.machine.asked new.machine.asked
+  attach-asks attach.Failed fails = inr fails.1
+  attach-asks (attach.Faults fault) fails = inr fails.0
+  attach-asks attach.Memory fails = inl fails.0
+
+  attach-counted : (fail : AttachFail) (store : StoreState) (sink : SinkState) → AttachFails fail machine old new → IsCounted ⊥ (stop_of_attach fail) (outside store old sink) (outside store new sink)
+  attach-counted attach.Failed store sink fails = fails.0
+  attach-counted (attach.Faults (text.At line kind)) store sink fails = tt
+  attach-counted (attach.Faults text.Memory) store sink fails = tt
+  attach-counted attach.Memory store sink fails = tt
+
+  rig-later : (store : StoreState) (sink : SinkState) → new.machine.texts ≡ old.machine.texts → old.failures ≤ new.failures → IsLater (outside store old sink) (outside store new sink)
+  rig-later store sink texts later = record { contents = refl; texts = texts; kind = refl; store = omega arith; rig = later; sink = omega arith }
+
+  pub attach-took : (store : StoreState) (sink : SinkState) → new.machine.texts ≡ old.machine.texts → old.failures ≤ new.failures → new.machine.attached ≡ Some machine → Took [] (attaches machine old new) (Ok tt) (outside store old sink) (outside store new sink)
+  attach-took store sink texts later attached = took-quietly (attaches machine old new) (rig-later store sink texts later) tt attached
+
+  pub attach-taken : (store : StoreState) (sink : SinkState) (fail : AttachFail) → new.machine.texts ≡ old.machine.texts → old.failures ≤ new.failures → IsDetached new → AttachFails fail machine old new → Took [] (attaches machine old new) (Err (stop_of_attach fail)) (outside store old sink) (outside store new sink)
+  attach-taken store sink fail texts later none fails =
+      stopped-quietly (attaches machine old new) (rig-later store sink texts later) _ (attach-stops fail none fails) (attach-counted fail store sink fails)

@@ -1,0 +1,74 @@
+-- Steps that read what is right don't refuse it, and give nothing else.
+use Rattle.std.proofs.Common.{◌≡◌, ℕ, ◌≤◌, List, length, None, arith}
+use Rattle.base_io.specs.Told.{holds}
+use Rattle.machine_shape.specs.declared.Counts.{Counts}
+use Rattle.machine_shape.specs.declared.Shape.{Shape}
+use Rattle.machine_text.specs.Machine.{IsMachine}
+use Rattle.machine_defects.specs.Lists.{DefectList}
+use Rattle.machine_defects.specs.Faults.{IsText}
+use Rattle.design_netlist.specs.declared.draft.Draft.{Draft}
+use Rattle.design_blif.specs.Designs.{IsDesign}
+use Rattle.machine_image.specs.Images.{ImageValue, IsImage, image_bytes}
+use Rattle.rig.specs.Rig.{Asked}
+use Rattle.base_text.specs.Size.{most_bytes}
+use Rattle.cmd_steps.specs.Files.{says_at}
+use Rattle.cmd_steps.specs.Outside.{Around}
+use Rattle.cmd_steps.specs.Courses.{RowWork, all_rows, ends, refuses, writes}
+use Rattle.cmd_steps.specs.Jobs.{IsExcused, EndsWell, Leads}
+use Rattle.cmd_steps.specs.Texts.{NoMachine, NoDefects, NoDesign, NoImage, NotAttached, FailsOnRig, NotOpened}
+use Rattle.cmd_steps.specs.declared.design_file.DesignFile.{DesignFile}
+use Rattle.cmd_steps.specs.declared.refusal.Refusal.{Refusal}
+use Rattle.cmd_steps.specs.declared.refusal.Refusal.TheVariants.{Machine, Faults, Defects, Image, Design, Vectors, Rig, Store, Memory}
+
+module _ (old new : Around) where
+  pub machine-excused : (bytes : List ℕ) (c : Counts) → IsMachine bytes c → length bytes ≤ most_bytes → (refusal : Refusal) → NoMachine (holds bytes) refusal → IsExcused refusal old new
+  machine-excused bytes c is within (Machine line kind) stops = absurd (stops.1 c is within)
+  machine-excused bytes c is within Store stops = tt
+  machine-excused bytes c is within Memory stops = tt
+  machine-excused bytes c is within refusal stops = absurd stops
+
+  pub defects-excused : (bytes : List ℕ) (m : Shape) (d : DefectList) → IsText m bytes d → length bytes ≤ most_bytes → (refusal : Refusal) → NoDefects (holds bytes) m refusal → IsExcused refusal old new
+  defects-excused bytes m d is within (Defects line kind) stops = absurd (stops.1 d is within)
+  defects-excused bytes m d is within Store stops = tt
+  defects-excused bytes m d is within Memory stops = tt
+  defects-excused bytes m d is within refusal stops = absurd stops
+
+  pub design-excused : (file : DesignFile) (bytes : List ℕ) (draft : Draft) → IsDesign bytes draft → length bytes ≤ most_bytes → (refusal : Refusal) → NoDesign file (holds bytes) refusal → IsExcused refusal old new
+  design-excused file bytes draft is within (Design place) stops = absurd (stops.1.1 draft is within)
+  design-excused file bytes draft is within Store stops = tt
+  design-excused file bytes draft is within Memory stops = tt
+  design-excused file bytes draft is within refusal stops = absurd stops
+
+  pub image-excused : (bytes : List ℕ) (m : Shape) (i : ImageValue) → IsImage i → i.config.shape ≡ m → image_bytes i ≡ bytes → length bytes ≤ most_bytes → (refusal : Refusal) → NoImage (holds bytes) m refusal → IsExcused refusal old new
+  image-excused bytes m i right shape is within (Image line kind) stops = absurd (stops.1 i right shape is within)
+  image-excused bytes m i right shape is within Store stops = tt
+  image-excused bytes m i right shape is within Memory stops = tt
+  image-excused bytes m i right shape is within refusal stops = absurd stops
+
+  pub attach-excused : (machine : Asked) (refusal : Refusal) → NotAttached machine old.rig new.rig refusal → IsExcused refusal old new
+  attach-excused machine (Faults line kind) stops = rw stops.0.0 (omega arith)
+  attach-excused machine Rig stops = tt
+  attach-excused machine Memory stops = tt
+  attach-excused machine refusal stops = absurd stops
+
+  pub rig-excused : (refusal : Refusal) → FailsOnRig refusal → IsExcused refusal old new
+  rig-excused Rig stops = tt
+  rig-excused Memory stops = tt
+  rig-excused refusal stops = absurd stops
+
+  pub open-excused : (refusal : Refusal) → NotOpened refusal → IsExcused refusal old new
+  open-excused Store stops = tt
+  open-excused Memory stops = tt
+  open-excused refusal stops = absurd stops
+
+  -- vectors without a fault
+  pub rows-well : (w : RowWork) (bytes : List ℕ) (text_is : List ℕ → Type 0) → w.told ≡ holds bytes → (says_at w.width bytes).fault ≡ None → Leads text_is (all_rows w) (EndsWell old new)
+  rows-well w bytes text_is told none text ends is h = tt
+  rows-well w bytes text_is told none text (writes line) is h = tt
+  rows-well w bytes text_is told none text (refuses (Vectors line kind)) is h =
+      let some = rw told at h.1 in
+      absurd (let fault = some.1.is in cc)
+  rows-well w bytes text_is told none text (refuses Store) is h = tt
+  rows-well w bytes text_is told none text (refuses Rig) is h = tt
+  rows-well w bytes text_is told none text (refuses Memory) is h = tt
+  rows-well w bytes text_is told none text (refuses refusal) is h = absurd h

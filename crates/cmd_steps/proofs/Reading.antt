@@ -1,0 +1,59 @@
+-- Files that are read one after another, and the line that is written last.
+use Rattle.std.proofs.Common.{◌≡◌, ◌∙◌, ℕ, List, [], ◌∷◌, refl, subst}
+use Rattle.std.specs.Prelude.{Result, Ok, Err}
+use Rattle.base_io.specs.Told.{Told}
+use Rattle.base_io.specs.Store.{StoreState}
+use Rattle.base_io.specs.Sink.{SinkState}
+use Rattle.rig.specs.Rig.{RigState}
+use Rattle.cmd_steps.specs.Outside.{Outside, outside, StandsIn}
+use Rattle.cmd_steps.specs.Courses.{Course, Step, after, write, done}
+use Rattle.cmd_steps.specs.Took.{Took, Puts, Follows}
+use Rattle.cmd_steps.specs.declared.refusal.Stop.{Stop}
+use Rattle.cmd_steps.proofs.Taking.{stands-then, step-stops, step-gives, line-stops, line-gives, all-done}
+
+-- these files were read since the command began, the last first
+pub record HasRead (files : List (List ℕ)) (begun now : StoreState) : Type 0 where
+  pub contents : now.contents ≡ begun.contents
+  pub place : StandsIn files begun now
+
+pub none-read : (begun : StoreState) → HasRead [] begun begun
+none-read begun = record { contents = refl; place = refl }
+
+module _ {T : Type 0} (step : Told → Step T) (name : List ℕ) (files : List (List ℕ)) (begun : StoreState) where
+  -- the file has what it had as the command began
+  same-told : (result : Result T Stop) (old new : Outside) → HasRead files begun old.store → Took (name ∷ []) (step (old.store.contents name)) result old new → Took (name ∷ []) (step (begun.contents name)) result old new
+  same-told result old new read took = subst (λ (contents : List ℕ → Told). Took (name ∷ []) (step (contents name)) result old new) read.contents took
+
+  stands-read : (result : Result T Stop) (old new : Outside) → HasRead files begun old.store → Took (name ∷ []) (step (old.store.contents name)) result old new → StandsIn (name ∷ files) begun new.store
+  stands-read result old new read took = stands-then files (name ∷ []) begun old.store new.store read.place took.place
+
+  -- one more was read
+  pub more-read : (x : T) (old new : Outside) → HasRead files begun old.store → Took (name ∷ []) (step (old.store.contents name)) (Ok x) old new → HasRead (name ∷ files) begun new.store
+  more-read x old new read took = record { contents = took.later.contents ∙ read.contents; place = stands-read (Ok x) old new read took }
+
+  -- it isn't right; `near` holds then
+  pub read-stops : {U : Type 0} (near : Type 0) (rest : T → Course) (more : List (List ℕ)) (asks : Type 0) (stop : Stop) (result : Result U Stop) (old new : Outside) → result ≡ Err stop → HasRead files begun old.store → Took (name ∷ []) (step (old.store.contents name)) (Err stop) old new → (StandsIn (name ∷ files) begun new.store → near) → asks → Follows ⊥ (name ∷ more) asks (after (step (begun.contents name)) near rest) result old new
+  read-stops near rest more asks stop result old new is read took holds asked =
+      let same = same-told (Err stop) old new read took in
+      step-stops (step (begun.contents name)) near rest (step (begun.contents name)) (name ∷ []) more asks stop result old new is same same.stops (holds (stands-read (Err stop) old new read took)) asked
+
+  -- or it is, and the rest is followed
+  pub read-gives : {U : Type 0} (near : Type 0) (rest : T → Course) (more : List (List ℕ)) (asks then_asks : Type 0) (x : T) (result : Result U Stop) (old mid new : Outside) → HasRead files begun old.store → Took (name ∷ []) (step (old.store.contents name)) (Ok x) old mid → Follows ⊥ more then_asks (rest x) result mid new → asks → Follows ⊥ (name ∷ more) asks (after (step (begun.contents name)) near rest) result old new
+  read-gives near rest more asks then_asks x result old mid new read took rest_is asked =
+      let same = same-told (Ok x) old mid read took in
+      step-gives (step (begun.contents name)) near rest (step (begun.contents name)) (name ∷ []) more asks then_asks x x result old mid new same same.gives rest_is asked
+
+  -- both where no more is said than where the store stands
+  pub file-stops : {U : Type 0} (rest : T → Course) (more : List (List ℕ)) (asks : Type 0) (stop : Stop) (result : Result U Stop) (old new : Outside) → result ≡ Err stop → HasRead files begun old.store → Took (name ∷ []) (step (old.store.contents name)) (Err stop) old new → asks → Follows ⊥ (name ∷ more) asks (after (step (begun.contents name)) (StandsIn (name ∷ files) begun new.store) rest) result old new
+  file-stops rest more asks stop result old new is read took asked =
+      read-stops (StandsIn (name ∷ files) begun new.store) rest more asks stop result old new is read took (λ at. at) asked
+
+  pub file-gives : {U : Type 0} (rest : T → Course) (ended : StoreState) (more : List (List ℕ)) (asks then_asks : Type 0) (x : T) (result : Result U Stop) (old mid new : Outside) → HasRead files begun old.store → Took (name ∷ []) (step (old.store.contents name)) (Ok x) old mid → Follows ⊥ more then_asks (rest x) result mid new → asks → Follows ⊥ (name ∷ more) asks (after (step (begun.contents name)) (StandsIn (name ∷ files) begun ended) rest) result old new
+  file-gives rest ended more asks then_asks x result old mid new read took rest_is asked =
+      read-gives (StandsIn (name ∷ files) begun ended) rest more asks then_asks x result old mid new read took rest_is asked
+
+-- the last line was written, or wasn't
+pub line-last : (line : List ℕ) (here : Type 0) (store : StoreState) (rig : RigState) (a b : SinkState) (result : Result (Unit {0}) Stop) → Puts line result a b → here → Follows ⊥ [] (Unit {0}) (write line here (done here)) result (outside store rig a) (outside store rig b)
+line-last line here store rig a b (Ok x) puts at =
+    line-gives line here (done here) store rig a b [] (Unit {0}) (Unit {0}) x (Ok x) (outside store rig b) puts (all-done here x (outside store rig b) at) tt
+line-last line here store rig a b (Err stop) puts at = line-stops line here (done here) store rig a b [] (Unit {0}) stop (Err stop) refl puts at tt

@@ -1,0 +1,46 @@
+-- Steps that leave the machine as it is, and stop: by the fault of the rig, or for want of memory.
+use Rattle.std.proofs.Common.{◌≡◌, ◌≤◌, [], refl}
+use Rattle.std.specs.Prelude.{Result, Err}
+use Rattle.base_io.specs.Counts.{Rose}
+use Rattle.base_io.specs.Store.{StoreState}
+use Rattle.base_io.specs.Sink.{SinkState}
+use Rattle.rig.specs.Rig.{RigState}
+use Rattle.rig.specs.declared.rig.RigFail.{RigFail}
+use Rattle.rig.specs.declared.rig.RigFail.TheVariants as work
+use Rattle.cmd_steps.specs.Outside.{Outside, outside}
+use Rattle.cmd_steps.specs.Courses.{Course, Step, after}
+use Rattle.cmd_steps.specs.Stops.{stop_of_rig}
+use Rattle.cmd_steps.specs.Texts.{FailsOnRig}
+use Rattle.cmd_steps.specs.Took.{Took, Follows}
+use Rattle.cmd_steps.specs.declared.refusal.Refusal.{Refusal}
+use Rattle.cmd_steps.specs.declared.refusal.Refusal.TheVariants as refused
+use Rattle.cmd_steps.specs.declared.refusal.Stop.{Stop}
+use Rattle.cmd_steps.specs.declared.refusal.Stop.TheVariants.{Refused, Sink}
+use Rattle.cmd_steps.proofs.Keeping.{kept-stops}
+use Rattle.cmd_steps.proofs.Making.{rig-stopped}
+use Rattle.cmd_steps.proofs.Taking.{took-nothing}
+
+-- a step on the rig fails
+pub rig-fails : {T : Type 0} (step : Step T) (old new : RigState) (store : StoreState) (sink : SinkState) →
+    new.machine ≡ old.machine → old.failures ≤ new.failures → (fail : RigFail) → (fail ≡ work.Failed → Rose old.failures new.failures) →
+    ((refusal : Refusal) → FailsOnRig refusal → step.stops refusal) →
+    Took [] step (Err (stop_of_rig fail)) (outside store old sink) (outside store new sink)
+rig-fails step old new store sink machine later work.Failed cause stops =
+    rig-stopped step old new store sink machine later (Refused refused.Rig) (stops refused.Rig tt) (cause refl)
+rig-fails step old new store sink machine later work.Memory cause stops =
+    rig-stopped step old new store sink machine later (Refused refused.Memory) (stops refused.Memory tt) tt
+
+module _ {T U : Type 0} (step : Step T) (here : Type 0) (rest : T → Course) where
+  -- each refusal that stops the step as it was made stops it in the course
+  pub kept-refuses : {V : Type 0} (made : Step V) (stop : Stop) (result : Result U Stop) (old new : Outside) → result ≡ Err stop →
+      Took [] made (Err stop) old new → ((refusal : Refusal) → made.stops refusal → step.stops refusal) → here →
+      new.rig.machine ≡ old.rig.machine → Follows ⊥ [] (new.rig.machine ≡ old.rig.machine) (after step here rest) result old new
+  kept-refuses made (Refused refusal) result old new is took stops at same =
+      kept-stops step here rest made (Refused refusal) result old new is took (stops refusal) at same
+  kept-refuses made (Sink fail) result old new is took stops at same = absurd took.stops
+
+  -- memory is wanting for what touches nothing
+  pub kept-lacks : (result : Result U Stop) (o : Outside) → result ≡ Err (Refused refused.Memory) → step.stops refused.Memory → here →
+      Follows ⊥ [] (o.rig.machine ≡ o.rig.machine) (after step here rest) result o o
+  kept-lacks result o is stops at =
+      kept-stops step here rest step (Refused refused.Memory) result o o is (took-nothing step _ o refl stops) (λ s. s) at refl

@@ -1,0 +1,295 @@
+-- The rows of a file of vectors that is read row by row: those so far, how they go on, and how they end.
+use Rattle.std.proofs.Common.{◌≡◌, ◌⊎◌, ℕ, ◌+◌, ◌-◌, ◌<◌, ◌≤◌, Bool, false, List, [], ◌∷◌, ◌++◌, length, take, flat_map, refl, sym, ap, subst, ◌∙◌, arith, inl, inr, append-nil, append_assoc, length-append}
+use Rattle.std.proofs.lemmas.Grind.{flat_map-append}
+use Rattle.std.specs.Prelude.{Result, Ok, Err, IfErr}
+use native.Mathlib.Decide.{dec_lt}
+use Rattle.base_io.specs.Store.{StoreState}
+use Rattle.base_io.specs.Sink.{SinkState, Wrote, PutFails}
+use Rattle.base_io.specs.declared.sink.SinkFail.{SinkFail}
+use Rattle.base_io.specs.declared.sink.SinkFail.TheVariants.{Failed, Memory}
+use Rattle.rig.specs.Rig.{RigState, Machine}
+use Rattle.design_vectors.specs.declared.vectors.VectorsFail.{VectorsFail}
+use Rattle.design_vectors.specs.declared.vectors.VectorsFail.TheVariants.{Text, Failed as VectorsFailed}
+use Rattle.design_vectors.specs.Readings.{VectorReading, new_reading, NextGives, NextFails}
+use Rattle.design_vectors.specs.Rows.{row_line}
+use Rattle.cmd_steps.specs.Files.{most_vector_bytes, file_of, AreAll, AreBeforeFault, IsBegun, IsNearNext}
+use Rattle.cmd_steps.specs.NextVectors.{StaysOpen, IsRead, IsPutOut, IsHeldUp, WaitsOrPuts}
+use Rattle.cmd_steps.specs.Outside.{Outside, outside, IsLater}
+use Rattle.cmd_steps.specs.Courses.{RowWork, all_rows, HasRows, HasReadRows, IsBeforeRow}
+use Rattle.cmd_steps.specs.Stops.{Asks, IsCounted, IsWritten, StopWrote, WriteStops, stop_of_vectors}
+use Rattle.cmd_steps.specs.Took.{Puts, Follows}
+use Rattle.cmd_steps.specs.declared.refusal.Stop.{Stop}
+use Rattle.cmd_steps.specs.declared.refusal.Stop.TheVariants.{Refused, Sink}
+use Rattle.cmd_steps.proofs.Counting.{counted-after}
+use Rattle.cmd_steps.proofs.CutRows.{IsCutAt, some-line, cut-of, first-of, none-waits}
+use Rattle.cmd_steps.proofs.Taking.{later-same, later-later}
+use Rattle.cmd_steps.proofs.VectorLemmas.{IsTaking, IsTaking-start, IsTaking-more, taken-first, taken-next, taken-all, taken-fault}
+use Rattle.cmd_steps.proofs.WriteLemmas.{Wrote-then, Wrote-none, row_lines-more}
+
+-- since the store stood at the first byte of the file these vectors were taken and these rows made: some were written, and the lines
+-- of the rest wait. Of each of these the store isn't far beyond the vector's line
+pub record AreWritten (width : ℕ) (begun : Outside) (reading : VectorReading) (waiting : List ℕ) (now : Outside) (vectors rows : List (List Bool)) : Type 0 where
+  pub later : IsLater begun now
+  pub taking : IsTaking width begun.store now.store reading vectors
+  pub count : length rows ≡ length vectors
+  pub put : List (List Bool)
+  pub rest : List (List Bool)
+  pub split : rows ≡ put ++ rest
+  pub wrote : Wrote begun.sink.written now.sink.written (flat_map row_line put)
+  pub waits : waiting ≡ flat_map row_line rest
+  pub near : (k : ℕ) → length put ≤ k → k < length rows → IsNearNext width (file_of begun.store) now.store.current k
+
+pub none-written : (width : ℕ) (o : Outside) → IsBegun o.store → AreWritten width o (new_reading width most_vector_bytes) [] o [] []
+none-written width o begun = record {
+  later = later-same o;
+  taking = IsTaking-start width o.store begun;
+  count = refl;
+  put = [];
+  rest = [];
+  split = refl;
+  wrote = Wrote-none o.sink.written;
+  waits = refl;
+  near = λ k from to. absurd (let none : ⊥ = omega (arith, to) in none);
+}
+
+-- what a row leaves as it was, and counts that never fall
+pub row-later : (store store' : StoreState) (rig rig' : RigState) (sink sink' : SinkState) → StaysOpen store store' → rig'.machine ≡ rig.machine → rig.failures ≤ rig'.failures → sink'.can_lack ≡ sink.can_lack → sink.failures ≤ sink'.failures → IsLater (outside store rig sink) (outside store' rig' sink')
+row-later store store' rig rig' sink sink' stays machine rig_later kind sink_later = record {
+  contents = stays.contents;
+  texts = ap (λ (m : Machine). m.texts) machine;
+  kind = kind;
+  store = stays.later;
+  rig = rig_later;
+  sink = sink_later;
+}
+
+asks-none : {T : Type 0} (result : Result T Stop) (old new : StoreState) → new.asked ≡ old.asked → Asks [] result old new
+asks-none (Ok x) old new same = record { all = same ∙ sym (append-nil old.asked); some = tt }
+asks-none (Err stop) old new same = record { all = tt; some = same }
+
+-- ---- rows that wait are put out
+
+module _ (width : ℕ) (begun : Outside) (reading : VectorReading) (waiting : List ℕ) (now : Outside) (vectors rows : List (List Bool)) (so_far : AreWritten width begun reading waiting now vectors rows) where
+  -- the lines of all rows
+  lines-are : flat_map row_line so_far.put ++ waiting ≡ flat_map row_line rows
+  lines-are =
+      ap (λ t. flat_map row_line so_far.put ++ t) so_far.waits ∙ sym (ap (flat_map row_line) so_far.split ∙ flat_map-append row_line so_far.put so_far.rest)
+
+  -- where nothing waits all were written
+  pub all-written : waiting ≡ [] → Wrote begun.sink.written now.sink.written (flat_map row_line rows)
+  all-written none =
+      let same : flat_map row_line so_far.put ≡ flat_map row_line rows =
+      sym (append-nil (flat_map row_line so_far.put)) ∙ (ap (λ t. flat_map row_line so_far.put ++ t) (sym none) ∙ lines-are) in
+      subst (λ t. Wrote begun.sink.written now.sink.written t) same so_far.wrote
+
+  pub none-left : waiting ≡ [] → length rows ≤ length so_far.put
+  none-left none =
+      let empty = none-waits so_far.rest (sym none ∙ so_far.waits) in
+      rw (so_far.split, length-append so_far.put, empty) (omega arith)
+
+  pub put-out : (left : List ℕ) (sink : SinkState) → IsPutOut waiting left now.sink sink → AreWritten width begun reading left (outside now.store now.rig sink) vectors rows
+  put-out left sink is = record {
+    later = later-later begun now (outside now.store now.rig sink) so_far.later (record {
+      contents = refl;
+      texts = refl;
+      kind = is.kind;
+      store = omega arith;
+      rig = omega arith;
+      sink = is.later;
+    });
+    taking = so_far.taking;
+    count = so_far.count;
+    put = rows;
+    rest = [];
+    split = sym (append-nil rows);
+    wrote = subst (λ t. Wrote begun.sink.written sink.written t) lines-are (Wrote-then _ _ _ _ _ so_far.wrote is.wrote);
+    waits = is.empty;
+    near = λ k from to. absurd (let none : ⊥ = omega (arith, from, to) in none);
+  }
+
+  -- they wait on, or are put out
+  pub after-put : (left : List ℕ) (sink : SinkState) → ((left ≡ waiting) × (sink ≡ now.sink)) ⊎ IsPutOut waiting left now.sink sink → AreWritten width begun reading left (outside now.store now.rig sink) vectors rows
+  after-put left sink (inl same) = rw (same.0, same.1) so_far
+  after-put left sink (inr is) = put-out left sink is
+
+  -- the same as the next vector is read
+  pub read-after : (left : List ℕ) (store : StoreState) (sink : SinkState) → ((left ≡ waiting) × (sink ≡ now.sink) × (store ≡ now.store)) ⊎ IsPutOut waiting left now.sink sink → AreWritten width begun reading left (outside now.store now.rig sink) vectors rows
+  read-after left store sink (inl same) = after-put left sink (inl (same.0, same.1))
+  read-after left store sink (inr is) = after-put left sink (inr is)
+
+-- the store was read only where nothing waits
+pub was-read : (waiting left : List ℕ) (store store' : StoreState) (old new : SinkState) → ((left ≡ waiting) × (new ≡ old) × (store' ≡ store)) ⊎ IsPutOut waiting left old new → (store' ≡ store) ⊎ (left ≡ [])
+was-read waiting left store store' old new (inl same) = inl same.2
+was-read waiting left store store' old new (inr is) = inr is.empty
+
+pub some-lines : (lines : List ℕ) (row : List Bool) → 0 < length (lines ++ row_line row)
+some-lines lines row = rw (length-append lines) (omega (arith, some-line row))
+
+pub stays-same : (store : StoreState) → StaysOpen store store
+stays-same store = record { contents = refl; later = omega arith; asked = refl }
+
+-- lines that were added, as above
+pub added : (lines left : List ℕ) (old new : SinkState) → WaitsOrPuts lines left (Ok tt) old new → ((left ≡ lines) × (new ≡ old)) ⊎ IsPutOut lines left old new
+added lines left old new (inl h) = inl (h.0, h.1)
+added lines left old new (inr h) = inr (record { empty = h.0; kind = h.1.kind; later = h.1.later; wrote = h.1.wrote })
+
+-- or why they aren't put out
+pub held-up : (lines : List ℕ) (stop : Stop) (store : StoreState) (old new : SinkState) → 0 < length lines → Puts {T = Unit {0}} lines (Err stop) old new → IsHeldUp stop lines store store old new
+held-up lines stop store old new some puts =
+    record { some = some; still = refl; kind = puts.kind; later = puts.later; stops = puts.stops }
+
+pub not-added : (lines left : List ℕ) (stop : Stop) (store : StoreState) (old new : SinkState) → 0 < length lines → WaitsOrPuts lines left (Err stop) old new → IsHeldUp stop lines store store old new
+not-added lines left stop store old new some (inl h) = absurd (let ok = h.2 in cc)
+not-added lines left stop store old new some (inr h) = held-up lines stop store old new some h.1
+
+-- rows wait on, or were put out as a vector was read, and then they are put out
+pub put-after : (waiting mid left : List ℕ) (store store' : StoreState) (s0 s1 s2 : SinkState) → ((mid ≡ waiting) × (s1 ≡ s0) × (store' ≡ store)) ⊎ IsPutOut waiting mid s0 s1 → IsPutOut mid left s1 s2 → IsPutOut waiting left s0 s2
+put-after waiting mid left store store' s0 s1 s2 (inl same) out = rw (same.0, same.1) at out
+put-after waiting mid left store store' s0 s1 s2 (inr first) out =
+    let all : waiting ++ mid ≡ waiting = ap (λ t. waiting ++ t) first.empty ∙ append-nil waiting in
+    record {
+      empty = out.empty;
+      kind = out.kind ∙ first.kind;
+      later = omega (arith, first.later, out.later);
+      wrote = subst (λ t. Wrote s0.written s2.written t) all (Wrote-then _ _ _ _ _ first.wrote out.wrote);
+    }
+
+-- or they aren't
+pub held-after : (waiting mid : List ℕ) (stop : Stop) (store store' : StoreState) (s0 s1 s2 : SinkState) → ((mid ≡ waiting) × (s1 ≡ s0) × (store' ≡ store)) ⊎ IsPutOut waiting mid s0 s1 → IsHeldUp stop mid store' store' s1 s2 → IsHeldUp stop waiting store store' s0 s2
+held-after waiting mid stop store store' s0 s1 s2 (inl same) held =
+    let here = rw (same.0, same.1) at held in
+    record { some = here.some; still = same.2; kind = here.kind; later = here.later; stops = here.stops }
+held-after waiting mid stop store store' s0 s1 s2 (inr first) held =
+    let none : length mid ≡ 0 = ap length first.empty in
+    absurd (let never : ⊥ = omega (arith, none, held.some) in never)
+
+-- ---- one more vector, and its row
+
+module _ (width : ℕ) (begun now new : Outside) (reading reading' : VectorReading) (waiting : List ℕ) (vectors rows : List (List Bool)) (vector : List Bool) (so_far : AreWritten width begun reading waiting now vectors rows) (later : IsLater now new) (asked : new.store.asked ≡ now.store.asked) (read : IsRead vector reading reading' now.store new.store) where
+  taken-more : IsTaking width begun.store new.store reading' (vectors ++ vector ∷ [])
+  taken-more = IsTaking-more width begun.store now.store new.store reading reading' vector vectors so_far.taking later.contents later.store asked read.next read.moves
+
+  pub near-next : IsNearNext width (file_of begun.store) new.store.current (length rows)
+  near-next = rw so_far.count (taken-next width begun.store now.store new.store reading reading' vector vectors so_far.taking later.contents read.next read.moves read.unread)
+
+  pub count-more : (row : List Bool) → length (rows ++ row ∷ []) ≡ length (vectors ++ vector ∷ [])
+  count-more row = rw (length-append rows, length-append vectors, so_far.count) refl
+
+  -- the store wasn't read for it, or no row waited
+  module _ (still : (new.store ≡ now.store) ⊎ (waiting ≡ [])) (silent : new.sink ≡ now.sink) (row : List Bool) where
+    near-before : (new.store ≡ now.store) ⊎ (waiting ≡ []) → (k : ℕ) → length so_far.put ≤ k → k < length rows → IsNearNext width (file_of begun.store) new.store.current k
+    near-before (inl same) k from to = subst (λ (s : StoreState). IsNearNext width (file_of begun.store) s.current k) (sym same) (so_far.near k from to)
+    near-before (inr none) k from to =
+        let few = none-left width begun reading waiting now vectors rows so_far none in
+        absurd (let never : ⊥ = omega (arith, few, from, to) in never)
+
+    near-all : (k : ℕ) → length so_far.put ≤ k → k < length (rows ++ row ∷ []) → IsNearNext width (file_of begun.store) new.store.current k
+    near-all k from to = by (dec_lt k (length rows))
+      where
+        size : length (rows ++ row ∷ []) ≡ length rows + 1
+        size = rw (length-append rows) refl
+
+        by : Dec (k < length rows) → IsNearNext width (file_of begun.store) new.store.current k
+        by (yes lt) = near-before still k from lt
+        by (no ge) =
+            let last : length rows ≡ k = omega (arith, size, to) in
+            subst (λ n. IsNearNext width (file_of begun.store) new.store.current n) last near-next
+
+    pub waits-more : AreWritten width begun reading' (waiting ++ row_line row) new (vectors ++ vector ∷ []) (rows ++ row ∷ [])
+    waits-more = record {
+      later = later-later begun now new so_far.later later;
+      taking = taken-more;
+      count = count-more row;
+      put = so_far.put;
+      rest = so_far.rest ++ row ∷ [];
+      split = ap (λ t. t ++ row ∷ []) so_far.split ∙ append_assoc so_far.put so_far.rest (row ∷ []);
+      wrote = rw silent so_far.wrote;
+      waits = ap (λ t. t ++ row_line row) so_far.waits ∙ sym (row_lines-more so_far.rest row);
+      near = near-all;
+    }
+
+-- ---- how the rows are followed, wherever they end
+
+module _ (w : RowWork) (begun now new : Outside) (reading : VectorReading) (waiting : List ℕ) (vectors rows : List (List Bool)) (so_far : AreWritten w.width begun reading waiting now vectors rows) (later : IsLater now new) (asked : new.store.asked ≡ now.store.asked) (told : w.told ≡ file_of begun.store) (place : w.place ≡ new.store.current) (asks : Type 0) (is : asks) where
+  abbrev text : List ℕ
+  text = flat_map row_line rows
+
+  abbrev pub has-rows : w.are vectors rows → HasRows w text
+  has-rows are = record { vectors = vectors; rows = rows; text_is = refl; first = rw told (taken-first w.width begun.store now.store reading vectors so_far.taking); are = are }
+
+  pub rows-follow : {U : Type 0} (result : Result U Stop) → IsWritten (all_rows w) result begun.sink new.sink → IfErr result (λ stop. IsCounted ⊥ stop now new) → Follows ⊥ [] asks (all_rows w) result begun new
+  rows-follow result written counted = record {
+    later = later-later begun now new so_far.later later;
+    asked = asks-none result begun.store new.store (asked ∙ so_far.taking.asked);
+    machines = is;
+    written = written;
+    counted = counted-after result begun now new so_far.later counted;
+  }
+
+  -- no further vector is read, the session has read these, and all rows are written
+  module _ (are : w.are vectors rows) (session : w.session vectors rows) (none : waiting ≡ []) (silent : new.sink ≡ now.sink) where
+    abbrev pub has-read : HasReadRows w text
+    has-read = record { has = has-rows are; session = session }
+
+    all-wrote : Wrote begun.sink.written new.sink.written text
+    all-wrote = rw silent (all-written w.width begun reading waiting now vectors rows so_far none)
+
+    pub vectors-follow : {U : Type 0} (fail : VectorsFail) → NextFails fail reading now.store new.store → Follows {T = U} ⊥ [] asks (all_rows w) (Err (stop_of_vectors fail)) begun new
+    vectors-follow (Text line kind) fails =
+        let fault : AreBeforeFault w.width w.told w.place line kind vectors = rw (told, place) (taken-fault w.width begun.store now.store new.store reading vectors line kind so_far.taking fails) in
+        rows-follow (Err (stop_of_vectors (Text line kind))) (text, (has-read, fault), all-wrote) tt
+    vectors-follow VectorsFailed fails =
+        rows-follow (Err (stop_of_vectors VectorsFailed)) (text, (has-read, place ∙ fails.closed), all-wrote) fails.rose
+
+    -- the file has ended
+    pub end-follows : {U : Type 0} (x : U) (reading' : VectorReading) (vector : List Bool) → NextGives false vector reading reading' now.store new.store → Follows ⊥ [] asks (all_rows w) (Ok x) begun new
+    end-follows x reading' vector gives =
+        let all : AreAll w.width w.told vectors = rw told (taken-all w.width begun.store now.store new.store reading reading' vector vectors so_far.taking gives) in
+        rows-follow (Ok x) (text, (has-read, all), all-wrote) tt
+
+  -- the rows that wait aren't put out
+  module _ (are : w.are vectors rows) (session : w.session vectors rows ⊎ w.lost) (still : new.store ≡ now.store) where
+    before-row : (front : List (List Bool)) (row : List Bool) (more : List (List Bool)) → so_far.rest ≡ front ++ row ∷ more → IsBeforeRow w (flat_map row_line (so_far.put ++ front)) (row_line row)
+    before-row front row more split =
+        let all : rows ≡ (so_far.put ++ front) ++ row ∷ more = so_far.split ∙ (ap (λ t. so_far.put ++ t) split ∙ sym (append_assoc so_far.put front (row ∷ more))) in
+        let from : length so_far.put ≤ length (so_far.put ++ front) = rw (length-append so_far.put) (omega arith) in
+        let to : length (so_far.put ++ front) < length rows = rw (all, length-append (so_far.put ++ front)) (omega arith) in
+        let at : w.place ≡ now.store.current = place ∙ ap (λ (s : StoreState). s.current) still in
+        record {
+          vectors = vectors;
+          rows = so_far.put ++ front;
+          row = row;
+          more = more;
+          text_is = refl;
+          line_is = refl;
+          first = rw told (taken-first w.width begun.store now.store reading vectors so_far.taking);
+          are = subst (λ t. w.are vectors t) all are;
+          session = subst (λ t. w.session vectors t ⊎ w.lost) all session;
+          near = rw (told, at) (so_far.near (length (so_far.put ++ front)) from to);
+        }
+
+    -- a front of the lines that wait, as a line that is cut behind whole ones
+    cut-text : (n : ℕ) (c : IsCutAt so_far.rest n) → flat_map row_line so_far.put ++ take n waiting ≡ flat_map row_line (so_far.put ++ c.front) ++ take c.part (row_line c.row)
+    cut-text n c =
+        ap (λ t. flat_map row_line so_far.put ++ take n t) so_far.waits ∙ (ap (λ t. flat_map row_line so_far.put ++ t) c.cut
+        ∙ (sym (append_assoc (flat_map row_line so_far.put) (flat_map row_line c.front) (take c.part (row_line c.row)))
+        ∙ ap (λ t. t ++ take c.part (row_line c.row)) (sym (flat_map-append row_line so_far.put c.front))))
+
+    held-wrote : (fail : SinkFail) → 0 < length waiting → PutFails fail waiting now.sink new.sink → StopWrote (all_rows w) (Sink fail) begun.sink new.sink
+    held-wrote Failed some fails =
+        let c = cut-of so_far.rest fails.1.0 (subst (λ t. 0 < length t) so_far.waits some) in (
+          flat_map row_line (so_far.put ++ c.front),
+          row_line c.row,
+          c.part,
+          before-row c.front c.row c.more c.split,
+          subst (λ t. Wrote begun.sink.written new.sink.written t) (cut-text fails.1.0 c) (Wrote-then _ _ _ _ _ so_far.wrote fails.1.1),
+        )
+    held-wrote Memory some fails =
+        let f = first-of so_far.rest (subst (λ t. 0 < length t) so_far.waits some) in
+        let at = before-row [] f.0 f.1 f.2 in
+        (flat_map row_line so_far.put, row_line f.0, rw (append-nil so_far.put) at at, rw fails.1 so_far.wrote)
+
+    pub held-follows : {U : Type 0} (stop : Stop) → IsHeldUp stop waiting now.store new.store now.sink new.sink → Follows {T = U} ⊥ [] asks (all_rows w) (Err stop) begun new
+    held-follows (Refused refusal) held = absurd held.stops
+    held-follows (Sink Failed) held = rows-follow (Err (Sink Failed)) (held-wrote Failed held.some held.stops) held.stops.0
+    held-follows (Sink Memory) held = rows-follow (Err (Sink Memory)) (held-wrote Memory held.some held.stops) held.stops.0

@@ -1,0 +1,48 @@
+-- What a command has around it: the store, the rig and the sink.
+use Rattle.std.specs.Prelude.{◌≡◌, ◌⊎◌, ℕ, ◌+◌, ◌≤◌, List, [], ◌∷◌, IfSome}
+use Rattle.base_io.specs.Counts.{Rose}
+use Rattle.base_io.specs.Store.{StoreState}
+use Rattle.base_io.specs.Sink.{SinkState}
+use Rattle.rig.specs.Rig.{RigState}
+use Rattle.base_text.specs.Size.{most_bytes}
+
+-- the store and the rig
+pub record Around : Type 0 where
+  pub store : StoreState
+  pub rig : RigState
+
+-- and the sink
+pub record Outside : Type 0 where
+  pub store : StoreState
+  pub rig : RigState
+  pub sink : SinkState
+
+abbrev pub outside : StoreState → RigState → SinkState → Outside
+outside store rig sink = record { store = store; rig = rig; sink = sink }
+
+abbrev pub around : Outside → Around
+around o = record { store = o.store; rig = o.rig }
+
+-- a count of failed calls rose, or the rig refused a text of faults
+abbrev pub SomethingRose : Outside → Outside → Type 0
+SomethingRose old new =
+    (Rose old.store.failures new.store.failures ⊎ Rose old.sink.failures new.sink.failures)
+    ⊎ (Rose old.rig.failures new.rig.failures ⊎ Rose old.rig.machine.refused.times new.rig.machine.refused.times)
+
+-- what no step changes, and counts that never fall
+pub record IsLater (old new : Outside) : Type 0 where
+  pub contents : new.store.contents ≡ old.store.contents
+  pub texts : new.rig.machine.texts ≡ old.rig.machine.texts
+  pub kind : new.sink.can_lack ≡ old.sink.can_lack
+  pub store : old.store.failures ≤ new.store.failures
+  pub rig : old.rig.failures ≤ new.rig.failures
+  pub sink : old.sink.failures ≤ new.sink.failures
+
+-- the store stands in this file, no further than one byte beyond the limit of a file that is read whole, or in none
+abbrev pub IsNearIn : (file : List ℕ) → StoreState → Type 0
+IsNearIn file store = IfSome store.current (λ p. (p.name ≡ file) × (p.at ≤ most_bytes + 1))
+
+-- the store stands so in one of these files, of which the last asked is the first here; or where it stood
+abbrev pub StandsIn : (files : List (List ℕ)) → StoreState → StoreState → Type 0
+StandsIn [] old new = new.current ≡ old.current
+StandsIn (file ∷ files) old new = StandsIn files old new ⊎ IsNearIn file new

@@ -1,0 +1,9 @@
+use Rattle.std.proofs.Common.{map, string_bytes}
+use Rattle.cmd_top.specs.Words.{asked_by}
+use Rattle.cmd_steps.proofs.AskedLemmas.{ends-so}
+use Rattle.cmd_top.proofs.program.end.Goals as goal
+
+pub returns : goal.returns
+returns g c =
+    let e = c.end_of.ensures in
+    ends-so (asked_by (map string_bytes c.args.words.now)) c.work-done.result _ _ _ _ c.work-done.ensures e.all e.stopped e.later e.kind

@@ -1,0 +1,14 @@
+use Rattle.std.proofs.Common.{string_bytes, Global}
+use Rattle.cmd_steps.specs.Words.{is_dashed}
+use Rattle.cmd_steps.proofs.AskedLemmas.{does-none, list_any-map}
+use Rattle.cmd_top.proofs.program.work.Goals as goal
+
+pub returns-then-some_begins_dashed : goal.returns-then-some_begins_dashed
+returns-then-some_begins_dashed g c =
+    let test = list_any-map is_dashed (string_bytes {Z = Global}) c.args.words.now in
+    rw (test, ← c.some_begins_dashed.ensures, c.if-some_begins_dashed.true) (does-none _)
+
+pub returns : goal.returns
+returns g c =
+    let test = list_any-map is_dashed (string_bytes {Z = Global}) c.args.words.now in
+    rw (test, ← c.some_begins_dashed.ensures, c.if-some_begins_dashed.false) c.work_in.ensures

@@ -1,8 +1,0 @@
-use Rattle.std.proofs.Common.{arith}
-use Rattle.config_image.specs.declared.kind.ImageKind.TheVariants as kind
-use Rattle.config_image.specs.Fields.{IsRefusedField}
-use Rattle.config_image.proofs.Wrong.{most_wrong}
-use Rattle.config_image.proofs.check.flags.Goals as goal
-
-pub returns-in-Ok-clause-refused : goal.returns-in-Ok-clause-refused
-returns-in-Ok-clause-refused c = IsRefusedField.is_wrong c.in-Ok.n kind.Range c.in-Ok.ensures.found (most_wrong 3 c.in-Ok.n (omega (arith, c.if-n-gt3.true))) c.fault_at.ensures

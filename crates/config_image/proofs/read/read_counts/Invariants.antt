@@ -1,7 +1,0 @@
-use Rattle.std.proofs.Common.{◌≡◌}
-use Rattle.config_image.specs.Faults.{counts_of}
-use Rattle.config_image.proofs.Steps.{CountsSoFar}
-use Rattle.config_image.proofs.read.read_counts.Given as goal
-
-abbrev pub invariant-counts : goal.invariant-counts
-invariant-counts l = CountsSoFar l.shape l.bytes l.start (counts_of l.shape) l.at l.i × (l.due ≡ counts_of l.shape)

@@ -1,8 +1,0 @@
-use Rattle.std.proofs.Common.{◌-◌}
-use Rattle.hierarchy.specs.Shape.{pins_of}
-use Rattle.config_image.specs.Fields.{AreMarks}
-use Rattle.config_image.specs.Reading.{ArePins}
-use Rattle.config_image.proofs.read.read_pins.Given as goal
-
-abbrev pub invariant-pins : goal.invariant-pins
-invariant-pins l = ArePins l.shape l.bytes l.fn.at l.at l.count (l.count - l.counter) l.pins.items × AreMarks (pins_of l.shape) l.pins.items l.marks.items

@@ -1,9 +1,0 @@
-use Rattle.std.proofs.Common.{◌≡◌, ◌++◌, [], ◌∷◌}
-use Rattle.std.specs.Prelude.{if◌then◌else◌}
-use Rattle.std.specs.List.{flat_map, range_with_len}
-use Rattle.config_set.specs.Configuration.{is_closed}
-use Rattle.config_image.specs.Images.{four}
-use Rattle.config_image.proofs.write.put_closed.Given as goal
-
-abbrev pub invariant-crosses : goal.invariant-crosses
-invariant-crosses l = l.out.items ≡ l.initial.out.items ++ flat_map four (flat_map (λ x. if is_closed l.config.config x then x ∷ [] else []) (range_with_len 0 l.x))

@@ -1,7 +1,0 @@
-use Rattle.std.proofs.Common.{◌≡◌, ◌++◌, take}
-use Rattle.std.specs.List.{flat_map}
-use Rattle.config_image.specs.Images.{two}
-use Rattle.config_image.proofs.write.put_counts.Given as goal
-
-abbrev pub invariant-counts : goal.invariant-counts
-invariant-counts l = l.out.items ≡ l.initial.out.items ++ flat_map two (take l.i l.counts)

@@ -1,5 +1,0 @@
-use Rattle.config_set.proofs.Readings.{swing_clears}
-use Rattle.config_set.proofs.laws.a_swing_shows.Goals as goal
-
-pub returns : goal.returns
-returns c = λ f g first later r q k w run h n j. swing_clears f g k w run h n j

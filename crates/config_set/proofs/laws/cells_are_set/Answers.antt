@@ -1,5 +1,0 @@
-use Rattle.config_set.proofs.Marks.{bit_after}
-use Rattle.config_set.proofs.laws.cells_are_set.Goals as goal
-
-pub returns : goal.returns
-returns c = λ s a y b. bit_after s.cells a y b

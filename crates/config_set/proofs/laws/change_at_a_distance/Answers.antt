@@ -1,5 +1,0 @@
-use Rattle.config_set.proofs.Distance.{change_at_a_distance}
-use Rattle.config_set.proofs.laws.change_at_a_distance.Goals as goal
-
-pub returns : goal.returns
-returns c = change_at_a_distance

@@ -1,9 +1,0 @@
-use Rattle.config_set.specs.Faulty.{circuit_of}
-use Rattle.config_set.proofs.Runs.{Cycles-push, Cycles-split}
-use Rattle.config_set.proofs.laws.runs_go_on.Goals as goal
-
-pub returns : goal.returns
-returns c = record {
-  cycles = λ k before mid after drives reads drive read p s. Cycles-push k p s;
-  before = λ f g drives more reads p. let split = Cycles-split (circuit_of f g) drives more p.cycles in record { outputs = split.0; cycles = split.1 };
-}

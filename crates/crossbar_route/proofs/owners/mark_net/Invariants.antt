@@ -1,6 +1,0 @@
-use Rattle.std.proofs.Common.{take}
-use Rattle.crossbar_route.specs.Owners.{IsClaimedBy, IsMarked}
-use Rattle.crossbar_route.proofs.owners.mark_net.Given as goal
-
-abbrev pub invariant-loop-wire : goal.invariant-loop-wire
-invariant-loop-wire l = IsMarked (IsClaimedBy l.net (take l.wire-index l.wires)) l.fn.owners l.owners

@@ -1,6 +1,0 @@
-use Rattle.crossbar_route.specs.Owners.{IsMarked}
-use Rattle.crossbar_route.proofs.Marking.{IsBefore}
-use Rattle.crossbar_route.proofs.owners.mark_nets.Given as goal
-
-abbrev pub invariant-loop-k : goal.invariant-loop-k
-invariant-loop-k l = IsMarked (IsBefore l.nets l.k) l.fn.owners l.owners

@@ -1,6 +1,0 @@
-use Rattle.std.proofs.Common.{take}
-use Rattle.crossbar_route.specs.Owners.{HoldsPort, IsMarked}
-use Rattle.crossbar_route.proofs.owners.mark_ports.Given as goal
-
-abbrev pub invariant-loop-port : goal.invariant-loop-port
-invariant-loop-port l = IsMarked (HoldsPort (take l.port-index l.ports)) l.fn.owners l.owners

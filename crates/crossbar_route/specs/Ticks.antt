@@ -1,8 +1,0 @@
--- How many ticks a network takes.
-use Rattle.std.specs.Prelude.{◌≡◌, ℕ, nat_lt, if◌then◌else◌}
-use Rattle.table_map.specs.declared.network.Network.{Network}
-use Rattle.table_map.specs.Depths.{IsDepth}
-
--- its depth, and at least 1
-abbrev pub AreTicks : Network → ℕ → Type 0
-AreTicks n ticks = (depth : ℕ) × IsDepth n depth × (ticks ≡ (if nat_lt 0 depth then depth else 1))

@@ -1,7 +1,0 @@
-use Rattle.std.proofs.Common.{take}
-use Rattle.crossbar_test.specs.Bars.{IsListOf, IsOpenOf}
-use Rattle.crossbar_test.specs.Held.{wire_numbers}
-use Rattle.crossbar_test.proofs.pairs.open_lines.Given as goal
-
-abbrev pub invariant-lines : goal.invariant-lines
-invariant-lines l = IsListOf (IsOpenOf l.proof (wire_numbers l.taps) (wire_numbers (take l.line-index l.lines))) (wire_numbers l.those.items)

@@ -1,6 +1,0 @@
-use Rattle.hierarchy.specs.Shape.{tables_of}
-use Rattle.cycle_sim.proofs.SoFar.{AreTicked}
-use Rattle.cycle_sim.proofs.cycle.tick_on.Given as goal
-
-abbrev pub invariant-ticks : goal.invariant-ticks
-invariant-ticks l = AreTicked (tables_of l.faults.shape) l.faults.faults l.knots l.low_pins l.low_tables l.fn.gates l.gates l._n

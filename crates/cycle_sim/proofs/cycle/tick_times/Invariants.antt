@@ -1,7 +1,0 @@
-use Rattle.hierarchy.specs.Shape.{tables_of}
-use Rattle.cycle_sim.specs.Pasts.{HasComeIfKept}
-use Rattle.cycle_sim.proofs.SoFar.{AreTicked}
-use Rattle.cycle_sim.proofs.cycle.tick_times.Given as goal
-
-abbrev pub invariant-ticks : goal.invariant-ticks
-invariant-ticks l = AreTicked (tables_of l.faults.shape) l.faults.faults l.knots l.low_pins l.low_tables l.fn.gates l.gates l.n × HasComeIfKept l.faults.faults l.knots l.low_pins l.fn.gates l.past l.n l.gates

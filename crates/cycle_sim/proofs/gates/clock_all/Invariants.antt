@@ -1,6 +1,0 @@
-use Rattle.std.proofs.Common.{◌≡◌, ◌++◌, map, take, drop}
-use Rattle.cycle_sim.specs.Gates.{level_at, clocked}
-use Rattle.cycle_sim.proofs.gates.clock_all.Given as goal
-
-abbrev pub invariant-gates : goal.invariant-gates
-invariant-gates l = l.gates ≡ map (clocked l.faults.faults (level_at l.knots l.pins l.tables)) (take l.i l.fn.gates) ++ drop l.i l.fn.gates

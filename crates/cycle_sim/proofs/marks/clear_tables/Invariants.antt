@@ -1,9 +1,0 @@
-use Rattle.std.proofs.Common.{◌≡◌, ℕ, true, length}
-use Rattle.cycle_sim.specs.Gates.{is_low, IsOutputOf}
-use Rattle.cycle_sim.proofs.marks.clear_tables.Given as goal
-
-abbrev pub invariant-gates : goal.invariant-gates
-invariant-gates l = record {
-  len : length l.low ≡ length l.fn.low;
-  only : (r : ℕ) → is_low l.low r ≡ true → IsOutputOf l.gates l.i r;
-}

@@ -1,6 +1,0 @@
-use Rattle.std.proofs.Common.{ℕ, ◌<◌}
-use Rattle.std.specs.Prelude.{slice_index}
-use Rattle.cycle_sim.proofs.ranks.is_ranked.Given as goal
-
-abbrev pub invariant-inputs : goal.invariant-inputs
-invariant-inputs l = (k : ℕ) → k < l.j → slice_index l.ranks (slice_index l.gate.ins k) < l.rank

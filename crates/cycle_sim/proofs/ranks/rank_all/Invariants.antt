@@ -1,5 +1,0 @@
-use Rattle.std.proofs.Common.{◌≡◌, length}
-use Rattle.cycle_sim.proofs.ranks.rank_all.Given as goal
-
-abbrev pub invariant-passes : goal.invariant-passes
-invariant-passes l = length l.ranks ≡ length l.fn.ranks

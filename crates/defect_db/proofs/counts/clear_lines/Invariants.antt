@@ -1,7 +1,0 @@
-use Rattle.std.proofs.Common.{◌≡◌, ◌+◌}
-use Rattle.defect_db.specs.Kept.{is_clear_line}
-use Rattle.defect_db.specs.Lists.{how_many}
-use Rattle.defect_db.proofs.counts.clear_lines.Given as goal
-
-abbrev pub invariant-lines : goal.invariant-lines
-invariant-lines l = l.count ≡ how_many (λ i. is_clear_line l.wires l.shut (l.first.0 + i)) l.i

@@ -1,5 +1,0 @@
-use Rattle.defect_db.specs.Kept.{AreRecounted}
-use Rattle.defect_db.proofs.counts.count_nodes.Given as goal
-
-abbrev pub invariant-nodes : goal.invariant-nodes
-invariant-nodes l = AreRecounted l.shape l.wires l.shut l.n l.open_lines l.free_ports_by

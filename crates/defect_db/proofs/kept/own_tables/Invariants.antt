@@ -1,7 +1,0 @@
-use Rattle.std.proofs.Common.{◌≡◌, length}
-use Rattle.hierarchy.specs.Shape.{wires_of}
-use Rattle.defect_db.specs.Kept.{AreOwnersBefore}
-use Rattle.defect_db.proofs.kept.own_tables.Given as goal
-
-abbrev pub invariant-tables : goal.invariant-tables
-invariant-tables l = (length l.owners ≡ wires_of l.shape) × AreOwnersBefore l.shape l.t 0 l.owners

@@ -1,5 +1,0 @@
-use Rattle.defect_db.proofs.Telling.{wire_tells, cross_tells, table_tells, open_tells}
-use Rattle.defect_db.proofs.laws.the_tests_are_right.Goals as goal
-
-pub returns : goal.returns
-returns c = record { wires = wire_tells; crosses = cross_tells; tables = table_tells; lines = open_tells }

@@ -1,5 +1,0 @@
-use Rattle.defect_db.proofs.Queries.{is_list}
-use Rattle.defect_db.proofs.list.Defects.shape.Goals as goal
-
-pub returns-clause-kept : goal.returns-clause-kept
-returns-clause-kept c = rw (← c.self.view_is) (is_list c.self.inside.kept c.self.invariant)

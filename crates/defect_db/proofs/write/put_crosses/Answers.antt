@@ -1,7 +1,0 @@
-use Rattle.std.specs.FinSet as set
-use Rattle.defect_db.specs.Text.{as_cross}
-use Rattle.defect_db.proofs.Writing.{wrote_more}
-use Rattle.defect_db.proofs.write.put_crosses.Goals as goal
-
-pub crosses-preserved : goal.crosses-preserved
-crosses-preserved c = wrote_more c.args.list.now.shape c.shape-shape.result as_cross (set.contains c.args.list.now.list.crosses) c.crosses.x c.lists_cross.result c.args.text.now.items c.crosses.text.items c.put_listed.new.text.items c.shape-shape.ensures.shape c.lists_cross.ensures c.crosses.invariant c.in_ok-put_listed.ensures

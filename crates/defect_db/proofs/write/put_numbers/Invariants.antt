@@ -1,6 +1,0 @@
-use Rattle.std.proofs.Common.{◌≡◌, ◌++◌, take}
-use Rattle.defect_db.specs.Steps.{numerals}
-use Rattle.defect_db.proofs.write.put_numbers.Given as goal
-
-abbrev pub invariant-numbers : goal.invariant-numbers
-invariant-numbers l = l.text.items ≡ l.fn.text.items ++ numerals (take l.n-index l.numbers)

@@ -1,7 +1,0 @@
-use Rattle.std.specs.FinSet as set
-use Rattle.defect_db.specs.Text.{as_wire}
-use Rattle.defect_db.proofs.Writing.{wrote_more}
-use Rattle.defect_db.proofs.write.put_wires.Goals as goal
-
-pub wires-preserved : goal.wires-preserved
-wires-preserved c = wrote_more c.args.list.now.shape c.shape-shape.result as_wire (set.contains c.args.list.now.list.wires) c.wires.w c.lists_wire.result c.args.text.now.items c.wires.text.items c.put_listed.new.text.items c.shape-shape.ensures.shape c.lists_wire.ensures c.wires.invariant c.in_ok-put_listed.ensures

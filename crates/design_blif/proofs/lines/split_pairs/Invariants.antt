@@ -1,0 +1,14 @@
+use Rattle.std.proofs.Common.{◌≡◌, true, map, take, vec_len}
+use Rattle.std.specs.List.{list_all}
+use Rattle.design_blif.specs.Parts.{formal_of, actual_of, is_pair}
+use Rattle.design_blif.proofs.lines.split_pairs.Given as goal
+
+abbrev pub invariant-words : goal.invariant-words
+invariant-words l =
+    let read = map (λ w. w.now) (take l.word-index l.words) in
+    record {
+      formals : map (λ w. w.now) l.formals.items ≡ map formal_of read;
+      actuals : map (λ w. w.now) l.actuals.items ≡ map actual_of read;
+      pairs : list_all is_pair read ≡ true;
+      len : vec_len l.formals ≡ vec_len l.actuals;
+    }

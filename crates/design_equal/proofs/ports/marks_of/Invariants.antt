@@ -1,0 +1,7 @@
+use Rattle.std.proofs.Common.{◌≡◌, ◌<◌, ℕ, length, true}
+use Rattle.design_netlist.specs.Drafts.{signal_at}
+use Rattle.design_netlist.specs.Valuations.{bit_at}
+use Rattle.design_equal.proofs.ports.marks_of.Given as goal
+
+abbrev pub invariant-words : goal.invariant-words
+invariant-words l = (length l.marks.items ≡ l.count) × ((s : ℕ) → bit_at l.marks.items s ≡ true → (j : ℕ) × (j < l.k) × (signal_at l.words j ≡ s))

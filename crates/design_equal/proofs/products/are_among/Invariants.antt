@@ -1,0 +1,6 @@
+use Rattle.std.proofs.Common.{◌≡◌, ℕ, Bool, true, take}
+use Rattle.design_equal.specs.Products.{some_holds}
+use Rattle.design_equal.proofs.products.are_among.Given as goal
+
+abbrev pub invariant-products : goal.invariant-products
+invariant-products l = (bits : ℕ → Bool) → some_holds bits (take l.k l.first) ≡ true → some_holds bits l.second ≡ true

@@ -1,0 +1,8 @@
+use Rattle.std.proofs.Common.{◌≡◌, ℕ, Bool, take, map}
+use Rattle.design_netlist.specs.Covers.{matches}
+use Rattle.design_equal.specs.Labels.{signal_bits}
+use Rattle.design_equal.specs.Products.{holds}
+use Rattle.design_equal.proofs.products.row_literals.Given as goal
+
+abbrev pub invariant-places : goal.invariant-places
+invariant-places l = (bits : ℕ → Bool) → holds bits l.list.items ≡ matches (take l.k l.row) (map (signal_bits bits l.labels) (take l.k l.ins))

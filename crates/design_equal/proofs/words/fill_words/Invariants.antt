@@ -1,0 +1,8 @@
+use Rattle.std.proofs.Common.{◌≡◌, ◌≤◌, ℕ, List, length}
+use Rattle.design_equal.specs.declared.graph.Graph.{Graph}
+use Rattle.design_equal.specs.Plans.{AreSteps, HaveWords}
+use Rattle.design_equal.proofs.words.fill_words.Given as goal
+
+abbrev pub invariant-steps : goal.invariant-steps
+invariant-steps l = (length l.words.items ≡ length l.steps)
+    × ((g : Graph) (pins : List ℕ) → length pins ≤ 14 → AreSteps g pins l.steps → HaveWords g pins l.steps l.pass l.words.items l.k)

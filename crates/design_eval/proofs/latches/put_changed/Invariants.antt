@@ -1,0 +1,7 @@
+use Rattle.std.proofs.Common.{◌≡◌, ◌*◌, ℕ, ◌<◌, length}
+use Rattle.design_netlist.specs.Valuations.{bit_at}
+use Rattle.design_eval.specs.Latches.{HavePut}
+use Rattle.design_eval.proofs.latches.put_changed.Given as goal
+
+abbrev pub invariant-chunks : goal.invariant-chunks
+invariant-chunks l = HavePut l.readers l.drives l.state l.fn.last l.fn.marks l.fn.values l.last l.marks l.values × (length l.hints ≡ 1024) × ((j : ℕ) → j < 64 * l.i → j < length l.drives → bit_at l.last j ≡ bit_at l.state j)

@@ -1,0 +1,6 @@
+use Rattle.std.proofs.Common.{◌≡◌, ℕ, ◌<◌, true, length}
+use Rattle.design_netlist.specs.Valuations.{bit_at}
+use Rattle.design_eval.proofs.marks.mark_all.Given as goal
+
+abbrev pub invariant-marks : goal.invariant-marks
+invariant-marks l = (length l.marks ≡ 65536) × ((j : ℕ) → j < l.k → bit_at l.marks j ≡ true)

@@ -1,0 +1,6 @@
+use Rattle.design_eval.specs.Turns.{places}
+use Rattle.design_eval.specs.Readers.{AreKeys}
+use Rattle.design_eval.proofs.readers.cover_keys.Given as goal
+
+abbrev pub invariant-turns : goal.invariant-turns
+invariant-turns l = AreKeys l.covers (places l.turns) l.k l.keys.items

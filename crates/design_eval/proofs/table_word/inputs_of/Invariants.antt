@@ -1,0 +1,6 @@
+use Rattle.std.proofs.Common.{◌≡◌, ◌<◌, ℕ}
+use Rattle.design_netlist.specs.Valuations.{number_at}
+use Rattle.design_eval.proofs.table_word.inputs_of.Given as goal
+
+abbrev pub invariant-wires : goal.invariant-wires
+invariant-wires l = (i : ℕ) → i < l.k → number_at l.wires i ≡ l.out → ⊥

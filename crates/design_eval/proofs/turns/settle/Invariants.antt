@@ -1,0 +1,6 @@
+use Rattle.design_netlist.specs.Valuations.{IsSettledTo}
+use Rattle.design_eval.specs.Turns.{places}
+use Rattle.design_eval.proofs.turns.settle.Given as goal
+
+abbrev pub invariant-turns : goal.invariant-turns
+invariant-turns l = IsSettledTo l.covers (places l.turns) l.k l.fn.values l.values

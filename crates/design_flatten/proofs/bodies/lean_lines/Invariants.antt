@@ -1,0 +1,8 @@
+use Rattle.std.proofs.Common.{◌≡◌, map, take}
+use Rattle.design_flatten.specs.Ordered.{line_in}
+use Rattle.design_flatten.specs.Needs.{lean_line}
+use Rattle.design_flatten.specs.Bodies.{lean_in}
+use Rattle.design_flatten.proofs.bodies.lean_lines.Given as goal
+
+abbrev pub invariant-lines : goal.invariant-lines
+invariant-lines l = map lean_in l.leans.items ≡ map (lean_line l.catalog.models.now) (map line_in (take l.line-index l.lines))

@@ -1,0 +1,7 @@
+use Rattle.std.proofs.Common.{◌≡◌, map, take}
+use Rattle.std.specs.List.{filter}
+use Rattle.design_flatten.specs.Uses.{is_among}
+use Rattle.design_flatten.proofs.bodies.pairs_among.Given as goal
+
+abbrev pub invariant-pairs : goal.invariant-pairs
+invariant-pairs l = map (λ p. p.now) l.needed.items ≡ filter (λ p. is_among l.names p.formal) (take l.pair-index l.pairs)

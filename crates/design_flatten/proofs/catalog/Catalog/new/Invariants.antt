@@ -1,0 +1,9 @@
+use Rattle.std.proofs.Common.{◌≡◌, take}
+use Rattle.design_flatten.specs.UseLines.{IsCatalog}
+use Rattle.design_flatten.proofs.catalog.Catalog.new.Given as goal
+
+abbrev pub invariant-models : goal.invariant-models
+invariant-models l = record {
+  models : l.catalog.models.now ≡ l.models;
+  catalog : IsCatalog (take l.model-index l.models) l.catalog;
+}

@@ -1,0 +1,6 @@
+use Rattle.std.proofs.Common.{◌≡◌, ℕ, List, take}
+use Rattle.design_flatten.specs.Clocks.{at_name, place_in}
+use Rattle.design_flatten.proofs.clocks.places_of.Given as goal
+
+abbrev pub invariant-names : goal.invariant-names
+invariant-names l = (w : List ℕ) → at_name l.places w ≡ place_in (take l.place l.names) w

@@ -1,0 +1,11 @@
+use Rattle.std.proofs.Common.{◌≡◌, take, drop, []}
+use Rattle.design_flatten.specs.UseFaults.{first_wrong}
+use Rattle.design_flatten.specs.NameSets.{with_names}
+use Rattle.design_flatten.specs.UseLines.{formals_in}
+use Rattle.design_flatten.proofs.formals.first_wrong.Given as goal
+
+abbrev pub invariant-pairs : goal.invariant-pairs
+invariant-pairs l = record {
+  left : first_wrong l.ports l.given (formals_in (drop l.pair-index l.pairs)) ≡ first_wrong l.ports [] (formals_in l.pairs);
+  given : l.given ≡ with_names [] (formals_in (take l.pair-index l.pairs));
+}

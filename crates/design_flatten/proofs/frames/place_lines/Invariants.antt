@@ -1,0 +1,11 @@
+use Rattle.std.proofs.Common.{◌≡◌, ◌++◌, ℕ, List}
+use Rattle.design_flatten.specs.declared.model.Signal.{Signal}
+use Rattle.design_flatten.specs.Lines.{Line}
+use Rattle.design_flatten.specs.Frames.{left_from, left_in}
+use Rattle.design_flatten.specs.Sinks.{IsSink}
+use Rattle.design_flatten.proofs.frames.place_lines.Given as goal
+
+abbrev pub invariant-lines : goal.invariant-lines
+invariant-lines l =
+    (way : List ℕ) (names : List (List ℕ)) (before : List (Line Signal)) → IsSink names before l.fn.sink
+    → (now : List (Line Signal)) × IsSink names now l.sink × (now ++ left_from way l.frame l.k l.frame.uses ≡ before ++ left_in way l.frame)

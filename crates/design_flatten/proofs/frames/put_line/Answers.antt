@@ -1,0 +1,20 @@
+use Rattle.std.proofs.Common.{◌≡◌, subst, IfErr}
+use Rattle.std.specs.Prelude.{OnOk}
+use Rattle.design_flatten.specs.Given.{place_of}
+use Rattle.design_flatten.specs.Ordered.{line_in}
+use Rattle.design_flatten.specs.Placed.{placed_line}
+use Rattle.design_flatten.specs.Sinks.{IsPut, IsOverWith}
+use Rattle.design_flatten.specs.Substitution.{through}
+use Rattle.design_flatten.proofs.frames.put_line.Goals as goal
+
+pub returns-in-Some-clause-ok : goal.returns-in-Some-clause-ok
+returns-in-Some-clause-ok c way =
+    let T = through (place_of c.args.frame.now.given way) c.args.frame.now.names.now in
+    let placed : placed_line c.in-Some.placed ≡ T (line_in c.args.line.now) = (rw c.in-Some.is at c.in_ok-placed.ensures) way in
+    subst (λ l. OnOk c.put.result (IsPut c.args.sink.now l c.put.new.self)) placed c.put.ensures.ok
+
+pub returns-in-Some-clause-refused : goal.returns-in-Some-clause-refused
+returns-in-Some-clause-refused c way =
+    let T = through (place_of c.args.frame.now.given way) c.args.frame.now.names.now in
+    let placed : placed_line c.in-Some.placed ≡ T (line_in c.args.line.now) = (rw c.in-Some.is at c.in_ok-placed.ensures) way in
+    subst (λ l. IfErr c.put.result (IsOverWith c.args.sink.now l)) placed c.put.ensures.refused

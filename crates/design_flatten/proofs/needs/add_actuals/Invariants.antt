@@ -1,0 +1,6 @@
+use Rattle.std.proofs.Common.{map, take, [], get_or}
+use Rattle.design_flatten.specs.Marks.{HasTaken}
+use Rattle.design_flatten.proofs.needs.add_actuals.Given as goal
+
+abbrev pub invariant-pairs : goal.invariant-pairs
+invariant-pairs l = HasTaken l.fn.marked (map (λ p. get_or l.fn.marked.names.now p.actual []) (take l.pair-index l.pairs)) l.marked

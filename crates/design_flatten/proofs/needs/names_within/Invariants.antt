@@ -1,0 +1,11 @@
+use Rattle.std.proofs.Common.{◌≡◌, [], take}
+use Rattle.std.specs.List.{flat_map}
+use Rattle.design_flatten.specs.NameSets.{with_names}
+use Rattle.design_flatten.specs.Needs.{names_on}
+use Rattle.design_flatten.specs.Marks.{AreRightMarks}
+use Rattle.design_flatten.proofs.needs.names_within.Given as goal
+
+abbrev pub invariant-pieces : goal.invariant-pieces
+invariant-pieces l =
+    (l.marked.names.now ≡ l.model.names) × AreRightMarks l.marked
+    × (l.marked.set ≡ with_names [] (flat_map (names_on l.model.names) (take l.piece-index l.pieces)))

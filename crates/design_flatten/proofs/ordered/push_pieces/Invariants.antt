@@ -1,0 +1,7 @@
+use Rattle.std.proofs.Common.{◌≡◌, ◌++◌, map, take}
+use Rattle.design_flatten.specs.Lines.{piece_line}
+use Rattle.design_flatten.specs.Ordered.{line_in}
+use Rattle.design_flatten.proofs.ordered.push_pieces.Given as goal
+
+abbrev pub invariant-pieces : goal.invariant-pieces
+invariant-pieces l = map line_in l.lines.items ≡ map line_in l.fn.lines.items ++ map piece_line (take l.piece-index l.pieces)

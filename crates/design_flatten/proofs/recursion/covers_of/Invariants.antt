@@ -1,0 +1,7 @@
+use Rattle.std.proofs.Common.{map}
+use Rattle.design_flatten.specs.Links.{AreLinked}
+use Rattle.design_flatten.specs.UseLines.{use_in}
+use Rattle.design_flatten.proofs.recursion.covers_of.Given as goal
+
+abbrev pub invariant-uses : goal.invariant-uses
+invariant-uses l = AreLinked l.names (map use_in l.uses) l.place l.covers.items

@@ -1,0 +1,7 @@
+use Rattle.std.proofs.Common.{map}
+use Rattle.design_flatten.specs.Links.{HaveNames}
+use Rattle.design_flatten.specs.UseLines.{use_in}
+use Rattle.design_flatten.proofs.recursion.names_in.Given as goal
+
+abbrev pub invariant-uses : goal.invariant-uses
+invariant-uses l = HaveNames l.names (map use_in l.uses) l.place

@@ -1,0 +1,10 @@
+use Rattle.std.proofs.Common.{◌≡◌, None, take}
+use Rattle.std.specs.Prelude.{fold}
+use Rattle.design_netlist.specs.Words.{sooner}
+use Rattle.design_flatten.specs.Drives.{places_of}
+use Rattle.design_flatten.specs.Placed.{placed_line}
+use Rattle.design_flatten.specs.Words.{read_on}
+use Rattle.design_flatten.proofs.words.first_undriven.Given as goal
+
+abbrev pub invariant-placed : goal.invariant-placed
+invariant-placed l = l.best ≡ fold (λ b p. fold (sooner (places_of l.firsts)) b (read_on l.signals (placed_line p))) None (take l.k l.placed)

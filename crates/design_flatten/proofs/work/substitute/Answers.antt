@@ -1,0 +1,131 @@
+use Rattle.std.proofs.Common.{◌≡◌, ◌∙◌, ◌+◌, ◌-◌, ◌++◌, ◌∷◌, [], refl, ℕ, List, ap, sym, length, length-append, arith, subst, true}
+use Rattle.std.proofs.lemmas.Result.{err_from_is_err_and}
+use Rattle.design_flatten.specs.Sinks.{IsSink}
+use Rattle.design_flatten.specs.Substitution.{after, first_model, is_left, model_named, lines_at, without_ports, at_first}
+use Rattle.design_flatten.specs.Given.{place_of}
+use Rattle.design_flatten.specs.Needs.{lean_models}
+use Rattle.design_flatten.specs.declared.refusal.Refusal.TheVariants.{Limit}
+use Rattle.design_flatten.specs.Frames.{way_to, left_in}
+use Rattle.design_flatten.proofs.WorkLemmas.{starts, ended, refused, is_left_now, origin_is, replaced_more, all_placed, placed_none, placed_some, not_within, frames_push, frames_pop, frames_more, first_origin, origins_push}
+use Rattle.design_flatten.proofs.LeanLemmas.{whole_design, whole_refused}
+use Rattle.design_flatten.proofs.work.substitute.Goals as goal
+
+pub work-init : goal.work-init
+work-init c =
+    let ms = lean_models c.args.models.now in
+    let first = c.first_frame-first.result in
+    let models = ap lean_models c.in_ok-bodies.ensures.models in
+    let names : first.names.now ≡ (first_model ms).names = c.first_frame-first.ensures.names ∙ ap (λ xs. (first_model xs).names) models in
+    let lines : left_in [] first ≡ lines_at (first_model ms) at_first = c.first_frame-first.ensures.lines ∙ ap (λ xs. lines_at (first_model xs) at_first) models in
+    record {
+      most = omega arith;
+      sink = (
+        [],
+        subst (λ ns. IsSink ns [] c.in_ok-sink.sink) names c.in_ok-sink.ensures,
+        rw (c.in_ok-push-2.ensures.items, c.new-stack.ensures.items) (starts ms first c.first_frame-first.ensures.used lines),
+      );
+      frames = rw (c.in_ok-push-2.ensures.items, c.new-stack.ensures.items) (frames_push 0 [] first tt (omega (arith, c.first_frame-first.ensures.used)) (omega (arith, c.first_frame-first.ensures.uses)));
+      count = rw (c.in_ok-push.ensures.items, c.new-origins.ensures.items) refl;
+      origins = rw (c.in_ok-push.ensures.items, c.new-origins.ensures.items) (first_origin ms _ names);
+    }
+
+pub work-preserved-in_default-2 : goal.work-preserved-in_default-2
+work-preserved-in_default-2 c =
+    let ms = lean_models c.args.models.now in
+    let f = c.in-Some.frame in
+    let way = way_to ms f.given.used in
+    let old = c.work.invariant.sink in
+    let put = c.in_ok-found.ensures.ok way (first_model ms).names old.0 old.1 in
+    record {
+      most = c.work.invariant.most;
+      sink = (
+        put.0,
+        put.1,
+        ended ms c.work.replaced old.0 c.pop.new.self.items f (rw c.in-Some.ensures.items at old.2) put.0 (placed_none way (c.work.replaced + 1) f old.0 put.0 c.in_ok-found.field-0 c.in_default-2.is put.2),
+      );
+      frames = (frames_pop c.work.replaced c.pop.new.self.items f (rw c.in-Some.ensures.items at c.work.invariant.frames)).0;
+      count = c.work.invariant.count;
+      origins = c.work.invariant.origins;
+    }
+
+pub returns-in_err-found-clause-refused : goal.returns-in_err-found-clause-refused
+returns-in_err-found-clause-refused c =
+    let p = err_from_is_err_and c.from_residual-in_err-found.result c.from_residual-in_err-found.ensures.1 in
+    let ms = lean_models c.args.models.now in
+    let f = c.in-Some.frame in
+    let old = c.work.invariant.sink in
+    rw (p.1, p.2) (whole_refused c.args.models.now c.in_err-found.field-0.0 (refused ms c.work.replaced old.0 c.pop.new.self.items f (rw c.in-Some.ensures.items at old.2) c.in_err-found.field-0.0 (c.in_err-found.ensures.refused (way_to ms f.given.used) (first_model ms).names old.0 old.1)))
+
+pub returns-then-replaced-ge-MOST_REPLACED-clause-refused : goal.returns-then-replaced-ge-MOST_REPLACED-clause-refused
+returns-then-replaced-ge-MOST_REPLACED-clause-refused c =
+    let ms = lean_models c.args.models.now in
+    let f = c.in-Some.frame in
+    let way = way_to ms f.given.used in
+    let old = c.work.invariant.sink in
+    let put = c.in_ok-found.ensures.ok way (first_model ms).names old.0 old.1 in
+    let u = placed_some way (c.work.replaced + 1) f old.0 put.0 c.in_ok-found.field-0 c.in-Some-2.found c.in-Some-2.is put.2 in
+    let full : c.work.replaced ≡ 65535 = omega arith in
+    let left = is_left_now ms c.work.replaced old.0 c.pop.new.self.items f (rw c.in-Some.ensures.items at old.2) put.0 c.in-Some-2.found u.0 u.1 put.1.none_left u.3 u.4 in
+    whole_refused c.args.models.now Limit (not_within ms 65535 (subst (λ n. is_left (after ms n) ≡ true) full left))
+
+pub overflow_add-frame : goal.overflow_add-frame
+overflow_add-frame c =
+    let uses = (frames_pop c.work.replaced c.pop.new.self.items c.in-Some.frame (rw c.in-Some.ensures.items at c.work.invariant.frames)).2 in
+    omega (arith, uses, c.work.invariant.most)
+
+pub work-preserved : goal.work-preserved
+work-preserved c =
+    let ms = lean_models c.args.models.now in
+    let f = c.in-Some.frame in
+    let way = way_to ms f.given.used in
+    let old = c.work.invariant.sink in
+    let put = c.in_ok-found.ensures.ok way (first_model ms).names old.0 old.1 in
+    let u = placed_some way (c.work.replaced + 1) f old.0 put.0 c.in_ok-found.field-0 c.in-Some-2.found c.in-Some-2.is put.2 in
+    let olds = frames_pop c.work.replaced c.pop.new.self.items f (rw c.in-Some.ensures.items at c.work.invariant.frames) in
+    let k = c.work.replaced in
+    let pops = c.pop.new.self.items in
+    let placed = put.0 in
+    let now = rw c.in-Some.ensures.items at old.2 in
+    let none = put.1.none_left in
+    let next = c.frame_of-next.result in
+    let leads = origin_is ms k old.0 pops f now placed c.in-Some-2.found u.0 u.1 none u.3 u.4 in
+    let models = ap lean_models c.in_ok-bodies.ensures.models in
+    record {
+      most = omega arith;
+      sink = (
+        put.0,
+        put.1,
+        rw (c.in_ok-push-5.ensures.items, c.in_ok-push-4.ensures.items) (replaced_more ms k old.0 pops f now placed c.in-Some-2.found u.0 u.1 none u.3 u.4 (record f { next = c.in-Some-2.found.next; uses = f.uses + 1 }) next refl c.frame_of-next.ensures.given u.2
+            (subst (λ xs. (w : List ℕ) → left_in w next ≡ without_ports (lines_at (model_named xs c.in-Some-2.found.model.now) (place_of c.in-Some-2.found.given w))) models c.frame_of-next.ensures.lines)),
+      );
+      frames = rw (c.in_ok-push-5.ensures.items, c.in_ok-push-4.ensures.items) (
+          let all = frames_more k pops olds.0 in
+          let used = olds.1 in
+          let uses = olds.2 in
+          let with_old = frames_push (k + 1) pops (record f { next = c.in-Some-2.found.next; uses = f.uses + 1 }) all (omega (arith, used)) (omega (arith, uses)) in
+          frames_push (k + 1) (pops ++ record f { next = c.in-Some-2.found.next; uses = f.uses + 1 } ∷ []) next with_old
+          (omega (arith, ap (λ g. g.used) c.frame_of-next.ensures.given, u.2))
+          (omega (arith, c.frame_of-next.ensures.uses))
+          );
+      count = ap length c.in_ok-push-3.ensures.items ∙ length-append c.work.origins.items _ ∙ ap (λ n. n + 1) c.work.invariant.count;
+      origins = rw c.in_ok-push-3.ensures.items (
+          origins_push ms c.work.origins.items (record { names = next.names; within = f.given.used; place = f.uses }) k c.work.invariant.count c.work.invariant.origins
+          (c.frame_of-next.ensures.names ∙ ap (λ xs. (model_named xs c.in-Some-2.found.model.now).names) models ∙ sym (ap (λ o. o.model.names) leads), olds.1, ap (λ o. o.way) leads)
+          );
+    }
+
+pub returns-clause-ok : goal.returns-clause-ok
+returns-clause-ok c =
+    let ms = lean_models c.args.models.now in
+    let last = c.work.invariant.sink in
+    let count = c.work.invariant.count in
+    let all = all_placed ms c.work.replaced last.0 c.work.stack.items last.1.none_left last.2 (omega (arith, rw c.in_default.is at c.pop.ensures.cases)) in
+    let few : c.work.replaced ≡ length c.work.origins.items - 1 = omega (arith, count) in
+    let same : last.0 ≡ after ms (length c.work.origins.items - 1) = all.reached ∙ ap (after ms) few in
+    whole_design c.args.models.now _ (record {
+      sink = subst (λ ls. IsSink (first_model ms).names ls c.work.sink) same last.1;
+      most = omega (arith, count, c.work.invariant.most);
+      substituted = record { reached = refl; none_left = sym (ap is_left same) ∙ all.none_left };
+      count = omega (arith, count);
+      origins = c.work.invariant.origins;
+    })

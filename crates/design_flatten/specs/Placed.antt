@@ -1,0 +1,30 @@
+-- Lines of the substituted design, as they are kept.
+use Rattle.std.specs.Prelude.{ℕ, ◌≡◌, true, List, [], Option, Some, None, option_map}
+use Rattle.design_flatten.specs.declared.model.Signal.{Signal}
+use Rattle.design_flatten.specs.declared.given.Given.{Given}
+use Rattle.design_flatten.specs.declared.placed.Control.{Control as KeptControl}
+use Rattle.design_flatten.specs.declared.placed.Control.TheVariants as control
+use Rattle.design_flatten.specs.declared.placed.PlacedPart.{PlacedPart}
+use Rattle.design_flatten.specs.declared.placed.PlacedPart.TheVariants as placed
+use Rattle.design_flatten.specs.declared.placed.Placed.{Placed}
+use Rattle.design_flatten.specs.Lines.{Control, GivenControl, NamedControl, Part, InputPart, OutputPart, CoverPart, LatchPart, Line, is_use}
+use Rattle.design_flatten.specs.Given.{place_of}
+use Rattle.design_flatten.specs.Substitution.{becomes, part_through}
+
+abbrev pub control_of : KeptControl → Control Signal
+control_of (control.Given s) = GivenControl s
+control_of (control.Named w) = NamedControl w.now
+
+abbrev pub part_of : PlacedPart → Part Signal
+part_of (placed.Input s) = InputPart s
+part_of (placed.Output s) = OutputPart s
+part_of (placed.Cover out ins cover) = CoverPart out ins cover.now.rows cover.now.off
+part_of (placed.Latch from out init control) = LatchPart from out init (option_map control_of control)
+
+abbrev pub placed_line : Placed → Line Signal
+placed_line p = record { number = p.number; part = part_of p.part }
+
+-- what stands for a part of a model; nothing where it uses a model
+abbrev pub IsPlacedPart : Given → List (List ℕ) → Part ℕ → Option PlacedPart → Type 0
+IsPlacedPart given names part None = is_use part ≡ true
+IsPlacedPart given names part (Some p) = part_of p ≡ part_through (place_of given []) (becomes (place_of given []) names) part

@@ -1,0 +1,8 @@
+use Rattle.std.proofs.Common.{◌≡◌, ◌<◌, ℕ, get_or, true}
+use Rattle.design_netlist.specs.declared.draft.Lit.TheVariants.{Zero}
+use Rattle.design_netlist.specs.Covers.{fits}
+use Rattle.design_netlist.specs.Valuations.{bit_at}
+use Rattle.design_netlist.proofs.eval.row_matches.Given as goal
+
+abbrev pub invariant-places : goal.invariant-places
+invariant-places l = (j : ℕ) → j < l.k → fits (get_or l.row j Zero) (bit_at l.values (get_or l.ins j 0)) ≡ true

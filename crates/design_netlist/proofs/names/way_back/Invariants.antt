@@ -1,0 +1,10 @@
+use Rattle.std.proofs.Common.{◌≡◌, ◌++◌}
+use Rattle.design_netlist.specs.Names.{texts_of, joined, front}
+use Rattle.design_netlist.proofs.NameLemmas.{measure}
+use Rattle.design_netlist.proofs.names.way_back.Given as goal
+
+abbrev pub invariant-back : goal.invariant-back
+invariant-back l = front (texts_of l.beginnings) l.fn.last ≡ front (texts_of l.beginnings) l.next ++ joined l.beginnings l.places.items
+
+abbrev pub decreases-back : goal.decreases-back
+decreases-back l = measure l.next

@@ -1,0 +1,8 @@
+use Rattle.std.proofs.Common.{◌≡◌, take}
+use Rattle.std.specs.Prelude.{fold}
+use Rattle.design_netlist.specs.Drafts.{latch_read}
+use Rattle.design_netlist.specs.Words.{sooner}
+use Rattle.design_netlist.proofs.reads.among_latches.Given as goal
+
+abbrev pub invariant-latches : goal.invariant-latches
+invariant-latches l = l.best ≡ fold (λ b m. sooner l.firsts b (latch_read m)) l.fn.found (take l.k l.latches)

@@ -1,0 +1,7 @@
+use Rattle.std.proofs.Common.{◌≡◌, take}
+use Rattle.std.specs.Prelude.{fold}
+use Rattle.design_netlist.specs.Words.{sooner}
+use Rattle.design_netlist.proofs.reads.among_ports.Given as goal
+
+abbrev pub invariant-ports : goal.invariant-ports
+invariant-ports l = l.best ≡ fold (sooner l.firsts) l.fn.found (take l.k l.ports)

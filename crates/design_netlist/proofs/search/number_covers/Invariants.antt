@@ -1,0 +1,12 @@
+use Rattle.std.proofs.Common.{◌≡◌, ◌<◌, ℕ, length, []}
+use Rattle.design_netlist.specs.declared.search.State.TheVariants.{New}
+use Rattle.design_netlist.specs.Searches.{state_at}
+use Rattle.design_netlist.specs.States.{IsSearching}
+use Rattle.design_netlist.proofs.search.number_covers.Given as goal
+
+abbrev pub invariant-roots : goal.invariant-roots
+invariant-roots l = record {
+  searching : IsSearching l.covers l.search (length l.covers);
+  ended : l.search.groups.items ≡ [];
+  seen : (u : ℕ) → u < l.root → state_at l.search.states.items u ≡ New → ⊥;
+}

@@ -1,0 +1,10 @@
+use Rattle.std.proofs.Common.{length}
+use Rattle.design_netlist.specs.Searches.{StaysSeen}
+use Rattle.design_netlist.specs.States.{IsSearching, left_of}
+use Rattle.design_netlist.proofs.search.run.Given as goal
+
+abbrev pub invariant-steps : goal.invariant-steps
+invariant-steps l = record { searching : IsSearching l.covers l.search (length l.covers); seen : StaysSeen l.fn.search.states.items l.search.states.items }
+
+abbrev pub decreases-steps : goal.decreases-steps
+decreases-steps l = left_of l.covers l.search

@@ -1,0 +1,8 @@
+use Rattle.std.proofs.Common.{◌≡◌, ◌<◌, ℕ, take, map}
+use Rattle.design_netlist.specs.Covers.{some_matches}
+use Rattle.design_netlist.specs.Valuations.{bit_at}
+use Rattle.design_netlist.specs.Lanes.{is_bit, lane_bits}
+use Rattle.design_netlist.proofs.word_truth.rows_word.Given as goal
+
+abbrev pub invariant-rows : goal.invariant-rows
+invariant-rows l = (j : ℕ) → j < 64 → is_bit l.word j ≡ some_matches (take l.k l.rows) (map (bit_at (lane_bits l.words j)) l.ins)

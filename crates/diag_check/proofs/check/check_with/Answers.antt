@@ -1,0 +1,20 @@
+use Rattle.diag_check.proofs.Checking.{loads_around, loads_one, loads_two}
+use Rattle.diag_check.proofs.check.check_with.Goals as goal
+
+pub returns-in-Ok-Some-clause-loads : goal.returns-in-Ok-Some-clause-loads
+returns-in-Ok-Some-clause-loads g c = loads_one _ _ _ c.in-Ok.narrow _ _ _ c.sweep_around.ensures.loads c.in-Ok.ensures.few c.check_in.ensures.loads
+
+pub returns-in-Err-check_in-clause-loads : goal.returns-in-Err-check_in-clause-loads
+returns-in-Err-check_in-clause-loads g c = loads_one _ _ _ c.in-Ok.narrow _ _ _ c.sweep_around.ensures.loads c.in-Ok.ensures.few c.check_in.ensures.loads
+
+pub returns-in-Ok-Some-check_in-clause-loads : goal.returns-in-Ok-Some-check_in-clause-loads
+returns-in-Ok-Some-check_in-clause-loads g c = loads_two _ _ _ c.in-Ok.narrow c.in-Ok-field_of.wide _ _ _ _ c.sweep_around.ensures.loads c.in-Ok.ensures.few c.in-Ok-field_of.ensures.few (rw c.in-Ok-None.field-0-is at c.in-Ok-None.ensures.none) c.check_in-2.ensures.loads
+
+pub returns-in-Ok-None-check_in-clause-loads : goal.returns-in-Ok-None-check_in-clause-loads
+returns-in-Ok-None-check_in-clause-loads g c = loads_two _ _ _ c.in-Ok.narrow c.in-Ok-field_of.wide _ _ _ _ c.sweep_around.ensures.loads c.in-Ok.ensures.few c.in-Ok-field_of.ensures.few (rw c.in-Ok-None.field-0-is at c.in-Ok-None.ensures.none) c.check_in-2.ensures.loads
+
+pub returns-clause-loads : goal.returns-clause-loads
+returns-clause-loads g c = loads_two _ _ _ c.in-Ok.narrow c.in-Ok-field_of.wide _ _ _ _ c.sweep_around.ensures.loads c.in-Ok.ensures.few c.in-Ok-field_of.ensures.few (rw c.in-Ok-None.field-0-is at c.in-Ok-None.ensures.none) c.check_in-2.ensures.loads
+
+pub returns-in-Err-clause-loads : goal.returns-in-Err-clause-loads
+returns-in-Err-clause-loads g c = loads_around _ _ _ _ _ c.sweep_around.ensures.loads

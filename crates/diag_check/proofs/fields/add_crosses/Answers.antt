@@ -1,0 +1,13 @@
+use Rattle.std.proofs.Common.{◌<◌, length, arith}
+use Rattle.std.specs.Prelude.{slice_index_or}
+use Rattle.std.proofs.lemmas.Option.{slice_get-get_or}
+use Rattle.machine_shape.specs.declared.Cross.{Cross}
+use Rattle.diag_check.proofs.Fielding.{crosses_next}
+use Rattle.diag_check.proofs.fields.add_crosses.Goals as goal
+
+pub crosses-preserved : goal.crosses-preserved
+crosses-preserved c =
+    let xs = c.args.crosses.now in
+    let x : Cross = slice_index_or xs c.crosses.j (record { 0 = 0 }) in
+    let within : x.0 < length c.crosses.marks = (let l = c.requires c.crosses.j (record { 0 = 0 }) c.crosses-test.true in let len = c.crosses.invariant.len in omega (arith, l, len)) in
+    rw c.insert.ensures (crosses_next xs c.crosses.j x c.crosses.invariant (slice_get-get_or xs c.crosses.j (record { 0 = 0 }) c.crosses-test.true) within)

@@ -1,0 +1,7 @@
+use Rattle.std.proofs.Common.{◌*◌, length}
+use Rattle.diag_known.specs.Gains.{Gets}
+use Rattle.diag_check.specs.Fields.{IsBetween}
+use Rattle.diag_check.proofs.fields.meet_all.Given as goal
+
+abbrev pub invariant-taps : goal.invariant-taps
+invariant-taps l = Gets (IsBetween l.shape l.taps.items l.lines.items l.j) (l.j * length l.lines.items) l.initial.crosses l.crosses

@@ -1,0 +1,63 @@
+-- What the looks at an image's parts say.
+use Rattle.std.specs.Prelude.{◌≡◌, ℕ, ◌+◌, ◌*◌, ◌<◌, ◌≤◌, Bool, true, Option, Some, IsSome, IsTrue, List, length, Contains}
+use Rattle.base_bits.specs.Numbers.{size_of}
+use Rattle.machine_shape.specs.Faults.{Faults}
+use Rattle.machine_shape.specs.Standing.{IsSeated}
+use Rattle.machine_config.specs.declared.Setting.{Setting}
+use Rattle.machine_config.specs.Configuration.{is_closed, setting_of}
+use Rattle.machine_image.specs.Images.{ImageValue}
+use Rattle.machine_image.specs.Parts.{Uses}
+use Rattle.diag_evidence.specs.Kept.{Kept, HoldsFor, keeps_cross, keeps_cell, keeps_register}
+use Rattle.diag_known.specs.Known.{HasWire, IsKeptCrossOf}
+use Rattle.diag_known.specs.declared.field.Field.{Field}
+use Rattle.diag_known.specs.declared.step.Step.{Step}
+use Rattle.diag_check.specs.Skeleton.{HasSkeleton}
+use Rattle.diag_check.specs.Soundly.{PartsAreSound, IsUnharmed}
+
+-- the used wires are known, and the closed crosspoints kept
+pub record AreRoutesKnown (k : Kept) (ss : List Step) (i : ImageValue) : Type 0 where
+  pub wires : (w : ℕ) → Uses i w → HasWire ss w
+  pub crosses : (x : ℕ) → is_closed i.config x ≡ true → keeps_cross k x ≡ true
+
+-- what an image needs of a table is kept: its cells, and its register if it is latched
+pub record KeepsTableOf (k : Kept) (i : ImageValue) (t : ℕ) : Type 0 where
+  pub cells : (a : ℕ) → a < 64 → keeps_cell k t a ≡ true
+  pub register : (s : Setting) → setting_of i.config t ≡ Some s → s.latched ≡ true → keeps_register k t ≡ true
+
+-- each switched-on table is seated in known wires and kept crosspoints
+abbrev pub AreSeated : Kept → List Step → ImageValue → Type 0
+AreSeated k ss i = (t : ℕ) → IsSome (setting_of i.config t) → IsSeated k.shape (HasWire ss) (IsKeptCrossOf k) t
+
+-- Where the faults are told, what was kept is true of them, they leave the image unharmed and the field has its skeleton, the answer is
+-- yes, and the tables are seated.
+pub record RoutesIf (told : Option Faults) (old new : Kept) (ss : List Step) (i : ImageValue) (a : Field) (yes : Bool) : Type 0 where
+  pub at : (f : Faults) → told ≡ Some f → HoldsFor old f → IsUnharmed f i → HasSkeleton i a → IsTrue yes × AreSeated new ss i
+
+-- Where they are told, what was kept is true of them, the image's parts are sound and its tables are seated, it is yes.
+pub record TablesIf (told : Option Faults) (k : Kept) (ss : List Step) (i : ImageValue) (yes : Bool) : Type 0 where
+  pub at : (f : Faults) → told ≡ Some f → HoldsFor k f → PartsAreSound f i → AreSeated k ss i → IsTrue yes
+
+-- Where they are told, what was kept is true of them, they leave the image unharmed and the field has its skeleton, it is found that the
+-- parts are kept.
+pub record FieldIf (told : Option Faults) (k : Kept) (i : ImageValue) (a : Field) (found : Option Bool) : Type 0 where
+  pub at : (f : Faults) → told ≡ Some f → HoldsFor k f → IsUnharmed f i → HasSkeleton i a → found ≡ Some true
+
+-- Where they are told, what was kept is true of them, and they leave the image unharmed, it is yes.
+pub record WholeIf (told : Option Faults) (k : Kept) (i : ImageValue) (yes : Bool) : Type 0 where
+  pub at : (f : Faults) → told ≡ Some f → HoldsFor k f → IsUnharmed f i → IsTrue yes
+
+-- each closed crosspoint of an image is in the list, and each switched-on table
+abbrev pub HasClosed : ImageValue → List ℕ → Type 0
+HasClosed i xs = (x : ℕ) → is_closed i.config x ≡ true → Contains xs x
+
+abbrev pub HasTablesOn : ImageValue → List ℕ → Type 0
+HasTablesOn i ts = (t : ℕ) → IsSome (setting_of i.config t) → Contains ts t
+
+-- the loads of growth in a field, and of the tests of tables: so many for any list that has each switched-on table
+pub record TakesInField (i : ImageValue) (a : Field) (before after : ℕ) : Type 0 where
+  pub few : (ts : List ℕ) → HasTablesOn i ts → after ≤ before + (8 * size_of a.crosses + 3 * size_of a.wires) + 130 * length ts
+
+-- the loads of the sweep and in both fields: so many for any lists that have each closed crosspoint and each switched-on table
+pub record TakesAtMost (i : ImageValue) (nodes used : List Bool) (before after : ℕ) : Type 0 where
+  pub few : (xs ts : List ℕ) → HasClosed i xs → HasTablesOn i ts →
+      after ≤ before + (238 * size_of nodes + 256 * size_of used + 16 * length xs + 130 * length ts)

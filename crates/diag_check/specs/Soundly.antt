@@ -1,0 +1,67 @@
+-- When an image runs soundly, what has to be kept for that, and how many loads that takes.
+use Rattle.std.specs.Prelude.{◌≡◌, ◌≢◌, ℕ, ◌+◌, ◌*◌, ◌<◌, ◌≤◌, Bool, true, List, map, length, Option, Some, IsSome, IsTrue, Contains}
+use Rattle.machine_shape.specs.Circuit.{Pins}
+use Rattle.machine_shape.specs.Faults.{Faults, IsFaultless}
+use Rattle.machine_shape.specs.Sound.{IsSoundWire, IsSoundCross, IsSoundTable}
+use Rattle.machine_config.specs.declared.Setting.{Setting}
+use Rattle.machine_config.specs.Configuration.{is_closed, setting_of}
+use Rattle.machine_config.specs.Faulty.{IsRun}
+use Rattle.machine_image.specs.Images.{ImageValue, drive_of, image_row}
+use Rattle.machine_image.specs.Parts.{Uses, Part, IsPartOf, IsInvolved, IsWideEnough, IsSurroundingWire, IsSurroundingCross}
+use Rattle.diag_evidence.specs.Kept.{Kept, keeps_cross, keeps_wire, keeps_pair, keeps_cell, keeps_register}
+
+-- For every list of vectors on its input pins, with 1 on all other pins, the image reads at its output pins under these faults what
+-- it reads without faults.
+pub record RunsSoundly (f : Faults) (i : ImageValue) : Type 0 where
+  pub alike : (none : Faults) → IsFaultless none → (vectors : List (List Bool)) (reads others : List Pins) →
+      IsRun f i.config (map (drive_of i) vectors) reads → IsRun none i.config (map (drive_of i) vectors) others →
+      map (image_row i) reads ≡ map (image_row i) others
+
+-- its closed crosspoints, its used wires and each two of these are kept
+pub record KeepsRoutes (k : Kept) (i : ImageValue) : Type 0 where
+  pub crosses : (x : ℕ) → is_closed i.config x ≡ true → keeps_cross k x ≡ true
+  pub wires : (w : ℕ) → Uses i w → keeps_wire k w ≡ true
+  pub pairs : (w u : ℕ) → Uses i w → Uses i u → w ≢ u → keeps_pair k w u ≡ true
+
+-- all cells of its switched-on tables are kept, and the registers of the latched ones
+pub record KeepsTables (k : Kept) (i : ImageValue) : Type 0 where
+  pub cells : (t a : ℕ) → IsSome (setting_of i.config t) → a < 64 → keeps_cell k t a ≡ true
+  pub registers : (t : ℕ) (s : Setting) → setting_of i.config t ≡ Some s → s.latched ≡ true → keeps_register k t ≡ true
+
+pub record KeepsParts (k : Kept) (i : ImageValue) : Type 0 where
+  pub routes : KeepsRoutes k i
+  pub tables : KeepsTables k i
+
+-- where the faults are told: yes means that the image runs soundly under them
+pub record SoundIf (told : Option Faults) (i : ImageValue) (yes : Bool) : Type 0 where
+  pub at : (f : Faults) → told ≡ Some f → IsTrue yes → RunsSoundly f i
+
+-- under these faults each part of the image is sound: the wires that it uses, its closed crosspoints, its switched-on tables
+pub record PartsAreSound (f : Faults) (i : ImageValue) : Type 0 where
+  pub wires : (w : ℕ) → Uses i w → IsSoundWire i.config.shape f w
+  pub crosses : (x : ℕ) → is_closed i.config x ≡ true → IsSoundCross i.config.shape f x
+  pub tables : (t : ℕ) → IsSome (setting_of i.config t) → IsSoundTable i.config.shape f t
+
+-- .. and each wire and crosspoint of its surroundings
+pub record SurroundingsAreSound (f : Faults) (i : ImageValue) : Type 0 where
+  pub wires : (w : ℕ) → IsSurroundingWire i w → IsSoundWire i.config.shape f w
+  pub crosses : (x : ℕ) → IsSurroundingCross i x → IsSoundCross i.config.shape f x
+
+-- No fault is near the image: the machine is wide enough for it, and its parts and surroundings are sound
+pub record IsUnharmed (f : Faults) (i : ImageValue) : Type 0 where
+  pub wide : IsWideEnough i.config.shape i
+  pub parts : PartsAreSound f i
+  pub surroundings : SurroundingsAreSound f i
+
+-- where they are told, and leave the image unharmed, the answer is yes: faults that are far from the image don't matter
+pub record YesIf (told : Option Faults) (i : ImageValue) (yes : Bool) : Type 0 where
+  pub at : (f : Faults) → told ≡ Some f → IsUnharmed f i → IsTrue yes
+
+-- each part of the image is in the one list, and each involved node in the other
+pub record AreAllOf (i : ImageValue) (parts : List Part) (nodes : List ℕ) : Type 0 where
+  pub each_part : (p : Part) → IsPartOf i p → Contains parts p
+  pub each_node : (n : ℕ) → IsInvolved i n → Contains nodes n
+
+-- at most 256 loads for each part and each involved node: so many for any two such lists, also those that have each once
+pub record TakesForParts (i : ImageValue) (before after : ℕ) : Type 0 where
+  pub few : (parts : List Part) (nodes : List ℕ) → AreAllOf i parts nodes → after ≤ before + 256 * (length parts + length nodes)

@@ -1,0 +1,246 @@
+//! The test of an image.
+ghost use Rattle.std.specs.Prelude.{◌≡◌, ◌≤◌, ◌+◌, ◌*◌, ℕ, List, Some, IsSome, IfOk, IfNone, IsErrOf, IsTrue, true, length, Contains};
+ghost use Rattle.base_bits.specs.Numbers.{size_of};
+ghost use Rattle.base_io.specs.Counts.{Rose};
+ghost use Rattle.machine_config.specs.Configuration.{setting_of};
+ghost use Rattle.diag_evidence.specs.Kept.{Advances};
+ghost use Rattle.diag_known.specs.Field.{IsFieldOf};
+ghost use Rattle.diag_known.specs.Known.{IsKnown};
+ghost use Rattle.rig.specs.Rig.{shape_of};
+ghost use Rattle.diag_check.specs.Looks.{FieldIf, RoutesIf, TablesIf, TakesAtMost, TakesInField, WholeIf};
+ghost use Rattle.diag_check.specs.Soundly.{KeepsParts, KeepsRoutes, KeepsTables, SoundIf, TakesForParts, YesIf};
+ghost use Rattle.diag_check.specs.Used.{AreInvolved, AreUsed};
+
+use crate::fields::field_of;
+use crate::laws::kept_images_run_soundly;
+use crate::look::{keeps_routes, keeps_tables};
+use crate::marks::{Parts, parts_of};
+use base_bits::BitSet;
+use diag_evidence::Proof;
+use diag_evidence::laws::{kept_facts_are_sound, tests_add_up};
+use diag_growth::{Field, Known, grow, test_tables};
+use diag_sweep::{Bad, growth_after_a_sweep_is_paid, sweep};
+use machine_image::Image;
+use machine_shape::{
+    Shape, each_wire_has_a_home, parts_of_served_nodes_stand, the_crosspoints_are_sound,
+    the_numbering_is_sound, without_faults_all_is_sound,
+};
+use rig::{Rig, RigFail};
+use std::alloc::Global;
+
+// Grows in a field, and looks whether the image's wires are known and its crosspoints kept then.
+fn grow_over(
+    rig: &mut Box<dyn Rig>,
+    proof: &mut Proof,
+    known: &mut Known,
+    field: &Field,
+    image: &Image,
+    used: &BitSet,
+) -> Result<bool, RigFail>
+    requires attached { shape_of (rig_state rig.old) ≡ Some proof.old.shape }
+    requires known { IsKnown proof.old known.old }
+    requires field { IsFieldOf proof.old.shape field.now }
+    requires image { image.now.config.shape ≡ proof.old.shape }
+    requires used { AreUsed image.now used.now }
+    ensures known { IsKnown proof.new known.new }
+    ensures keeps { IfOk result (λ yes. IsTrue yes → KeepsRoutes proof.new image.now) }
+    ensures whole { IfOk result (RoutesIf (rig_state rig.old).machine.faults proof.old proof.new known.new.steps image.now field.now) }
+    ensures advances { Advances (rig_state rig.old) (rig_state rig.new) proof.old proof.new }
+    ensures loads { (rig_state rig.new).loads ≤ (rig_state rig.old).loads + (8 * size_of field.now.crosses + 3 * size_of field.now.wires) }
+    ensures cause { IsErrOf result RigFail.Failed → Rose (rig_state rig.old).failures (rig_state rig.new).failures }
+{
+    the_numbering_is_sound();
+    the_crosspoints_are_sound();
+    each_wire_has_a_home();
+    without_faults_all_is_sound();
+    parts_of_served_nodes_stand();
+    match grow(rig, proof, known, field) {
+        Ok(()) => Ok(keeps_routes(proof, known, image, used)),
+        Err(fail) => Err(fail),
+    }
+}
+
+// Tests the image's tables, and looks whether what it needs of them is kept then.
+fn look_at_tables(
+    rig: &mut Box<dyn Rig>,
+    proof: &mut Proof,
+    known: &Known,
+    image: &Image,
+) -> Result<bool, RigFail>
+    requires attached { shape_of (rig_state rig.old) ≡ Some proof.old.shape }
+    requires known { IsKnown proof.old known.now }
+    requires image { image.now.config.shape ≡ proof.old.shape }
+    ensures keeps { IfOk result (λ yes. IsTrue yes → KeepsTables proof.new image.now) }
+    ensures whole { IfOk result (TablesIf (rig_state rig.old).machine.faults proof.old known.now.steps image.now) }
+    ensures advances { Advances (rig_state rig.old) (rig_state rig.new) proof.old proof.new }
+    ensures loads { (ts : List ℕ) → ((t : ℕ) → IsSome (setting_of image.now.config t) → Contains ts t) →
+        (rig_state rig.new).loads ≤ (rig_state rig.old).loads + 130 * length ts }
+    ensures cause { IsErrOf result RigFail.Failed → Rose (rig_state rig.old).failures (rig_state rig.new).failures }
+{
+    without_faults_all_is_sound();
+    let config = image.config();
+    match test_tables(rig, proof, known, config.tables_on()) {
+        Ok(()) => Ok(keeps_tables(proof, image)),
+        Err(fail) => Err(fail),
+    }
+}
+
+// Tests the image in a field. It answers nothing where that doesn't reach all its wires and crosspoints.
+fn check_in(
+    rig: &mut Box<dyn Rig>,
+    proof: &mut Proof,
+    known: &mut Known,
+    field: &Field,
+    image: &Image,
+    used: &BitSet,
+) -> Result<Option<bool>, RigFail>
+    requires attached { shape_of (rig_state rig.old) ≡ Some proof.old.shape }
+    requires known { IsKnown proof.old known.old }
+    requires field { IsFieldOf proof.old.shape field.now }
+    requires image { image.now.config.shape ≡ proof.old.shape }
+    requires used { AreUsed image.now used.now }
+    ensures known { IfOk result (λ found. IfNone found (IsKnown proof.new known.new)) }
+    ensures keeps { IfOk result (λ found. found ≡ Some true → KeepsParts proof.new image.now) }
+    ensures whole { IfOk result (FieldIf (rig_state rig.old).machine.faults proof.old image.now field.now) }
+    ensures advances { Advances (rig_state rig.old) (rig_state rig.new) proof.old proof.new }
+    ensures loads { TakesInField image.now field.now (rig_state rig.old).loads (rig_state rig.new).loads }
+    ensures none { IfOk result (λ found. IfNone found
+        ((rig_state rig.new).loads ≤ (rig_state rig.old).loads + (8 * size_of field.now.crosses + 3 * size_of field.now.wires))) }
+    ensures cause { IsErrOf result RigFail.Failed → Rose (rig_state rig.old).failures (rig_state rig.new).failures }
+{
+    tests_add_up();
+    match grow_over(rig, proof, known, field, image, used) {
+        Ok(true) => {}
+        Ok(false) => return Ok(None),
+        Err(fail) => return Err(fail),
+    }
+    match look_at_tables(rig, proof, known, image) {
+        Ok(yes) => Ok(Some(yes)),
+        Err(fail) => Err(fail),
+    }
+}
+
+// How many ports and lines of each involved node a sweep goes over.
+const BROAD: usize = 10;
+
+// Whether the wires that the image uses pay for a sweep of the field.
+fn is_paid(field: &Field, used: &BitSet) -> bool
+    ensures { IsTrue result → 2 * size_of field.now.crosses + size_of field.now.wires ≤ 170 * size_of used.now }
+{
+    let most = 2 * u64::from(field.crosses.count()) + u64::from(field.wires.count());
+    most <= 170 * u64::from(used.count())
+}
+
+// Sweeps a broad field around the image, where that is paid for. What it finds bad is left to growth.
+fn sweep_around(
+    alloc: Global,
+    rig: &mut Box<dyn Rig>,
+    proof: &mut Proof,
+    known: &mut Known,
+    image: &Image,
+    parts: &Parts,
+) -> Result<(), RigFail>
+    requires attached { shape_of (rig_state rig.old) ≡ Some proof.old.shape }
+    requires known { IsKnown proof.old known.old }
+    requires image { image.now.config.shape ≡ proof.old.shape }
+    requires used { AreUsed image.now parts.now.used }
+    requires nodes { AreInvolved image.now parts.now.nodes }
+    ensures known { IsKnown proof.new known.new }
+    ensures advances { Advances (rig_state rig.old) (rig_state rig.new) proof.old proof.new }
+    ensures loads { (rig_state rig.new).loads ≤ (rig_state rig.old).loads + 170 * size_of parts.now.used }
+    ensures cause { IsErrOf result RigFail.Failed → Rose (rig_state rig.old).failures (rig_state rig.new).failures }
+{
+    tests_add_up();
+    growth_after_a_sweep_is_paid();
+    let Ok(field) = field_of(alloc, image, parts, BROAD) else {
+        return Err(RigFail::Memory);
+    };
+    if !is_paid(&field, &parts.used) {
+        return Ok(());
+    }
+    let Ok(mut bad) = Bad::none(alloc, &proof.shape()) else {
+        return Err(RigFail::Memory);
+    };
+    let config = image.config();
+    sweep(rig, proof, known, &mut bad, &field, config.tables_on())
+}
+
+// Sweeps around the image, and then tests it in two fields, the second with a further port and line of each node, for where one of
+// the first is bad.
+fn check_with(
+    alloc: Global,
+    rig: &mut Box<dyn Rig>,
+    proof: &mut Proof,
+    image: &Image,
+    parts: &Parts,
+) -> Result<bool, RigFail>
+    requires attached { shape_of (rig_state rig.old) ≡ Some proof.old.shape }
+    requires image { image.now.config.shape ≡ proof.old.shape }
+    requires used { AreUsed image.now parts.now.used }
+    requires nodes { AreInvolved image.now parts.now.nodes }
+    ensures keeps { IfOk result (λ yes. IsTrue yes → KeepsParts proof.new image.now) }
+    ensures whole { IfOk result (WholeIf (rig_state rig.old).machine.faults proof.old image.now) }
+    ensures advances { Advances (rig_state rig.old) (rig_state rig.new) proof.old proof.new }
+    ensures loads { TakesAtMost image.now parts.now.nodes parts.now.used (rig_state rig.old).loads (rig_state rig.new).loads }
+    ensures cause { IsErrOf result RigFail.Failed → Rose (rig_state rig.old).failures (rig_state rig.new).failures }
+{
+    tests_add_up();
+    let Ok(narrow) = field_of(alloc, image, parts, 2) else {
+        return Err(RigFail::Memory);
+    };
+    let Ok(wide) = field_of(alloc, image, parts, 3) else {
+        return Err(RigFail::Memory);
+    };
+    let Ok(mut known) = Known::new(alloc, &proof.shape()) else {
+        return Err(RigFail::Memory);
+    };
+    match sweep_around(alloc, rig, proof, &mut known, image, parts) {
+        Ok(()) => {}
+        Err(fail) => return Err(fail),
+    }
+    match check_in(rig, proof, &mut known, &narrow, image, &parts.used) {
+        Ok(Some(yes)) => return Ok(yes),
+        Ok(None) => {}
+        Err(fail) => return Err(fail),
+    }
+    match check_in(rig, proof, &mut known, &wide, image, &parts.used) {
+        Ok(Some(yes)) => Ok(yes),
+        Ok(None) => Ok(false),
+        Err(fail) => Err(fail),
+    }
+}
+
+/// Whether an image still runs on the attached machine as on one without faults. Each part of it is tested over routes of the
+/// test's own, with at most 256 loads for each part and each involved node, whatever the answer. `true` means so, where the rig
+/// tells the machine's faults. `false` may be wrong, but not on a machine that is wide enough for the image and on which its parts and
+/// surroundings are sound, as all are without faults: a fault that is far from the image doesn't matter.
+///
+/// # Errors
+///
+/// `Failed` where a call of the rig failed, `Memory` where memory was wanting.
+pub fn quick_check(
+    alloc: Global,
+    rig: &mut Box<dyn Rig>,
+    shape: &Shape,
+    image: &Image,
+) -> Result<bool, RigFail>
+    requires attached { shape_of (rig_state rig.old) ≡ Some shape.now }
+    requires image { image.now.config.shape ≡ shape.now }
+    ensures sound { IfOk result (SoundIf (rig_state rig.old).machine.faults image.now) }
+    ensures whole { IfOk result (YesIf (rig_state rig.old).machine.faults image.now) }
+    ensures machine { (rig_state rig.new).machine ≡ (rig_state rig.old).machine }
+    ensures later { (rig_state rig.old).failures ≤ (rig_state rig.new).failures }
+    ensures counted { (rig_state rig.old).loads ≤ (rig_state rig.new).loads }
+    ensures loads { TakesForParts image.now (rig_state rig.old).loads (rig_state rig.new).loads }
+    ensures cause { IsErrOf result RigFail.Failed → Rose (rig_state rig.old).failures (rig_state rig.new).failures }
+{
+    kept_facts_are_sound();
+    kept_images_run_soundly();
+    let Ok(parts) = parts_of(alloc, image) else {
+        return Err(RigFail::Memory);
+    };
+    let Ok(mut proof) = Proof::new(alloc, *shape) else {
+        return Err(RigFail::Memory);
+    };
+    check_with(alloc, rig, &mut proof, image, &parts)
+}

@@ -1,0 +1,69 @@
+-- What two loads of a sheet show.
+use Rattle.std.proofs.Common.{◌≡◌, ℕ, Bool, true, not, ◌&&◌, ◌||◌, Some, Option, List, sym, ap, ◌∙◌, subst}
+use Rattle.base_bits.specs.Numbers.{has_number}
+use Rattle.machine_shape.specs.declared.Table.{Table}
+use Rattle.machine_shape.specs.Faults.{Faults}
+use Rattle.machine_config.specs.declared.Setting.{Setting}
+use Rattle.rig.specs.Rig.{RigState}
+use Rattle.diag_evidence.specs.declared.sheets.Sheet.{Sheet}
+use Rattle.diag_evidence.specs.Forests.{Trees, KnowsForest}
+use Rattle.diag_evidence.specs.Kept.{Kept, Gains, HoldsFor}
+use Rattle.diag_evidence.specs.Sheets.{IsReadyFor, IsReadTwice}
+use Rattle.diag_evidence.specs.TableRows.{AreOpposite, AreTablesOn, HasTabled, IsTableConfig, IsTableLoad, MarksWrong, WrongIf, is_one_of, is_right_before, output_pin, right_parts}
+use Rattle.diag_evidence.proofs.KeptLemmas.{GainHoldsFor}
+use Rattle.diag_evidence.proofs.Settings.{laid_again}
+use Rattle.diag_evidence.proofs.Tabled.{right_holds, marks_wrong, newly_wrong}
+
+module _ (told : Option Faults) (trees : Trees) (ts : List Table) (old new : Sheet) (rig : RigState) (ready : IsReadyFor trees ts old) (read : IsReadTwice told ts old new rig) where
+  first_load : IsTableLoad told trees ts new.setting old.drives.items new.reads.items
+  first_load = record {
+    config = old.config.config;
+    laid = subst (λ s. IsTableConfig trees ts s old.config.config) (sym read.setting) ready.laid;
+    run = read.run.run;
+  }
+
+  second_load : IsTableLoad told trees ts read.other old.drives.items new.opposite.items
+  second_load = record {
+    config = new.config.config;
+    laid = laid_again trees ts old.setting read.other old.config.config new.config.config ready.laid read.switched;
+    run = read.run_opposite.run;
+  }
+
+  opposed : AreOpposite new.setting read.other
+  opposed = subst (λ s. AreOpposite s read.other) (sym read.setting) read.opposed
+
+  latched : new.setting.latched ≡ true
+  latched = ap (λ (s : Setting). s.latched) read.setting ∙ ready.latched
+
+  module _ (k : Kept) where
+    pub has_tabled : (l : Kept) (was is : List Bool) → Gains (right_parts trees ts new.setting new.reads.items new.opposite.items) k l →
+        ((t : ℕ) → has_number is t ≡ ((is_one_of ts t && not (is_right_before new.setting new.reads.items new.opposite.items (output_pin trees t) 65)) || has_number was t)) → HasTabled told trees ts rig k l was is
+    unfolding second_load
+    has_tabled l was is gains marks = record {
+      setting = new.setting;
+      latched = latched;
+      low = ap (λ (s : Setting). s.init) read.setting ∙ ready.low;
+      other = read.other;
+      opposed = opposed;
+      drives = old.drives.items;
+      driven = ready.driven;
+      reads = new.reads.items;
+      first = first_load;
+      opposite = new.opposite.items;
+      second = second_load;
+      gains = gains;
+      marks = marks;
+      session = read.session;
+    }
+
+    module _ (known : KnowsForest k trees) (on : AreTablesOn trees ts) where
+      pub holds_after : (f : Faults) → told ≡ Some f → HoldsFor k f → GainHoldsFor k.shape (right_parts trees ts new.setting new.reads.items new.opposite.items) f
+      holds_after = right_holds told k trees ts ready.forest known on new.setting read.other latched opposed old.drives.items new.reads.items new.opposite.items ready.driven first_load second_load
+
+      pub newly_after : (was is : List Bool) →
+          ((t : ℕ) → has_number is t ≡ ((is_one_of ts t && not (is_right_before new.setting new.reads.items new.opposite.items (output_pin trees t) 65)) || has_number was t)) → MarksWrong told k was is
+      newly_after = newly_wrong told k trees ts ready.forest known on new.setting read.other latched opposed old.drives.items new.reads.items new.opposite.items ready.driven first_load second_load
+
+      pub wrong_after : (was is : List Bool) (l : Kept) → Gains (right_parts trees ts new.setting new.reads.items new.opposite.items) k l →
+          ((t : ℕ) → has_number is t ≡ ((is_one_of ts t && not (is_right_before new.setting new.reads.items new.opposite.items (output_pin trees t) 65)) || has_number was t)) → WrongIf told k was → WrongIf told l is
+      wrong_after = marks_wrong told k trees ts ready.forest known on new.setting read.other latched opposed old.drives.items new.reads.items new.opposite.items ready.driven first_load second_load

@@ -1,0 +1,45 @@
+-- The readings of a session.
+use Rattle.std.proofs.Common.{◌≡◌, ℕ, Bool, true, Some, None, Option, List, [], ◌∷◌, ◌++◌, get_or, ap, ◌∙◌, subst, arith, Result, Ok, Err, OnOk}
+use Rattle.std.specs.Prelude.{IfSome, unwrap_or, slice_get}
+use Rattle.std.proofs.lemmas.Option.{gets}
+use Rattle.machine_shape.specs.Circuit.{Pins}
+use Rattle.machine_shape.specs.Faults.{Faults}
+use Rattle.machine_config.specs.Configuration.{Configuration}
+use Rattle.machine_config.specs.Faulty.{IsRun}
+use Rattle.diag_evidence.specs.Readings.{HasCycled}
+use Rattle.rig.specs.Rig.{RigState, Exchange, Begins, GoesOn, config_of, cycles_of, drives_of, readings_of}
+
+if_some : {T : Type 0} (P : T → Type 0) (o : Option T) (x : T) → o ≡ Some x → IfSome o P → P x
+if_some P None x e p = cc
+if_some P (Some y) x e p = subst P (ap (λ o. unwrap_or o x) e) p
+
+-- two cycles after a load
+pub two_cycles : (told : Option Faults) (b c d : RigState) (g : Configuration) (room : ℕ) (low high r q : Pins) → Begins g room b → GoesOn low r b c → GoesOn high q c d → d.machine.faults ≡ told →
+    (f : Faults) → told ≡ Some f → IsRun f g (low ∷ high ∷ []) (r ∷ q ∷ [])
+two_cycles told b c d g room low high r q begins one two same f is =
+    subst (λ (cs : List Exchange). IsRun f g (drives_of cs) (readings_of cs)) cycles
+    (if_some _ (config_of d) g (two.config ∙ one.config ∙ begins.config) (if_some _ d.machine.faults f (same ∙ is) two.told))
+  where
+    cycles : cycles_of d ≡ record { drive = low; reading = r } ∷ record { drive = high; reading = q } ∷ []
+    cycles = two.cycles ∙ ap (λ (cs : List Exchange). cs ++ record { drive = high; reading = q } ∷ []) (one.cycles ∙ ap (λ (cs : List Exchange). cs ++ record { drive = low; reading = r } ∷ []) begins.cycles)
+
+pub on_ok : {T E P Q : Type 0} (r : Result T E) → OnOk r P → (P → Q) → OnOk r Q
+on_ok (Ok x) p h = h p
+on_ok (Err e) p h = tt
+
+-- the session after one cycle, and after two
+pub cycled_once : (b c : RigState) (g : Configuration) (room : ℕ) (drive r : Pins) → Begins g room b → GoesOn drive r b c → HasCycled g (drive ∷ []) c
+cycled_once b c g room drive r begins one = record {
+  config = one.config ∙ begins.config;
+  cycles = ap drives_of (one.cycles ∙ ap (λ (cs : List Exchange). cs ++ record { drive = drive; reading = r } ∷ []) begins.cycles);
+}
+
+pub cycled_twice : (b c d : RigState) (g : Configuration) (room : ℕ) (low high r q : Pins) → Begins g room b → GoesOn low r b c → GoesOn high q c d → HasCycled g (low ∷ high ∷ []) d
+cycled_twice b c d g room low high r q begins one two = record {
+  config = two.config ∙ one.config ∙ begins.config;
+  cycles = ap drives_of (two.cycles ∙ ap (λ (cs : List Exchange). cs ++ record { drive = high; reading = q } ∷ []) (one.cycles ∙ ap (λ (cs : List Exchange). cs ++ record { drive = low; reading = r } ∷ []) begins.cycles));
+}
+
+-- the bit that is got
+pub got : (read : Pins) (pin : ℕ) (b : Bool) → slice_get read pin ≡ Some b → b ≡ get_or read pin true
+got read pin b e = grind (arith, gets, e)

@@ -1,0 +1,72 @@
+-- What a test of hangs leaves.
+use Rattle.std.proofs.Common.{◌≡◌, ◌≤◌, ◌+◌, ℕ, Bool, true, false, Some, Option, List, All, refl, sym, ◌∙◌}
+use Rattle.std.specs.Prelude.{map}
+use Rattle.std.proofs.lemmas.List.Elements.{All-map}
+use Rattle.machine_shape.specs.Faults.{Faults}
+use Rattle.rig.specs.Rig.{RigState}
+use Rattle.diag_evidence.specs.declared.hangs.Hang.{Hang}
+use Rattle.diag_evidence.specs.declared.hangs.Views.{Views}
+use Rattle.diag_evidence.specs.Kept.{Kept, IsMore, Gains, Advances}
+use Rattle.diag_evidence.specs.Forests.{Trees, IsForest, KnowsForest}
+use Rattle.diag_evidence.specs.Hangs.{IsFoot, AreHangs, AreAllOf, MarksUnfit, MarksUnclear, UnfitIf, UnclearIf, StayMarked, HasTried, silent, answered, over_of, turned, overs, others, shown, seen_on}
+use Rattle.diag_evidence.specs.Plans.{HasViewed, HasLearnt}
+use Rattle.diag_evidence.proofs.Keeping.{more_then}
+use Rattle.diag_evidence.proofs.KeptLemmas.{more_by_gain}
+use Rattle.diag_evidence.proofs.Hanging.{AreHung, hung_turned, overs_feet, overs_once, hung_advances}
+use Rattle.diag_evidence.proofs.Marked.{still_unfit, still_unclear, unfit_new, unclear_new, unfit_then, unclear_then, unfit_all, unclear_all, unfit_later, unclear_later}
+
+pub are_hung : {trees : Trees} {hs : List Hang} → AreHangs trees hs → AreHung trees hs
+are_hung h = record { over = h.over; other = h.other; wires = h.wires }
+
+module _ (told : Option Faults) (trees : Trees) (hs : List Hang) (views : Views) (yes : Bool) (viewed : HasViewed told trees hs views yes) (k l : Kept) where
+  pub tried_silent : {before after : ℕ} (was were : List Bool) → yes ≡ false → after ≤ before + 1 → l ≡ k → HasTried told trees hs before after k l was was were were
+  tried_silent was were e once same = silent views.all.rows viewed.all (viewed.answers ∙ e) once same refl refl
+
+  module _ (is_yes : yes ≡ true) {was is were are : List Bool} (learnt : HasLearnt trees hs views k l was is were are) where
+    pub tried_answered : {before after : ℕ} → HasTried told trees hs before after k l was is were are
+    tried_answered = answered views.all.rows viewed.all (viewed.answers ∙ is_yes) (record {
+      without_over = views.without_over.rows;
+      over_look = viewed.without_over is_yes;
+      without_other = views.without_other.rows;
+      other_look = viewed.without_other is_yes;
+      mid = learnt.mid;
+      first = learnt.first;
+      second = learnt.second;
+      some = learnt.some;
+      few = learnt.few;
+      first_marks = learnt.first_marks;
+      second_marks = learnt.second_marks;
+    })
+
+    pub stay_unfit : StayMarked was is
+    stay_unfit w on = still_unfit learnt.second_marks w (still_unfit learnt.first_marks w on)
+
+    pub stay_unclear : StayMarked were are
+    stay_unclear w on = still_unclear learnt.second_marks w (still_unclear learnt.first_marks w on)
+
+    more : IsMore k l
+    more = more_then (more_by_gain _ k learnt.mid learnt.first) (more_by_gain _ learnt.mid l learnt.second)
+
+    module _ (forest : IsForest trees) (knows : KnowsForest k trees) (hung : AreHung trees hs) where
+      other_feet : All (IsFoot trees) (others hs)
+      other_feet = overs_feet (map turned hs) (hung_turned hung).over
+
+      pub newly_unfit : MarksUnfit told k trees was is
+      newly_unfit = unfit_then told k trees was learnt.some is
+          (unfit_new told k trees (others hs) views.without_over.rows forest knows other_feet (overs_once (hung_turned hung)) (viewed.without_over is_yes) learnt.first_marks)
+          (unfit_new told k trees (overs hs) views.without_other.rows forest knows (overs_feet hs hung.over) (overs_once hung) (viewed.without_other is_yes) learnt.second_marks)
+
+      pub newly_unclear : MarksUnclear told k were are
+      newly_unclear = unclear_then told k were learnt.few are
+          (unclear_new told k trees (others hs) views.without_over.rows forest knows other_feet (overs_once (hung_turned hung)) (viewed.without_over is_yes) learnt.first_marks)
+          (unclear_new told k trees (overs hs) views.without_other.rows forest knows (overs_feet hs hung.over) (overs_once hung) (viewed.without_other is_yes) learnt.second_marks)
+
+      pub unfit_hung : (known : ℕ → Bool) → AreAllOf trees known → UnfitIf told k known was → UnfitIf told l known is
+      unfit_hung known all before = unfit_later told k l known is more (unfit_all told k trees was is newly_unfit known all before)
+
+      pub unclear_hung : UnclearIf told k were → UnclearIf told l are
+      unclear_hung before = unclear_later told k l are more (unclear_all told k were are newly_unclear before)
+
+      pub tried_advances : {old new : RigState} → old.machine.faults ≡ told → new.machine ≡ old.machine → old.failures ≤ new.failures → old.loads ≤ new.loads → Advances old new k l
+      tried_advances same machine later counted = hung_advances k trees hs views.all.rows views.without_over.rows views.without_other.rows forest knows.keeps hung viewed.all (viewed.without_over is_yes) (viewed.without_other is_yes)
+          same machine later counted learnt.first learnt.second

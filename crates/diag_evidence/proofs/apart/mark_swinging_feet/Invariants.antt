@@ -1,0 +1,13 @@
+use Rattle.std.proofs.Common.{◌≡◌, ◌&&◌, ◌||◌, ℕ, length, take}
+use Rattle.std.specs.Prelude.{◌==◌}
+use Rattle.std.specs.List.{list_any}
+use Rattle.base_bits.specs.Numbers.{has_number}
+use Rattle.diag_evidence.specs.Hangs.{pin_at}
+use Rattle.diag_evidence.specs.Looks.{swings}
+use Rattle.diag_evidence.proofs.apart.mark_swinging_feet.Given as goal
+
+abbrev pub invariant-feet : goal.invariant-feet
+invariant-feet l = record {
+  marked : (w : ℕ) → has_number l.wires w ≡ (list_any (λ foot. (foot.0.0 == w) && swings l.reads.rows (pin_at l.forest foot)) (take l.k l.feet) || has_number l.fn.wires w);
+  len : length l.wires ≡ length l.fn.wires;
+}

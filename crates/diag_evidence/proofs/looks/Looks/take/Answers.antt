@@ -1,0 +1,31 @@
+use Rattle.std.proofs.Common.{◌≡◌, ◌<◌, ◌+◌, ◌∙◌, All, List, ℕ, length, take, drop, subst, sym, ap, arith}
+use Rattle.std.specs.Prelude.{map}
+use Rattle.machine_shape.specs.Shape.{pins_of}
+use Rattle.machine_shape.specs.Circuit.{Pins}
+use Rattle.diag_evidence.specs.Looks.{Sights, AreSights, ReadsEach, look_drives}
+use Rattle.diag_evidence.proofs.Rows.{whole_again, as_many, as_wide, drives_count, drives_wide}
+use Rattle.diag_evidence.proofs.looks.Looks.take.Goals as goal
+
+pub read_rows-requires-clause-drives : goal.read_rows-requires-clause-drives
+read_rows-requires-clause-drives g c =
+    subst (λ (rows : List Pins). All (λ row. length row ≡ pins_of c.args.config.now.config.shape) rows) (sym (c.deref.ensures.value ∙ c.requires.drives))
+    (subst (λ n. All (λ row. length row ≡ n) (look_drives c.args.self.now.pins)) c.requires.pins (drives_wide c.args.self.now.pins))
+
+pub read_rows-requires-clause-as_many : goal.read_rows-requires-clause-as_many
+read_rows-requires-clause-as_many g c =
+    ap length (c.deref.ensures.value ∙ c.requires.drives) ∙ drives_count c.args.self.now.pins ∙ ap (λ (s : Sights). s.pins + 1) (sym c.self.view_is) ∙ sym c.self.invariant.cycles ∙ ap length (sym c.deref_mut.ensures.value)
+
+pub read_rows-requires-clause-room : goal.read_rows-requires-clause-room
+read_rows-requires-clause-room g c =
+    ap (λ (s : Sights). s.pins + 1) c.self.view_is ∙ sym (drives_count c.args.self.now.pins) ∙ ap length (sym (c.deref.ensures.value ∙ c.requires.drives))
+
+pub invariant_of-self : goal.invariant_of-self
+invariant_of-self g c =
+    let kept = c.read_rows.ensures.lengths in
+    let rows : map length c.read_rows.new.rows ≡ map length c.self.inside.rows.items = kept ∙ ap (map length) c.deref_mut.ensures.value in
+    let many : length c.read_rows.new.rows ≡ length c.self.inside.rows.items = as_many c.self.inside.rows.items c.read_rows.new.rows rows in
+    subst (λ (rs : List Pins). AreSights (record { pins = c.self.inside.pins; rows = rs })) (sym (whole_again c.self.inside.rows.len c.read_rows.new.rows c.self.inside.rows.items many c.self.inside.rows.ok.0)) (record {
+      cycles = many ∙ c.self.invariant.cycles;
+      each = as_wide c.self.inside.pins c.self.inside.rows.items c.read_rows.new.rows rows c.self.invariant.each;
+      few = c.self.invariant.few;
+    })

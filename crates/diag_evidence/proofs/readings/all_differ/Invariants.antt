@@ -1,0 +1,6 @@
+use Rattle.std.proofs.Common.{◌≢◌, ◌<◌, ℕ, true, get_or}
+use Rattle.diag_tests.specs.Routes.{Walk}
+use Rattle.diag_evidence.proofs.readings.all_differ.Given as goal
+
+abbrev pub invariant-routes : goal.invariant-routes
+invariant-routes l = (j : ℕ) (d : Walk) → j < l.k → get_or l.read l.pin true ≢ get_or l.read (get_or l.routes j d).pin true

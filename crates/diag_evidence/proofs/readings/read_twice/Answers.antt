@@ -1,0 +1,17 @@
+use Rattle.std.proofs.Common.{◌∙◌, ap}
+use Rattle.rig.specs.Rig.{Machine}
+use Rattle.diag_evidence.proofs.Sessions.{cycled_twice, two_cycles, got}
+use Rattle.diag_evidence.proofs.readings.read_twice.Goals as goal
+
+pub returns-clause-reads : goal.returns-clause-reads
+returns-clause-reads g c = record {
+  reading = c.cycle.new.read;
+  later = c.cycle-2.new.read;
+  run = two_cycles _ _ _ _ c.args.config.now.config _ c.args.low.now c.args.high.now _ _ c.in_ok-begin.ensures.begins c.in_ok-cycle.ensures.cycles c.in_ok-cycle-2.ensures.cycles
+      (ap (λ (m : Machine). m.faults) (c.in_ok-cycle-2.ensures.machine ∙ c.in_ok-cycle.ensures.machine ∙ c.in_ok-begin.ensures.loads.machine));
+  first_is = got c.cycle.new.read c.args.at _ c.get-first.ensures;
+  second_is = got c.cycle-2.new.read c.args.at _ c.get-second.ensures;
+}
+
+pub returns-clause-session : goal.returns-clause-session
+returns-clause-session g c = cycled_twice _ _ _ c.args.config.now.config _ c.args.low.now c.args.high.now _ _ c.in_ok-begin.ensures.begins c.in_ok-cycle.ensures.cycles c.in_ok-cycle-2.ensures.cycles

@@ -1,0 +1,9 @@
+use Rattle.std.proofs.Common.{◌≡◌, length}
+use Rattle.diag_evidence.specs.Sheets.{HaveWidth}
+use Rattle.diag_evidence.proofs.sheets.blank_rows.Given as goal
+
+abbrev pub invariant-rows : goal.invariant-rows
+invariant-rows l = record {
+  count : length l.rows.items ≡ l._k;
+  width : HaveWidth l.pins l.rows.items;
+}

@@ -1,0 +1,10 @@
+use Rattle.std.proofs.Common.{◌≡◌, length, take}
+use Rattle.machine_shape.specs.Shape.{tables_of}
+use Rattle.diag_evidence.specs.Sheets.{SwitchesOn}
+use Rattle.diag_evidence.proofs.sheets.switch_all.Given as goal
+
+abbrev pub invariant-tables : goal.invariant-tables
+invariant-tables l = record {
+  switched : SwitchesOn (take l.k l.tables) l.setting l.fn.config.config l.config.config;
+  room : length l.config.config.tables ≡ tables_of l.fn.config.config.shape;
+}

@@ -1,0 +1,7 @@
+use Rattle.std.proofs.Common.{take}
+use Rattle.diag_tests.specs.Configs.{Closes}
+use Rattle.diag_evidence.specs.Hangs.{feet_crosses}
+use Rattle.diag_evidence.proofs.sights.close_feet.Given as goal
+
+abbrev pub invariant-feet : goal.invariant-feet
+invariant-feet l = Closes (take l.k (feet_crosses l.feet)) l.fn.config.config l.config.config

@@ -1,0 +1,13 @@
+-- How the facts about one rig's faults are kept.
+use Rattle.diag_evidence.specs.Kept.{Kept}
+use Rattle.diag_evidence.specs.declared.proof.Proof.TheInside.{Inside}
+
+abbrev pub kept_in : Inside → Kept
+kept_in p = record {
+  shape = p.shape;
+  crosses = p.crosses;
+  wires = p.wires;
+  pairs = p.pairs;
+  cells = p.cells;
+  registers = p.registers;
+}

@@ -1,0 +1,336 @@
+//! Wires that hang on two trees each over a crosspoint that isn't known, tested many at a time.
+ghost use Rattle.std.specs.Prelude.{◌≡◌, ◌≤◌, ◌<◌, ◌+◌, ◌++◌, ℕ, Bool, false, Some, All, map, length, IfOk, OnOk, OnErr, IsErrOf};
+ghost use Rattle.base_io.specs.Counts.{Rose};
+ghost use Rattle.machine_shape.specs.Shape.{wires_of, pins_of};
+ghost use Rattle.rig.specs.Rig.{shape_of};
+ghost use Rattle.diag_evidence.specs.Kept.{Advances};
+ghost use Rattle.diag_evidence.specs.Forests.{KnowsForest};
+ghost use Rattle.diag_evidence.specs.Hangs.{AreHangs, AreAllOf, HasTried, MarksUnfit, MarksUnclear, UnfitIf, UnclearIf, StayMarked};
+ghost use Rattle.diag_evidence.specs.Hangs.{IsFoot, over_of, turned, overs, is_shown, others_part_from, shown, some_answers};
+ghost use Rattle.diag_evidence.specs.Looks.{HasLooked, WantsRoom};
+ghost use Rattle.diag_evidence.specs.Readings.{LoadsUpTo};
+ghost use Rattle.diag_evidence.specs.Plans.{IsPlan, AreViews, HasViewed, HasLearnt};
+
+use crate::feet::{mark_unfit, pin_at};
+use crate::looks::look_drives;
+use crate::{Forest, Looks, Proof};
+use base_bits::BitSet;
+use machine_shape::{Cross, Shape, Wire};
+use rig::{PinBits, Rig, RigFail};
+use std::alloc::{AllocError, Global};
+
+/// A wire under test, with two crosspoints from it to wires that hang on different pins.
+#[derive(Clone, Copy, Debug, PartialEq, Eq)]
+pub struct Hang {
+    pub wire: Wire,
+    pub over: Cross,
+    pub other: Cross,
+}
+
+// What is closed in the three looks, and how they are driven.
+#[derive(Drop)]
+struct Plan {
+    // The hangs whose crosspoints have changed places.
+    turned: Vec<Hang>,
+    overs: Vec<(Wire, Cross)>,
+    others: Vec<(Wire, Cross)>,
+    all: Vec<(Wire, Cross)>,
+    drives: Vec<PinBits>,
+}
+
+// The three looks: with all crosspoints, and without those over and the other ones.
+#[derive(Drop)]
+struct Views {
+    all: Looks,
+    without_over: Looks,
+    without_other: Looks,
+}
+
+// The hangs whose crosspoints have changed places.
+fn turned(alloc: Global, hangs: &[Hang]) -> Result<Vec<Hang>, AllocError>
+    ensures { IfOk result (λ v. v.items ≡ map turned hangs.now) }
+{
+    let mut turned = Vec::new(alloc);
+    'hangs: for k in 0..hangs.len() {
+        turned.push(Hang {
+            wire: hangs[k].wire,
+            over: hangs[k].other,
+            other: hangs[k].over,
+        })?;
+    }
+    Ok(turned)
+}
+
+// Adds the feet over the first crosspoints of hangs.
+fn add_overs(feet: &mut Vec<(Wire, Cross)>, hangs: &[Hang]) -> Result<(), AllocError>
+    ensures { OnOk result (feet.new.items ≡ feet.old.items ++ overs hangs.now) }
+{
+    'hangs: for k in 0..hangs.len() {
+        feet.push((hangs[k].wire, hangs[k].over))?;
+    }
+    Ok(())
+}
+
+// The feet over the first crosspoints of hangs.
+fn overs(alloc: Global, hangs: &[Hang]) -> Result<Vec<(Wire, Cross)>, AllocError>
+    ensures { IfOk result (λ feet. feet.items ≡ overs hangs.now) }
+{
+    let mut feet = Vec::new(alloc);
+    add_overs(&mut feet, hangs)?;
+    Ok(feet)
+}
+
+// What the looks of some hangs close, and how they are driven.
+fn make_plan(alloc: Global, hangs: &[Hang], pins: u32) -> Result<Plan, AllocError>
+    ensures { IfOk result (IsPlan hangs.now pins) }
+{
+    let turned = turned(alloc, hangs)?;
+    let mut all = overs(alloc, hangs)?;
+    add_overs(&mut all, &turned)?;
+    Ok(Plan {
+        overs: overs(alloc, hangs)?,
+        others: overs(alloc, &turned)?,
+        turned,
+        all,
+        drives: look_drives(alloc, pins)?,
+    })
+}
+
+// Room for the three looks.
+fn make_views(alloc: Global, shape: &Shape) -> Result<Views, AllocError>
+    ensures { IfOk result (AreViews (pins_of shape.now)) }
+{
+    Ok(Views {
+        all: Looks::new(alloc, shape)?,
+        without_over: Looks::new(alloc, shape)?,
+        without_other: Looks::new(alloc, shape)?,
+    })
+}
+
+// Whether some q reads 1 with nothing driven, and 0 with its p driven.
+fn some_answers(forest: &Forest, hangs: &[Hang], reads: &Looks) -> bool
+    requires over { All (λ h. IsFoot forest.now (over_of h)) hangs.now }
+    requires other { All (λ h. IsFoot forest.now (over_of (turned h))) hangs.now }
+    requires reads { reads.now.pins ≡ pins_of forest.now.shape }
+    ensures { result ≡ some_answers forest.now hangs.now reads.now.rows }
+{
+    'hangs: for k in 0..hangs.len() {
+        let hang = hangs[k];
+        let p = pin_at(forest, (hang.wire, hang.over));
+        let q = pin_at(forest, (hang.wire, hang.other));
+        if !reads.read_free(q) {
+            continue;
+        }
+        if !reads.read_under(p, q) {
+            return true;
+        }
+    }
+    false
+}
+
+// Whether from this q the p of each other hang parts.
+fn others_part_from(forest: &Forest, hangs: &[Hang], reads: &Looks, wire: Wire, q: u32) -> bool
+    requires over { All (λ h. IsFoot forest.now (over_of h)) hangs.now }
+    requires reads { reads.now.pins ≡ pins_of forest.now.shape }
+    requires q { q < reads.now.pins }
+    ensures { result ≡ others_part_from forest.now hangs.now reads.now.rows wire.0 q }
+{
+    'hangs: for k in 0..hangs.len() {
+        let other = hangs[k];
+        if other.wire.0 == wire.0 {
+            continue;
+        }
+        if !reads.parts(pin_at(forest, (other.wire, other.over)), q) {
+            return false;
+        }
+    }
+    true
+}
+
+// Whether the first crosspoint of a hang is shown.
+fn is_shown(forest: &Forest, hangs: &[Hang], reads: &Looks, without: &Looks, hang: Hang) -> bool
+    requires over { All (λ h. IsFoot forest.now (over_of h)) hangs.now }
+    requires foot { IsFoot forest.now (over_of hang) }
+    requires other { IsFoot forest.now (over_of (turned hang)) }
+    requires reads { reads.now.pins ≡ pins_of forest.now.shape }
+    requires without { without.now.pins ≡ pins_of forest.now.shape }
+    ensures { result ≡ is_shown forest.now hangs.now reads.now.rows without.now.rows hang }
+{
+    let p = pin_at(forest, (hang.wire, hang.over));
+    let q = pin_at(forest, (hang.wire, hang.other));
+    if reads.read_under(p, q) == without.read_under(p, q) {
+        return false;
+    }
+    others_part_from(forest, hangs, reads, hang.wire, q)
+}
+
+// The feet over first crosspoints that are shown.
+fn shown(
+    alloc: Global,
+    forest: &Forest,
+    hangs: &[Hang],
+    reads: &Looks,
+    without: &Looks,
+) -> Result<Vec<(Wire, Cross)>, AllocError>
+    requires over { All (λ h. IsFoot forest.now (over_of h)) hangs.now }
+    requires other { All (λ h. IsFoot forest.now (over_of (turned h))) hangs.now }
+    requires reads { reads.now.pins ≡ pins_of forest.now.shape }
+    requires without { without.now.pins ≡ pins_of forest.now.shape }
+    ensures { IfOk result (λ feet. feet.items ≡ shown forest.now hangs.now reads.now.rows without.now.rows) }
+{
+    let mut feet = Vec::new(alloc);
+    'hangs: for k in 0..hangs.len() {
+        let hang = hangs[k];
+        if !is_shown(forest, hangs, reads, without, hang) {
+            continue;
+        }
+        feet.push((hang.wire, hang.over))?;
+    }
+    Ok(feet)
+}
+
+impl Proof {
+    // Takes the three looks, or the first alone: false where in that no q answers its p.
+    fn view(
+        &mut self,
+        rig: &mut Box<dyn Rig>,
+        forest: &Forest,
+        hangs: &[Hang],
+        plan: &Plan,
+        views: &mut Views,
+    ) -> Result<bool, RigFail>
+        requires attached { shape_of (rig_state rig.old) ≡ Some self.old.shape }
+        requires forest { forest.now.shape ≡ self.old.shape }
+        requires over { All (λ h. IsFoot forest.now (over_of h)) hangs.now }
+        requires other { All (λ h. IsFoot forest.now (over_of (turned h))) hangs.now }
+        requires plan { IsPlan hangs.now (pins_of self.old.shape) plan.now }
+        requires views { AreViews (pins_of self.old.shape) views.old }
+        ensures same { self.new ≡ self.old }
+        ensures views { AreViews (pins_of self.old.shape) views.new }
+        ensures viewed { IfOk result (HasViewed (rig_state rig.old).machine.faults forest.now hangs.now views.new) }
+        ensures loads { LoadsUpTo 3 result (rig_state rig.old) (rig_state rig.new) }
+        ensures once { IfOk result (λ yes. yes ≡ false → (rig_state rig.new).loads ≤ (rig_state rig.old).loads + 1) }
+        ensures session { OnOk result (HasLooked self.old.shape (rig_state rig.new)) }
+        ensures wanting { IsErrOf result RigFail.Memory → WantsRoom self.old.shape (rig_state rig.old) (rig_state rig.new) }
+    {
+        self.look(rig, forest, &plan.all, &plan.drives, &mut views.all)?;
+        if !some_answers(forest, hangs, &views.all) {
+            return Ok(false);
+        }
+        self.look(
+            rig,
+            forest,
+            &plan.others,
+            &plan.drives,
+            &mut views.without_over,
+        )?;
+        self.look(
+            rig,
+            forest,
+            &plan.overs,
+            &plan.drives,
+            &mut views.without_other,
+        )?;
+        Ok(true)
+    }
+
+    // Marks and keeps what the three looks show.
+    fn learn_hung(
+        &mut self,
+        forest: &Forest,
+        hangs: &[Hang],
+        plan: &Plan,
+        views: &Views,
+        unfit: &mut BitSet,
+        unclear: &mut BitSet,
+    ) -> Result<(), AllocError>
+        requires forest { forest.now.shape ≡ self.old.shape }
+        requires over { All (λ h. IsFoot forest.now (over_of h)) hangs.now }
+        requires other { All (λ h. IsFoot forest.now (over_of (turned h))) hangs.now }
+        requires plan { IsPlan hangs.now (pins_of self.old.shape) plan.now }
+        requires views { AreViews (pins_of self.old.shape) views.now }
+        requires unfit { length unfit.old ≡ wires_of self.old.shape }
+        requires unclear { length unclear.old ≡ wires_of self.old.shape }
+        ensures learnt { OnOk result (HasLearnt forest.now hangs.now views.now self.old self.new
+            unfit.old unfit.new unclear.old unclear.new) }
+        ensures refused { OnErr result (self.new ≡ self.old) }
+        ensures unmarked { OnErr result (unfit.new ≡ unfit.old) }
+        ensures unmarked_too { OnErr result (unclear.new ≡ unclear.old) }
+        ensures marks { length unfit.new ≡ length unfit.old }
+        ensures marks_too { length unclear.new ≡ length unclear.old }
+    {
+        let others = shown(
+            self.alloc,
+            forest,
+            &plan.turned,
+            &views.all,
+            &views.without_other,
+        )?;
+        let overs = shown(self.alloc, forest, hangs, &views.all, &views.without_over)?;
+        mark_unfit(forest, &plan.others, &views.without_over, unfit, unclear);
+        mark_unfit(forest, &plan.overs, &views.without_other, unfit, unclear);
+        self.keep_feet(forest, &others, &views.without_over);
+        self.keep_feet(forest, &overs, &views.without_other);
+        Ok(())
+    }
+
+    /// Takes three looks while wires hang on a forest over two crosspoints each, in the first by both, in the others by one of
+    /// them. Of a hang let p be the pin at which its crosspoint `over` ends, and q that of `other`.
+    ///
+    /// Where in the first look no q reads 1 with nothing driven and 0 with its p driven, the others aren't made, and nothing is kept
+    /// or marked. Otherwise `over` is kept exactly where q reads otherwise without it while p alone is driven, and in the first look
+    /// the p of each other hang parts from this q; and `other` the other way round. Where `other` is kept, the wire is kept exactly
+    /// where q swings in the look without the crosspoints `over`, and a pair of it and a wire that hangs there on another
+    /// pin, over the forest or by such a crosspoint, exactly where q and that pin part in that look; and so with `over`.
+    /// A wire is marked unfit exactly where in one of these two looks the pins of the other hangs part from its own, which reads
+    /// otherwise than 0 where it is driven, or otherwise than 1 where nothing is or another pin that hangs; and unclear besides where
+    /// that pin reads the same driven as with nothing driven. `unfit` and `unclear` have a mark for each wire.
+    ///
+    /// # Errors
+    ///
+    /// `Failed` where a call of the rig failed, `Memory` where memory was wanting.
+    pub fn hang_each(
+        &mut self,
+        rig: &mut Box<dyn Rig>,
+        forest: &Forest,
+        hangs: &[Hang],
+        unfit: &mut BitSet,
+        unclear: &mut BitSet,
+    ) -> Result<(), RigFail>
+        requires attached { shape_of (rig_state rig.old) ≡ Some self.old.shape }
+        requires forest { KnowsForest self.old forest.now }
+        requires hangs { AreHangs forest.now hangs.now }
+        requires unfit { length unfit.old ≡ wires_of self.old.shape }
+        requires unclear { length unclear.old ≡ wires_of self.old.shape }
+
+        ensures tried { OnOk result (HasTried (rig_state rig.old).machine.faults forest.now hangs.now (rig_state rig.old).loads
+            (rig_state rig.new).loads self.old self.new unfit.old unfit.new unclear.old unclear.new) }
+        ensures newly { OnOk result (MarksUnfit (rig_state rig.old).machine.faults self.old forest.now unfit.old unfit.new) }
+        ensures newly_too { OnOk result (MarksUnclear (rig_state rig.old).machine.faults self.old unclear.old unclear.new) }
+        ensures unfit { (known : ℕ → Bool) → AreAllOf forest.now known →
+            UnfitIf (rig_state rig.old).machine.faults self.old known unfit.old →
+            UnfitIf (rig_state rig.old).machine.faults self.new known unfit.new }
+        ensures unclear { UnclearIf (rig_state rig.old).machine.faults self.old unclear.old →
+            UnclearIf (rig_state rig.old).machine.faults self.new unclear.new }
+        ensures stay { StayMarked unfit.old unfit.new }
+        ensures stay_too { StayMarked unclear.old unclear.new }
+        ensures marks { length unfit.new ≡ length unfit.old }
+        ensures marks_too { length unclear.new ≡ length unclear.old }
+        ensures refused { OnErr result (self.new ≡ self.old) }
+        ensures unmarked { OnErr result (unfit.new ≡ unfit.old) }
+        ensures unmarked_too { OnErr result (unclear.new ≡ unclear.old) }
+        ensures advances { Advances (rig_state rig.old) (rig_state rig.new) self.old self.new }
+        ensures loads { (rig_state rig.new).loads ≤ (rig_state rig.old).loads + 3 }
+        ensures session { OnOk result (HasLooked self.old.shape (rig_state rig.new)) }
+        ensures cause { IsErrOf result RigFail.Failed → Rose (rig_state rig.old).failures (rig_state rig.new).failures }
+        ensures wanting { IsErrOf result RigFail.Memory → WantsRoom self.old.shape (rig_state rig.old) (rig_state rig.new) }
+    {
+        let shape = forest.shape();
+        let plan = make_plan(self.alloc, hangs, shape.pins())?;
+        let mut views = make_views(self.alloc, &shape)?;
+        if !self.view(rig, forest, hangs, &plan, &mut views)? {
+            return Ok(());
+        }
+        Ok(self.learn_hung(forest, hangs, &plan, &views, unfit, unclear)?)
+    }
+}

@@ -1,0 +1,102 @@
+//! Looks at forests.
+ghost use Rattle.std.specs.Prelude.{◌≡◌, ◌≤◌, ◌<◌, ◌+◌, Some, All, OnOk, OnErr, IsErrOf};
+ghost use Rattle.base_io.specs.Counts.{Rose};
+ghost use Rattle.machine_shape.specs.Shape.{pins_of, crosses_of};
+ghost use Rattle.rig.specs.Rig.{shape_of};
+ghost use Rattle.diag_tests.specs.Configs.{Closes};
+ghost use Rattle.diag_evidence.specs.Kept.{Advances};
+ghost use Rattle.diag_evidence.specs.Forests.{KeepsForest};
+ghost use Rattle.diag_evidence.specs.Hangs.{ClosesJust, feet_crosses, closes};
+ghost use Rattle.diag_evidence.specs.Looks.{HasLooked, HasSeen, IsLook, look_drives};
+ghost use Rattle.diag_evidence.specs.Readings.{LoadsUpTo, WantsBefore};
+
+use crate::looks::look_drives;
+use crate::{Forest, Looks, Proof};
+use diag_tests::close_all;
+use machine_config::Config;
+use machine_shape::{Cross, Wire};
+use rig::{PinBits, Rig, RigFail};
+use std::alloc::AllocError;
+
+// Closes the crosspoints of some feet besides.
+fn close_feet(config: &mut Config, feet: &[(Wire, Cross)]) -> Result<(), AllocError>
+    requires { All (λ foot. foot.1.0 < crosses_of config.old.config.shape) feet.now }
+    ensures { OnOk result (Closes (feet_crosses feet.now) config.old.config config.new.config) }
+{
+    'feet: for k in 0..feet.len() {
+        config.close_cross(feet[k].1)?;
+    }
+    Ok(())
+}
+
+// Closes the crosspoints of a forest and of some feet, and no other, and switches all off.
+fn close_just(
+    config: &mut Config,
+    forest: &Forest,
+    feet: &[(Wire, Cross)],
+) -> Result<(), AllocError>
+    requires shape { config.old.config.shape ≡ forest.now.shape }
+    requires feet { All (λ foot. foot.1.0 < crosses_of forest.now.shape) feet.now }
+    ensures { OnOk result (ClosesJust forest.now feet.now config.new.config) }
+{
+    config.clear();
+    close_all(config, forest.crosses())?;
+    close_feet(config, feet)
+}
+
+impl Proof {
+    // Takes a look while just the crosspoints of a forest and of some feet are closed.
+    pub(crate) fn look(
+        &mut self,
+        rig: &mut Box<dyn Rig>,
+        forest: &Forest,
+        feet: &[(Wire, Cross)],
+        drives: &Vec<PinBits>,
+        reads: &mut Looks,
+    ) -> Result<(), RigFail>
+        requires attached { shape_of (rig_state rig.old) ≡ Some self.old.shape }
+        requires forest { forest.now.shape ≡ self.old.shape }
+        requires feet { All (λ foot. foot.1.0 < crosses_of forest.now.shape) feet.now }
+        requires drives { drives.now.items ≡ look_drives (pins_of self.old.shape) }
+        requires reads { reads.old.pins ≡ pins_of self.old.shape }
+        ensures same { self.new ≡ self.old }
+        ensures pins { reads.new.pins ≡ reads.old.pins }
+        ensures loads { LoadsUpTo 1 result (rig_state rig.old) (rig_state rig.new) }
+        ensures wanting { IsErrOf result RigFail.Memory → WantsBefore (rig_state rig.old) (rig_state rig.new) }
+        ensures looked { OnOk result (IsLook (rig_state rig.old).machine.faults forest.now.shape (closes forest.now feet.now)
+            reads.new.rows) }
+        ensures session { OnOk result (HasLooked self.old.shape (rig_state rig.new)) }
+    {
+        let mut config = self.config()?;
+        close_just(&mut config, forest, feet)?;
+        let looked = reads.take(rig, &config, drives);
+        self.give_back(config);
+        looked
+    }
+
+    /// Takes a look while just the crosspoints of a forest are closed. A wire that hangs is kept exactly where its pin reads 0 in one
+    /// cycle and 1 in another, and two wires that hang are a kept pair exactly where their pins read different values in some cycle.
+    ///
+    /// # Errors
+    ///
+    /// `Failed` where a call of the rig failed, `Memory` where memory was wanting.
+    pub fn look_each(&mut self, rig: &mut Box<dyn Rig>, forest: &Forest) -> Result<(), RigFail>
+        requires attached { shape_of (rig_state rig.old) ≡ Some self.old.shape }
+        requires forest { KeepsForest self.old forest.now }
+
+        ensures seen { OnOk result (HasSeen (rig_state rig.old).machine.faults forest.now self.old self.new) }
+        ensures refused { OnErr result (self.new ≡ self.old) }
+        ensures advances { Advances (rig_state rig.old) (rig_state rig.new) self.old self.new }
+        ensures loads { (rig_state rig.new).loads ≤ (rig_state rig.old).loads + 1 }
+        ensures session { OnOk result (HasLooked self.old.shape (rig_state rig.new)) }
+        ensures cause { IsErrOf result RigFail.Failed → Rose (rig_state rig.old).failures (rig_state rig.new).failures }
+        ensures wanting { IsErrOf result RigFail.Memory → WantsBefore (rig_state rig.old) (rig_state rig.new) }
+    {
+        let shape = forest.shape();
+        let drives = look_drives(self.alloc, shape.pins())?;
+        let mut reads = Looks::new(self.alloc, &shape)?;
+        self.look(rig, forest, &[], &drives, &mut reads)?;
+        self.keep_seen(forest, &reads);
+        Ok(())
+    }
+}

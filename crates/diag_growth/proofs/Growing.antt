@@ -1,0 +1,82 @@
+-- What growth has found stays found, and grows from one known wire to the next.
+use Rattle.std.proofs.Common.{◌≡◌, ◌≢◌, ◌⊎◌, ℕ, zero, suc, ◌+◌, ◌<◌, ◌≤◌, Bool, true, Some, Option, List, [], ◌∷◌, ◌++◌, length, sym, ◌∙◌, subst, inl, inr, arith}
+use Rattle.std.specs.Prelude.{slice_get}
+use native.Mathlib.Decide.{ℕ_discrete}
+use Rattle.base_bits.specs.Numbers.{has_number}
+use Rattle.machine_shape.specs.declared.Shape.{Shape}
+use Rattle.machine_shape.specs.Faults.{Faults}
+use Rattle.diag_evidence.specs.Kept.{Kept, IsMore}
+use Rattle.diag_known.specs.Linked.{Links, AreLinked}
+use Rattle.diag_growth.specs.Grown.{IsGrown}
+use Rattle.diag_known.specs.Known.{IsAt, IsBefore, HasWire}
+use Rattle.diag_growth.specs.Looks.{IsLooked, StayBarred}
+use Rattle.diag_known.specs.Offers.{AreLost}
+use Rattle.diag_known.specs.Trials.{IsKeptUnlessStuck}
+use Rattle.diag_known.specs.declared.links.Near.{Near}
+use Rattle.diag_known.specs.declared.step.Step.{Step}
+use Rattle.diag_known.proofs.Places.{at_one, has_later}
+use Rattle.diag_known.proofs.Losing.{lost_later, lost_turned, kept_later}
+
+get_old : {A : Type 0} (xs ys : List A) (i : ℕ) (x : A) → i < length xs → slice_get (xs ++ ys) i ≡ Some x → slice_get xs i ≡ Some x
+get_old [] ys i x h e = absurd (let no : ⊥ = omega (arith, h) in no)
+get_old (z ∷ xs) ys zero x h e = e
+get_old (z ∷ xs) ys (suc i) x h e = get_old xs ys i x (omega (arith, h)) e
+
+pub before_old : {ss : List Step} {n u : ℕ} (ts : List Step) → n ≤ length ss → IsBefore (ss ++ ts) n u → IsBefore ss n u
+before_old {ss} {n} ts le b = record { place = b.place; early = b.early; at = record { step = b.at.step; here = get_old ss ts b.place b.at.step (let e = b.early in omega (arith, e, le)) b.at.here; wire = b.at.wire } }
+
+second_later : {told : Option Faults} {k l : Kept} {ss : List Step} {old new : List Bool} {w x y : ℕ} (ts : List Step) → IsMore k l → StayBarred old new →
+    HasWire ss w ⊎ ((has_number old w ≡ true) ⊎ AreLost told k ss w x y) → HasWire (ss ++ ts) w ⊎ ((has_number new w ≡ true) ⊎ AreLost told l (ss ++ ts) w x y)
+second_later ts more bars (inl h) = inl (has_later ts h)
+second_later {w = w} ts more bars (inr (inl b)) = inr (inl (bars.stays w b))
+second_later ts more bars (inr (inr p)) = inr (inr (lost_later ts more p))
+
+pub grown_later : {told : Option Faults} {k l : Kept} {near : List Near} {ss : List Step} {old new : List Bool} {n : ℕ} (ts : List Step) → IsMore k l → n ≤ length ss → StayBarred old new →
+    IsGrown told k near ss old n → IsGrown told l near (ss ++ ts) new n
+grown_later ts more le bars g = record {
+  between = λ x u w i differ b c. kept_later more (g.between x u w i differ (before_old ts le b) (before_old ts le c));
+  seconds = λ w x y u v i j differ b c. second_later ts more bars (g.seconds w x y u v i j differ (before_old ts le b) (before_old ts le c));
+}
+
+pub looked_later : {told : Option Faults} {k l : Kept} {near : List Near} {ss : List Step} {old new : List Bool} {n x w : ℕ} (ts : List Step) → IsMore k l → n ≤ length ss → StayBarred old new →
+    IsLooked told k near ss old n x w → IsLooked told l near (ss ++ ts) new n x w
+looked_later ts more le bars p = record {
+  between = λ b. kept_later more (p.between (before_old ts le b));
+  seconds = λ y v i b. second_later ts more bars (p.seconds y v i (before_old ts le b));
+}
+
+-- one known wire further, once each link from it was looked at
+pub grown_next : {told : Option Faults} {k : Kept} {m : Shape} {near : List Near} {ss : List Step} {barred : List Bool} {n at : ℕ} → AreLinked m near → IsAt ss n at → ((x w : ℕ) → Links near x w at → IsLooked told k near ss barred n x w) →
+    IsGrown told k near ss barred n → IsGrown told k near ss barred (n + 1)
+grown_next {told} {k} {m} {near} {ss} {barred} {n} {at} linked here all g = record { between = between_next; seconds = seconds_next }
+  where
+    earlier : (u : ℕ) → IsBefore ss (n + 1) u → IsBefore ss n u ⊎ (u ≡ at)
+    earlier u b = by_place (ℕ_discrete b.place n)
+      where
+        by_place : Dec (b.place ≡ n) → IsBefore ss n u ⊎ (u ≡ at)
+        by_place (yes e) = inr (at_one (subst (λ i. IsAt ss i u) e b.at) here)
+        by_place (no no_one) = inl (record { place = b.place; early = (let e = b.early in omega (arith, e, no_one)); at = b.at })
+
+    between_next : (x u w : ℕ) → Links near x u w → u ≢ w → IsBefore ss (n + 1) u → IsBefore ss (n + 1) w → IsKeptUnlessStuck told k x
+    between_next x u w i differ b c = by_both (earlier u b) (earlier w c)
+      where
+        by_both : IsBefore ss n u ⊎ (u ≡ at) → IsBefore ss n w ⊎ (w ≡ at) → IsKeptUnlessStuck told k x
+        by_both (inl p) (inl q) = g.between x u w i differ p q
+        by_both (inl p) (inr e) = (all x u (subst (Links near x u) e i)).between p
+        by_both (inr e) (inl q) = (all x w (subst (Links near x w) e (linked.turned x u w i))).between q
+        by_both (inr e) (inr f) = absurd (differ (e ∙ sym f))
+
+    seconds_next : (w x y u v : ℕ) → Links near x u w → Links near y v w → u ≢ v → IsBefore ss (n + 1) u → IsBefore ss (n + 1) v →
+        HasWire ss w ⊎ ((has_number barred w ≡ true) ⊎ AreLost told k ss w x y)
+    seconds_next w x y u v i j differ b c = by_both (earlier u b) (earlier v c)
+      where
+        turned : HasWire ss w ⊎ ((has_number barred w ≡ true) ⊎ AreLost told k ss w y x) → HasWire ss w ⊎ ((has_number barred w ≡ true) ⊎ AreLost told k ss w x y)
+        turned (inl h) = inl h
+        turned (inr (inl h)) = inr (inl h)
+        turned (inr (inr p)) = inr (inr (lost_turned p))
+
+        by_both : IsBefore ss n u ⊎ (u ≡ at) → IsBefore ss n v ⊎ (v ≡ at) → HasWire ss w ⊎ ((has_number barred w ≡ true) ⊎ AreLost told k ss w x y)
+        by_both (inl p) (inl q) = g.seconds w x y u v i j differ p q
+        by_both (inr e) (inl q) = (all x w (subst (Links near x w) e (linked.turned x u w i))).seconds y v j q
+        by_both (inl p) (inr e) = turned ((all y w (subst (Links near y w) e (linked.turned y v w j))).seconds x u i p)
+        by_both (inr e) (inr f) = absurd (differ (e ∙ sym f))

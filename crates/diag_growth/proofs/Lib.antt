@@ -1,0 +1,24 @@
+mod Tying
+mod Seating
+mod Tested
+-- For the proofs of this crate alone.
+mod Outsides
+mod Placing
+mod Searching
+mod Choosing
+mod Testing
+mod Fresh
+-- What is cited above.
+pub mod Decided
+-- For the proofs of this crate alone.
+mod Parting
+mod Growing
+mod Stages
+mod Looking
+mod Leaving
+mod Ending
+mod Taken
+mod Listing
+mod Circling
+mod Learning
+mod SoFar

@@ -1,0 +1,41 @@
+-- What tests over the rig have found, and what they took, so far.
+use Rattle.std.proofs.Common.{◌≡◌, ℕ, ◌+◌, ◌<◌, ◌≤◌, Some, List}
+use Rattle.std.specs.Prelude.{slice_get}
+use Rattle.rig.specs.Rig.{RigState}
+use Rattle.diag_evidence.specs.Kept.{Kept, Advances}
+use Rattle.diag_known.specs.Known.{KnownWires}
+use Rattle.diag_known.specs.declared.field.Field.{Field}
+use Rattle.diag_known.specs.declared.links.Near.{Near}
+use Rattle.diag_known.specs.declared.step.Foot.{Foot}
+use Rattle.diag_known.specs.declared.step.Step.{Step}
+use Rattle.diag_known.specs.Marked.{AreMarks, Spends, SpendsOn}
+use Rattle.diag_known.specs.Offers.{AreLost}
+use Rattle.diag_known.specs.declared.marks.Marks.{Marks}
+use Rattle.diag_known.specs.declared.offers.Offer.{Offer}
+use Rattle.diag_growth.specs.Looks.{AreAllMarks, AreTried, Grows, IsLinking}
+use Rattle.diag_growth.proofs.Circling.{IsGrowing}
+
+-- the first n pins were tried
+pub record HasGrown (first now : RigState) (j k : Kept) (a : Field) (near : List Near) (old known : KnownWires) (marks : Marks) (n : ℕ) : Type 0 where
+  pub advances : Advances first now j k
+  pub growing : IsGrowing first.machine.faults j k a near old known marks first.loads now.loads n
+
+-- known wires were looked at, and something else holds
+pub record HasLooked (first now : RigState) (j k : Kept) (near : List Near) (old known : KnownWires) (from new : Marks) (More : Type 0) : Type 0 where
+  pub advances : Advances first now j k
+  pub grows : Grows k old known from.barred new.barred
+  pub tried : AreTried first.machine.faults k known.steps from.barred new.barred
+  pub marks : AreAllMarks first.machine.faults k near known.steps new
+  pub spends : Spends first.machine.faults j (IsLinking near) from new first.loads now.loads
+  pub also : More
+
+-- .. and something else besides
+pub looked_also : {r s : RigState} {j k : Kept} {near : List Near} {old known : KnownWires} {from new : Marks} {More Next : Type 0} → HasLooked r s j k near old known from new More → Next → HasLooked r s j k near old known from new Next
+looked_also h next = record { advances = h.advances; grows = h.grows; tried = h.tried; marks = h.marks; spends = h.spends; also = next }
+
+-- the first n other crosspoints of an offer were tried
+pub record HaveTriedOthers (first now : RigState) (j k : Kept) (ss : List Step) (o : Offer) (old new : Marks) (n : ℕ) : Type 0 where
+  pub advances : Advances first now j k
+  pub marks : AreMarks first.machine.faults k ss new
+  pub spends : SpendsOn first.machine.faults j o old new first.loads now.loads
+  pub lost : (i : ℕ) (a : Foot) → i < n → slice_get o.others.items i ≡ Some a → AreLost first.machine.faults k ss o.wire.0 o.foot.cross.0 a.cross.0

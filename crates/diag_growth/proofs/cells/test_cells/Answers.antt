@@ -1,0 +1,24 @@
+use Rattle.std.proofs.Common.{arith}
+use Rattle.diag_evidence.proofs.Keeping.{advances_then}
+use Rattle.diag_growth.proofs.Tested.{seat_later, only_then, cells_more, cells_end}
+use Rattle.diag_growth.proofs.cells.test_cells.Goals as goal
+
+pub test_cell-requires-clause-seat : goal.test_cell-requires-clause-seat
+test_cell-requires-clause-seat g c = seat_later c.cells.invariant.advances.more c.requires.seat
+
+pub cells-preserved : goal.cells-preserved
+cells-preserved g c = let old = c.cells.invariant in let now = c.in_ok-test_cell.ensures in record {
+  advances = advances_then old.advances now.advances;
+  only = only_then old.only now.only;
+  cells = cells_more old.advances now.advances.more old.cells now.cell;
+  loads = let a = old.loads in let b = now.loads in omega arith;
+}
+
+pub returns-clause-cells : goal.returns-clause-cells
+returns-clause-cells g c = cells_end (let a = c.cells.auto.address-end in let b = c.cells-test.false in omega arith) c.cells.invariant.cells
+
+pub returns-in_err-test_cell-clause-only : goal.returns-in_err-test_cell-clause-only
+returns-in_err-test_cell-clause-only g c = only_then c.cells.invariant.only c.test_cell.ensures.only
+
+pub returns-clause-only : goal.returns-clause-only
+returns-clause-only g c = c.cells.invariant.only

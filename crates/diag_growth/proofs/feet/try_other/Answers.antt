@@ -1,0 +1,47 @@
+use Rattle.std.proofs.Common.{◌∙◌, refl, sym, subst, ◌<◌}
+use Rattle.std.proofs.lemmas.Result.{IfOk-weaker}
+use Rattle.diag_known.proofs.Offering.{spends_on_none, spends_other}
+use Rattle.diag_known.proofs.Seconds.{lost_one}
+use Rattle.diag_known.proofs.Settling.{kept_by, second_lost, second_mark_by, marks_second, link_still, lost_faulty, on_both}
+use Rattle.diag_growth.proofs.feet.try_other.Goals as goal
+
+pub keeps_cross-requires : goal.keeps_cross-requires
+keeps_cross-requires g c = (c.requires.ready.offer.others c.requires.other.place c.args.other c.requires.other.here).within
+
+pub returns-then-keeps_cross-clause-spends : goal.returns-then-keeps_cross-clause-spends
+returns-then-keeps_cross-clause-spends g c = spends_on_none refl refl
+
+pub has-requires : goal.has-requires
+has-requires g c = subst (λ n. c.args.other.cross.0 < n) (sym c.requires.ready.marks.second) (c.requires.ready.offer.others c.requires.other.place c.args.other c.requires.other.here).within
+
+pub returns-then-has-clause-lost : goal.returns-then-has-clause-lost
+returns-then-has-clause-lost g c = λ is_no. lost_one (second_lost (c.requires.ready.marks.seconds c.args.other.cross.0 (sym c.has.ensures ∙ c.if-has.true)) (c.requires.ready.offer.others c.requires.other.place c.args.other c.requires.other.here).at
+    c.requires.ready.offer.new (sym c.keeps_cross.ensures ∙ c.if-keeps_cross.false))
+
+pub returns-then-has-clause-spends : goal.returns-then-has-clause-spends
+returns-then-has-clause-spends g c = spends_on_none refl refl
+
+pub put_second-requires : goal.put_second-requires
+put_second-requires g c = subst (λ n. c.args.other.cross.0 < n) (sym c.requires.ready.marks.second) (c.requires.ready.offer.others c.requires.other.place c.args.other c.requires.other.here).within
+
+pub toggle_over-requires-clause-foot : goal.toggle_over-requires-clause-foot
+toggle_over-requires-clause-foot g c = c.requires.ready.offer.others c.requires.other.place c.args.other c.requires.other.here
+
+pub toggle_over-requires-clause-differ : goal.toggle_over-requires-clause-differ
+toggle_over-requires-clause-differ g c = c.requires.ready.offer.differ c.requires.other.place c.args.other c.requires.other.here
+
+pub returns-clause-lost : goal.returns-clause-lost
+returns-clause-lost g c = IfOk-weaker c.toggle_over.result _ _ (λ yes lost. λ is_no. lost_one (lost is_no)) c.toggle_over.ensures.lost
+
+pub returns-clause-marks : goal.returns-clause-marks
+returns-clause-marks g c =
+    let x = c.args.other.cross.0 in
+    let more = c.toggle_over.ensures.advances.more in
+    let link = c.requires.ready.offer.others c.requires.other.place c.args.other c.requires.other.here in
+    on_both c.toggle_over.result
+    (kept_by _ _ x c.toggle_over.result c.toggle_over.ensures.kept (IfOk-weaker c.toggle_over.result _ _ (λ yes lost. λ is_no. lost_faulty c.requires.ready.offer.new (lost is_no)) c.toggle_over.ensures.lost))
+    (second_mark_by _ _ c.toggle_over.result (link_still more link) c.toggle_over.ensures.kept c.toggle_over.ensures.lost)
+    (λ kept mark. marks_second x c.requires.ready.marks more kept link.within c.put_second.ensures mark)
+
+pub returns-clause-spends : goal.returns-clause-spends
+returns-clause-spends g c = spends_other c.requires.ready.marks c.requires.ready.offer c.args.other c.requires.other (sym c.keeps_cross.ensures ∙ c.if-keeps_cross.false) (sym c.has.ensures ∙ c.if-has.false) c.put_second.ensures c.toggle_over.ensures.loads

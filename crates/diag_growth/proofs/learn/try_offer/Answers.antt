@@ -1,0 +1,66 @@
+use Rattle.std.proofs.Common.{◌∙◌, ◌<◌, Option, refl, sym, ap, subst, inl, inr}
+use Rattle.std.specs.Prelude.{OnOk}
+use Rattle.std.proofs.lemmas.Result.{on_ok_weaker}
+use Rattle.base_bits.specs.Numbers.{has_number}
+use Rattle.machine_shape.specs.declared.Shape.{Shape}
+use Rattle.machine_shape.specs.Shape.{wires_of}
+use Rattle.machine_shape.specs.Faults.{Faults}
+use Rattle.diag_known.specs.Marked.{AreMarks, barred, lost}
+use Rattle.diag_known.specs.Trials.{IsTried}
+use Rattle.diag_known.proofs.Later.{known_later}
+use Rattle.diag_growth.proofs.Learning.{none_more, offers_barred, barred_twice, ready_later}
+use Rattle.diag_known.proofs.Marking.{spends_then, spends_barred}
+use Rattle.diag_growth.proofs.learn.try_offer.Goals as goal
+
+pub returns-in_err-second-clause-known : goal.returns-in_err-second-clause-known
+returns-in_err-second-clause-known g c = known_later c.second_foot.ensures.advances.more c.requires.ready.known
+
+pub returns-in_err-second-clause-more : goal.returns-in_err-second-clause-more
+returns-in_err-second-clause-more g c = none_more c.args.offer.now.wire.0 refl
+
+pub returns-in_err-second-clause-barred : goal.returns-in_err-second-clause-barred
+returns-in_err-second-clause-barred g c = inl c.second_foot.ensures.spends.barred
+
+pub returns-in_default-clause-known : goal.returns-in_default-clause-known
+returns-in_default-clause-known g c = known_later c.second_foot.ensures.advances.more c.requires.ready.known
+
+pub returns-in_default-clause-more : goal.returns-in_default-clause-more
+returns-in_default-clause-more g c = none_more c.args.offer.now.wire.0 refl
+
+pub returns-in_default-clause-found : goal.returns-in_default-clause-found
+returns-in_default-clause-found g c = lost c.second_foot.ensures.spends.barred (rw c.in_default.is at c.in_ok-second.ensures.none)
+
+pub returns-in_default-clause-barred : goal.returns-in_default-clause-barred
+returns-in_default-clause-barred g c = inl c.second_foot.ensures.spends.barred
+
+pub try_feet-requires-clause-ready : goal.try_feet-requires-clause-ready
+try_feet-requires-clause-ready g c = ready_later c.second_foot.ensures.advances c.requires.ready c.in_ok-second.ensures.marks
+
+pub try_feet-requires-clause-over : goal.try_feet-requires-clause-over
+try_feet-requires-clause-over g c = rw c.in-Some.is at c.in_ok-second.ensures.some
+
+pub try_feet-requires-clause-first : goal.try_feet-requires-clause-first
+try_feet-requires-clause-first g c = ap (λ bits. has_number bits c.args.offer.now.wire.0) c.second_foot.ensures.spends.barred ∙ c.requires.wire
+
+pub returns-clause-found : goal.returns-clause-found
+returns-clause-found g c = on_ok_weaker c.try_feet.result
+    (λ tried. barred (barred_twice c.args.marks.now c.args.offer.now.wire.0 c.second_foot.ensures.spends.barred c.try_feet.ensures.barred)
+    (subst (λ (told : Option Faults). IsTried told c.try_feet.new.proof c.try_feet.new.known.steps c.args.offer.now.wire.0) (ap (λ m. m.faults) c.second_foot.ensures.advances.machine) tried)) c.try_feet.ensures.tried
+
+pub returns-clause-marks : goal.returns-clause-marks
+returns-clause-marks g c =
+    subst (λ (told : Option Faults). OnOk c.try_feet.result (AreMarks told c.try_feet.new.proof c.try_feet.new.known.steps c.try_feet.new.marks)) (ap (λ m. m.faults) c.second_foot.ensures.advances.machine) c.try_feet.ensures.marks
+
+pub returns-clause-barred : goal.returns-clause-barred
+returns-clause-barred g c = inr (barred_twice c.args.marks.now c.args.offer.now.wire.0 c.second_foot.ensures.spends.barred c.try_feet.ensures.barred)
+
+pub returns-clause-offered : goal.returns-clause-offered
+returns-clause-offered g c = offers_barred c.args.offer.now.wire.0 c.second_foot.ensures.spends.offered c.try_feet.ensures.barred
+
+pub returns-clause-spends : goal.returns-clause-spends
+returns-clause-spends g c =
+    let more = c.second_foot.ensures.advances.more in
+    let w = c.args.offer.now.wire.0 in
+    spends_then more c.second_foot.ensures.advances.holds c.second_foot.ensures.spends.spends
+    (spends_barred _ _ c.in_ok-second.ensures.marks (subst (λ (m : Shape). w < wires_of m) (sym more.shape) c.requires.ready.offer.within)
+    (ap (λ bits. has_number bits w) c.second_foot.ensures.spends.barred ∙ c.requires.wire) c.try_feet.ensures.barred c.try_feet.ensures.loads)

@@ -1,0 +1,76 @@
+use Rattle.std.proofs.Common.{◌∙◌, Option, refl, sym, ap, subst, arith}
+use Rattle.machine_shape.specs.declared.Shape.{Shape}
+use Rattle.machine_shape.specs.Faults.{Faults}
+use Rattle.diag_evidence.proofs.Keeping.{advances_itself, advances_then}
+use Rattle.diag_evidence.proofs.KeptLemmas.{more_itself}
+use Rattle.diag_known.specs.Linked.{AreLinked}
+use Rattle.diag_known.specs.Known.{IsAt}
+use Rattle.diag_growth.specs.Looks.{AreAllMarks, AreTried, IsLooked}
+use Rattle.diag_growth.proofs.Growing.{grown_next}
+use Rattle.diag_growth.proofs.Leaving.{looks_next, looks_past, looks_all, spends_told}
+use Rattle.diag_growth.proofs.Looking.{link_leads}
+use Rattle.diag_known.proofs.Marking.{spends_none, spends_then}
+use Rattle.diag_known.proofs.Places.{at_later}
+use Rattle.diag_growth.proofs.SoFar.{looked_also}
+use Rattle.diag_growth.proofs.Stages.{grows_itself, grows_then, grown_on, longer, tried_none, tried_then}
+use Rattle.diag_growth.proofs.look.look_at.Goals as goal
+
+pub links-init : goal.links-init
+links-init g c = record {
+  advances = advances_itself _ c.args.proof.now;
+  grows = grows_itself c.requires.known (more_itself c.args.proof.now) refl;
+  tried = tried_none refl;
+  marks = c.requires.marks;
+  spends = spends_none refl refl;
+  also = λ i b less at. absurd (let no : ⊥ = omega (arith, less) in no);
+}
+
+pub links-preserved-in_default : goal.links-preserved-in_default
+links-preserved-in_default g c =
+    looked_also c.links.invariant (looks_past c.args.place c.wire_at-wire.result.0 c.links.j (sym c.link_at.ensures ∙ c.in_default.is) c.links.invariant.also)
+
+pub look_over-requires-clause-links : goal.look_over-requires-clause-links
+look_over-requires-clause-links g c = subst (λ (m : Shape). AreLinked m c.args.near.now.items) (sym c.links.invariant.advances.more.shape) c.requires.links
+
+pub look_over-requires-clause-look : goal.look_over-requires-clause-look
+look_over-requires-clause-look g c = record {
+  at = subst (λ ss. IsAt ss c.args.place c.wire_at-wire.result.0) (sym c.links.invariant.grows.steps) (at_later c.links.invariant.grows.more c.wire_at-wire.ensures.at);
+  link = link_leads c.args.near.now.items c.wire_at-wire.result.0 c.links.j c.in-Some.link (sym c.link_at.ensures ∙ c.in-Some.is);
+}
+
+pub look_over-requires-clause-marks : goal.look_over-requires-clause-marks
+look_over-requires-clause-marks g c =
+    subst (λ (told : Option Faults). AreAllMarks told c.links.proof c.args.near.now.items c.links.known.steps c.links.marks) (sym (ap (λ m. m.faults) c.links.invariant.advances.machine)) c.links.invariant.marks
+
+pub returns-in_err-look_over-clause-grows : goal.returns-in_err-look_over-clause-grows
+returns-in_err-look_over-clause-grows g c = grows_then c.links.invariant.grows c.look_over.ensures.grows
+
+pub returns-in_err-look_over-clause-spends : goal.returns-in_err-look_over-clause-spends
+returns-in_err-look_over-clause-spends g c =
+    let old = c.links.invariant in
+    spends_then old.advances.more old.advances.holds old.spends (spends_told (ap (λ m. m.faults) old.advances.machine) c.look_over.ensures.spends)
+
+pub links-preserved : goal.links-preserved
+links-preserved g c =
+    let old = c.links.invariant in
+    let same = ap (λ m. m.faults) old.advances.machine in
+    let step = c.look_over.ensures.grows in
+    let more = c.look_over.ensures.advances.more in
+    let long = longer old.grows in
+    record {
+      advances = advances_then old.advances c.look_over.ensures.advances;
+      grows = grows_then old.grows step;
+      tried = tried_then step.more step.steps more old.tried
+          (subst (λ (told : Option Faults). AreTried told c.look_over.new.proof c.look_over.new.known.steps c.links.marks.barred c.look_over.new.marks.barred) same c.in_ok-look_over.ensures.tried);
+      marks = subst (λ (told : Option Faults). AreAllMarks told c.look_over.new.proof c.args.near.now.items c.look_over.new.known.steps c.look_over.new.marks) same c.in_ok-look_over.ensures.marks;
+      spends = spends_then old.advances.more old.advances.holds old.spends (spends_told same c.look_over.ensures.spends);
+      also = looks_next c.args.place c.wire_at-wire.result.0 c.links.j c.in-Some.link more step (let low = c.requires.place in omega (arith, low, long)) (sym c.link_at.ensures ∙ c.in-Some.is)
+          (subst (λ (told : Option Faults). IsLooked told c.look_over.new.proof c.args.near.now.items c.look_over.new.known.steps c.look_over.new.marks.barred c.args.place c.in-Some.link.cross.0 c.in-Some.link.wire.0) same
+          c.in_ok-look_over.ensures.looked) old.also;
+    }
+
+pub returns-clause-grown : goal.returns-clause-grown
+returns-clause-grown g c =
+    let old = c.links.invariant in
+    λ grown. grown_next c.requires.links (subst (λ ss. IsAt ss c.args.place c.wire_at-wire.result.0) (sym old.grows.steps) (at_later old.grows.more c.wire_at-wire.ensures.at))
+    (looks_all c.args.place c.wire_at-wire.result.0 _ (omega arith) old.also) (grown_on old.advances.more (let low = c.requires.place in omega (arith, low)) old.grows grown)

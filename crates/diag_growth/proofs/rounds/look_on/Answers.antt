@@ -1,0 +1,74 @@
+use Rattle.std.proofs.Common.{◌≡◌, ◌+◌, Option, length, refl, sym, ap, subst, arith}
+use Rattle.machine_shape.specs.declared.Shape.{Shape}
+use Rattle.machine_shape.specs.Faults.{Faults}
+use Rattle.machine_shape.specs.Shape.{wires_of}
+use Rattle.diag_evidence.proofs.Keeping.{advances_itself, advances_then}
+use Rattle.diag_evidence.proofs.KeptLemmas.{more_itself}
+use Rattle.diag_known.specs.Linked.{AreLinked}
+use Rattle.diag_growth.specs.Grown.{IsGrown}
+use Rattle.diag_growth.specs.Looks.{AreAllMarks, AreTried}
+use Rattle.diag_growth.proofs.Circling.{grown_at}
+use Rattle.diag_growth.proofs.Leaving.{spends_told}
+use Rattle.diag_known.proofs.Marking.{spends_none, spends_then}
+use Rattle.diag_growth.proofs.Stages.{grows_itself, grows_then, longer, tried_none, tried_then}
+use Rattle.diag_growth.proofs.rounds.look_on.Goals as goal
+
+pub places-init : goal.places-init
+places-init g c = record {
+  advances = advances_itself _ c.args.proof.now;
+  grows = grows_itself c.requires.known (more_itself c.args.proof.now) refl;
+  tried = tried_none refl;
+  marks = c.requires.marks;
+  spends = spends_none refl refl;
+  also = (c.requires.from, λ grown. grown);
+}
+
+pub look_at-requires-clause-links : goal.look_at-requires-clause-links
+look_at-requires-clause-links g c = subst (λ (m : Shape). AreLinked m c.args.near.now.items) (sym c.places.invariant.advances.more.shape) c.requires.links
+
+pub look_at-requires-clause-marks : goal.look_at-requires-clause-marks
+look_at-requires-clause-marks g c =
+    subst (λ (told : Option Faults). AreAllMarks told c.places.proof c.args.near.now.items c.places.known.steps c.places.marks) (sym (ap (λ m. m.faults) c.places.invariant.advances.machine)) c.places.invariant.marks
+
+pub returns-in_err-look_at-clause-grows : goal.returns-in_err-look_at-clause-grows
+returns-in_err-look_at-clause-grows g c = grows_then c.places.invariant.grows c.look_at.ensures.grows
+
+pub returns-in_err-look_at-clause-spends : goal.returns-in_err-look_at-clause-spends
+returns-in_err-look_at-clause-spends g c =
+    let old = c.places.invariant in
+    spends_then old.advances.more old.advances.holds old.spends (spends_told (ap (λ m. m.faults) old.advances.machine) c.look_at.ensures.spends)
+
+pub places-smaller : goal.places-smaller
+places-smaller g c =
+    let few = c.len.ensures.few in
+    let same = ap wires_of (c.places.invariant.grows.known.shape) in
+    let shape = ap wires_of c.look_at.ensures.advances.more.shape in
+    omega (arith, few, same, shape)
+
+pub places-preserved : goal.places-preserved
+places-preserved g c =
+    let old = c.places.invariant in
+    let same = ap (λ m. m.faults) old.advances.machine in
+    let step = c.look_at.ensures.grows in
+    let more = c.look_at.ensures.advances.more in
+    let long = longer step in
+    let len = c.len.ensures.len in
+    record {
+      advances = advances_then old.advances c.look_at.ensures.advances;
+      grows = grows_then old.grows step;
+      tried = tried_then step.more step.steps more old.tried
+          (subst (λ (told : Option Faults). AreTried told c.look_at.new.proof c.look_at.new.known.steps c.places.marks.barred c.look_at.new.marks.barred) same c.in_ok-look_at.ensures.tried);
+      marks = subst (λ (told : Option Faults). AreAllMarks told c.look_at.new.proof c.args.near.now.items c.look_at.new.known.steps c.look_at.new.marks) same c.in_ok-look_at.ensures.marks;
+      spends = spends_then old.advances.more old.advances.holds old.spends (spends_told same c.look_at.ensures.spends);
+      also = (
+        omega (arith, long, len),
+        λ grown. subst (λ (told : Option Faults). IsGrown told c.places.proof c.args.near.now.items c.places.known.steps c.places.marks.barred c.places.place →
+            IsGrown told c.look_at.new.proof c.args.near.now.items c.look_at.new.known.steps c.look_at.new.marks.barred (c.places.place + 1)) same c.in_ok-look_at.ensures.grown (old.also.1 grown),
+      );
+    }
+
+pub returns-clause-grown : goal.returns-clause-grown
+returns-clause-grown g c =
+    let old = c.places.invariant in
+    let end : c.places.place ≡ length c.places.known.steps = (let within = old.also.0 in let len = c.len.ensures.len in omega (arith, within, len)) in
+    λ grown. grown_at end (old.also.1 grown)

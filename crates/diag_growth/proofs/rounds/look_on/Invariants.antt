@@ -1,0 +1,15 @@
+use Rattle.std.proofs.Common.{◌≤◌, ◌-◌, length}
+use Rattle.machine_shape.specs.Shape.{wires_of}
+use Rattle.diag_growth.specs.Grown.{IsGrown}
+use Rattle.diag_growth.proofs.SoFar.{HasLooked}
+use Rattle.diag_growth.proofs.rounds.look_on.Given as goal
+
+abbrev pub invariant-places : goal.invariant-places
+invariant-places g l =
+    let rig0 = (goal.Rig-dyn g (l.fn.rig.vtable, l.fn.rig.value)).rig_state l.fn.rig.value in
+    let rig = (goal.Rig-dyn g (l.rig.vtable, l.rig.value)).rig_state l.rig.value in
+    HasLooked rig0 rig l.fn.proof l.proof l.near.items l.fn.known l.known l.fn.marks l.marks
+    ((l.place ≤ length l.known.steps) × (IsGrown rig0.machine.faults l.fn.proof l.near.items l.fn.known.steps l.fn.marks.barred l.from → IsGrown rig0.machine.faults l.proof l.near.items l.known.steps l.marks.barred l.place))
+
+abbrev pub decreases-places : goal.decreases-places
+decreases-places g l = wires_of l.proof.shape - l.place

@@ -1,0 +1,13 @@
+use Rattle.std.proofs.Common.{◌<◌, ℕ}
+use Rattle.machine_shape.specs.Shape.{port_at, hextant_of, IsLine}
+use Rattle.diag_known.specs.Known.{HasWire}
+use Rattle.diag_growth.specs.Seating.{IsPlaceAt}
+use Rattle.diag_growth.proofs.seats.find_place.Given as goal
+
+abbrev pub invariant-ports : goal.invariant-ports
+invariant-ports l =
+    let h = hextant_of l.proof.shape l.t.0 in
+    record {
+      none : (i line : ℕ) → i < l.k → HasWire l.without.steps (port_at l.proof.shape h i) → IsLine l.proof.shape h line →
+          ¬ IsPlaceAt l.proof l.known.steps l.without.steps l.t.0 (port_at l.proof.shape h i) line;
+    }

@@ -1,0 +1,10 @@
+use Rattle.std.proofs.Common.{◌≡◌, ◌<◌, ℕ, Some}
+use Rattle.std.specs.Prelude.{slice_get}
+use Rattle.diag_growth.specs.Seating.{IsPlaceAt}
+use Rattle.diag_growth.specs.declared.seats.Out.{Out}
+use Rattle.diag_growth.proofs.seats.place_from.Given as goal
+
+abbrev pub invariant-lines : goal.invariant-lines
+invariant-lines l = record {
+  none : (j : ℕ) (o : Out) → j < l.k → slice_get l.outs.items j ≡ Some o → ¬ IsPlaceAt l.proof l.known.steps l.without.steps l.t.0 l.hub.port.0 o.line.0;
+}

@@ -1,0 +1,19 @@
+use Rattle.std.proofs.Common.{◌≤◌, ◌+◌, ◌*◌, take}
+use Rattle.diag_evidence.specs.Kept.{Advances}
+use Rattle.diag_growth.specs.Seats.{AddsOnlyTableFacts}
+use Rattle.diag_growth.specs.Seating.{AreAllWithout}
+use Rattle.diag_growth.specs.Tables.{fresh_tables}
+use Rattle.diag_growth.proofs.Testing.{AreTested}
+use Rattle.diag_growth.proofs.tables.test_tables.Given as goal
+
+abbrev pub invariant-tables : goal.invariant-tables
+invariant-tables g l =
+    let rig0 = (goal.Rig-dyn g (l.fn.rig.vtable, l.fn.rig.value)).rig_state l.fn.rig.value in
+    let rig = (goal.Rig-dyn g (l.rig.vtable, l.rig.value)).rig_state l.rig.value in
+    record {
+      advances : Advances rig0 rig l.fn.proof l.proof;
+      only : AddsOnlyTableFacts l.fn.proof l.proof;
+      tested : AreTested rig0.machine.faults l.fn.proof l.proof l.known.steps l.tables l.i;
+      without : AreAllWithout l.proof l.known.steps l.without.hextant.0 l.without.known;
+      loads : rig.loads ≤ rig0.loads + 130 * fresh_tables l.fn.proof (take l.i l.tables);
+    }

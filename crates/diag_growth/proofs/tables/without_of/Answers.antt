@@ -1,0 +1,14 @@
+use Rattle.std.proofs.Common.{◌∙◌, ap}
+use Rattle.machine_shape.specs.Shape.{wires_of}
+use Rattle.diag_known.proofs.Apart.{known_apart}
+use Rattle.diag_growth.proofs.Testing.{all_without}
+use Rattle.diag_growth.proofs.tables.without_of.Goals as goal
+
+pub stand_on-requires-clause-apart : goal.stand_on-requires-clause-apart
+stand_on-requires-clause-apart c = known_apart c.in_ok-outside.outside c.requires.known (c.in_ok-outside.ensures.len ∙ ap wires_of c.requires.known.shape) c.in_ok-outside.ensures.known
+
+pub returns-clause-stands : goal.returns-clause-stands
+returns-clause-stands c =
+    let out = c.in_ok-outside.ensures in
+    let on = c.in_ok-stands.ensures in
+    all_without c.requires.known c.args.hextant.0 c.in_ok-outside.outside c.in_ok-stands.stands out.known out.outside out.whole on.known on.within on.whole

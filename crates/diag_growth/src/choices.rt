@@ -1,0 +1,135 @@
+//! The first two of the arms to an input and of the ports that a line meets: the second serves where the first is barred.
+ghost use Rattle.std.specs.Prelude.{◌≡◌, ◌≢◌, ◌<◌, ℕ, IfOk, IfSome, IfNone, Some};
+ghost use Rattle.machine_shape.specs.Shape.{hextant_of, nodes_of, tables_of, wires_of, IsLine, IsPort};
+ghost use Rattle.diag_known.specs.Known.{IsKnown};
+ghost use Rattle.diag_growth.specs.Choices.{AreArmsOf, AreFarsOf, AreInputArms};
+ghost use Rattle.diag_growth.specs.Seating.{AreArmsTo, IsFarPort, IsFreeArm, MissesArm};
+
+use crate::Arm;
+use crate::search::{find_arm, find_far};
+use diag_evidence::Proof;
+use diag_known::Known;
+use machine_shape::{Cross, Node, Table, Wire, the_numbering_is_sound};
+use std::alloc::AllocError;
+
+/// The first two arms from a port to an input, or the one that there is.
+#[derive(Clone, Copy, Debug)]
+pub(crate) struct Arms {
+    pub first: Arm,
+    pub second: Option<Arm>,
+}
+
+/// The first two ports that a line meets, with the crosspoints to it, or the one that there is.
+#[derive(Clone, Copy, Debug)]
+pub(crate) struct Fars {
+    pub first: (Wire, Cross),
+    pub second: Option<(Wire, Cross)>,
+}
+
+// The first two arms from a port to an input.
+fn arms_at(known: &Known, proof: &Proof, hextant: Node, near: Wire, input: Wire) -> Option<Arms>
+    requires known { IsKnown proof.now known.now }
+    requires hextant { hextant.0 < nodes_of proof.now.shape }
+    requires port { IsPort proof.now.shape hextant.0 near.0 }
+    requires near { near.0 < wires_of proof.now.shape }
+    requires input { input.0 < wires_of proof.now.shape }
+    ensures arms { IfSome result (AreArmsOf proof.now known.now.steps hextant.0 near.0 input.0) }
+    ensures none { IfNone result ((beside line : ℕ) → ¬ IsFreeArm proof.now known.now.steps hextant.0 near.0 input.0 beside line) }
+{
+    the_numbering_is_sound();
+    // The port is no line, so no arm is left out for it.
+    let Some(first) = find_arm(known, proof, hextant, near, input, near) else {
+        return None;
+    };
+    let second = find_arm(known, proof, hextant, near, input, first.line);
+    Some(Arms { first, second })
+}
+
+// The first arm over another line than this one.
+fn arm_beside(arms: Arms, line: Wire) -> Option<Arm>
+    ensures first { arms.first.line.0 ≢ line.0 → result ≡ Some arms.first }
+    ensures second { arms.first.line.0 ≡ line.0 → result ≡ arms.second }
+{
+    if arms.first.line == line {
+        return arms.second;
+    }
+    Some(arms.first)
+}
+
+/// The first two arms from a port to each input of a table: none where an input has no arm.
+pub(crate) fn input_arms(
+    known: &Known,
+    proof: &Proof,
+    t: Table,
+    near: Wire,
+) -> Result<Option<Vec<Arms>>, AllocError>
+    requires known { IsKnown proof.now known.now }
+    requires table { t.0 < tables_of proof.now.shape }
+    requires port { IsPort proof.now.shape (hextant_of proof.now.shape t.0) near.0 }
+    requires near { near.0 < wires_of proof.now.shape }
+    ensures arms { IfOk result (λ found. IfSome found (λ arms. AreInputArms proof.now known.now.steps t.0 near.0 6 arms.items)) }
+    ensures none { IfOk result (λ found. IfNone found ((beside : ℕ) → MissesArm proof.now known.now.steps t.0 near.0 beside)) }
+{
+    let shape = proof.shape();
+    let hextant = shape.hextant_of(t);
+    let mut arms = Vec::new(known.alloc());
+    'inputs: for input in 0..6 {
+        let Some(two) = arms_at(known, proof, hextant, near, shape.pin_of(t, input)) else {
+            return Ok(None);
+        };
+        arms.push(two)?;
+    }
+    Ok(Some(arms))
+}
+
+/// Arms from a port to all inputs of a table over other lines than this one.
+pub(crate) fn arms_beside(
+    known: &Known,
+    proof: &Proof,
+    t: Table,
+    near: Wire,
+    arms: &Vec<Arms>,
+    line: Wire,
+) -> Result<Option<Vec<Arm>>, AllocError>
+    requires arms { AreInputArms proof.now known.now.steps t.0 near.0 6 arms.now.items }
+    ensures arms { IfOk result (λ found. IfSome found (λ arms. AreArmsTo proof.now known.now.steps t.0 near.0 line.0 6 arms.items)) }
+    ensures none { IfOk result (λ found. IfNone found (MissesArm proof.now known.now.steps t.0 near.0 line.0)) }
+{
+    let mut chosen = Vec::new(known.alloc());
+    'inputs: for input in 0..6 {
+        let Some(arm) = arm_beside(arms[input], line) else {
+            return Ok(None);
+        };
+        chosen.push(arm)?;
+    }
+    Ok(Some(chosen))
+}
+
+/// The first two ports of a hextant that stand without it and meet a line of it.
+pub(crate) fn fars_over(without: &Known, proof: &Proof, hextant: Node, line: Wire) -> Option<Fars>
+    requires without { IsKnown proof.now without.now }
+    requires hextant { hextant.0 < nodes_of proof.now.shape }
+    requires is_line { IsLine proof.now.shape hextant.0 line.0 }
+    requires line { line.0 < wires_of proof.now.shape }
+    ensures fars { IfSome result (AreFarsOf proof.now without.now.steps hextant.0 line.0) }
+    ensures none { IfNone result ((near far : ℕ) → ¬ IsFarPort proof.now without.now.steps hextant.0 near line.0 far) }
+{
+    the_numbering_is_sound();
+    // The line is no port, so no port is left out for it.
+    let Some(first) = find_far(without, proof, hextant, line, line) else {
+        return None;
+    };
+    let second = find_far(without, proof, hextant, first.0, line);
+    Some(Fars { first, second })
+}
+
+/// The first of the ports that is another one than this.
+pub(crate) fn far_beside(fars: Fars, near: Wire) -> Option<(Wire, Cross)>
+    ensures first { fars.first.0.0 ≢ near.0 → result ≡ Some fars.first }
+    ensures second { fars.first.0.0 ≡ near.0 → result ≡ fars.second }
+{
+    if fars.first.0 == near {
+        return fars.second;
+    }
+    Some(fars.first)
+}

@@ -1,0 +1,180 @@
+//! Trials of wires on two feet, and of pins: what is good is known then.
+ghost use Rattle.std.specs.Prelude.{◌≡◌, ◌≢◌, ◌<◌, ◌≤◌, ◌+◌, ℕ, true, false, Some, slice_set};
+ghost use Rattle.std.specs.Prelude.{IfOk, IfSome, IfNone, OnOk, OnErr, IsErrOf, IsTrue};
+ghost use Rattle.base_bits.specs.Numbers.{has_number};
+ghost use Rattle.base_io.specs.Counts.{Rose};
+ghost use Rattle.machine_shape.specs.Shape.{pins_of, pin_wire, wires_of};
+ghost use Rattle.rig.specs.Rig.{shape_of};
+ghost use Rattle.diag_evidence.specs.Kept.{Advances};
+ghost use Rattle.diag_growth.specs.Grown.{IsLearnt, IsOneMore};
+ghost use Rattle.diag_growth.specs.Looks.{IsNewOffer, IsReady};
+ghost use Rattle.diag_known.specs.Trials.{IsBad, IsTried};
+ghost use Rattle.diag_known.specs.Known.{IsKnown, HasWire, IsGood};
+ghost use Rattle.diag_known.specs.Marked.{AreMarks, IsOfOffer, OffersOnly, Spends, BarsAtMost, HasTried, TakesForWire};
+ghost use Rattle.diag_known.specs.Offers.{IsOffer, IsSecond};
+
+use crate::feet::second_foot;
+use crate::parts::{is_good, is_good_pin};
+use diag_evidence::Proof;
+use diag_known::{Foot, Known, Marks, Offer, Stand, Step};
+use machine_shape::{Meaning, Shape, Wire, the_numbering_is_sound};
+use rig::{Rig, RigFail};
+
+// A further wire is known.
+fn learn(known: &mut Known, step: Step) -> Result<(), RigFail>
+    requires wire { step.wire.0 < wires_of known.old.shape }
+    requires new { ¬ HasWire known.old.steps step.wire.0 }
+    ensures learnt { OnOk result (IsLearnt known.old known.new step) }
+    ensures same { OnErr result (known.new ≡ known.old) }
+    ensures memory { IsErrOf result RigFail.Failed → ⊥ }
+{
+    match known.learn(step) {
+        Ok(()) => Ok(()),
+        Err(_) => Err(RigFail::Memory),
+    }
+}
+
+// Which pin of the machine a wire is, if it is one.
+fn machine_pin(shape: &Shape, w: Wire) -> Option<u32>
+    requires { w.0 < wires_of shape.now }
+    ensures pin { IfSome result (λ pin. (pin < pins_of shape.now) × (w.0 ≡ pin_wire shape.now pin)) }
+    ensures none { IfNone result ((i : ℕ) → i < pins_of shape.now → w.0 ≢ pin_wire shape.now i) }
+{
+    the_numbering_is_sound();
+    match shape.meaning(w) {
+        Meaning::Pin { position } => Some(position),
+        Meaning::Line { .. } => None,
+        Meaning::Port { .. } => None,
+        Meaning::TablePin { .. } => None,
+    }
+}
+
+// Tests the wire of an offer that hangs on two kept crosspoints, by its two ways, or by its one way if it is a pin of the machine.
+// True exactly where it is kept then, and kept apart from each known wire.
+fn is_good_over(
+    known: &Known,
+    rig: &mut Box<dyn Rig>,
+    proof: &mut Proof,
+    offer: &Offer,
+    over: Foot,
+) -> Result<bool, RigFail>
+    requires attached { shape_of (rig_state rig.old) ≡ Some proof.old.shape }
+    requires known { IsKnown proof.old known.now }
+    requires offer { IsOffer proof.old.shape known.now.steps offer.now }
+    requires over { IsSecond proof.old offer.now over }
+    ensures good { IfOk result (λ yes. IsTrue yes → IsGood proof.new known.now.steps offer.now.wire.0) }
+    ensures bad { IfOk result (λ yes. yes ≡ false →
+        IsBad (rig_state rig.old).machine.faults proof.new known.now.steps offer.now.wire.0) }
+    ensures advances { Advances (rig_state rig.old) (rig_state rig.new) proof.old proof.new }
+    ensures loads { TakesForWire proof.old.shape offer.now.wire.0 (rig_state rig.old).loads (rig_state rig.new).loads }
+    ensures cause { IsErrOf result RigFail.Failed → Rose (rig_state rig.old).failures (rig_state rig.new).failures }
+{
+    if let Some(pin) = machine_pin(&proof.shape(), offer.wire) {
+        return is_good_pin(known, rig, proof, offer.wire, pin);
+    }
+    let Ok((left, right)) = known.ways_over(proof, offer.wire, offer.foot, over) else {
+        return Err(RigFail::Memory);
+    };
+    is_good(known, rig, proof, offer.wire, &left, &right)
+}
+
+// Tests the wire of an offer that hangs on two kept crosspoints, and bars it. If it is good, it is known then.
+fn try_feet(
+    known: &mut Known,
+    rig: &mut Box<dyn Rig>,
+    proof: &mut Proof,
+    marks: &mut Marks,
+    offer: &Offer,
+    over: Foot,
+) -> Result<(), RigFail>
+    requires attached { shape_of (rig_state rig.old) ≡ Some proof.old.shape }
+    requires ready { IsReady (rig_state rig.old).machine.faults proof.old known.old offer.now marks.old }
+    requires over { IsSecond proof.old offer.now over }
+    requires first { has_number marks.old.barred offer.now.wire.0 ≡ false }
+    ensures known { IsKnown proof.new known.new }
+    ensures more { IsOneMore known.old known.new offer.now.wire.0 }
+    ensures tried { OnOk result (IsTried (rig_state rig.old).machine.faults proof.new known.new.steps offer.now.wire.0) }
+    ensures marks { OnOk result (AreMarks (rig_state rig.old).machine.faults proof.new known.new.steps marks.new) }
+    ensures barred { marks.new ≡ record marks.old { barred = slice_set marks.old.barred offer.now.wire.0 true } }
+    ensures loads { TakesForWire proof.old.shape offer.now.wire.0 (rig_state rig.old).loads (rig_state rig.new).loads }
+    ensures advances { Advances (rig_state rig.old) (rig_state rig.new) proof.old proof.new }
+    ensures cause { IsErrOf result RigFail.Failed → Rose (rig_state rig.old).failures (rig_state rig.new).failures }
+{
+    marks.bar(offer.wire);
+    let good = is_good_over(known, rig, proof, offer, over)?;
+    if !good {
+        return Ok(());
+    }
+    let step = Step {
+        wire: offer.wire,
+        stand: Stand::Feet(offer.foot, over),
+    };
+    learn(known, step)
+}
+
+/// Tries the wire of an offer. It is barred then, and known unless it isn't fit; or nothing is barred, and the crosspoint of
+/// the offer and each other one are lost.
+pub(crate) fn try_offer(
+    known: &mut Known,
+    rig: &mut Box<dyn Rig>,
+    proof: &mut Proof,
+    marks: &mut Marks,
+    offer: &Offer,
+) -> Result<(), RigFail>
+    requires attached { shape_of (rig_state rig.old) ≡ Some proof.old.shape }
+    requires ready { IsReady (rig_state rig.old).machine.faults proof.old known.old offer.now marks.old }
+    requires first { IsNewOffer offer.now marks.old }
+    requires wire { has_number marks.old.barred offer.now.wire.0 ≡ false }
+    ensures known { IsKnown proof.new known.new }
+    ensures more { IsOneMore known.old known.new offer.now.wire.0 }
+    ensures found { OnOk result (HasTried (rig_state rig.old).machine.faults proof.new known.new.steps offer.now marks.old marks.new) }
+    ensures marks { OnOk result (AreMarks (rig_state rig.old).machine.faults proof.new known.new.steps marks.new) }
+    ensures barred { BarsAtMost offer.now.wire.0 marks.old.barred marks.new.barred }
+    ensures offered { OffersOnly offer.now.foot.cross.0 marks.old marks.new }
+    ensures spends { Spends (rig_state rig.old).machine.faults proof.old (IsOfOffer offer.now) marks.old marks.new
+        (rig_state rig.old).loads (rig_state rig.new).loads }
+    ensures advances { Advances (rig_state rig.old) (rig_state rig.new) proof.old proof.new }
+    ensures cause { IsErrOf result RigFail.Failed → Rose (rig_state rig.old).failures (rig_state rig.new).failures }
+{
+    let second = second_foot(known, rig, proof, marks, offer)?;
+    let Some(over) = second else {
+        return Ok(());
+    };
+    try_feet(known, rig, proof, marks, offer, over)
+}
+
+/// Tries a pin of the machine, and bars it. It is known then, unless it isn't fit.
+pub(crate) fn try_pin(
+    known: &mut Known,
+    rig: &mut Box<dyn Rig>,
+    proof: &mut Proof,
+    marks: &mut Marks,
+    pin: u32,
+) -> Result<(), RigFail>
+    requires attached { shape_of (rig_state rig.old) ≡ Some proof.old.shape }
+    requires known { IsKnown proof.old known.old }
+    requires marks { AreMarks (rig_state rig.old).machine.faults proof.old known.old.steps marks.old }
+    requires pin { pin < pins_of proof.old.shape }
+    requires new { ¬ HasWire known.old.steps (pin_wire proof.old.shape pin) }
+    requires first { has_number marks.old.barred (pin_wire proof.old.shape pin) ≡ false }
+    ensures known { IsKnown proof.new known.new }
+    ensures more { IsOneMore known.old known.new (pin_wire proof.old.shape pin) }
+    ensures tried { OnOk result (IsTried (rig_state rig.old).machine.faults proof.new known.new.steps (pin_wire proof.old.shape pin)) }
+    ensures marks { OnOk result (AreMarks (rig_state rig.old).machine.faults proof.new known.new.steps marks.new) }
+    ensures barred { marks.new ≡ record marks.old { barred = slice_set marks.old.barred (pin_wire proof.old.shape pin) true } }
+    ensures loads { (rig_state rig.new).loads ≤ (rig_state rig.old).loads + 2 }
+    ensures advances { Advances (rig_state rig.old) (rig_state rig.new) proof.old proof.new }
+    ensures cause { IsErrOf result RigFail.Failed → Rose (rig_state rig.old).failures (rig_state rig.new).failures }
+{
+    let wire = proof.shape().pin(pin);
+    marks.bar(wire);
+    let good = is_good_pin(known, rig, proof, wire, pin)?;
+    if !good {
+        return Ok(());
+    }
+    let step = Step {
+        wire,
+        stand: Stand::Pin(pin),
+    };
+    learn(known, step)
+}

@@ -1,0 +1,241 @@
+//! A look at a known wire: over each link from it, to one that came before it, or that isn't known.
+ghost use Rattle.std.specs.Prelude.{◌≡◌, ◌<◌, ◌+◌, false, Some, IfOk, OnOk, IsErrOf, length};
+ghost use Rattle.base_bits.specs.Numbers.{has_number};
+ghost use Rattle.base_io.specs.Counts.{Rose};
+ghost use Rattle.machine_shape.specs.Shape.{wires_of};
+ghost use Rattle.rig.specs.Rig.{shape_of};
+ghost use Rattle.diag_evidence.specs.Kept.{Advances};
+ghost use Rattle.diag_known.specs.Linked.{AreLinked};
+ghost use Rattle.diag_growth.specs.Grown.{IsGrown};
+ghost use Rattle.diag_known.specs.Known.{IsKnown, IsBefore, HasWire};
+ghost use Rattle.diag_growth.specs.Looks.{IsLook, IsLookAt, IsLinking, IsOfferOf, IsLookedOver, AreEarlier, AreAllMarks, AreTried, TakesEarlier};
+ghost use Rattle.diag_growth.specs.Looks.{Grows};
+ghost use Rattle.diag_known.specs.Marked.{AreMarks, JoinsAtMost, Spends};
+ghost use Rattle.diag_known.specs.Offers.{IsOffer};
+ghost use Rattle.diag_known.specs.Trials.{IsKeptUnlessStuck};
+
+use crate::learn::try_offer;
+use diag_evidence::Proof;
+use diag_known::{Foot, Known, Marks, Near, Offer, link_at, link_count, toggle_known};
+use machine_shape::{Wire, the_numbering_is_sound};
+use rig::{Rig, RigFail};
+use std::alloc::AllocError;
+
+/// A known wire, its place, and a link from it: a crosspoint to another wire.
+#[derive(Clone, Copy, Debug)]
+pub(crate) struct Look {
+    pub place: usize,
+    pub wire: Wire,
+    pub link: Foot,
+}
+
+// Takes a link, if its known end came before the place.
+fn put_earlier(
+    others: &mut Vec<Foot>,
+    known: &Known,
+    proof: &Proof,
+    place: usize,
+    link: Foot,
+) -> Result<(), AllocError>
+    requires known { IsKnown proof.now known.now }
+    requires wire { link.wire.0 < wires_of known.now.shape }
+    ensures { OnOk result (TakesEarlier known.now.steps place link others.old.items others.new.items) }
+{
+    let Some(at) = known.place_of(link.wire) else {
+        return Ok(());
+    };
+    if at >= place {
+        return Ok(());
+    }
+    others.push(link)?;
+    Ok(())
+}
+
+// The links of the wire to which a look leads, whose known ends came before.
+fn earlier_links(
+    known: &Known,
+    proof: &Proof,
+    near: &Vec<Near>,
+    look: Look,
+) -> Result<Vec<Foot>, AllocError>
+    requires known { IsKnown proof.now known.now }
+    requires links { AreLinked proof.now.shape near.now.items }
+    ensures { IfOk result (λ others. AreEarlier near.now.items known.now.steps look.place look.link.wire.0 others.items) }
+{
+    the_numbering_is_sound();
+    let mut others = Vec::new(known.alloc());
+    'links: for j in 0..link_count(near, look.link.wire) {
+        let Some(link) = link_at(near, look.link.wire, j) else {
+            continue;
+        };
+        put_earlier(&mut others, known, proof, look.place, link)?;
+    }
+    Ok(others)
+}
+
+// The offer of a look to a wire that isn't known.
+fn offer_of(known: &Known, proof: &Proof, near: &Vec<Near>, look: Look) -> Result<Offer, AllocError>
+    requires known { IsKnown proof.now known.now }
+    requires links { AreLinked proof.now.shape near.now.items }
+    requires look { IsLook near.now.items known.now.steps look }
+    requires new { ¬ HasWire known.now.steps look.link.wire.0 }
+    ensures offer { IfOk result (IsOffer proof.now.shape known.now.steps) }
+    ensures of_look { IfOk result (IsOfferOf near.now.items known.now.steps look) }
+{
+    the_numbering_is_sound();
+    let others = earlier_links(known, proof, near, look)?;
+    Ok(Offer {
+        wire: look.link.wire,
+        foot: Foot {
+            cross: look.link.cross,
+            wire: look.wire,
+        },
+        others,
+    })
+}
+
+// Looks from a known wire to one that came before it.
+fn look_known(
+    known: &Known,
+    rig: &mut Box<dyn Rig>,
+    proof: &mut Proof,
+    marks: &mut Marks,
+    look: Look,
+) -> Result<(), RigFail>
+    requires attached { shape_of (rig_state rig.old) ≡ Some proof.old.shape }
+    requires known { IsKnown proof.old known.now }
+    requires look { IsLookAt proof.old.shape known.now.steps look }
+    requires other { IsBefore known.now.steps look.place look.link.wire.0 }
+    requires marks { AreMarks (rig_state rig.old).machine.faults proof.old known.now.steps marks.old }
+    ensures kept { OnOk result (IsKeptUnlessStuck (rig_state rig.old).machine.faults proof.new look.link.cross.0) }
+    ensures marks { OnOk result (AreMarks (rig_state rig.old).machine.faults proof.new known.now.steps marks.new) }
+    ensures joins { JoinsAtMost proof.old look.link.cross.0 marks.old marks.new (rig_state rig.old).loads (rig_state rig.new).loads }
+    ensures advances { Advances (rig_state rig.old) (rig_state rig.new) proof.old proof.new }
+    ensures cause { IsErrOf result RigFail.Failed → Rose (rig_state rig.old).failures (rig_state rig.new).failures }
+{
+    if proof.keeps_cross(look.link.cross) {
+        return Ok(());
+    }
+    if marks.between.has(look.link.cross.0) {
+        return Ok(());
+    }
+    marks.put_between(look.link.cross);
+    toggle_known(
+        known,
+        rig,
+        proof,
+        look.link.cross,
+        look.link.wire,
+        look.wire,
+    )
+}
+
+// Looks from a known wire to one that isn't known, nor barred.
+#[tactic(auto, using(crate::proofs::Stages::tried_none, diag_known::proofs::Marking::spends_none))]
+fn look_new(
+    known: &mut Known,
+    rig: &mut Box<dyn Rig>,
+    proof: &mut Proof,
+    marks: &mut Marks,
+    near: &Vec<Near>,
+    look: Look,
+) -> Result<(), RigFail>
+    requires attached { shape_of (rig_state rig.old) ≡ Some proof.old.shape }
+    requires known { IsKnown proof.old known.old }
+    requires links { AreLinked proof.old.shape near.now.items }
+    requires look { IsLook near.now.items known.old.steps look }
+    requires marks { AreAllMarks (rig_state rig.old).machine.faults proof.old near.now.items known.old.steps marks.old }
+    requires new { ¬ HasWire known.old.steps look.link.wire.0 }
+    requires free { has_number marks.old.barred look.link.wire.0 ≡ false }
+    ensures grows { Grows proof.new known.old known.new marks.old.barred marks.new.barred }
+    ensures tried { OnOk result (AreTried (rig_state rig.old).machine.faults proof.new known.new.steps marks.old.barred marks.new.barred) }
+    ensures looked { OnOk result
+        (IsLookedOver (rig_state rig.old).machine.faults proof.new near.now.items known.new.steps marks.new.barred look) }
+    ensures marks { OnOk result (AreAllMarks (rig_state rig.old).machine.faults proof.new near.now.items known.new.steps marks.new) }
+    ensures spends { Spends (rig_state rig.old).machine.faults proof.old (IsLinking near.now.items) marks.old marks.new
+        (rig_state rig.old).loads (rig_state rig.new).loads }
+    ensures advances { Advances (rig_state rig.old) (rig_state rig.new) proof.old proof.new }
+    ensures cause { IsErrOf result RigFail.Failed → Rose (rig_state rig.old).failures (rig_state rig.new).failures }
+{
+    the_numbering_is_sound();
+    if marks.offered.has(look.link.cross.0) {
+        return Ok(());
+    }
+    let Ok(offer) = offer_of(known, proof, near, look) else {
+        return Err(RigFail::Memory);
+    };
+    try_offer(known, rig, proof, marks, &offer)
+}
+
+// Looks from a known wire over a link.
+#[tactic(auto, using(crate::proofs::Stages::tried_none, diag_known::proofs::Marking::spends_none))]
+fn look_over(
+    known: &mut Known,
+    rig: &mut Box<dyn Rig>,
+    proof: &mut Proof,
+    marks: &mut Marks,
+    near: &Vec<Near>,
+    look: Look,
+) -> Result<(), RigFail>
+    requires attached { shape_of (rig_state rig.old) ≡ Some proof.old.shape }
+    requires known { IsKnown proof.old known.old }
+    requires links { AreLinked proof.old.shape near.now.items }
+    requires look { IsLook near.now.items known.old.steps look }
+    requires marks { AreAllMarks (rig_state rig.old).machine.faults proof.old near.now.items known.old.steps marks.old }
+    ensures grows { Grows proof.new known.old known.new marks.old.barred marks.new.barred }
+    ensures tried { OnOk result (AreTried (rig_state rig.old).machine.faults proof.new known.new.steps marks.old.barred marks.new.barred) }
+    ensures looked { OnOk result
+        (IsLookedOver (rig_state rig.old).machine.faults proof.new near.now.items known.new.steps marks.new.barred look) }
+    ensures marks { OnOk result (AreAllMarks (rig_state rig.old).machine.faults proof.new near.now.items known.new.steps marks.new) }
+    ensures spends { Spends (rig_state rig.old).machine.faults proof.old (IsLinking near.now.items) marks.old marks.new
+        (rig_state rig.old).loads (rig_state rig.new).loads }
+    ensures advances { Advances (rig_state rig.old) (rig_state rig.new) proof.old proof.new }
+    ensures cause { IsErrOf result RigFail.Failed → Rose (rig_state rig.old).failures (rig_state rig.new).failures }
+{
+    the_numbering_is_sound();
+    let Some(other) = known.place_of(look.link.wire) else {
+        if marks.barred.has(look.link.wire.0) {
+            return Ok(());
+        }
+        return look_new(known, rig, proof, marks, near, look);
+    };
+    if other >= look.place {
+        return Ok(());
+    }
+    look_known(known, rig, proof, marks, look)
+}
+
+/// Looks from a known wire over all its links.
+pub(crate) fn look_at(
+    known: &mut Known,
+    rig: &mut Box<dyn Rig>,
+    proof: &mut Proof,
+    marks: &mut Marks,
+    near: &Vec<Near>,
+    place: usize,
+) -> Result<(), RigFail>
+    requires attached { shape_of (rig_state rig.old) ≡ Some proof.old.shape }
+    requires known { IsKnown proof.old known.old }
+    requires links { AreLinked proof.old.shape near.now.items }
+    requires place { place < length known.old.steps }
+    requires marks { AreAllMarks (rig_state rig.old).machine.faults proof.old near.now.items known.old.steps marks.old }
+    ensures grows { Grows proof.new known.old known.new marks.old.barred marks.new.barred }
+    ensures tried { OnOk result (AreTried (rig_state rig.old).machine.faults proof.new known.new.steps marks.old.barred marks.new.barred) }
+    ensures grown { OnOk result
+        (IsGrown (rig_state rig.old).machine.faults proof.old near.now.items known.old.steps marks.old.barred place →
+        IsGrown (rig_state rig.old).machine.faults proof.new near.now.items known.new.steps marks.new.barred (place + 1)) }
+    ensures marks { OnOk result (AreAllMarks (rig_state rig.old).machine.faults proof.new near.now.items known.new.steps marks.new) }
+    ensures spends { Spends (rig_state rig.old).machine.faults proof.old (IsLinking near.now.items) marks.old marks.new
+        (rig_state rig.old).loads (rig_state rig.new).loads }
+    ensures advances { Advances (rig_state rig.old) (rig_state rig.new) proof.old proof.new }
+    ensures cause { IsErrOf result RigFail.Failed → Rose (rig_state rig.old).failures (rig_state rig.new).failures }
+{
+    let wire = known.wire_at(place);
+    'links: for j in 0..link_count(near, wire) {
+        let Some(link) = link_at(near, wire, j) else {
+            continue;
+        };
+        look_over(known, rig, proof, marks, near, Look { place, wire, link })?;
+    }
+    Ok(())
+}

@@ -1,0 +1,135 @@
+//! Growth of known wires in a field.
+ghost use Rattle.std.specs.Prelude.{◌≡◌, ◌⊎◌, ◌≤◌, ◌<◌, ◌+◌, ◌*◌, true, Some, OnOk, IsErrOf, length};
+ghost use Rattle.base_bits.specs.Numbers.{has_number, size_of};
+ghost use Rattle.base_io.specs.Counts.{Rose};
+ghost use Rattle.machine_shape.specs.Shape.{pins_of, pin_wire};
+ghost use Rattle.rig.specs.Rig.{shape_of};
+ghost use Rattle.diag_evidence.specs.Kept.{Advances};
+ghost use Rattle.diag_known.specs.Field.{IsFieldOf, ClosedIf, GrowsIn, TakesFew, fresh, pins_in};
+ghost use Rattle.diag_known.specs.Linked.{AreLinked};
+ghost use Rattle.diag_growth.specs.Grown.{IsGrown};
+ghost use Rattle.diag_known.specs.Known.{IsKnown, HasWire};
+ghost use Rattle.diag_growth.specs.Looks.{AreAllMarks, AreTried, Grows, IsLinking};
+ghost use Rattle.diag_known.specs.Marked.{Spends};
+
+use crate::learn::try_pin;
+use crate::look::look_at;
+use diag_evidence::Proof;
+use diag_known::{Field, Known, Marks, Near, links_of};
+use machine_shape::{the_crosspoints_are_sound, the_numbering_is_sound};
+use rig::{Rig, RigFail};
+
+// Looks at all known wires from a place on, also at those that come to be known by it.
+fn look_on(
+    known: &mut Known,
+    rig: &mut Box<dyn Rig>,
+    proof: &mut Proof,
+    marks: &mut Marks,
+    near: &Vec<Near>,
+    from: usize,
+) -> Result<(), RigFail>
+    requires attached { shape_of (rig_state rig.old) ≡ Some proof.old.shape }
+    requires known { IsKnown proof.old known.old }
+    requires links { AreLinked proof.old.shape near.now.items }
+    requires marks { AreAllMarks (rig_state rig.old).machine.faults proof.old near.now.items known.old.steps marks.old }
+    requires from { from ≤ length known.old.steps }
+    ensures grows { Grows proof.new known.old known.new marks.old.barred marks.new.barred }
+    ensures tried { OnOk result (AreTried (rig_state rig.old).machine.faults proof.new known.new.steps marks.old.barred marks.new.barred) }
+    ensures grown { OnOk result (IsGrown (rig_state rig.old).machine.faults proof.old near.now.items known.old.steps marks.old.barred from →
+        IsGrown (rig_state rig.old).machine.faults proof.new near.now.items known.new.steps marks.new.barred (length known.new.steps)) }
+    ensures marks { OnOk result (AreAllMarks (rig_state rig.old).machine.faults proof.new near.now.items known.new.steps marks.new) }
+    ensures spends { Spends (rig_state rig.old).machine.faults proof.old (IsLinking near.now.items) marks.old marks.new
+        (rig_state rig.old).loads (rig_state rig.new).loads }
+    ensures advances { Advances (rig_state rig.old) (rig_state rig.new) proof.old proof.new }
+    ensures cause { IsErrOf result RigFail.Failed → Rose (rig_state rig.old).failures (rig_state rig.new).failures }
+{
+    let mut place = from;
+    'places: while place < known.len() {
+        look_at(known, rig, proof, marks, near, place)?;
+        place += 1;
+    }
+    Ok(())
+}
+
+// Tries a pin of the machine, if it is neither known nor barred, and looks on from it.
+fn grow_pin(
+    known: &mut Known,
+    rig: &mut Box<dyn Rig>,
+    proof: &mut Proof,
+    marks: &mut Marks,
+    near: &Vec<Near>,
+    pin: u32,
+) -> Result<(), RigFail>
+    requires attached { shape_of (rig_state rig.old) ≡ Some proof.old.shape }
+    requires known { IsKnown proof.old known.old }
+    requires links { AreLinked proof.old.shape near.now.items }
+    requires marks { AreAllMarks (rig_state rig.old).machine.faults proof.old near.now.items known.old.steps marks.old }
+    requires pin { pin < pins_of proof.old.shape }
+    ensures grows { Grows proof.new known.old known.new marks.old.barred marks.new.barred }
+    ensures tried { OnOk result (AreTried (rig_state rig.old).machine.faults proof.new known.new.steps marks.old.barred marks.new.barred) }
+    ensures grown { OnOk result (IsGrown (rig_state rig.old).machine.faults proof.old near.now.items known.old.steps marks.old.barred
+        (length known.old.steps) →
+        IsGrown (rig_state rig.old).machine.faults proof.new near.now.items known.new.steps marks.new.barred (length known.new.steps)) }
+    ensures pin { OnOk result (HasWire known.new.steps (pin_wire proof.old.shape pin)
+        ⊎ (has_number marks.new.barred (pin_wire proof.old.shape pin) ≡ true)) }
+    ensures marks { OnOk result (AreAllMarks (rig_state rig.old).machine.faults proof.new near.now.items known.new.steps marks.new) }
+    ensures spends { Spends (rig_state rig.old).machine.faults proof.old (IsLinking near.now.items) marks.old marks.new
+        (rig_state rig.old).loads (rig_state rig.new).loads }
+    ensures advances { Advances (rig_state rig.old) (rig_state rig.new) proof.old proof.new }
+    ensures cause { IsErrOf result RigFail.Failed → Rose (rig_state rig.old).failures (rig_state rig.new).failures }
+{
+    the_numbering_is_sound();
+    let wire = proof.shape().pin(pin);
+    if marks.barred.has(wire.0) {
+        return Ok(());
+    }
+    if known.has(wire) {
+        return Ok(());
+    }
+    let from = known.len();
+    try_pin(known, rig, proof, marks, pin)?;
+    look_on(known, rig, proof, marks, near, from)
+}
+
+/// Known wires grow in a field: until each wire of it that is clear, is shorted to no known wire, and is a pin of the machine or
+/// has two crosspoints of the field that aren't stuck to two different known wires, is known, and each crosspoint of the field
+/// between two known wires is kept unless it is stuck. What was known stays known, and what is new is of the field. What is kept
+/// costs nothing again: it takes at most 8 loads for each crosspoint of the field that the proof doesn't keep and 3 for each of its
+/// wires, less one for each pin of the machine in it, and without faults 2 and 3, less one for each such pin, whatever it answers.
+///
+/// # Errors
+///
+/// `Failed` where a call of the rig failed, `Memory` where memory was wanting.
+pub fn grow(
+    rig: &mut Box<dyn Rig>,
+    proof: &mut Proof,
+    known: &mut Known,
+    field: &Field,
+) -> Result<(), RigFail>
+    requires attached { shape_of (rig_state rig.old) ≡ Some proof.old.shape }
+    requires known { IsKnown proof.old known.old }
+    requires field { IsFieldOf proof.old.shape field.now }
+    ensures known { IsKnown proof.new known.new }
+    ensures grows { GrowsIn field.now known.old.steps known.new.steps }
+    ensures closed { OnOk result (ClosedIf (rig_state rig.old).machine.faults proof.new field.now known.new.steps) }
+    ensures loads { (rig_state rig.new).loads + pins_in proof.old.shape field.now
+        ≤ (rig_state rig.old).loads + (8 * fresh proof.old field.now + 3 * size_of field.now.wires) }
+    ensures few { TakesFew (rig_state rig.old).machine.faults proof.old field.now (rig_state rig.old).loads (rig_state rig.new).loads }
+    ensures advances { Advances (rig_state rig.old) (rig_state rig.new) proof.old proof.new }
+    ensures cause { IsErrOf result RigFail.Failed → Rose (rig_state rig.old).failures (rig_state rig.new).failures }
+{
+    the_numbering_is_sound();
+    the_crosspoints_are_sound();
+    let shape = proof.shape();
+    let Ok(near) = links_of(known.alloc(), &shape, field) else {
+        return Err(RigFail::Memory);
+    };
+    let Ok(mut marks) = Marks::new(known.alloc(), field) else {
+        return Err(RigFail::Memory);
+    };
+    look_on(known, rig, proof, &mut marks, &near, 0)?;
+    'pins: for pin in 0..shape.pins() {
+        grow_pin(known, rig, proof, &mut marks, &near, pin)?;
+    }
+    Ok(())
+}

@@ -1,0 +1,28 @@
+-- What is cited above.
+pub mod Places
+pub mod Getting
+pub mod Rising
+pub mod Later
+pub mod Apart
+pub mod Linking
+pub mod Grounding
+pub mod Stood
+pub mod Counting
+pub mod Taking
+-- For the proofs of this crate alone.
+mod Ranking
+mod Once
+mod TwoWays
+-- What is cited above.
+pub mod Besides
+pub mod Passing
+pub mod Adding
+pub mod Hung
+pub mod Marking
+pub mod Losing
+pub mod Settling
+pub mod Offering
+pub mod Seconds
+-- For the proofs of this crate alone.
+mod Reaching
+mod Touring

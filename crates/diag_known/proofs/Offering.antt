@@ -1,0 +1,104 @@
+-- What an offer spends, one trial after the other.
+use Rattle.std.proofs.Common.{◌≡◌, ◌≢◌, ◌⊎◌, ℕ, ◌+◌, ◌<◌, ◌≤◌, true, false, Some, Option, List, refl, sym, ap, ◌∙◌, subst, inl, inr, arith}
+use Rattle.std.specs.Prelude.{slice_get, slice_set}
+use Rattle.std.proofs.lemmas.Bool.{false≢true}
+use Rattle.std.proofs.lemmas.List.{set-set}
+use Rattle.base_bits.specs.Numbers.{has_number}
+use Rattle.machine_shape.specs.declared.Shape.{Shape}
+use Rattle.machine_shape.specs.Faults.{Faults}
+use Rattle.diag_evidence.specs.Kept.{Kept, HoldsFor, IsMore, keeps_cross}
+use Rattle.diag_known.specs.Marked.{barred_pins, is_spent, AreMarks, IsOfOffer, OffersAtMost, OffersOnly, SpendsOn}
+use Rattle.diag_known.specs.Offers.{IsOffer, IsPlaced}
+use Rattle.diag_known.specs.declared.marks.Marks.{Marks}
+use Rattle.diag_known.specs.declared.offers.Offer.{Offer}
+use Rattle.diag_known.specs.declared.step.Foot.{Foot}
+use Rattle.diag_known.specs.declared.step.Step.{Step}
+use Rattle.diag_known.proofs.Counting.{set_only}
+use Rattle.diag_known.proofs.Marking.{MarksOne, offered_one, spends_none, spends_then, spends_offered, spends_second, most_offered}
+
+offers_none : {x : ℕ} {s t : Marks} → t ≡ s → OffersOnly x s t
+offers_none same = record { only = λ y on. inl (subst (λ u. has_number u.offered y ≡ true) same on) }
+
+offers_one : (x : ℕ) (s : Marks) {t : Marks} → t ≡ record s { offered = slice_set s.offered x true } → OffersOnly x s t
+offers_one x s e = record { only = λ y on. set_only s.offered x y (subst (λ u. has_number u.offered y ≡ true) e on) }
+
+pub offers_then : {x : ℕ} {s t u : Marks} → OffersOnly x s t → OffersOnly x t u → OffersOnly x s u
+offers_then {x} {s} {t} {u} p q = record { only = λ y on. by_mid y (q.only y on) }
+  where
+    by_mid : (y : ℕ) → (has_number t.offered y ≡ true) ⊎ (x ≡ y) → (has_number s.offered y ≡ true) ⊎ (x ≡ y)
+    by_mid y (inl e) = p.only y e
+    by_mid y (inr e) = inr e
+
+pub spends_on_none : {told : Option Faults} {k : Kept} {o : Offer} {s t : Marks} {before after : ℕ} → t ≡ s → after ≡ before → SpendsOn told k o s t before after
+spends_on_none same loads = record { spends = spends_none same loads; offered = offers_none same; barred = ap (λ (u : Marks). u.barred) same }
+
+pub spends_on_then : {told : Option Faults} {k l : Kept} {o : Offer} {s t u : Marks} {a b c : ℕ} → IsMore k l → ((f : Faults) → told ≡ Some f → HoldsFor k f → HoldsFor l f) →
+    SpendsOn told k o s t a b → SpendsOn told l o t u b c → SpendsOn told k o s u a c
+spends_on_then more later p q = record { spends = spends_then more later p.spends q.spends; offered = offers_then p.offered q.offered; barred = q.barred ∙ p.barred }
+
+-- the same of faults that are told alike
+pub spends_on_told : {a b : Option Faults} {k : Kept} {o : Offer} {s t : Marks} {before after : ℕ} → a ≡ b → SpendsOn a k o s t before after → SpendsOn b k o s t before after
+spends_on_told {k = k} {o = o} {s = s} {t = t} {before = before} {after = after} e p = subst (λ told. SpendsOn told k o s t before after) e p
+
+-- the crosspoint of the offer is marked as offered
+module _ {told : Option Faults} {k : Kept} {ss : List Step} {o : Offer} {s t : Marks} {before after : ℕ} (are : AreMarks told k ss s) (offer : IsOffer k.shape ss o) where
+  pub spends_own : keeps_cross k o.foot.cross.0 ≡ false → has_number s.offered o.foot.cross.0 ≡ false → t ≡ record s { offered = slice_set s.offered o.foot.cross.0 true } → after ≤ before + 2 → SpendsOn told k o s t before after
+  spends_own fresh off marks loads = record {
+    spends = spends_offered before after are offer.foot.within (inl refl) fresh off marks loads;
+    offered = offers_one o.foot.cross.0 s marks;
+    barred = ap (λ (u : Marks). u.barred) marks;
+  }
+
+  -- another one is marked as toggled over it
+  pub spends_other : (a : Foot) → IsPlaced o.others.items a → keeps_cross k a.cross.0 ≡ false → has_number s.second a.cross.0 ≡ false → t ≡ record s { second = slice_set s.second a.cross.0 true } → after ≤ before + 2 → SpendsOn told k o s t before after
+  spends_other a placed fresh off marks loads = record {
+    spends = spends_second before after are ((offer.others placed.place a placed.here).within) (inr (record { place = placed.place; item = a; here = placed.here; so = refl })) fresh off marks loads;
+    offered = record { only = λ y on. inl (subst (λ u. has_number u.offered y ≡ true) marks on) };
+    barred = ap (λ (u : Marks). u.barred) marks;
+  }
+
+-- beside one way, or beside the first of two
+pub spends_first : {told : Option Faults} {k : Kept} {ss : List Step} {o : Offer} {s t : Marks} {before after : ℕ} → AreMarks told k ss s → IsOffer k.shape ss o → has_number s.offered o.foot.cross.0 ≡ false →
+    OffersAtMost k o.foot.cross.0 s t before after → SpendsOn told k o s t before after
+spends_first are offer off (inl same) = spends_on_none same.0 same.1
+spends_first are offer off (inr one) = spends_own are offer one.fresh off one.marks one.loads
+
+-- .. beside both
+pub spends_both : {told : Option Faults} {k l : Kept} {ss : List Step} {o : Offer} {s t u : Marks} (a b c : ℕ) → AreMarks told k ss s → IsOffer k.shape ss o → has_number s.offered o.foot.cross.0 ≡ false → IsMore k l →
+    ((f : Faults) → told ≡ Some f → HoldsFor k f → HoldsFor l f) → AreMarks told l ss t → OffersAtMost k o.foot.cross.0 s t a b → OffersAtMost l o.foot.cross.0 t u b c → SpendsOn told k o s u a c
+spends_both {ss = ss} {o = o} a b c are offer off more later mid (inl first) second = spends_on_then more later (spends_on_none first.0 first.1)
+    (spends_first mid (subst (λ (m : Shape). IsOffer m ss o) (sym more.shape) offer) (ap (λ (v : Marks). has_number v.offered o.foot.cross.0) first.0 ∙ off) second)
+spends_both a b c are offer off more later mid (inr first) (inl second) = spends_on_then more later (spends_own are offer first.fresh off first.marks first.loads) (spends_on_none second.0 second.1)
+spends_both {told} {k} {l} {ss} {o} {s} {t} {u} a b c are offer off more later mid (inr first) (inr second) = subst (λ v. SpendsOn told k o s v a c) (sym same) (record {
+  spends = record {
+    only = λ y on. by_one y (one.only y on);
+    fresh = λ y on. by_fresh y (one.only y on);
+    most = sums (barred_pins k.shape s) _ _ (most_offered a c are offer.foot.within off (let p = first.loads in let q = second.loads in omega (arith, p, q)));
+    few = λ f is none holds. absurd (false≢true (sym second.fresh ∙ mid.spent f is none (later f is holds) x (subst (λ v. is_spent v x ≡ true) (sym first.marks) one.this)));
+  };
+  offered = offers_one x s refl;
+  barred = refl;
+})
+  where
+    x : ℕ
+    x = o.foot.cross.0
+
+    once : Marks
+    once = record s { offered = slice_set s.offered x true }
+
+    one : MarksOne x s once
+    one = offered_one s x (subst (λ n. x < n) (sym are.offered) offer.foot.within)
+
+    by_one : (y : ℕ) → (is_spent s y ≡ true) ⊎ (x ≡ y) → (is_spent s y ≡ true) ⊎ IsOfOffer o y
+    by_one y (inl e) = inl e
+    by_one y (inr e) = inr (inl e)
+
+    by_fresh : (y : ℕ) → (is_spent s y ≡ true) ⊎ (x ≡ y) → (is_spent s y ≡ true) ⊎ (keeps_cross k y ≡ false)
+    by_fresh y (inl e) = inl e
+    by_fresh y (inr e) = inr (ap (keeps_cross k) (sym e) ∙ first.fresh)
+
+    sums : (p v w : ℕ) → c + v ≤ a + w → c + p + v ≤ a + p + w
+    sums p v w less = omega (arith, less)
+
+    same : u ≡ once
+    same = second.marks ∙ ap (λ (v : Marks). record v { offered = slice_set v.offered x true }) first.marks ∙ ap (λ bits. record s { offered = bits }) (set-set s.offered x true true)

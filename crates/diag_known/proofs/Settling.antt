@@ -1,0 +1,164 @@
+-- Marks stay right, while more is kept and known, and where one is set.
+use Rattle.std.proofs.Common.{◌≡◌, ◌≢◌, ◌⊎◌, ℕ, ◌+◌, ◌<◌, Bool, true, false, Some, Option, List, [], ◌++◌, refl, sym, ap, ◌∙◌, subst, inl, inr}
+use Rattle.std.specs.Prelude.{slice_get, slice_set, Result, Ok, Err, IfOk, OnOk, IsTrue}
+use Rattle.std.proofs.lemmas.Bool.{false≢true}
+use Rattle.std.proofs.lemmas.List.{length-set, append-nil}
+use native.Mathlib.Decide.{ℕ_discrete}
+use Rattle.base_bits.specs.Numbers.{has_number}
+use Rattle.machine_shape.specs.declared.Shape.{Shape}
+use Rattle.machine_shape.specs.Shape.{Ends, in_order, turned, ends_of, wires_of, crosses_of}
+use Rattle.machine_shape.specs.Faults.{Faults, IsFaultless}
+use Rattle.diag_evidence.specs.Kept.{Kept, HoldsFor, IsMore, keeps_cross}
+use Rattle.diag_evidence.proofs.Keeping.{holds_earlier}
+use Rattle.diag_known.specs.Known.{HasWire}
+use Rattle.diag_known.specs.Marked.{is_spent, IsSecondMark, AreMarks}
+use Rattle.diag_known.specs.Trials.{IsLost, IsLinkTo, IsKeptUnlessStuck, IsFaulty}
+use Rattle.diag_known.specs.declared.marks.Marks.{Marks}
+use Rattle.diag_known.specs.declared.step.Foot.{Foot}
+use Rattle.diag_known.specs.declared.step.Step.{Step}
+use Rattle.diag_known.proofs.Counting.{set_only}
+use Rattle.diag_known.proofs.Losing.{kept_later, lost_one_later}
+use Rattle.diag_known.proofs.Marking.{MarksOne, offered_one, second_one, between_one, fit_faultless}
+use Rattle.diag_known.proofs.Places.{has_later}
+
+pub second_mark_later : {told : Option Faults} {k l : Kept} {ss : List Step} {x : ℕ} (ts : List Step) → IsMore k l → IsSecondMark told k ss x → IsSecondMark told l (ss ++ ts) x
+second_mark_later {told} {k} {l} {ss} {x} ts more s = record {
+  from = s.from;
+  to = s.to;
+  at = subst (λ (m : Shape). Ends (ends_of m x) s.from s.to) (sym more.shape) s.at;
+  known = has_later ts s.known;
+  found = later s.found;
+}
+  where
+    later : (keeps_cross k x ≡ true) ⊎ (HasWire ss s.to ⊎ IsLost told k ss s.to x) → (keeps_cross l x ≡ true) ⊎ (HasWire (ss ++ ts) s.to ⊎ IsLost told l (ss ++ ts) s.to x)
+    later (inl e) = inl (more.crosses x e)
+    later (inr (inl h)) = inr (inl (has_later ts h))
+    later (inr (inr p)) = inr (inr (lost_one_later ts more p))
+
+-- more is kept and known
+pub marks_later : {told : Option Faults} {k l : Kept} {ss : List Step} {s : Marks} (ts : List Step) → IsMore k l → AreMarks told k ss s → AreMarks told l (ss ++ ts) s
+marks_later ts more are = record {
+  barred = are.barred ∙ ap wires_of (sym more.shape);
+  offered = are.offered ∙ ap crosses_of (sym more.shape);
+  second = are.second ∙ ap crosses_of (sym more.shape);
+  between = are.between ∙ ap crosses_of (sym more.shape);
+  seconds = λ x on. second_mark_later ts more (are.seconds x on);
+  joined = λ x on. kept_later more (are.joined x on);
+  spent = λ f told none holds x on. more.crosses x (are.spent f told none (holds_earlier more holds) x on);
+}
+
+-- .. only kept
+pub marks_still : {told : Option Faults} {k l : Kept} {ss : List Step} {s : Marks} → IsMore k l → AreMarks told k ss s → AreMarks told l ss s
+marks_still {told} {k} {l} {ss} {s} more are = subst (λ rs. AreMarks told l rs s) (append-nil ss) (marks_later [] more are)
+
+-- a mark is set, at a crosspoint that without faults is kept now
+module _ {told : Option Faults} {k l : Kept} {ss : List Step} {s : Marks} (x : ℕ) (are : AreMarks told k ss s) (more : IsMore k l)
+    (kept : (f : Faults) → told ≡ Some f → IsFaultless f → HoldsFor l f → keeps_cross l x ≡ true) where
+  spent_one : {new : Marks} → MarksOne x s new → (f : Faults) → told ≡ Some f → IsFaultless f → HoldsFor l f → (y : ℕ) → is_spent new y ≡ true → keeps_cross l y ≡ true
+  spent_one one f is none holds y on = by_mark (one.only y on)
+    where
+      by_mark : (is_spent s y ≡ true) ⊎ (x ≡ y) → keeps_cross l y ≡ true
+      by_mark (inl old) = (marks_still more are).spent f is none holds y old
+      by_mark (inr e) = subst (λ z. keeps_cross l z ≡ true) e (kept f is none holds)
+
+  pub marks_offered : {t : Marks} → x < crosses_of k.shape → t ≡ record s { offered = slice_set s.offered x true } → AreMarks told l ss t
+  marks_offered within e = let later : AreMarks told l ss s = marks_still more are in subst (AreMarks told l ss) (sym e) (record {
+    barred = later.barred;
+    offered = length-set s.offered x true ∙ later.offered;
+    second = later.second;
+    between = later.between;
+    seconds = later.seconds;
+    joined = later.joined;
+    spent = spent_one (offered_one s x (subst (λ n. x < n) (sym are.offered) within));
+  })
+
+  pub marks_second : {t : Marks} → x < crosses_of k.shape → t ≡ record s { second = slice_set s.second x true } → IsSecondMark told l ss x → AreMarks told l ss t
+  marks_second within e mark = let later : AreMarks told l ss s = marks_still more are in subst (AreMarks told l ss) (sym e) (record {
+    barred = later.barred;
+    offered = later.offered;
+    second = length-set s.second x true ∙ later.second;
+    between = later.between;
+    seconds = λ y on. by_mark y (set_only s.second x y on);
+    joined = later.joined;
+    spent = spent_one (second_one s x (subst (λ n. x < n) (sym are.second) within));
+  })
+    where
+      by_mark : (y : ℕ) → (has_number s.second y ≡ true) ⊎ (x ≡ y) → IsSecondMark told l ss y
+      by_mark y (inl on) = (marks_still more are).seconds y on
+      by_mark y (inr same) = subst (IsSecondMark told l ss) same mark
+
+  pub marks_between : {t : Marks} → x < crosses_of k.shape → t ≡ record s { between = slice_set s.between x true } → IsKeptUnlessStuck told l x → AreMarks told l ss t
+  marks_between within e mark = let later : AreMarks told l ss s = marks_still more are in subst (AreMarks told l ss) (sym e) (record {
+    barred = later.barred;
+    offered = later.offered;
+    second = later.second;
+    between = length-set s.between x true ∙ later.between;
+    seconds = later.seconds;
+    joined = λ y on. by_mark y (set_only s.between x y on);
+    spent = spent_one (between_one s x (subst (λ n. x < n) (sym are.between) within));
+  })
+    where
+      by_mark : (y : ℕ) → (has_number s.between y ≡ true) ⊎ (x ≡ y) → IsKeptUnlessStuck told l y
+      by_mark y (inl on) = (marks_still more are).joined y on
+      by_mark y (inr same) = subst (IsKeptUnlessStuck told l) same mark
+
+-- a wire is barred
+pub marks_barred : {told : Option Faults} {k : Kept} {ss : List Step} {s t : Marks} (w : ℕ) → AreMarks told k ss s → t ≡ record s { barred = slice_set s.barred w true } → AreMarks told k ss t
+marks_barred {told} {k} {ss} {s} {t} w are e = subst (AreMarks told k ss) (sym e) (record {
+  barred = length-set s.barred w true ∙ are.barred;
+  offered = are.offered;
+  second = are.second;
+  between = are.between;
+  seconds = are.seconds;
+  joined = are.joined;
+  spent = are.spent;
+})
+
+-- a toggle that is bound to pass without faults
+pub kept_by : (told : Option Faults) (l : Kept) (x : ℕ) {E : Type 0} (r : Result Bool E) → IfOk r (λ yes. IsTrue yes → keeps_cross l x ≡ true) →
+    IfOk r (λ yes. yes ≡ false → IsFaulty told l) →
+    OnOk r ((f : Faults) → told ≡ Some f → IsFaultless f → HoldsFor l f → keeps_cross l x ≡ true)
+kept_by told l x (Ok true) kept none = λ f is fault holds. kept refl
+kept_by told l x (Ok false) kept none = λ f is fault holds. absurd ((none refl).at f is fault holds)
+kept_by told l x (Err e) kept none = tt
+
+pub faulty_later : {told : Option Faults} {k l : Kept} → IsMore k l → IsFaulty told k → IsFaulty told l
+faulty_later more p = record { at = λ f is none holds. p.at f is none (holds_earlier more holds) }
+
+pub lost_faulty : {told : Option Faults} {k : Kept} {ss : List Step} {w x : ℕ} → ¬ HasWire ss w → IsLost told k ss w x → IsFaulty told k
+lost_faulty {x = x} new lost = record { at = λ f is none holds. lost.at f is holds (fit_faultless none new) (none.crosses x) }
+
+-- two crosspoints with the same ends
+pub ends_same : {p : ℕ × ℕ} {a b c d : ℕ} → Ends p a b → Ends p c d → ((a ≡ c) × (b ≡ d)) ⊎ ((a ≡ d) × (b ≡ c))
+ends_same (in_order s t) (in_order u v) = inl (sym s ∙ u, sym t ∙ v)
+ends_same (in_order s t) (turned u v) = inr (sym s ∙ u, sym t ∙ v)
+ends_same (turned s t) (in_order u v) = inr (sym t ∙ v, sym s ∙ u)
+ends_same (turned s t) (turned u v) = inl (sym t ∙ v, sym s ∙ u)
+
+-- a crosspoint that was toggled over another one, and isn't kept
+pub second_lost : {told : Option Faults} {k : Kept} {ss : List Step} {w u x : ℕ} → IsSecondMark told k ss x → Ends (ends_of k.shape x) u w → ¬ HasWire ss w → keeps_cross k x ≡ false → IsLost told k ss w x
+second_lost {told} {k} {ss} {w} {u} {x} m at new fresh = by_ends (ends_same m.at at)
+  where
+    by_found : m.to ≡ w → (keeps_cross k x ≡ true) ⊎ (HasWire ss m.to ⊎ IsLost told k ss m.to x) → IsLost told k ss w x
+    by_found e (inl kept) = absurd (false≢true (sym fresh ∙ kept))
+    by_found e (inr (inl has)) = absurd (new (subst (HasWire ss) e has))
+    by_found e (inr (inr lost)) = subst (λ v. IsLost told k ss v x) e lost
+
+    by_ends : ((m.from ≡ u) × (m.to ≡ w)) ⊎ ((m.from ≡ w) × (m.to ≡ u)) → IsLost told k ss w x
+    by_ends (inl e) = by_found e.1 m.found
+    by_ends (inr e) = absurd (new (subst (HasWire ss) e.0 m.known))
+
+-- .. as it is marked then
+pub second_mark_by : (told : Option Faults) (k : Kept) {ss : List Step} {w : ℕ} {a : Foot} {E : Type 0} (r : Result Bool E) → IsLinkTo k.shape ss w a → IfOk r (λ yes. IsTrue yes → keeps_cross k a.cross.0 ≡ true) →
+    IfOk r (λ yes. yes ≡ false → IsLost told k ss w a.cross.0) → OnOk r (IsSecondMark told k ss a.cross.0)
+second_mark_by told k {w = w} {a = a} (Ok true) link kept lost = record { from = a.wire.0; to = w; at = link.at; known = link.known; found = inl (kept refl) }
+second_mark_by told k {w = w} {a = a} (Ok false) link kept lost = record { from = a.wire.0; to = w; at = link.at; known = link.known; found = inr (inr (lost refl)) }
+second_mark_by told k (Err e) link kept lost = tt
+
+pub link_still : {k l : Kept} {ss : List Step} {w : ℕ} {a : Foot} → IsMore k l → IsLinkTo k.shape ss w a → IsLinkTo l.shape ss w a
+link_still {ss = ss} {w = w} {a = a} more link = subst (λ (m : Shape). IsLinkTo m ss w a) (sym more.shape) link
+
+-- what follows from an answer
+pub on_both : {T E A B C : Type 0} (r : Result T E) → OnOk r A → OnOk r B → (A → B → C) → OnOk r C
+on_both (Ok x) a b h = h a b
+on_both (Err e) a b h = tt

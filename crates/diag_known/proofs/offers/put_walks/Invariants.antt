@@ -1,0 +1,7 @@
+use Rattle.diag_tests.specs.Routes.{cross_numbers}
+use Rattle.diag_known.specs.Offers.{Adds, IsOn}
+use Rattle.diag_known.proofs.Adding.{InFirst}
+use Rattle.diag_known.proofs.offers.put_walks.Given as goal
+
+abbrev pub invariant-routes : goal.invariant-routes
+invariant-routes l = Adds (InFirst l.routes l.k IsOn) (cross_numbers l.fn.ties.items) (cross_numbers l.ties.items)

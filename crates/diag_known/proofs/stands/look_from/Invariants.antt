@@ -1,0 +1,11 @@
+use Rattle.diag_known.specs.Linked.{list_at}
+use Rattle.diag_known.specs.Grounds.{IsGround, Founds}
+use Rattle.diag_known.proofs.Grounding.{AreTaken}
+use Rattle.diag_known.proofs.stands.look_from.Given as goal
+
+abbrev pub invariant-links : goal.invariant-links
+invariant-links l = record {
+  ground : IsGround l.proof l.known l.left l.feet.items;
+  founds : Founds l.fn.known l.known l.fn.left l.left l.fn.feet.items l.feet.items;
+  taken : AreTaken l.proof (list_at l.near.items l.from.0) l.j l.from.0 l.left l.feet.items;
+}

@@ -1,0 +1,14 @@
+use Rattle.std.proofs.Common.{◌+◌, ◌-◌, ◌*◌, length}
+use Rattle.base_bits.specs.Numbers.{size_of}
+use Rattle.diag_known.specs.Grounds.{IsGround, Founds, AreSettled}
+use Rattle.diag_known.proofs.stands.look_from_all.Given as goal
+
+abbrev pub invariant-places : goal.invariant-places
+invariant-places l = record {
+  ground : IsGround l.proof l.known l.left l.feet.items;
+  founds : Founds l.fn.known l.known l.fn.left l.left l.fn.feet.items l.feet.items;
+  settled : AreSettled l.proof l.near.items l.known l.left l.feet.items l.place;
+}
+
+abbrev pub decreases-places : goal.decreases-places
+decreases-places l = 2 * size_of l.left + (length l.known.steps - l.place)

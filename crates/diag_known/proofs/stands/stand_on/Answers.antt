@@ -1,0 +1,24 @@
+use Rattle.std.proofs.Common.{◌∙◌, ap}
+use Rattle.machine_shape.specs.Shape.{wires_of}
+use Rattle.diag_known.proofs.Grounding.{ground_none, founds_then, stands_all, out_still}
+use Rattle.diag_known.proofs.Stood.{all_from, no_wire}
+use Rattle.diag_known.proofs.stands.stand_on.Goals as goal
+
+pub take_pins-requires : goal.take_pins-requires
+take_pins-requires c = record {
+  ground = ground_none c.args.wires c.in_ok-feet.feet.items c.wires.result c.requires.apart (c.in_ok-known.ensures.shape ∙ c.shape-shape.ensures) c.in_ok-known.ensures.none c.in_ok-feet.ensures
+      (c.wires.ensures.wires ∙ ap wires_of c.shape-shape.ensures);
+}
+
+pub returns-clause-known : goal.returns-clause-known
+returns-clause-known c = c.in_ok-look_from_all.ensures.ground.known
+
+pub returns-clause-within : goal.returns-clause-within
+returns-clause-within c = all_from (no_wire c.in_ok-known.known c.in_ok-known.ensures.none) (founds_then c.in_ok-take_pins.ensures.founds c.in_ok-look_from_all.ensures.founds)
+
+pub returns-clause-whole : goal.returns-clause-whole
+returns-clause-whole c =
+    let founds = c.in_ok-look_from_all.ensures.founds in
+    let all = founds_then c.in_ok-take_pins.ensures.founds founds in
+    stands_all c.args.proof.now c.args.near.now.items c.look_from_all.new.known c.args.wires c.look_from_all.new.left c.look_from_all.new.feet.items c.requires.links c.in_ok-look_from_all.ensures.settled
+    all.whole (λ i less. out_still founds _ (c.in_ok-take_pins.ensures.taken i less))

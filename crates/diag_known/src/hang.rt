@@ -1,0 +1,122 @@
+//! Trials of a crosspoint from a known wire to one that isn't known, and hangs on others beside a way.
+ghost use Rattle.std.specs.Prelude.{◌≡◌, ◌≤◌, ◌+◌, true, false, Some, IfOk, OnOk, IsErrOf, IsTrue};
+ghost use Rattle.base_bits.specs.Numbers.{has_number};
+ghost use Rattle.base_io.specs.Counts.{Rose};
+ghost use Rattle.rig.specs.Rig.{shape_of};
+ghost use Rattle.diag_tests.specs.Routes.{cross_numbers};
+ghost use Rattle.diag_evidence.specs.Kept.{Advances, keeps_cross};
+ghost use Rattle.diag_known.specs.Known.{IsKnown};
+ghost use Rattle.diag_known.specs.Marked.{AreMarks, OffersAtMost, SpendsOn};
+ghost use Rattle.diag_known.specs.Offers.{IsOffer, IsHanging, HasNoneBeside, HasNoSecond};
+ghost use Rattle.diag_known.specs.Trials.{IsFaulty};
+ghost use Rattle.diag_known.specs.Ways.{IsWay};
+
+use crate::Known;
+use crate::marks::Marks;
+use crate::offers::{Hanging, Offer, hung_beside, pulled};
+use crate::toggles::laid;
+use diag_evidence::Proof;
+use diag_tests::Route;
+use rig::{Rig, RigFail};
+
+// Toggles the crosspoint of an offer, whose wire hangs on what is reached beside a way.
+fn toggle_hung(
+    known: &Known,
+    rig: &mut Box<dyn Rig>,
+    proof: &mut Proof,
+    offer: &Offer,
+    way: &Route,
+    hung: &Hanging,
+) -> Result<bool, RigFail>
+    requires attached { shape_of (rig_state rig.old) ≡ Some proof.old.shape }
+    requires known { IsKnown proof.old known.now }
+    requires offer { IsOffer proof.old.shape known.now.steps offer.now }
+    requires way { IsWay proof.old known.now.steps offer.now.foot.wire.0 way.now }
+    requires hung { IsHanging proof.old known.now.steps offer.now way.now hung.now.walks.items (cross_numbers hung.now.ties.items) }
+    ensures kept { IfOk result (λ yes. IsTrue yes → keeps_cross proof.new offer.now.foot.cross.0 ≡ true) }
+    ensures lost { IfOk result (λ yes. yes ≡ false →
+        HasNoneBeside (rig_state rig.old).machine.faults proof.new known.now.steps offer.now way.now) }
+    ensures faulty { IfOk result (λ yes. yes ≡ false → IsFaulty (rig_state rig.old).machine.faults proof.old) }
+    ensures advances { Advances (rig_state rig.old) (rig_state rig.new) proof.old proof.new }
+    ensures loads { (rig_state rig.new).loads ≤ (rig_state rig.old).loads + 2 }
+    ensures cause { IsErrOf result RigFail.Failed → Rose (rig_state rig.old).failures (rig_state rig.new).failures }
+{
+    let mut config = laid(proof, way, way, &hung.ties)?;
+    let drive = pulled(proof, &hung.walks)?;
+    let answer = proof.toggle_cross(rig, &mut config, offer.foot.cross, &drive, way.pin());
+    proof.give_back(config);
+    proof.give_back_drive(drive);
+    answer
+}
+
+// Toggles the crosspoint of an offer beside a way to its known end, unless it is kept or the wire hangs on nothing there.
+// True exactly where it is kept then.
+fn hang(
+    known: &Known,
+    rig: &mut Box<dyn Rig>,
+    proof: &mut Proof,
+    marks: &mut Marks,
+    offer: &Offer,
+    way: &Route,
+) -> Result<bool, RigFail>
+    requires attached { shape_of (rig_state rig.old) ≡ Some proof.old.shape }
+    requires known { IsKnown proof.old known.now }
+    requires offer { IsOffer proof.old.shape known.now.steps offer.now }
+    requires way { IsWay proof.old known.now.steps offer.now.foot.wire.0 way.now }
+    requires marks { AreMarks (rig_state rig.old).machine.faults proof.old known.now.steps marks.old }
+    ensures kept { IfOk result (λ yes. IsTrue yes → keeps_cross proof.new offer.now.foot.cross.0 ≡ true) }
+    ensures lost { IfOk result (λ yes. yes ≡ false →
+        HasNoneBeside (rig_state rig.old).machine.faults proof.new known.now.steps offer.now way.now) }
+    ensures marks { OnOk result (AreMarks (rig_state rig.old).machine.faults proof.new known.now.steps marks.new) }
+    ensures offers { OffersAtMost proof.old offer.now.foot.cross.0 marks.old marks.new (rig_state rig.old).loads (rig_state rig.new).loads }
+    ensures advances { Advances (rig_state rig.old) (rig_state rig.new) proof.old proof.new }
+    ensures cause { IsErrOf result RigFail.Failed → Rose (rig_state rig.old).failures (rig_state rig.new).failures }
+{
+    if proof.keeps_cross(offer.foot.cross) {
+        return Ok(true);
+    }
+    let Ok(found) = hung_beside(known, proof, offer, way) else {
+        return Err(RigFail::Memory);
+    };
+    let Some(hung) = found else {
+        return Ok(false);
+    };
+    marks.offer(offer.foot.cross);
+    toggle_hung(known, rig, proof, offer, way, &hung)
+}
+
+/// Toggles the crosspoint of an offer beside the one way to its known end, and then beside the other. True exactly where
+/// it is kept then.
+///
+/// # Errors
+///
+/// `Failed` where a call of the rig failed, `Memory` where memory was wanting.
+pub fn toggle_first(
+    known: &Known,
+    rig: &mut Box<dyn Rig>,
+    proof: &mut Proof,
+    marks: &mut Marks,
+    offer: &Offer,
+) -> Result<bool, RigFail>
+    requires attached { shape_of (rig_state rig.old) ≡ Some proof.old.shape }
+    requires known { IsKnown proof.old known.now }
+    requires offer { IsOffer proof.old.shape known.now.steps offer.now }
+    requires marks { AreMarks (rig_state rig.old).machine.faults proof.old known.now.steps marks.old }
+    requires first { has_number marks.old.offered offer.now.foot.cross.0 ≡ false }
+    ensures kept { IfOk result (λ yes. IsTrue yes → keeps_cross proof.new offer.now.foot.cross.0 ≡ true) }
+    ensures lost { IfOk result (λ yes. yes ≡ false → HasNoSecond (rig_state rig.old).machine.faults proof.new known.now.steps offer.now) }
+    ensures marks { OnOk result (AreMarks (rig_state rig.old).machine.faults proof.new known.now.steps marks.new) }
+    ensures spends { SpendsOn (rig_state rig.old).machine.faults proof.old offer.now marks.old marks.new (rig_state rig.old).loads
+        (rig_state rig.new).loads }
+    ensures advances { Advances (rig_state rig.old) (rig_state rig.new) proof.old proof.new }
+    ensures cause { IsErrOf result RigFail.Failed → Rose (rig_state rig.old).failures (rig_state rig.new).failures }
+{
+    let Ok((left, right)) = known.ways_to(proof, offer.foot.wire) else {
+        return Err(RigFail::Memory);
+    };
+    let kept = hang(known, rig, proof, marks, offer, &left)?;
+    if kept {
+        return Ok(true);
+    }
+    hang(known, rig, proof, marks, offer, &right)
+}

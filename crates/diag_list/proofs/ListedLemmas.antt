@@ -1,0 +1,69 @@
+-- The list as a step.
+use Rattle.std.proofs.Common.{◌≡◌, ◌∙◌, ℕ, ◌≤◌, List, [], Some, option_map, refl, sym, ap, arith, append-nil}
+use Rattle.std.specs.Prelude.{Ok, Err}
+use Rattle.base_io.specs.Counts.{Rose}
+use Rattle.base_io.specs.Store.{StoreState}
+use Rattle.base_io.specs.Sink.{SinkState}
+use Rattle.machine_shape.specs.declared.Shape.{Shape}
+use Rattle.machine_defects.specs.Lists.{DefectList, IsDefectList}
+use Rattle.rig.specs.Rig.{RigState, Machine, Asked, shape_of}
+use Rattle.rig.specs.declared.rig.RigFail.{RigFail}
+use Rattle.rig.specs.declared.rig.RigFail.TheVariants.{Failed, Memory}
+use Rattle.diag_machine.specs.Diagnosis.{IsDiagnosis, TakesFewLoads}
+use Rattle.cmd_steps.specs.Outside.{outside, IsLater}
+use Rattle.cmd_steps.specs.Stops.{IsCounted, StepStops, stop_of_rig}
+use Rattle.cmd_steps.specs.Took.{Took}
+use Rattle.cmd_steps.specs.declared.refusal.Stop.{Stop}
+use Rattle.cmd_steps.specs.declared.refusal.Stop.TheVariants.{Refused, Sink}
+use Rattle.diag_list.specs.Lists.{IsListed, Listed, lists, lists_now}
+
+-- the shape that is attached
+pub attached-shape : (rig : RigState) (m : Shape) (name : List ℕ) → rig.machine.attached ≡ Some (record { shape = m; name = name }) → shape_of rig ≡ Some m
+attached-shape rig m name is = ap (option_map (λ (a : Asked). a.shape)) is
+
+-- and that of a list of the machine that is attached
+pub list-shape : (old new : RigState) (m : Shape) (d : DefectList) → new.machine ≡ old.machine → d.shape ≡ m → shape_of old ≡ Some m → shape_of new ≡ Some d.shape
+list-shape old new m d machine same is = ap (λ (x : Machine). option_map (λ (a : Asked). a.shape) x.attached) machine ∙ (is ∙ ap Some (sym same))
+
+-- a list is one of the machine, and so it stays while the machine stays
+pub listed-on : (m : Shape) (before : ℕ) (mid new : RigState) (l : Listed) → IsListed m before mid l → new.machine ≡ mid.machine → IsListed m before new l
+listed-on m before mid new l is machine = record { shape = is.shape; kept = is.kept; right = rw machine is.right; few = rw machine is.few }
+
+-- where it isn't made, few loads were made too, from so many on
+pub few-stops : (m : Shape) (before : ℕ) (old new : RigState) (stop : Stop) → old.loads ≡ before → new.machine ≡ old.machine → StepStops (lists_now m old new) stop → StepStops (lists m before new) stop
+few-stops m before old new (Refused refusal) loads machine stops = (stops.0, rw (← loads, machine) stops.1)
+few-stops m before old new (Sink fail) loads machine stops = stops
+
+module _ (m : Shape) (old new : RigState) (machine : new.machine ≡ old.machine) (store : StoreState) (sink : SinkState) where
+  list-later : old.failures ≤ new.failures → IsLater (outside store old sink) (outside store new sink)
+  list-later later = record { contents = refl; texts = ap (λ (x : Machine). x.texts) machine; kind = refl; store = omega arith; rig = later; sink = omega arith }
+
+  pub list-took : (d : DefectList) → old.failures ≤ new.failures → d.shape ≡ m → IsDefectList d → IsDiagnosis old.machine.faults m d.list → TakesFewLoads old.machine.faults m old.loads new.loads → Took [] (lists_now m old new) (Ok d) (outside store old sink) (outside store new sink)
+  list-took d later shape kept right few = record {
+    later = list-later later;
+    silent = refl;
+    asked = record { all = sym (append-nil store.asked); some = tt };
+    place = refl;
+    gives = record { shape = shape; kept = kept; right = rw machine right; few = rw machine few };
+    stops = tt;
+    counted = tt;
+  }
+
+  fail-stops : (fail : RigFail) → TakesFewLoads old.machine.faults m old.loads new.loads → StepStops (lists_now m old new) (stop_of_rig fail)
+  fail-stops Failed few = (tt, few)
+  fail-stops Memory few = (tt, few)
+
+  rig-counted : (fail : RigFail) → (fail ≡ Failed → Rose old.failures new.failures) → IsCounted ⊥ (stop_of_rig fail) (outside store old sink) (outside store new sink)
+  rig-counted Failed cause = cause refl
+  rig-counted Memory cause = tt
+
+  pub list-stopped : (fail : RigFail) → old.failures ≤ new.failures → (fail ≡ Failed → Rose old.failures new.failures) → TakesFewLoads old.machine.faults m old.loads new.loads → Took [] (lists_now m old new) (Err (stop_of_rig fail)) (outside store old sink) (outside store new sink)
+  list-stopped fail later cause few = record {
+    later = list-later later;
+    silent = refl;
+    asked = record { all = tt; some = refl };
+    place = refl;
+    gives = tt;
+    stops = fail-stops fail few;
+    counted = rig-counted fail cause;
+  }

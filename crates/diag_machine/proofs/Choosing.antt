@@ -1,0 +1,17 @@
+-- What choices have made so far of what a diagnosis has at hand.
+use Rattle.std.proofs.Common.{◌≡◌, ◌≤◌}
+use Rattle.rig.specs.Rig.{RigState}
+use Rattle.diag_evidence.specs.Kept.{Kept, Advances}
+use Rattle.diag_known.specs.Known.{KnownWires, IsKnown}
+use Rattle.diag_sweep.specs.Marks.{AreMarksFor, TrueIf, worth}
+use Rattle.diag_sweep.specs.declared.bad.Bad.{Bad}
+use Rattle.diag_machine.specs.declared.whole.Course.{Course}
+
+pub record HasChosen (first now : RigState) (j k : Kept) (those : KnownWires) (was is : Bad) (old new : Course) : Type 0 where
+  pub advances : Advances first now j k
+  pub known : IsKnown k those
+  pub field : new.field ≡ old.field
+  pub marks : AreMarksFor j.shape is
+  pub right : TrueIf first.machine.faults k those.steps is
+  pub pays : worth new.field k is now.loads new.choices.left ≤ worth old.field j was first.loads old.choices.left
+  pub paid : new.choices.paid ≡ old.choices.paid

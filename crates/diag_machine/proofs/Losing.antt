@@ -1,0 +1,33 @@
+-- Wires that are left out.
+use Rattle.std.proofs.Common.{◌<◌, ℕ, Option, List, ap, subst}
+use Rattle.machine_shape.specs.Shape.{turned, wires_of}
+use Rattle.machine_shape.specs.Faults.{Faults, IsFaultless}
+use Rattle.machine_shape.specs.Tight.{two}
+use Rattle.machine_shape.proofs.Faultless.{all_sound}
+use Rattle.diag_evidence.specs.Kept.{Kept, IsMore}
+use Rattle.diag_known.specs.Known.{HasWire}
+use Rattle.diag_known.specs.declared.step.Step.{Step}
+use Rattle.diag_machine.specs.Choice.{AreLeftOut, IsLeftOut}
+use Rattle.diag_machine.specs.Stages.{IfFaultless, IsReached, ReachedIf}
+
+-- Without faults no wire is left out.
+pub none_left_out : {k : Kept} {f : Faults} {ss : List Step} {w : ℕ} → IsFaultless f → IsReached k f (HasWire ss) → w < wires_of k.shape → IsLeftOut k ss w → ⊥
+none_left_out {k} {f} {ss} {w} none reached within out =
+    let a = out.feet.first in
+    let b = out.feet.second in
+    out.unknown (reached.wires w within (λ u s. none.wires u) (λ u has s. out.unknown (subst (HasWire ss) ((all_sound none w).alone u s) has))
+    (two a.meets.0 b.meets.0 out.feet.one out.feet.two (a.meets.1).0 (b.meets.1).0
+    (turned (ap (λ p. p.0) a.meets.2) (ap (λ p. p.1) a.meets.2)) (turned (ap (λ p. p.0) b.meets.2) (ap (λ p. p.1) b.meets.2)) out.feet.different
+    a.known b.known (none.crosses a.meets.0) (none.crosses b.meets.0)))
+
+-- What was reached stays reached when more is kept.
+pub reached_later : {k l : Kept} {f : Faults} {known : ℕ → Type 0} → IsMore k l → IsReached k f known → IsReached l f known
+reached_later more r = record {
+  pins = rw more.shape r.pins;
+  wires = rw more.shape r.wires;
+  crosses = λ x h tap line unstuck. more.crosses x (r.crosses x (rw more.shape at h) (rw more.shape at tap) (rw more.shape at line) unstuck);
+}
+
+-- So a wire that is left out shows that there are faults.
+pub out_never : {told : Option Faults} {k : Kept} {ss : List Step} {P : Type 0} → ReachedIf told k ss → AreLeftOut k ss → IfFaultless told k P
+out_never reached out = record { at = λ f e none holds. absurd (none_left_out none (reached.at f e holds) out.within out.out) }

@@ -1,0 +1,96 @@
+-- The steps of a diagnosis, together.
+use Rattle.std.proofs.Common.{◌≡◌, ◌<◌, ◌+◌, ℕ, zero, suc, true, Some, Option, List, [], ◌∷◌, ◌++◌, length, refl, sym, ap, ◌∙◌, subst}
+use Rattle.std.specs.Prelude.{All, slice_get}
+use Rattle.std.proofs.lemmas.List.Elements.{All-push}
+use Rattle.base_bits.specs.Numbers.{has_number}
+use Rattle.machine_shape.specs.declared.Shape.{Shape}
+use Rattle.machine_shape.specs.declared.Table.{Table}
+use Rattle.machine_shape.specs.Laws.{IsNumbered}
+use Rattle.machine_shape.specs.Shape.{pin_wire, wires_of, crosses_of, tables_of}
+use Rattle.machine_shape.specs.Faults.{Faults}
+use Rattle.machine_shape.specs.Defects.{Defects, Covers, IsFair}
+use Rattle.machine_shape.specs.Tight.{HasFeet, two, IsTight}
+use Rattle.rig.specs.Rig.{RigState}
+use Rattle.diag_evidence.specs.Kept.{Kept, HoldsFor, IsMore, Advances}
+use Rattle.diag_evidence.proofs.Keeping.{holds_earlier}
+use Rattle.diag_known.specs.Field.{ClosedIf}
+use Rattle.diag_known.specs.Known.{KnownWires, HasWire, IsKnown}
+use Rattle.diag_known.specs.declared.field.Field.{Field}
+use Rattle.diag_known.specs.declared.step.Step.{Step}
+use Rattle.diag_growth.specs.Seats.{AddsOnlyTableFacts}
+use Rattle.diag_machine.specs.Diagnosis.{IsDiagnosis}
+use Rattle.diag_machine.specs.Listing.{IsListOf}
+use Rattle.diag_sweep.specs.Marks.{HasTable}
+use Rattle.diag_machine.specs.Stages.{IsReached, ReachedIf, TablesIf}
+use Rattle.diag_machine.proofs.Covering.{covers, tight}
+use Rattle.diag_machine.proofs.Losing.{reached_later}
+
+-- What is closed in the whole machine is all that can be reached.
+pub reached_if : {told : Option Faults} {m : Shape} {l : Kept} {a : Field} {ss : List Step} → m ≡ l.shape → IsNumbered l.shape → ((w : ℕ) → w < wires_of m → has_number a.wires w ≡ true) →
+    ((x : ℕ) → x < crosses_of m → has_number a.crosses x ≡ true) → ClosedIf told l a ss → ReachedIf told l ss
+reached_if {told} {m} {l} {a} {ss} e numbered wires crosses closed = record {
+  at = λ f t holds. let c = closed.at f t holds in record {
+    pins = λ i h clear alone. c.pins i h (wire (pin_wire l.shape i) (numbered.pins i h)) clear alone;
+    wires = λ w h clear alone feet. c.wires w (wire w h) clear alone (by f w feet);
+    crosses = λ x h tap line unstuck. c.crosses x (cross x h) tap line unstuck;
+  };
+}
+  where
+    wire : (w : ℕ) → w < wires_of l.shape → has_number a.wires w ≡ true
+    wire w h = wires w (subst (λ n. w < wires_of n) (sym e) h)
+
+    cross : (x : ℕ) → x < crosses_of l.shape → has_number a.crosses x ≡ true
+    cross x h = crosses x (subst (λ n. x < crosses_of n) (sym e) h)
+
+    by : (f : Faults) (w : ℕ) → HasFeet l.shape f (λ x. x < crosses_of l.shape) (HasWire ss) w → HasFeet l.shape f (λ x. has_number a.crosses x ≡ true) (HasWire ss) w
+    by f w (two x y u v cx cy ex ey differ hu hv sx sy) = two x y u v (cross x cx) (cross y cy) ex ey differ hu hv sx sy
+
+pub reached_then : {told : Option Faults} {k l : Kept} {a b : KnownWires} → IsMore k l → b ≡ a → ReachedIf told k a.steps → ReachedIf told l b.steps
+reached_then {told} {k} {l} {a} {b} more e r = record { at = λ f t holds. subst (λ (n : KnownWires). IsReached l f (HasWire n.steps)) (sym e) (reached_later more (r.at f t (holds_earlier more holds))) }
+
+pub reached_told : {told now : Option Faults} {l : Kept} {ss : List Step} → now ≡ told → ReachedIf now l ss → ReachedIf told l ss
+reached_told e r = record { at = λ f told holds. r.at f (e ∙ told) holds }
+
+-- what stands in a list with one more
+get_before : (ts : List Table) (t : Table) (i : ℕ) (u : Table) → slice_get ts i ≡ Some u → slice_get (ts ++ t ∷ []) i ≡ Some u
+get_before [] t i u e = cc
+get_before (v ∷ ts) t zero u e = e
+get_before (v ∷ ts) t (suc i) u e = get_before ts t i u e
+
+get_last : (ts : List Table) (t : Table) → slice_get (ts ++ t ∷ []) (length ts) ≡ Some t
+get_last [] t = refl
+get_last (v ∷ ts) t = get_last ts t
+
+-- One table more is in the list.
+module _ (old : List Table) (t : Table) (new : List Table) (more : new ≡ old ++ t ∷ []) where
+  pub has_before : {u : ℕ} → HasTable old u → HasTable new u
+  has_before x = record { place = x.place; table = x.table; here = subst (λ us. slice_get us x.place ≡ Some x.table) (sym more) (get_before old t x.place x.table x.here); is = x.is }
+
+  pub has_last : {u : ℕ} → t.0 ≡ u → HasTable new u
+  has_last e = record { place = length old; table = t; here = subst (λ us. slice_get us (length old) ≡ Some t) (sym more) (get_last old t); is = e }
+
+  pub tables_within : {n : ℕ} → t.0 ≡ n → (m : Shape) → All (λ (u : Table). u.0 < tables_of m) old → n < tables_of m → All (λ (u : Table). u.0 < tables_of m) new
+  tables_within is m all less = rw more (All-push (λ (u : Table). u.0 < tables_of m) old t all (subst (λ i. i < tables_of m) (sym is) less))
+
+-- What was known by the first proof, and what the second kept besides of tables, makes the list a diagnosis.
+pub diagnosed : {s t u : RigState} {k l n : Kept} {known : KnownWires} {d : Defects} → ((m : Shape) → IsNumbered m) → ((m : Shape) (d : Defects) (f : Faults) → IsTight m d f → IsFair m d f) →
+    ((f : Faults) → HoldsFor k f) → Advances s t k l → Advances t u l n → IsKnown l known → ReachedIf s.machine.faults l known.steps → TablesIf t.machine.faults l n known.steps →
+    AddsOnlyTableFacts l n → IsListOf n.shape n known.steps d → IsDiagnosis s.machine.faults k.shape d
+diagnosed {s} {t} {u} {k} {l} {n} {known} {d} numbering law nothing one other is reached tables only list = record {
+  covers = λ f e. subst (λ m. Covers m d f) one.more.shape (covers is other.more (other.holds f (told f e) (first f e)) here);
+  fair = λ f e. law k.shape d f (tight_by f e);
+  tight = λ f e. tight_by f e;
+}
+  where
+    told : (f : Faults) → s.machine.faults ≡ Some f → t.machine.faults ≡ Some f
+    told f e = ap (λ m. m.faults) one.machine ∙ e
+
+    first : (f : Faults) → s.machine.faults ≡ Some f → HoldsFor l f
+    first f e = one.holds f e (nothing f)
+
+    here : IsListOf l.shape n known.steps d
+    here = subst (λ m. IsListOf m n known.steps d) other.more.shape list
+
+    tight_by : (f : Faults) → s.machine.faults ≡ Some f → IsTight k.shape d f
+    tight_by f e = subst (λ m. IsTight m d f) one.more.shape
+        (tight (numbering l.shape) is (reached.at f e (first f e)) only (λ i h seated right. (tables.each i h).at f (told f e) (first f e) seated right) here)

@@ -1,0 +1,6 @@
+use Rattle.machine_shape.specs.Shape.{wires_of}
+use Rattle.diag_machine.specs.Listing.{IsListing}
+use Rattle.diag_machine.proofs.list.list_crosses.Given as goal
+
+abbrev pub invariant-crosses : goal.invariant-crosses
+invariant-crosses l = IsListing l.proof l.known.steps l.list (wires_of l.proof.shape) l.c 0

@@ -1,0 +1,9 @@
+use Rattle.std.proofs.Common.{◌≡◌, true, length}
+use Rattle.diag_machine.specs.Choice.{AreLeftOut}
+use Rattle.diag_machine.proofs.lost.lost_pins.Given as goal
+
+abbrev pub invariant-wires : goal.invariant-wires
+invariant-wires l = record {
+  len : length l.pins ≡ l.wires;
+  some : l.some ≡ true → AreLeftOut l.proof l.known.steps;
+}

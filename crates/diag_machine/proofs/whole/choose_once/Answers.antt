@@ -1,0 +1,34 @@
+use Rattle.std.proofs.Common.{◌∙◌, ap}
+use Rattle.diag_evidence.proofs.Keeping.{advances_then}
+use Rattle.diag_machine.proofs.Sweeping.{at_most, field_later, marks_by, marks_of, marks_on, marks_told}
+use Rattle.diag_machine.proofs.whole.choose_once.Goals as goal
+
+pub sweep_with-requires-clause-field : goal.sweep_with-requires-clause-field
+sweep_with-requires-clause-field g c = field_later c.choose.ensures.advances.more c.requires.field
+
+pub sweep_with-requires-clause-marks : goal.sweep_with-requires-clause-marks
+sweep_with-requires-clause-marks g c = marks_on c.choose.ensures.advances.more c.choose.ensures.marks
+
+pub returns-in_err-sweep_with-clause-marks : goal.returns-in_err-sweep_with-clause-marks
+returns-in_err-sweep_with-clause-marks g c = marks_of c.choose.ensures.marks c.sweep_with.ensures.marks
+
+pub returns-clause-marks : goal.returns-clause-marks
+returns-clause-marks g c = marks_of c.choose.ensures.marks c.sweep_with.ensures.marks
+
+pub returns-in_err-sweep_with-clause-right : goal.returns-in_err-sweep_with-clause-right
+returns-in_err-sweep_with-clause-right g c = marks_by (ap (λ m. m.faults) c.choose.ensures.advances.machine) (c.sweep_with.ensures.right (marks_told (ap (λ m. m.faults) c.choose.ensures.advances.machine) (c.choose.ensures.right c.requires.right)))
+
+pub returns-clause-right : goal.returns-clause-right
+returns-clause-right g c = marks_by (ap (λ m. m.faults) c.choose.ensures.advances.machine) (c.sweep_with.ensures.right (marks_told (ap (λ m. m.faults) c.choose.ensures.advances.machine) (c.choose.ensures.right c.requires.right)))
+
+pub returns-in_err-sweep_with-clause-pays : goal.returns-in_err-sweep_with-clause-pays
+returns-in_err-sweep_with-clause-pays g c = at_most c.sweep_with.ensures.pays c.choose.ensures.pays
+
+pub returns-clause-pays : goal.returns-clause-pays
+returns-clause-pays g c = at_most c.sweep_with.ensures.pays c.choose.ensures.pays
+
+pub returns-in_err-sweep_with-clause-paid : goal.returns-in_err-sweep_with-clause-paid
+returns-in_err-sweep_with-clause-paid g c = c.sweep_with.ensures.paid ∙ c.choose.ensures.paid
+
+pub returns-clause-paid : goal.returns-clause-paid
+returns-clause-paid g c = c.sweep_with.ensures.paid ∙ c.choose.ensures.paid

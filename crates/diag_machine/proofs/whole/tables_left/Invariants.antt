@@ -1,0 +1,14 @@
+use Rattle.std.proofs.Common.{◌≡◌, ◌⊎◌, ◌<◌, ◌≤◌, ℕ, true, length}
+use Rattle.std.specs.Prelude.{All}
+use Rattle.base_bits.specs.Numbers.{has_number}
+use Rattle.machine_shape.specs.declared.Table.{Table}
+use Rattle.machine_shape.specs.Shape.{tables_of}
+use Rattle.diag_sweep.specs.Marks.{HasTable}
+use Rattle.diag_machine.proofs.whole.tables_left.Given as goal
+
+abbrev pub invariant-tables : goal.invariant-tables
+invariant-tables l = record {
+  count : length l.tables.items ≤ l.t;
+  within : All (λ (t : Table). t.0 < tables_of l.shape) l.tables.items;
+  each : (t : ℕ) → t < l.t → (has_number l.wrong t ≡ true) ⊎ HasTable l.tables.items t;
+}

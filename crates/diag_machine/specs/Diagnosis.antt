@@ -1,0 +1,21 @@
+-- What a diagnosis is, and how many loads it takes.
+use Rattle.std.specs.Prelude.{◌≡◌, ℕ, ◌+◌, ◌*◌, ◌≤◌, Option, Some}
+use Rattle.machine_shape.specs.declared.Shape.{Shape}
+use Rattle.machine_shape.specs.Shape.{wires_of, crosses_of, tables_of}
+use Rattle.machine_shape.specs.Faults.{Faults, IsFaultless}
+use Rattle.machine_shape.specs.Defects.{Defects, Covers, IsFair}
+use Rattle.machine_shape.specs.Tight.{IsTight}
+
+-- where the faults are told, the list covers them, is fair to them, and is tight to them: nothing on it both works and
+-- can be reached over what is free
+pub record IsDiagnosis (told : Option Faults) (m : Shape) (d : Defects) : Type 0 where
+  pub covers : (f : Faults) → told ≡ Some f → Covers m d f
+  pub fair : (f : Faults) → told ≡ Some f → IsFair m d f
+  pub tight : (f : Faults) → told ≡ Some f → IsTight m d f
+
+-- at most 16 loads for each crosspoint, 20 for each wire and 130 for each table, and where the machine is told to have no
+-- faults, 2, 3 and 130
+pub record TakesFewLoads (told : Option Faults) (m : Shape) (before after : ℕ) : Type 0 where
+  pub always : after ≤ before + (16 * crosses_of m + (20 * wires_of m + 130 * tables_of m))
+  pub faultless : (f : Faults) → told ≡ Some f → IsFaultless f →
+      after ≤ before + (2 * crosses_of m + (3 * wires_of m + 130 * tables_of m))

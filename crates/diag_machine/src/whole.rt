@@ -1,0 +1,436 @@
+//! The whole machine: from tests to a list of defects.
+ghost use Rattle.std.specs.Prelude.{◌≡◌, ◌⊎◌, ◌≤◌, ◌<◌, ◌+◌, ◌*◌, ℕ, true, false, All, List, Some, IfOk, OnOk, IsErrOf, length};
+ghost use Rattle.base_bits.specs.Numbers.{has_number, size_of};
+ghost use Rattle.base_io.specs.Counts.{Rose};
+ghost use Rattle.machine_shape.specs.Shape.{tables_of, wires_of};
+ghost use Rattle.rig.specs.Rig.{shape_of};
+ghost use Rattle.diag_evidence.specs.Kept.{Advances, KeepsNothing};
+ghost use Rattle.diag_known.specs.Field.{IsFieldOf, pins_in};
+ghost use Rattle.diag_known.specs.Known.{IsKnown};
+ghost use Rattle.diag_known.specs.declared.step.Step.{Step};
+ghost use Rattle.diag_growth.specs.Seats.{AddsOnlyTableFacts};
+ghost use Rattle.diag_sweep.specs.Marks.{AreMarksFor, HasTable, TrueIf, undecided, worth};
+ghost use Rattle.diag_machine.specs.Diagnosis.{IsDiagnosis, TakesFewLoads};
+ghost use Rattle.diag_machine.specs.Stages.{IfFaultless, IsWhole, ReachedIf, TablesIf, loads_for};
+
+use crate::list::list_of;
+use crate::lost::{lost_pins, unfit_wires};
+use base_bits::BitSet;
+use diag_evidence::Proof;
+use diag_evidence::laws::{kept_facts_are_sound, tests_add_up};
+use diag_growth::{Field, Known, grow, test_tables};
+use diag_sweep::{
+    Bad, Choices, choose, closed_without_bad, growth_without_bad_is_paid, sweep, sweep_with,
+    without_bad,
+};
+use machine_defects::Defects;
+use machine_shape::{Shape, Table, the_numbering_is_sound, tight_lists_are_fair};
+use rig::{Rig, RigFail};
+use std::alloc::{AllocError, Global};
+
+/// How often it is chosen before growth which of shorted wires stays.
+const MOST_CHOICES: u32 = 3;
+
+/// The loads of a diagnosis by part: those of its sweeps and of the choices between shorted wires, of growth, and of the tests of tables
+/// behind them.
+#[derive(Clone, Copy, Debug)]
+pub struct Parts {
+    pub sweep: u64,
+    pub growth: u64,
+    pub tables: u64,
+}
+
+impl Parts {
+    /// No loads.
+    pub fn none() -> Parts {
+        Parts {
+            sweep: 0,
+            growth: 0,
+            tables: 0,
+        }
+    }
+}
+
+// How many loads the rig made since it had made so many.
+fn loads_since(rig: &Box<dyn Rig>, before: u64) -> u64 {
+    rig.loads().saturating_sub(before)
+}
+
+// All tables of a machine.
+fn all_tables(alloc: Global, shape: &Shape) -> Result<Vec<Table>, AllocError> {
+    let mut tables = Vec::new(alloc);
+    'tables: for t in 0..shape.tables() {
+        tables.push(Table(t))?;
+    }
+    Ok(tables)
+}
+
+// What a diagnosis has at hand: the whole machine, what choices have, and how many loads sweeps and choices have taken.
+#[derive(Drop)]
+struct Course {
+    field: Field,
+    choices: Choices,
+    swept: u64,
+}
+
+// What a diagnosis has at hand at first.
+fn course_of(alloc: Global, proof: &Proof, known: &Known, bad: &Bad) -> Result<Course, AllocError>
+    ensures field { IfOk result (λ course. IsFieldOf proof.now.shape course.field) }
+    ensures whole { IfOk result (λ course. IsWhole proof.now.shape course.field) }
+    ensures left { IfOk result (λ course. course.choices.left ≡ 0) }
+    ensures paid { IfOk result (λ course. length course.choices.paid ≡ wires_of proof.now.shape) }
+    ensures none { IfOk result (λ course. size_of course.choices.paid ≡ 0) }
+{
+    let field = Field::whole(alloc, &proof.shape())?;
+    let tables = all_tables(alloc, &proof.shape())?;
+    Ok(Course {
+        choices: Choices::new(proof, known, bad, &field, &tables)?,
+        field,
+        swept: 0,
+    })
+}
+
+// Chooses which of shorted wires stays known, and sweeps anew if some give way. Says whether they did.
+fn choose_once(
+    rig: &mut Box<dyn Rig>,
+    proof: &mut Proof,
+    known: &mut Known,
+    bad: &mut Bad,
+    course: &mut Course,
+) -> Result<bool, RigFail>
+    requires attached { shape_of (rig_state rig.old) ≡ Some proof.old.shape }
+    requires known { IsKnown proof.old known.old }
+    requires field { IsFieldOf proof.old.shape course.old.field }
+    requires marks { AreMarksFor proof.old.shape bad.old }
+    requires right { TrueIf (rig_state rig.old).machine.faults proof.old known.old.steps bad.old }
+    ensures known { IsKnown proof.new known.new }
+    ensures field { course.new.field ≡ course.old.field }
+    ensures marks { AreMarksFor proof.old.shape bad.new }
+    ensures right { TrueIf (rig_state rig.old).machine.faults proof.new known.new.steps bad.new }
+    ensures same { IfOk result (λ chosen. chosen ≡ false → known.new ≡ known.old) }
+    ensures pays { worth course.new.field proof.new bad.new (rig_state rig.new).loads course.new.choices.left
+        ≤ worth course.old.field proof.old bad.old (rig_state rig.old).loads course.old.choices.left }
+    ensures paid { course.new.choices.paid ≡ course.old.choices.paid }
+    ensures advances { Advances (rig_state rig.old) (rig_state rig.new) proof.old proof.new }
+    ensures cause { IsErrOf result RigFail.Failed → Rose (rig_state rig.old).failures (rig_state rig.new).failures }
+{
+    let choices = &mut course.choices;
+    if !choose(rig, proof, known, bad, &course.field, choices)? {
+        return Ok(false);
+    }
+    sweep_with(rig, proof, known, bad, &course.field, &mut course.choices)?;
+    Ok(true)
+}
+
+// The same as long as some give way, a few times.
+fn choose_all(
+    rig: &mut Box<dyn Rig>,
+    proof: &mut Proof,
+    known: &mut Known,
+    bad: &mut Bad,
+    course: &mut Course,
+) -> Result<(), RigFail>
+    requires attached { shape_of (rig_state rig.old) ≡ Some proof.old.shape }
+    requires known { IsKnown proof.old known.old }
+    requires field { IsFieldOf proof.old.shape course.old.field }
+    requires marks { AreMarksFor proof.old.shape bad.old }
+    requires right { TrueIf (rig_state rig.old).machine.faults proof.old known.old.steps bad.old }
+    ensures known { IsKnown proof.new known.new }
+    ensures field { course.new.field ≡ course.old.field }
+    ensures marks { AreMarksFor proof.old.shape bad.new }
+    ensures right { TrueIf (rig_state rig.old).machine.faults proof.new known.new.steps bad.new }
+    ensures pays { worth course.new.field proof.new bad.new (rig_state rig.new).loads course.new.choices.left
+        ≤ worth course.old.field proof.old bad.old (rig_state rig.old).loads course.old.choices.left }
+    ensures paid { course.new.choices.paid ≡ course.old.choices.paid }
+    ensures advances { Advances (rig_state rig.old) (rig_state rig.new) proof.old proof.new }
+    ensures cause { IsErrOf result RigFail.Failed → Rose (rig_state rig.old).failures (rig_state rig.new).failures }
+{
+    'choices: for _choice in 0..MOST_CHOICES {
+        if !choose_once(rig, proof, known, bad, course)? {
+            return Ok(());
+        }
+    }
+    Ok(())
+}
+
+// The whole machine is swept, once and behind choices.
+fn sweep_whole(
+    rig: &mut Box<dyn Rig>,
+    proof: &mut Proof,
+    known: &mut Known,
+    bad: &mut Bad,
+    course: &mut Course,
+) -> Result<(), RigFail>
+    requires attached { shape_of (rig_state rig.old) ≡ Some proof.old.shape }
+    requires known { IsKnown proof.old known.old }
+    requires field { IsFieldOf proof.old.shape course.old.field }
+    requires marks { AreMarksFor proof.old.shape bad.old }
+    requires right { TrueIf (rig_state rig.old).machine.faults proof.old known.old.steps bad.old }
+    requires paid { length course.old.choices.paid ≡ wires_of proof.old.shape }
+    ensures known { IsKnown proof.new known.new }
+    ensures field { course.new.field ≡ course.old.field }
+    ensures marks { AreMarksFor proof.old.shape bad.new }
+    ensures right { TrueIf (rig_state rig.old).machine.faults proof.new known.new.steps bad.new }
+    ensures pays { worth course.new.field proof.new bad.new (rig_state rig.new).loads course.new.choices.left
+        + 14 * size_of course.old.choices.paid
+        ≤ worth course.old.field proof.old bad.old (rig_state rig.old).loads course.old.choices.left
+        + (pins_in proof.old.shape course.old.field + 14 * size_of course.new.choices.paid) }
+    ensures few { IfFaultless (rig_state rig.old).machine.faults proof.old (course.new.choices.paid ≡ course.old.choices.paid) }
+    ensures paid { length course.new.choices.paid ≡ length course.old.choices.paid }
+    ensures advances { Advances (rig_state rig.old) (rig_state rig.new) proof.old proof.new }
+    ensures cause { IsErrOf result RigFail.Failed → Rose (rig_state rig.old).failures (rig_state rig.new).failures }
+{
+    let Ok(tables) = all_tables(known.alloc(), &proof.shape()) else {
+        return Err(RigFail::Memory);
+    };
+    sweep(rig, proof, known, bad, &course.field, &tables)?;
+    let Ok(unfit) = unfit_wires(known.alloc(), known, bad) else {
+        return Err(RigFail::Memory);
+    };
+    course.choices.pay_for(&unfit);
+    choose_all(rig, proof, known, bad, course)
+}
+
+// What is known grows in what isn't marked bad.
+fn grow_whole(
+    rig: &mut Box<dyn Rig>,
+    proof: &mut Proof,
+    known: &mut Known,
+    bad: &Bad,
+    field: &Field,
+) -> Result<(), RigFail>
+    requires attached { shape_of (rig_state rig.old) ≡ Some proof.old.shape }
+    requires known { IsKnown proof.old known.old }
+    requires field { IsFieldOf proof.old.shape field.now }
+    requires whole { IsWhole proof.old.shape field.now }
+    requires marks { AreMarksFor proof.old.shape bad.now }
+    requires right { TrueIf (rig_state rig.old).machine.faults proof.old known.old.steps bad.now }
+    ensures known { IsKnown proof.new known.new }
+    ensures right { TrueIf (rig_state rig.old).machine.faults proof.new known.new.steps bad.now }
+    ensures reached { OnOk result (ReachedIf (rig_state rig.old).machine.faults proof.new known.new.steps) }
+    ensures loads { (rig_state rig.new).loads + pins_in proof.old.shape field.now
+        ≤ (rig_state rig.old).loads + (8 * undecided proof.old bad.now field.now + 3 * size_of field.now.wires) }
+    ensures few { IfFaultless (rig_state rig.old).machine.faults proof.old ((rig_state rig.new).loads + pins_in proof.old.shape field.now
+        ≤ (rig_state rig.old).loads + (2 * undecided proof.old bad.now field.now + 3 * size_of field.now.wires)) }
+    ensures advances { Advances (rig_state rig.old) (rig_state rig.new) proof.old proof.new }
+    ensures cause { IsErrOf result RigFail.Failed → Rose (rig_state rig.old).failures (rig_state rig.new).failures }
+{
+    the_numbering_is_sound();
+    closed_without_bad();
+    growth_without_bad_is_paid();
+    let Ok(rest) = without_bad(known.alloc(), bad, field) else {
+        return Err(RigFail::Memory);
+    };
+    grow(rig, proof, known, &rest)
+}
+
+// Where growth has lost pins of tables, and some wires give way for them, the machine is swept and what is known grows once more.
+fn know_lost(
+    rig: &mut Box<dyn Rig>,
+    proof: &mut Proof,
+    known: &mut Known,
+    bad: &mut Bad,
+    course: &mut Course,
+) -> Result<(), RigFail>
+    requires attached { shape_of (rig_state rig.old) ≡ Some proof.old.shape }
+    requires known { IsKnown proof.old known.old }
+    requires field { IsFieldOf proof.old.shape course.old.field }
+    requires marks { AreMarksFor proof.old.shape bad.old }
+    requires right { TrueIf (rig_state rig.old).machine.faults proof.old known.old.steps bad.old }
+    requires whole { IsWhole proof.old.shape course.old.field }
+    requires paid { length course.old.choices.paid ≡ wires_of proof.old.shape }
+    requires reached { ReachedIf (rig_state rig.old).machine.faults proof.old known.old.steps }
+    ensures known { IsKnown proof.new known.new }
+    ensures marks { AreMarksFor proof.old.shape bad.new }
+    ensures right { TrueIf (rig_state rig.old).machine.faults proof.new known.new.steps bad.new }
+    ensures reached { OnOk result (ReachedIf (rig_state rig.old).machine.faults proof.new known.new.steps) }
+    ensures loads { (rig_state rig.new).loads + 14 * size_of course.old.choices.paid
+        ≤ (rig_state rig.old).loads + (course.old.choices.left + (loads_for proof.old 8 3 + 14 * wires_of proof.old.shape)) }
+    ensures few { IfFaultless (rig_state rig.old).machine.faults proof.old ((rig_state rig.new).loads ≤ (rig_state rig.old).loads) }
+    ensures advances { Advances (rig_state rig.old) (rig_state rig.new) proof.old proof.new }
+    ensures cause { IsErrOf result RigFail.Failed → Rose (rig_state rig.old).failures (rig_state rig.new).failures }
+{
+    growth_without_bad_is_paid();
+    let Ok(found) = lost_pins(known.alloc(), proof, known) else {
+        return Err(RigFail::Memory);
+    };
+    let Some(lost) = found else {
+        return Ok(());
+    };
+    course.choices.pay_for(&lost);
+    let before = loads_since(rig, 0);
+    if !choose_once(rig, proof, known, bad, course)? {
+        course.swept = course.swept.saturating_add(loads_since(rig, before));
+        return Ok(());
+    }
+    course.swept = course.swept.saturating_add(loads_since(rig, before));
+    grow_whole(rig, proof, known, bad, &course.field)
+}
+
+// The known wires of the machine. Where wires are shorted, those stay that pins of tables need, as far as that is found.
+fn known_wires(
+    alloc: Global,
+    rig: &mut Box<dyn Rig>,
+    proof: &mut Proof,
+    bad: &mut Bad,
+    parts: &mut Parts,
+) -> Result<Known, RigFail>
+    requires attached { shape_of (rig_state rig.old) ≡ Some proof.old.shape }
+    requires marks { AreMarksFor proof.old.shape bad.old }
+    requires right { (ss : List Step) → TrueIf (rig_state rig.old).machine.faults proof.old ss bad.old }
+    ensures known { IfOk result (IsKnown proof.new) }
+    ensures marks { AreMarksFor proof.old.shape bad.new }
+    ensures right { IfOk result (λ known. TrueIf (rig_state rig.old).machine.faults proof.new known.steps bad.new) }
+    ensures reached { IfOk result (λ known. ReachedIf (rig_state rig.old).machine.faults proof.new known.steps) }
+    ensures advances { Advances (rig_state rig.old) (rig_state rig.new) proof.old proof.new }
+    ensures loads { (rig_state rig.new).loads ≤ (rig_state rig.old).loads + loads_for proof.old 16 20 }
+    ensures few { IfFaultless (rig_state rig.old).machine.faults proof.old
+        ((rig_state rig.new).loads ≤ (rig_state rig.old).loads + loads_for proof.old 2 3) }
+    ensures cause { IsErrOf result RigFail.Failed → Rose (rig_state rig.old).failures (rig_state rig.new).failures }
+{
+    tests_add_up();
+    growth_without_bad_is_paid();
+    let Ok(mut known) = Known::new(alloc, &proof.shape()) else {
+        return Err(RigFail::Memory);
+    };
+    let Ok(mut course) = course_of(alloc, proof, &known, bad) else {
+        return Err(RigFail::Memory);
+    };
+    let before = loads_since(rig, 0);
+    sweep_whole(rig, proof, &mut known, bad, &mut course)?;
+    course.swept = loads_since(rig, before);
+    grow_whole(rig, proof, &mut known, bad, &course.field)?;
+    know_lost(rig, proof, &mut known, bad, &mut course)?;
+    parts.sweep = course.swept;
+    Ok(known)
+}
+
+// The tables that aren't marked wrong.
+fn tables_left(alloc: Global, shape: &Shape, wrong: &BitSet) -> Result<Vec<Table>, AllocError>
+    requires { length wrong.now ≡ tables_of shape.now }
+    ensures count { IfOk result (λ tables. length tables.items ≤ tables_of shape.now) }
+    ensures within { IfOk result (λ tables. All (λ t. t.0 < tables_of shape.now) tables.items) }
+    ensures each { IfOk result (λ tables. (t : ℕ) → t < tables_of shape.now → (has_number wrong.now t ≡ true) ⊎ HasTable tables.items t) }
+{
+    let mut tables = Vec::new(alloc);
+    'tables: for t in 0..shape.tables() {
+        if wrong.has(t) {
+            continue;
+        }
+        tables.push(Table(t))?;
+    }
+    Ok(tables)
+}
+
+// Tests over known wires all tables that aren't marked wrong.
+fn test_all(
+    alloc: Global,
+    rig: &mut Box<dyn Rig>,
+    proof: &mut Proof,
+    known: &Known,
+    bad: &Bad,
+) -> Result<(), RigFail>
+    requires attached { shape_of (rig_state rig.old) ≡ Some proof.old.shape }
+    requires known { IsKnown proof.old known.now }
+    requires marks { AreMarksFor proof.old.shape bad.now }
+    requires right { TrueIf (rig_state rig.old).machine.faults proof.old known.now.steps bad.now }
+    ensures tables { OnOk result (TablesIf (rig_state rig.old).machine.faults proof.old proof.new known.now.steps) }
+    ensures advances { Advances (rig_state rig.old) (rig_state rig.new) proof.old proof.new }
+    ensures only { AddsOnlyTableFacts proof.old proof.new }
+    ensures loads { (rig_state rig.new).loads ≤ (rig_state rig.old).loads + 130 * tables_of proof.old.shape }
+    ensures cause { IsErrOf result RigFail.Failed → Rose (rig_state rig.old).failures (rig_state rig.new).failures }
+{
+    tests_add_up();
+    let Ok(tables) = tables_left(alloc, &proof.shape(), &bad.wrong) else {
+        return Err(RigFail::Memory);
+    };
+    test_tables(rig, proof, known, &tables)
+}
+
+// The diagnosis, with a proof that keeps nothing yet.
+fn diagnose_with(
+    alloc: Global,
+    rig: &mut Box<dyn Rig>,
+    proof: &mut Proof,
+    parts: &mut Parts,
+) -> Result<Defects, RigFail>
+    requires attached { shape_of (rig_state rig.old) ≡ Some proof.old.shape }
+    requires nothing { KeepsNothing proof.old }
+
+    ensures shape { IfOk result (λ d. d.shape ≡ proof.old.shape) }
+    ensures right { IfOk result (λ d. IsDiagnosis (rig_state rig.old).machine.faults proof.old.shape d.list) }
+    ensures advances { Advances (rig_state rig.old) (rig_state rig.new) proof.old proof.new }
+    ensures loads { TakesFewLoads (rig_state rig.old).machine.faults proof.old.shape (rig_state rig.old).loads (rig_state rig.new).loads }
+    ensures cause { IsErrOf result RigFail.Failed → Rose (rig_state rig.old).failures (rig_state rig.new).failures }
+{
+    the_numbering_is_sound();
+    tight_lists_are_fair();
+    kept_facts_are_sound();
+    let Ok(mut bad) = Bad::none(alloc, &proof.shape()) else {
+        return Err(RigFail::Memory);
+    };
+    let before = loads_since(rig, 0);
+    let known = known_wires(alloc, rig, proof, &mut bad, parts)?;
+    parts.growth = loads_since(rig, before).saturating_sub(parts.sweep);
+    let before = loads_since(rig, 0);
+    test_all(alloc, rig, proof, &known, &bad)?;
+    parts.tables = loads_since(rig, before);
+    match list_of(alloc, proof, &known) {
+        Ok(list) => Ok(list),
+        Err(_) => Err(RigFail::Memory),
+    }
+}
+
+/// The diagnosis of `diagnose`, which says besides how many loads its parts took, where it ends with a list.
+///
+/// # Errors
+///
+/// `Failed` where a call of the rig failed, `Memory` where memory was wanting.
+pub fn diagnose_in_parts(
+    alloc: Global,
+    rig: &mut Box<dyn Rig>,
+    shape: &Shape,
+    parts: &mut Parts,
+) -> Result<Defects, RigFail>
+    requires attached { shape_of (rig_state rig.old) ≡ Some shape.now }
+
+    ensures shape { IfOk result (λ d. d.shape ≡ shape.now) }
+    ensures right { IfOk result (λ d. IsDiagnosis (rig_state rig.old).machine.faults shape.now d.list) }
+    ensures machine { (rig_state rig.new).machine ≡ (rig_state rig.old).machine }
+    ensures later { (rig_state rig.old).failures ≤ (rig_state rig.new).failures }
+    ensures counted { (rig_state rig.old).loads ≤ (rig_state rig.new).loads }
+    ensures loads { TakesFewLoads (rig_state rig.old).machine.faults shape.now (rig_state rig.old).loads (rig_state rig.new).loads }
+    ensures cause { IsErrOf result RigFail.Failed → Rose (rig_state rig.old).failures (rig_state rig.new).failures }
+{
+    let Ok(mut proof) = Proof::new(alloc, *shape) else {
+        return Err(RigFail::Memory);
+    };
+    match diagnose_with(alloc, rig, &mut proof, parts) {
+        Ok(list) => Ok(list),
+        Err(fail) => Err(fail),
+    }
+}
+
+/// Finds what is wrong with the machine that is attached, and lists it. Where the rig tells the machine's faults, the list covers
+/// them and is tight to them: nothing on it both works and can be reached over what is free. So it is fair: of served nodes it
+/// holds no sound part, but lines with fewer than two sound crosspoints. At every end it took at most 16 loads for each
+/// crosspoint, 20 for each wire and 130 for each table, and where the machine is told to have no faults, 2, 3 and 130. The count
+/// of loads didn't fall.
+///
+/// # Errors
+///
+/// `Failed` where a call of the rig failed, `Memory` where memory was wanting.
+pub fn diagnose(alloc: Global, rig: &mut Box<dyn Rig>, shape: &Shape) -> Result<Defects, RigFail>
+    requires attached { shape_of (rig_state rig.old) ≡ Some shape.now }
+
+    ensures shape { IfOk result (λ d. d.shape ≡ shape.now) }
+    ensures right { IfOk result (λ d. IsDiagnosis (rig_state rig.old).machine.faults shape.now d.list) }
+    ensures machine { (rig_state rig.new).machine ≡ (rig_state rig.old).machine }
+    ensures later { (rig_state rig.old).failures ≤ (rig_state rig.new).failures }
+    ensures counted { (rig_state rig.old).loads ≤ (rig_state rig.new).loads }
+    ensures loads { TakesFewLoads (rig_state rig.old).machine.faults shape.now (rig_state rig.old).loads (rig_state rig.new).loads }
+    ensures cause { IsErrOf result RigFail.Failed → Rose (rig_state rig.old).failures (rig_state rig.new).failures }
+{
+    let mut parts = Parts::none();
+    diagnose_in_parts(alloc, rig, shape, &mut parts)
+}

@@ -1,0 +1,12 @@
+use Rattle.std.proofs.Common.{◌≤◌, ◌-◌}
+use Rattle.diag_known.specs.Gains.{Gets}
+use Rattle.diag_published.specs.Bars.{IsFrom}
+use Rattle.diag_published.proofs.bars.add_range.Given as goal
+
+abbrev pub invariant-numbers : goal.invariant-numbers
+invariant-numbers l =
+    record {
+      gets : Gets (IsFrom l.first l.x) (l.x - l.first) l.initial.marks l.marks;
+      low : l.first ≤ l.x;
+      high : l.x ≤ l.end;
+    }

@@ -1,0 +1,7 @@
+use Rattle.std.proofs.Common.{take}
+use Rattle.diag_published.specs.Bars.{IsListOf, IsOpenOf}
+use Rattle.diag_published.specs.Held.{wire_numbers}
+use Rattle.diag_published.proofs.pairs.open_lines.Given as goal
+
+abbrev pub invariant-lines : goal.invariant-lines
+invariant-lines l = IsListOf (IsOpenOf l.proof (wire_numbers l.taps) (wire_numbers (take l.line-index l.lines))) (wire_numbers l.those.items)

@@ -1,0 +1,84 @@
+//! A trunk down to a crossbar.
+ghost use Rattle.std.specs.Prelude.{◌≡◌, ℕ, Err, Some, IfOk, IfSome, IfNone, IsErrOf};
+ghost use Rattle.base_io.specs.Counts.{Rose};
+ghost use Rattle.machine_shape.specs.Shape.{node_of, parent_of};
+ghost use Rattle.rig.specs.Rig.{shape_of};
+ghost use Rattle.diag_evidence.specs.Kept.{Advances};
+ghost use Rattle.diag_known.specs.Known.{IsKnown, HasWire};
+ghost use Rattle.diag_published.specs.Held.{FullIf, IsHeld, IsHeldTrunk, IsUnserved, LoadsAtMost, UnservedIf};
+
+use crate::laws::the_laws_hold;
+use crate::lists::ports_in;
+use crate::pins::{root_trunk, trunk_of};
+use crate::tested::Tested;
+use diag_evidence::Proof;
+use diag_evidence::laws::tests_add_up;
+use diag_growth::Known;
+use diag_tests::Trunk;
+use machine_shape::Node;
+use rig::{Rig, RigFail};
+use std::alloc::Global;
+
+// A trunk of a node below the root: to two of its ports that are known, which the tests of its parent's crossbar found.
+fn child_trunk(
+    alloc: Global,
+    proof: &Proof,
+    known: &Known,
+    parent: &Tested,
+    node: Node,
+) -> Result<Option<Trunk>, RigFail>
+    requires known { IsKnown proof.now known.now }
+    requires child { parent_of proof.now.shape node.0 ≡ Some parent.now.node }
+    requires held { IsHeld proof.now known.now parent.now }
+    ensures held { IfOk result (λ found. IfSome found (λ t. IsHeldTrunk proof.now known.now node.0 t.left t.right)) }
+    ensures none { IfOk result (λ found. IfNone found (IsUnserved proof.now parent.now node.0)) }
+    ensures memory { result ≡ Err RigFail.Failed → ⊥ }
+{
+    the_laws_hold();
+    let shape = proof.shape();
+    let Ok(ports) = ports_in(alloc, &shape, node) else {
+        return Err(RigFail::Memory);
+    };
+    match trunk_of(alloc, proof, known, &ports) {
+        Ok(found) => Ok(found),
+        Err(_) => Err(RigFail::Memory),
+    }
+}
+
+/// A trunk of a node: of the root where no parent is given, and else of a child of the parent, by routes of known wires. Where the
+/// faults are told, there is none only if the node isn't served. Without faults it takes at most 6 loads, and below the root none.
+///
+/// # Errors
+///
+/// `Failed` where a call of the rig failed, `Memory` where memory was wanting.
+pub fn find_trunk(
+    alloc: Global,
+    rig: &mut Box<dyn Rig>,
+    proof: &mut Proof,
+    known: &mut Known,
+    parent: Option<&Tested>,
+    node: Node,
+) -> Result<Option<Trunk>, RigFail>
+    requires attached { shape_of (rig_state rig.old) ≡ Some proof.old.shape }
+    requires known { IsKnown proof.old known.old }
+    requires root { IfNone parent (node.0 ≡ 0) }
+    requires child { IfSome parent (λ tested. parent_of proof.old.shape node.0 ≡ Some tested.now.node) }
+    requires held { IfSome parent (λ tested. IsHeld proof.old known.old tested.now) }
+    requires full { IfSome parent (λ tested. FullIf (rig_state rig.old).machine.faults proof.old proof.old tested.now) }
+
+    ensures known { IsKnown proof.new known.new }
+    ensures stays { (w : ℕ) → HasWire known.old.steps w → HasWire known.new.steps w }
+    ensures held { IfOk result (λ found. IfSome found (λ trunk. IsHeldTrunk proof.new known.new node.0 trunk.left trunk.right)) }
+    ensures node { IfOk result (λ found. IfSome found (λ trunk. node_of proof.old.shape trunk.left.end ≡ node.0)) }
+    ensures none { IfOk result (λ found. IfNone found (UnservedIf (rig_state rig.old).machine.faults proof.old node.0)) }
+    ensures loads { LoadsAtMost (rig_state rig.old).machine.faults proof.old (rig_state rig.old).loads (rig_state rig.new).loads 6 }
+    ensures advances { Advances (rig_state rig.old) (rig_state rig.new) proof.old proof.new }
+    ensures cause { IsErrOf result RigFail.Failed → Rose (rig_state rig.old).failures (rig_state rig.new).failures }
+{
+    the_laws_hold();
+    tests_add_up();
+    match parent {
+        None => root_trunk(alloc, rig, proof, known),
+        Some(tested) => child_trunk(alloc, proof, known, tested, node),
+    }
+}

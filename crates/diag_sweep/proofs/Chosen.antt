@@ -1,0 +1,78 @@
+-- What a choice leaves: of what is known some gives way, and what is left to spend.
+use Rattle.std.proofs.Common.{◌≡◌, ◌⊎◌, inl, inr, ℕ, ◌+◌, ◌≤◌, Bool, true, false, ◌&&◌, Option, List, length, replicate, refl, sym, ap, ◌∙◌, subst, arith}
+use Rattle.std.proofs.lemmas.Bool.{false≢true, and_parts}
+use Rattle.std.specs.Prelude.{slice_set}
+use Rattle.base_bits.specs.Numbers.{has_number, size_of}
+use Rattle.machine_shape.specs.declared.Shape.{Shape}
+use Rattle.machine_shape.specs.Faults.{Faults}
+use Rattle.diag_evidence.specs.Kept.{Kept}
+use Rattle.diag_known.specs.Field.{how_many}
+use Rattle.diag_known.specs.Known.{HasWire, InSet, KnownWires}
+use Rattle.diag_known.specs.declared.field.Field.{Field}
+use Rattle.diag_known.specs.declared.step.Step.{Step}
+use Rattle.diag_known.proofs.Counting.{many_more, many_size, none_has, set_only}
+use Rattle.diag_sweep.specs.Marks.{AreMarksFor, TrueIf, is_undecided, undecided, worth}
+use Rattle.diag_sweep.specs.Stages.{IsFunded, IsHand, in_hand}
+use Rattle.diag_sweep.specs.declared.bad.Bad.{Bad}
+use Rattle.diag_sweep.specs.declared.purse.Purse.{Purse}
+use Rattle.diag_sweep.proofs.Purses.{size_undecided}
+
+-- a purse of what is left
+pub funded_of : {k : Kept} {b : Bad} {a : Field} {loads most : ℕ} {set : List Bool} (left : ℕ) (known : KnownWires) → length set ≡ length a.crosses → ((x : ℕ) → has_number set x ≡ (has_number a.crosses x && is_undecided k b x)) → loads ≤ most → most ≤ loads + left →
+    IsFunded (worth a k b loads left) a (in_hand k known b (record { most = most; unsettled = set }) loads)
+funded_of {k} {b} {a} {set = set} left known len has low high = record {
+  paid = low;
+  within = (let same = size_undecided k b a set len has in omega (arith, same, high));
+  whole = λ x on is. has x ∙ ap (λ (t : Bool). t && is_undecided k b x) on ∙ is;
+}
+
+-- what is left of it in the end
+pub worth_paid : (limit left : ℕ) {l : Kept} {c : Bad} {a : Field} {known : KnownWires} {purse : Purse} {after : ℕ} → IsHand a (in_hand l known c purse after) → IsFunded limit a (in_hand l known c purse after) → (after ≤ purse.most → after + left ≤ purse.most) →
+    worth a l c after left ≤ limit
+worth_paid limit left {l} {c} {a} {purse = purse} hand f kept =
+    let within = f.within in
+    let rest = kept f.paid in
+    let few : undecided l c a ≤ size_of purse.unsettled = subst (λ n. undecided l c a ≤ n) (ap (how_many (has_number purse.unsettled)) (hand.field.crosses ∙ sym hand.purse) ∙ many_size purse.unsettled)
+    (many_more (λ x. has_number a.crosses x && is_undecided l c x) (has_number purse.unsettled) (length a.crosses) (λ x less on. let two = and_parts (has_number a.crosses x) (is_undecided l c x) on in f.whole x two.0 two.1)) in
+    omega (arith, within, rest, few)
+
+-- .. where nothing is kept of it
+pub worth_none : (limit left : ℕ) {l : Kept} {c : Bad} {a : Field} {known : KnownWires} {purse : Purse} {after : ℕ} → IsHand a (in_hand l known c purse after) → IsFunded limit a (in_hand l known c purse after) → left ≡ 0 → worth a l c after left ≤ limit
+worth_none limit left {purse = purse} {after = after} hand f e = worth_paid limit left hand f (λ low. omega (arith, low, e))
+
+-- the marks of unfit wires are no matter
+pub worth_same : (l : Kept) (c d : Bad) (a : Field) (loads left : ℕ) {limit : ℕ} → d.stuck ≡ c.stuck → worth a l c loads left ≤ limit → worth a l d loads left ≤ limit
+worth_same l c d a loads left {limit} same paid = subst (λ (s : List Bool). worth a l (record d { stuck = s }) loads left ≤ limit) (sym same) paid
+
+none_on : (n w : ℕ) → has_number (replicate n false) w ≡ false
+none_on n w = by (has_number (replicate n false) w) refl
+  where
+    by : (b : Bool) → has_number (replicate n false) w ≡ b → b ≡ false
+    by false e = refl
+    by true e = absurd (none_has n w e)
+
+-- the known wires of a set, one more at a time
+module _ {ss : List Step} where
+  pub among_none : (set : List Bool) (n : ℕ) → set ≡ replicate n false → (w : ℕ) → InSet set w → HasWire ss w
+  among_none set n is w on = absurd (false≢true (sym (none_on n w) ∙ subst (λ (s : List Bool). has_number s w ≡ true) is on))
+
+  pub among_next : (old new : List Bool) (u : ℕ) → ((w : ℕ) → InSet old w → HasWire ss w) → HasWire ss u → new ≡ slice_set old u true → (w : ℕ) → InSet new w → HasWire ss w
+  among_next old new u all has is w on = by (set_only old u w (subst (λ (s : List Bool). has_number s w ≡ true) is on))
+    where
+      by : (has_number old w ≡ true) ⊎ (u ≡ w) → HasWire ss w
+      by (inl before) = all w before
+      by (inr same) = subst (HasWire ss) same has
+
+-- Without the marks of unfit wires they are true of whatever is known.
+pub true_of_any : {k : Kept} {ss ts : List Step} {b : Bad} (unfit : List Bool) (n : ℕ) → unfit ≡ replicate n false → (told : Option Faults) → TrueIf told k ss b → TrueIf told k ts (record b { unfit = unfit })
+true_of_any {k} {ss} {ts} {b} unfit n none told t = record {
+  at = λ f e h. let old = t.at f e h in record {
+    stuck = old.stuck;
+    unfit = λ w on clear alone. absurd (false≢true (sym (none_on n w) ∙ subst (λ (s : List Bool). has_number s w ≡ true) none on));
+    unclear = old.unclear;
+    wrong = old.wrong;
+  };
+}
+
+pub marks_cleared : {m : Shape} {b : Bad} (unfit : List Bool) → length unfit ≡ length b.unfit → AreMarksFor m b → AreMarksFor m (record b { unfit = unfit })
+marks_cleared unfit len are = record { stuck = are.stuck; unfit = len ∙ are.unfit; unclear = are.unclear; wrong = are.wrong }

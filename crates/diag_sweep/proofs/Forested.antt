@@ -1,0 +1,48 @@
+-- Forests whose crosspoints are kept, and whose wires are known.
+use Rattle.std.proofs.Common.{◌≡◌, ◌≢◌, ℕ, ◌+◌, ◌<◌, ◌≤◌, Bool, true, false, Option, Some, None, List, [], length, refl, sym, ap, ◌∙◌, subst, arith}
+use Rattle.std.specs.Prelude.{is_some}
+use Rattle.std.proofs.lemmas.Bool.{false≢true}
+use Rattle.std.proofs.lemmas.List.{get_or_past}
+use native.Mathlib.Decide.{dec_lt}
+use Rattle.machine_shape.specs.declared.Shape.{Shape}
+use Rattle.machine_shape.specs.Shape.{wires_of}
+use Rattle.diag_evidence.specs.Kept.{Kept, keeps_wire, keeps_pair}
+use Rattle.diag_evidence.specs.Forests.{Trees, IsForest, KeepsForest, KnowsForest, HangsOn, bare, is_hung, pin_of, with_planted}
+use Rattle.diag_known.specs.Known.{KnownWires, HasWire, IsKnown}
+use Rattle.diag_known.proofs.Apart.{known_pair}
+
+pub keeps_bare : {k : Kept} {trees : Trees} → trees ≡ bare k.shape → KeepsForest k trees
+keeps_bare {k} same = subst (KeepsForest k) (sym same) (record { shape = refl; crosses = λ x on. absurd (false≢true on) })
+
+pub keeps_planted : {k : Kept} {old new : Trees} (pin : ℕ) → new ≡ with_planted old pin → KeepsForest k old → KeepsForest k new
+keeps_planted {k} pin same keeps = subst (KeepsForest k) (sym same) (record { shape = keeps.shape; crosses = keeps.crosses })
+
+hung : (o : Option ℕ) (pin : ℕ) → o ≡ Some pin → is_some o ≡ true
+hung o pin e = ap is_some e
+
+-- all wires that hang are known
+pub knows : {k : Kept} {known : KnownWires} {trees : Trees} → IsKnown k known → KeepsForest k trees → ((w : ℕ) → is_hung trees w ≡ true → HasWire known.steps w) → KnowsForest k trees
+knows {k} {known} {trees} is keeps all = record {
+  keeps = keeps;
+  wires = λ w pin on. kept w (all w (hung (pin_of trees w) pin on));
+  pairs = λ w u pin other on also differ. known_pair is u w (all u (hung (pin_of trees u) other also)) (all w (hung (pin_of trees w) pin on)) differ;
+}
+  where
+    kept : (w : ℕ) → HasWire known.steps w → keeps_wire k w ≡ true
+    kept w h = subst (λ v. keeps_wire k v ≡ true) h.at.wire (is.steps h.place h.at.step h.at.here).kept
+
+-- .. of all wires of the machine
+pub all_hung : {trees : Trees} {known : ℕ → Type 0} (n : ℕ) → IsForest trees → wires_of trees.shape ≤ n → ((w : ℕ) → w < n → is_hung trees w ≡ true → known w) → (w : ℕ) → is_hung trees w ≡ true → known w
+all_hung {trees} {known} n forest whole each w on = by (dec_lt w n)
+  where
+    by : Dec (w < n) → known w
+    by (yes h) = each w h on
+    by (no h) = absurd (false≢true (sym (ap is_some (get_or_past trees.pins w None (let len = forest.wires in omega (arith, h, whole, len)))) ∙ on))
+
+-- one wire more was looked at
+pub one_hung : (trees : Trees) {known : ℕ → Type 0} (n : ℕ) → ((w : ℕ) → w < n → is_hung trees w ≡ true → known w) → (is_hung trees n ≡ true → known n) → (w : ℕ) → w < n + 1 → is_hung trees w ≡ true → known w
+one_hung trees {known} n each here w less on = by (dec_lt w n)
+  where
+    by : Dec (w < n) → known w
+    by (yes h) = each w h on
+    by (no h) = let same : n ≡ w = omega (arith, less, h) in subst known same (here (subst (λ i. is_hung trees i ≡ true) (sym same) on))

@@ -1,0 +1,129 @@
+-- Steps of a sweep, one after the other.
+use Rattle.std.proofs.Common.{◌≡◌, ◌⊎◌, ℕ, ◌+◌, ◌≤◌, true, Option, List, [], sym, ap, ◌∙◌, subst, inl, inr, arith}
+use Rattle.base_bits.specs.Numbers.{has_number}
+use Rattle.machine_shape.specs.declared.Table.{Table}
+use Rattle.machine_shape.specs.Faults.{Faults}
+use Rattle.machine_shape.specs.Shape.{crosses_of}
+use Rattle.diag_evidence.specs.Kept.{Kept, IsMore, Advances}
+use Rattle.diag_evidence.proofs.Keeping.{advances_itself, advances_then}
+use Rattle.diag_evidence.proofs.KeptLemmas.{more_itself}
+use Rattle.rig.specs.Rig.{RigState}
+use Rattle.diag_known.specs.Known.{KnownWires, HasWire, IsKnown}
+use Rattle.diag_known.specs.Field.{IsFieldOf, GrowsIn}
+use Rattle.diag_known.specs.declared.field.Field.{Field}
+use Rattle.diag_known.specs.declared.step.Step.{Step}
+use Rattle.diag_known.proofs.Later.{known_later}
+use Rattle.diag_sweep.specs.Marks.{HasTable, MarksIn, TrueIf}
+use Rattle.diag_sweep.specs.Stages.{Hand, Goes, IsHand, Settles, in_hand}
+use Rattle.diag_sweep.specs.declared.bad.Bad.{Bad}
+use Rattle.diag_sweep.specs.declared.purse.Purse.{Purse}
+use Rattle.diag_sweep.proofs.Marking.{marks_itself, marks_then, marks_for, true_later}
+use Rattle.diag_sweep.proofs.Paying.{funded_test}
+
+pub grows_itself : (a : Field) (ss : List Step) → GrowsIn a ss ss
+grows_itself a ss = record { stays = λ w has. has; within = λ w has. inl has }
+
+pub grows_then : {a : Field} {x y z : List Step} → GrowsIn a x y → GrowsIn a y z → GrowsIn a x z
+grows_then {a} {x} {y} p q = record { stays = λ w has. q.stays w (p.stays w has); within = λ w has. by w (q.within w has) }
+  where
+    by : (w : ℕ) → HasWire y w ⊎ (has_number a.wires w ≡ true) → HasWire x w ⊎ (has_number a.wires w ≡ true)
+    by w (inl has) = p.within w has
+    by w (inr on) = inr on
+
+pub goes_itself : {told : Option Faults} {a : Field} {tables : List Table} {h : Hand} → IsHand a h → Goes told a tables h h
+goes_itself {a = a} {tables = tables} {h = h} is = record {
+  hand = is;
+  grows = grows_itself a h.known.steps;
+  marks = marks_itself a tables h.bad;
+  holds = λ t. t;
+  funded = λ limit f. f;
+}
+
+pub goes_then : {told : Option Faults} {a : Field} {tables : List Table} {x y z : Hand} → Goes told a tables x y → Goes told a tables y z → Goes told a tables x z
+goes_then p q = record {
+  hand = q.hand;
+  grows = grows_then p.grows q.grows;
+  marks = marks_then p.marks q.marks;
+  holds = λ t. q.holds (p.holds t);
+  funded = λ limit f. q.funded limit (p.funded limit f);
+}
+
+-- a step after calls that left the machine as it was
+pub goes_on : {a : Field} {tables : List Table} {x y z : Hand} {r s : RigState} {k l : Kept} → Advances r s k l → Goes r.machine.faults a tables x y → Goes s.machine.faults a tables y z → Goes r.machine.faults a tables x z
+goes_on {a} {tables} {x} {y} {z} advances p q = goes_then p (subst (λ (told : Option Faults). Goes told a tables y z) (ap (λ m. m.faults) advances.machine) q)
+
+-- more tables might have been marked
+pub goes_wider : {told : Option Faults} {a : Field} {x y : Hand} (tables : List Table) → Goes told a [] x y → Goes told a tables x y
+goes_wider {told} {a} {x} {y} tables g = record {
+  hand = g.hand;
+  grows = g.grows;
+  marks = record {
+    stuck = g.marks.stuck;
+    unfit = g.marks.unfit;
+    unclear = g.marks.unclear;
+    wrong = record { len = g.marks.wrong.len; stays = g.marks.wrong.stays; within = λ i on. by i (g.marks.wrong.within i on) };
+  };
+  holds = g.holds;
+  funded = g.funded;
+}
+  where
+    none : (i : ℕ) → HasTable [] i → ⊥
+    none i has = (let here = has.here in cc)
+
+    by : (i : ℕ) → (has_number x.bad.wrong i ≡ true) ⊎ HasTable [] i → (has_number x.bad.wrong i ≡ true) ⊎ HasTable tables i
+    by i (inl on) = inl on
+    by i (inr has) = absurd (none i has)
+
+-- a test that marks, and was paid for
+pub goes_tested : {told : Option Faults} {a : Field} {tables : List Table} {k l : Kept} {known : KnownWires} {bad new : Bad} {purse : Purse} {before after : ℕ} (n : ℕ) → IsHand a (in_hand k known bad purse before) → before + n ≤ purse.most → after ≤ before + n → IsMore k l →
+    MarksIn a tables bad new → (TrueIf told k known.steps bad → TrueIf told l known.steps new) → Goes told a tables (in_hand k known bad purse before) (in_hand l known new purse after)
+goes_tested {a = a} {known = known} n hand can took more marked holds = record {
+  hand = record {
+    known = known_later more hand.known;
+    field = subst (λ m. IsFieldOf m a) (sym more.shape) hand.field;
+    marks = marks_for more.shape hand.marks marked;
+    purse = hand.purse ∙ ap crosses_of (sym more.shape);
+  };
+  grows = grows_itself a known.steps;
+  marks = marked;
+  holds = holds;
+  funded = funded_test n can took more marked.stuck.stays;
+}
+
+-- what tests over the rig have made of what is in hand so far
+pub record HasGone (first now : RigState) (j k : Kept) (a : Field) (tables : List Table) (old new : Hand) : Type 0 where
+  pub hand : IsHand a new
+  pub goes : Goes first.machine.faults a tables old new
+  pub advances : Advances first now j k
+
+pub gone_none : {r : RigState} {k : Kept} {a : Field} {tables : List Table} {h : Hand} → IsHand a h → HasGone r r k k a tables h h
+gone_none {r} {k} hand = record { hand = hand; goes = goes_itself hand; advances = advances_itself r k }
+
+pub gone_on : {r s t : RigState} {j k l : Kept} {a : Field} {tables : List Table} {x y z : Hand} → HasGone r s j k a tables x y → Goes s.machine.faults a tables y z → Advances s t k l → HasGone r t j l a tables x z
+gone_on p q on = let goes = goes_on p.advances p.goes q in record { hand = goes.hand; goes = goes; advances = advances_then p.advances on }
+
+-- a purse that is settled anew
+pub goes_settled : {told : Option Faults} {a : Field} {tables : List Table} {k : Kept} {known : KnownWires} {bad : Bad} {old new : Purse} {loads : ℕ} → IsHand a (in_hand k known bad old loads) → Settles k bad old new →
+    Goes told a tables (in_hand k known bad old loads) (in_hand k known bad new loads)
+goes_settled {told} {a} {tables} {k} {known} {bad} {old} {new} {loads} hand s = record {
+  hand = record { known = hand.known; field = hand.field; marks = hand.marks; purse = s.len ∙ hand.purse };
+  grows = grows_itself a known.steps;
+  marks = marks_itself a tables bad;
+  holds = λ t. t;
+  funded = λ limit f. record {
+    paid = (let paid = f.paid in let more = s.most in omega (arith, paid, more));
+    within = (let within = f.within in let less = s.within in omega (arith, within, less));
+    whole = λ x on is. s.whole x (f.whole x on is) is;
+  };
+}
+
+-- more is known
+pub goes_learnt : {told : Option Faults} {a : Field} {tables : List Table} {k : Kept} {old new : KnownWires} {bad : Bad} {purse : Purse} {loads : ℕ} → IsHand a (in_hand k old bad purse loads) → IsKnown k new → GrowsIn a old.steps new.steps →
+    Goes told a tables (in_hand k old bad purse loads) (in_hand k new bad purse loads)
+goes_learnt {told} {a} {tables} {k} {old} {new} {bad} {purse} {loads} hand known grows = record {
+  hand = record { known = known; field = hand.field; marks = hand.marks; purse = hand.purse };
+  grows = grows;
+  marks = marks_itself a tables bad;
+  holds = λ t. true_later (more_itself k) grows.stays t;
+  funded = λ limit f. record { paid = f.paid; within = f.within; whole = f.whole };
+}

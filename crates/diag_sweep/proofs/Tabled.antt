@@ -1,0 +1,87 @@
+-- What a load of tables leaves.
+use Rattle.std.proofs.Common.{◌≡◌, ◌⊎◌, inl, inr, ℕ, suc, ◌≤◌, ◌+◌, Bool, true, false, not, ◌&&◌, Option, Result, Ok, Err, List, [], ◌∷◌, length, refl, sym, ◌∙◌, subst, arith}
+use Rattle.std.specs.Prelude.{All, OnOk, OnErr, ◌==◌}
+use Rattle.std.proofs.lemmas.Bool.{false≢true, or_cases, and_parts, or_right}
+use Rattle.std.proofs.lemmas.Bool.Decides.{nat_tests}
+use Rattle.base_bits.specs.Numbers.{has_number}
+use Rattle.machine_shape.specs.declared.Table.{Table}
+use Rattle.machine_shape.specs.Faults.{Faults}
+use Rattle.rig.specs.Rig.{RigState}
+use Rattle.diag_evidence.specs.Forests.{Trees}
+use Rattle.diag_evidence.specs.Kept.{Kept, Advances, IsMore}
+use Rattle.diag_evidence.specs.TableRows.{HasTabled, WrongIf, is_one_of, is_right_before, output_pin}
+use Rattle.diag_evidence.proofs.Keeping.{advances_itself, advances_then}
+use Rattle.diag_known.specs.Known.{KnownWires}
+use Rattle.diag_known.specs.declared.field.Field.{Field}
+use Rattle.diag_sweep.specs.Marks.{HasTable, MarksSome, MarksIn, TrueIf}
+use Rattle.diag_sweep.specs.Stages.{Goes, Hand, IsHand, in_hand}
+use Rattle.diag_sweep.specs.declared.bad.Bad.{Bad}
+use Rattle.diag_sweep.specs.declared.purse.Purse.{Purse}
+use Rattle.diag_sweep.proofs.Going.{goes_itself, goes_on, goes_tested}
+use Rattle.diag_sweep.proofs.Marking.{true_later, some_itself}
+
+-- one of these tables is one of the given ones
+given : {tables : List Table} (ts : List Table) → All (λ t. HasTable tables t.0) ts → (t : ℕ) → is_one_of ts t ≡ true → HasTable tables t
+given [] all t on = absurd (false≢true on)
+given {tables} (a ∷ ts) all t on = by (given ts (λ i d below. all (suc i) d (omega (arith, below))) t) (or_cases (a.0 == t) (is_one_of ts t) on)
+  where
+    same : (a.0 == t) ≡ true → a.0 ≡ t
+    same e = grind (arith, nat_tests, e)
+
+    by : (is_one_of ts t ≡ true → HasTable tables t) → ((a.0 == t) ≡ true) ⊎ (is_one_of ts t ≡ true) → HasTable tables t
+    by later (inl here) = subst (HasTable tables) (same here) (all 0 a (omega arith))
+    by later (inr more) = later more
+
+pub wrong_marks : (told : Option Faults) (trees : Trees) (tables ts : List Table) (rig : RigState) (k l : Kept) (was is : List Bool) {T E : Type 0} (r : Result T E) → All (λ t. HasTable tables t.0) ts → length is ≡ length was →
+    OnOk r (HasTabled told trees ts rig k l was is) → OnErr r (is ≡ was) → MarksSome (HasTable tables) was is
+wrong_marks told trees tables ts rig k l was is (Ok v) of len tabled same = record {
+  len = len;
+  stays = λ t on. tabled.marks t ∙ or_right (is_one_of ts t && not (is_right_before tabled.setting tabled.reads tabled.opposite (output_pin trees t) 65)) (has_number was t) on;
+  within = λ t on. by t (or_cases (is_one_of ts t && not (is_right_before tabled.setting tabled.reads tabled.opposite (output_pin trees t) 65)) (has_number was t) (sym (tabled.marks t) ∙ on));
+}
+  where
+    by : (t : ℕ) → ((is_one_of ts t && not (is_right_before tabled.setting tabled.reads tabled.opposite (output_pin trees t) 65)) ≡ true) ⊎ (has_number was t ≡ true) → (has_number was t ≡ true) ⊎ HasTable tables t
+    by t (inl new) = inr (given ts of t (and_parts (is_one_of ts t) (not (is_right_before tabled.setting tabled.reads tabled.opposite (output_pin trees t) 65)) new).0)
+    by t (inr on) = inl on
+wrong_marks told trees tables ts rig k l was is (Err e) of len tabled same = subst (MarksSome (HasTable tables) was) (sym same) (some_itself (HasTable tables) was)
+
+pub table_goes : {told : Option Faults} {a : Field} {k l : Kept} {known : KnownWires} {bad : Bad} {wrong : List Bool} {purse : Purse} {before after : ℕ} (tables : List Table) → IsHand a (in_hand k known bad purse before) → before + 2 ≤ purse.most →
+    after ≤ before + 2 → IsMore k l → MarksSome (HasTable tables) bad.wrong wrong → (WrongIf told k bad.wrong → WrongIf told l wrong) →
+    Goes told a tables (in_hand k known bad purse before) (in_hand l known (record bad { wrong = wrong }) purse after)
+table_goes {told} {a} {k} {l} {known} {bad} {wrong} {purse} {before} {after} tables hand can took more marks true_ = goes_tested 2 hand can took more marked holds
+  where
+    marked : MarksIn a tables bad (record bad { wrong = wrong })
+    marked = record {
+      stuck = some_itself _ bad.stuck;
+      unfit = some_itself _ bad.unfit;
+      unclear = some_itself _ bad.unclear;
+      wrong = marks;
+    }
+
+    holds : TrueIf told k known.steps bad → TrueIf told l known.steps (record bad { wrong = wrong })
+    holds t = record {
+      at = λ f e h. let old = (true_later more (λ u on. on) t).at f e h in record {
+        stuck = old.stuck;
+        unfit = old.unfit;
+        unclear = old.unclear;
+        wrong = true_ (λ f e h. (t.at f e h).wrong) f e h;
+      };
+    }
+
+-- a step after calls that left the machine and the tables as they were
+pub table_on : {a : Field} {ts us : List Table} {x y z : Hand} {r s : RigState} {k l : Kept} → us ≡ ts → Advances r s k l → Goes r.machine.faults a ts x y → Goes s.machine.faults a us y z → Goes r.machine.faults a ts x z
+table_on {a = a} {y = y} {z = z} {s = s} same advances p q = goes_on advances p (subst (λ (t : List Table). Goes s.machine.faults a t y z) same q)
+
+-- what tests of tables have made of what is in hand so far, and the tables are as they were
+pub record HasTested (first now : RigState) (j k : Kept) (a : Field) (given : List Table) (old new : Hand) {T : Type 0} (was is : T) : Type 0 where
+  pub hand : IsHand a new
+  pub goes : Goes first.machine.faults a given old new
+  pub tables : is ≡ was
+  pub advances : Advances first now j k
+
+pub tested_none : {r : RigState} {k : Kept} {a : Field} {given : List Table} {h : Hand} {T : Type 0} {was : T} → IsHand a h → HasTested r r k k a given h h was was
+tested_none {r} {k} hand = record { hand = hand; goes = goes_itself hand; tables = refl; advances = advances_itself r k }
+
+pub tested_on : {r s t : RigState} {j k l : Kept} {a : Field} {given those : List Table} {x y z : Hand} {T : Type 0} {was is new : T} → HasTested r s j k a given x y was is → those ≡ given → Goes s.machine.faults a those y z → new ≡ is → Advances s t k l →
+    HasTested r t j l a given x z was new
+tested_on p same q tables on = let goes = table_on same p.advances p.goes q in record { hand = goes.hand; goes = goes; tables = tables ∙ p.tables; advances = advances_then p.advances on }

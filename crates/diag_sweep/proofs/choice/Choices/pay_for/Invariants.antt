@@ -1,0 +1,10 @@
+use Rattle.std.proofs.Common.{◌≡◌, ℕ, ◌+◌, ◌*◌, ◌≤◌, false, length}
+use Rattle.base_bits.specs.Numbers.{has_number, size_of}
+use Rattle.diag_sweep.proofs.choice.Choices.pay_for.Given as goal
+
+abbrev pub invariant-wires : goal.invariant-wires
+invariant-wires l = record {
+  len : length l.self.paid ≡ length l.fn.self.paid;
+  pays : l.self.left + 14 * size_of l.fn.self.paid ≤ l.fn.self.left + 14 * size_of l.self.paid;
+  none : ((w : ℕ) → has_number l.wires w ≡ false) → l.self ≡ l.fn.self;
+}

@@ -1,0 +1,8 @@
+use Rattle.std.proofs.Common.{take}
+use Rattle.std.specs.Prelude.{All}
+use Rattle.machine_shape.specs.declared.Table.{Table}
+use Rattle.diag_sweep.specs.Marks.{HasTable}
+use Rattle.diag_sweep.proofs.fits.are_given.Given as goal
+
+abbrev pub invariant-tables : goal.invariant-tables
+invariant-tables l = All (λ (t : Table). HasTable l.given t.0) (take l.k l.tables)

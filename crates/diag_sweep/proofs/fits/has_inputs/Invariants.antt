@@ -1,0 +1,8 @@
+use Rattle.std.proofs.Common.{ℕ, ◌<◌}
+use Rattle.std.specs.Prelude.{slice_index_or}
+use Rattle.machine_shape.specs.Shape.{table_wire}
+use Rattle.diag_evidence.specs.Forests.{HangsOn}
+use Rattle.diag_sweep.proofs.fits.has_inputs.Given as goal
+
+abbrev pub invariant-inputs : goal.invariant-inputs
+invariant-inputs l = (i : ℕ) → i < l.j → HangsOn l.forest (table_wire l.forest.shape l.t.0 i) (slice_index_or l.ins i 0)

@@ -1,0 +1,6 @@
+use Rattle.std.proofs.Common.{◌≡◌, ◌++◌, take}
+use Rattle.diag_evidence.specs.Hangs.{others, overs}
+use Rattle.diag_sweep.proofs.footing.feet_of.Given as goal
+
+abbrev pub invariant-hangs : goal.invariant-hangs
+invariant-hangs l = l.feet.items ≡ overs l.hangs ++ others (take l.k l.hangs)

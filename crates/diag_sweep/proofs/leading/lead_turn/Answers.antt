@@ -1,0 +1,8 @@
+use Rattle.diag_sweep.proofs.Going.{goes_settled, goes_then}
+use Rattle.diag_sweep.proofs.leading.lead_turn.Goals as goal
+
+pub returns-in_default-note_walks-clause-goes : goal.returns-in_default-note_walks-clause-goes
+returns-in_default-note_walks-clause-goes g c = let tested = c.lead_load.ensures.goes in goes_then tested (goes_settled tested.hand c.settle_walks.ensures)
+
+pub returns-clause-goes : goal.returns-clause-goes
+returns-clause-goes g c = let tested = c.lead_load.ensures.goes in goes_then tested (goes_settled tested.hand c.settle_walks.ensures)

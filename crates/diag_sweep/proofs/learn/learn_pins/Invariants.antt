@@ -1,0 +1,9 @@
+use Rattle.diag_known.specs.Field.{GrowsIn}
+use Rattle.diag_known.specs.Known.{IsKnown}
+use Rattle.diag_sweep.proofs.learn.learn_pins.Given as goal
+
+abbrev pub invariant-pins : goal.invariant-pins
+invariant-pins l = record {
+  known : IsKnown l.proof l.known;
+  grows : GrowsIn l.field l.fn.known.steps l.known.steps;
+}

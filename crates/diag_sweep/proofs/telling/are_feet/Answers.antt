@@ -1,0 +1,16 @@
+use Rattle.std.proofs.Common.{◌≡◌, ℕ, List, refl, subst}
+use Rattle.std.specs.Prelude.{◌==◌, All, map}
+use Rattle.std.specs.List.{IsDistinct}
+use Rattle.diag_evidence.specs.Hangs.{IsFoot, pin_at}
+use Rattle.diag_sweep.proofs.Footed.{of_some}
+use Rattle.diag_sweep.proofs.Viewing.{feet_fit}
+use Rattle.diag_sweep.proofs.telling.are_feet.Goals as goal
+
+pub returns : goal.returns
+returns c = λ yes.
+    let each = of_some (λ _. All (IsFoot c.args.forest.now) c.args.feet.now.items) c.in_ok-pins.field-0 c.in-Some.pins c.in-Some.is c.in_ok-pins.ensures.each in
+    let pins = of_some (λ ps. ps.items ≡ map (pin_at c.args.forest.now) c.args.feet.now.items) c.in_ok-pins.field-0 c.in-Some.pins c.in-Some.is c.in_ok-pins.ensures.pins in
+    feet_fit c.args.feet.now.items each pins
+    (subst (λ (ns : List ℕ). IsDistinct (λ a b. a == b) ns) c.deref-2.ensures.value (c.see_all-2.ensures.seen yes).once)
+    c.in_ok-wires.ensures
+    (subst (λ (ns : List ℕ). IsDistinct (λ a b. a == b) ns) c.deref.ensures.value (c.if-not-see_all.ensures.seen refl).once)

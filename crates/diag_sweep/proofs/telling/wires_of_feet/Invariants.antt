@@ -1,0 +1,7 @@
+use Rattle.std.proofs.Common.{◌≡◌, take}
+use Rattle.std.specs.Prelude.{map}
+use Rattle.diag_evidence.specs.Hangs.{Foot}
+use Rattle.diag_sweep.proofs.telling.wires_of_feet.Given as goal
+
+abbrev pub invariant-feet : goal.invariant-feet
+invariant-feet l = l.wires.items ≡ map (λ (foot : Foot). foot.0.0) (take l.k l.feet.items)

@@ -1,0 +1,273 @@
+//! Which of shorted wires stays known: choices, and the sweeps behind them.
+ghost use Rattle.std.specs.Prelude.{◌≡◌, ◌≤◌, ◌+◌, ◌*◌, ℕ, false, Option, Some, IfOk, OnOk, IsErrOf, length};
+ghost use Rattle.base_io.specs.Counts.{Rose};
+ghost use Rattle.base_bits.specs.Numbers.{has_number, size_of};
+ghost use Rattle.machine_shape.specs.Faults.{Faults};
+ghost use Rattle.machine_shape.specs.Shape.{crosses_of, wires_of};
+ghost use Rattle.rig.specs.Rig.{shape_of};
+ghost use Rattle.diag_evidence.specs.Kept.{Advances};
+ghost use Rattle.diag_known.specs.Field.{GrowsIn, IsFieldOf};
+ghost use Rattle.diag_known.specs.Known.{HasWire, InSet, IsKnown, KnownWires};
+ghost use Rattle.diag_sweep.specs.Marks.{AreMarksFor, MarksIn, TrueIf, worth};
+ghost use Rattle.diag_sweep.specs.Stages.{IsFunded, in_hand};
+
+use crate::bad::Bad;
+use crate::choosing::{Aim, Chooser};
+use crate::gear::{Gear, Sheet};
+use crate::purse::{Purse, loads_of};
+use crate::search::Search;
+use crate::tabling::sweep_again;
+use crate::telling::tell_all;
+use base_bits::BitSet;
+use diag_evidence::Proof;
+use diag_known::{Field, Known, standing};
+use machine_shape::Table;
+use rig::{Rig, RigFail};
+use std::alloc::AllocError;
+
+/// How many loads are put in for a wire.
+const LOADS_FOR_WIRE: u64 = 14;
+
+/// What choices between shorted wires and the sweeps behind them have at hand, from one to the next.
+#[derive(Drop)]
+pub struct Choices {
+    /// How many loads are left to them.
+    pub left: u64,
+    /// The wires for which loads were put in.
+    pub paid: BitSet,
+    sheet: Sheet,
+}
+
+impl Choices {
+    /// Before the first choice, with no loads. The tables are those that may be tested. Wants memory.
+    pub fn new(
+        proof: &Proof,
+        known: &Known,
+        bad: &Bad,
+        field: &Field,
+        tables: &[Table],
+    ) -> Result<Choices, AllocError>
+        ensures left { IfOk result (λ choices. choices.left ≡ 0) }
+        ensures len { IfOk result (λ choices. length choices.paid ≡ wires_of proof.now.shape) }
+        ensures none { IfOk result (λ choices. size_of choices.paid ≡ 0) }
+        ensures tables { IfOk result (λ choices. choices.sheet.tables.items ≡ tables.now) }
+    {
+        let alloc = known.alloc();
+        let shape = proof.shape();
+        let gear = Gear {
+            purse: Purse::empty(alloc, &shape)?,
+            search: Search::new(alloc, proof, known, bad, field)?,
+            chooser: Chooser::new(alloc, proof)?,
+            aim: Aim::Partners,
+            height: 0,
+            start: 0,
+        };
+        Ok(Choices {
+            left: 0,
+            paid: BitSet::new(alloc, shape.wires())?,
+            sheet: Sheet {
+                gear,
+                tables: Vec::from_slice(alloc, tables)?,
+            },
+        })
+    }
+
+    // Puts loads in for a wire, if none were put in yet.
+    fn pay(&mut self, w: u32)
+        ensures len { length self.new.paid ≡ length self.old.paid }
+        ensures pays { self.new.left + 14 * size_of self.old.paid ≤ self.old.left + 14 * size_of self.new.paid }
+    {
+        if w >= self.paid.len() {
+            return;
+        }
+        if self.paid.has(w) {
+            return;
+        }
+        self.paid.insert(w);
+        self.left = self.left.saturating_add(LOADS_FOR_WIRE);
+    }
+
+    /// Puts in 14 loads for each of some wires for which none were put in yet.
+    pub fn pay_for(&mut self, wires: &BitSet)
+        ensures len { length self.new.paid ≡ length self.old.paid }
+        ensures pays { self.new.left + 14 * size_of self.old.paid ≤ self.old.left + 14 * size_of self.new.paid }
+        ensures none { ((w : ℕ) → has_number wires.now w ≡ false) → self.new ≡ self.old }
+    {
+        'wires: for w in 0..wires.len() {
+            if !wires.has(w) {
+                continue;
+            }
+            self.pay(w);
+        }
+    }
+
+    // Takes what is left into the purse, and begins the search anew.
+    fn open_purse(
+        &mut self,
+        rig: &Box<dyn Rig>,
+        proof: &Proof,
+        known: &Known,
+        bad: &Bad,
+        field: &Field,
+    ) -> Result<(), AllocError>
+        requires field { IsFieldOf proof.now.shape field.now }
+        requires marks { AreMarksFor proof.now.shape bad.now }
+        ensures left { self.new.left ≡ 0 }
+        ensures paid { self.new.paid ≡ self.old.paid }
+        ensures tables { self.new.sheet.tables ≡ self.old.sheet.tables }
+        ensures len { OnOk result (length self.new.sheet.gear.purse.unsettled ≡ crosses_of proof.now.shape) }
+        ensures funded { OnOk result ((known : KnownWires) → IsFunded
+            (worth field.now proof.now bad.now (rig_state rig.now).loads self.old.left) field.now
+            (in_hand proof.now known bad.now self.new.sheet.gear.purse (rig_state rig.now).loads)) }
+    {
+        let left = self.left;
+        self.left = 0;
+        self.sheet.gear.purse = Purse::of(known.alloc(), rig, proof, bad, field, left)?;
+        self.sheet.gear.search = Search::new(known.alloc(), proof, known, bad, field)?;
+        self.sheet.gear.start = 0;
+        Ok(())
+    }
+
+    // Keeps what is left in the purse.
+    fn close_purse(&mut self, rig: &Box<dyn Rig>)
+        ensures left { (rig_state rig.now).loads ≤ self.old.sheet.gear.purse.most →
+            (rig_state rig.now).loads + self.new.left ≤ self.old.sheet.gear.purse.most }
+        ensures paid { self.new.paid ≡ self.old.paid }
+        ensures sheet { self.new.sheet ≡ self.old.sheet }
+    {
+        self.left = self.sheet.gear.purse.most.saturating_sub(loads_of(rig));
+    }
+}
+
+// The known wires of a set.
+fn known_among(known: &Known, wires: &BitSet) -> Result<BitSet, AllocError>
+    ensures len { IfOk result (λ set. length set ≡ wires_of known.now.shape) }
+    ensures known { IfOk result (λ set. (w : ℕ) → InSet set w → HasWire known.now.steps w) }
+{
+    let mut set = BitSet::new(known.alloc(), known.shape().wires())?;
+    'places: for place in 0..known.len() {
+        let wire = known.wire_at(place);
+        if wire.0 >= wires.len() {
+            continue;
+        }
+        if !wires.has(wire.0) {
+            continue;
+        }
+        set.insert(wire.0);
+    }
+    Ok(set)
+}
+
+// Of the known wires some give way, if that was chosen. Which wires are unfit isn't known then.
+fn give_way(
+    proof: &Proof,
+    known: &mut Known,
+    bad: &mut Bad,
+    chooser: &mut Chooser,
+) -> Result<bool, AllocError>
+    requires known { IsKnown proof.now known.old }
+    requires marks { AreMarksFor proof.now.shape bad.old }
+    ensures known { IsKnown proof.now known.new }
+    ensures fewer { (w : ℕ) → HasWire known.new.steps w → HasWire known.old.steps w }
+    ensures same { IfOk result (λ chosen. chosen ≡ false → known.new ≡ known.old) }
+    ensures marks { AreMarksFor proof.now.shape bad.new }
+    ensures stuck { bad.new.stuck ≡ bad.old.stuck }
+    ensures right { (told : Option Faults) → TrueIf told proof.now known.old.steps bad.old →
+        TrueIf told proof.now known.new.steps bad.new }
+{
+    let Some(wires) = chooser.give_up(proof, known, bad)? else {
+        return Ok(false);
+    };
+    let stay = known_among(known, &wires)?;
+    *known = standing(known.alloc(), proof, stay)?;
+    // An unfit wire may have been shorted to one that gives way.
+    bad.unfit.clear();
+    Ok(true)
+}
+
+/// Looks to which known wires unfit ones are shorted, as far as what is left pays for it, and gives those up that stand in the way of more.
+/// Says whether some were. What is known is then known of fewer wires, and the marks of unfit ones are dropped. Nothing is promised of
+/// what it chooses.
+///
+/// # Errors
+///
+/// `Failed` where a call of the rig failed, `Memory` where memory was wanting. What is known, kept and marked is as right as after an `Ok`.
+pub fn choose(
+    rig: &mut Box<dyn Rig>,
+    proof: &mut Proof,
+    known: &mut Known,
+    bad: &mut Bad,
+    field: &Field,
+    choices: &mut Choices,
+) -> Result<bool, RigFail>
+    requires attached { shape_of (rig_state rig.old) ≡ Some proof.old.shape }
+    requires known { IsKnown proof.old known.old }
+    requires field { IsFieldOf proof.old.shape field.now }
+    requires marks { AreMarksFor proof.old.shape bad.old }
+
+    ensures known { IsKnown proof.new known.new }
+    ensures fewer { (w : ℕ) → HasWire known.new.steps w → HasWire known.old.steps w }
+    ensures same { IfOk result (λ chosen. chosen ≡ false → known.new ≡ known.old) }
+    ensures marks { AreMarksFor proof.old.shape bad.new }
+    ensures right { TrueIf (rig_state rig.old).machine.faults proof.old known.old.steps bad.old →
+        TrueIf (rig_state rig.old).machine.faults proof.new known.new.steps bad.new }
+    ensures pays { worth field.now proof.new bad.new (rig_state rig.new).loads choices.new.left
+        ≤ worth field.now proof.old bad.old (rig_state rig.old).loads choices.old.left }
+    ensures paid { choices.new.paid ≡ choices.old.paid }
+    ensures tables { choices.new.sheet.tables ≡ choices.old.sheet.tables }
+    ensures advances { Advances (rig_state rig.old) (rig_state rig.new) proof.old proof.new }
+    ensures cause { IsErrOf result RigFail.Failed → Rose (rig_state rig.old).failures (rig_state rig.new).failures }
+{
+    if choices.left == 0 {
+        return Ok(false);
+    }
+    let Ok(()) = choices.open_purse(rig, proof, known, bad, field) else {
+        return Err(RigFail::Memory);
+    };
+    choices.sheet.gear.aim = Aim::Partners;
+    tell_all(rig, proof, known, bad, field, &mut choices.sheet.gear)?;
+    choices.close_purse(rig);
+    match give_way(proof, known, bad, &mut choices.sheet.gear.chooser) {
+        Ok(chosen) => Ok(chosen),
+        Err(_) => Err(RigFail::Memory),
+    }
+}
+
+/// Sweeps anew behind a choice, as `sweep` does, as far as what is left to choices pays for it, with two loads more for each crosspoint of
+/// the field that comes to be kept or marked stuck by it. Those wires are tested first for which others gave way.
+///
+/// # Errors
+///
+/// `Failed` where a call of the rig failed, `Memory` where memory was wanting. What is known, kept and marked is as right as after an `Ok`.
+pub fn sweep_with(
+    rig: &mut Box<dyn Rig>,
+    proof: &mut Proof,
+    known: &mut Known,
+    bad: &mut Bad,
+    field: &Field,
+    choices: &mut Choices,
+) -> Result<(), RigFail>
+    requires attached { shape_of (rig_state rig.old) ≡ Some proof.old.shape }
+    requires known { IsKnown proof.old known.old }
+    requires field { IsFieldOf proof.old.shape field.now }
+    requires marks { AreMarksFor proof.old.shape bad.old }
+
+    ensures known { IsKnown proof.new known.new }
+    ensures grows { GrowsIn field.now known.old.steps known.new.steps }
+    ensures marks { MarksIn field.now choices.old.sheet.tables.items bad.old bad.new }
+    ensures right { TrueIf (rig_state rig.old).machine.faults proof.old known.old.steps bad.old →
+        TrueIf (rig_state rig.old).machine.faults proof.new known.new.steps bad.new }
+    ensures pays { worth field.now proof.new bad.new (rig_state rig.new).loads choices.new.left
+        ≤ worth field.now proof.old bad.old (rig_state rig.old).loads choices.old.left }
+    ensures paid { choices.new.paid ≡ choices.old.paid }
+    ensures tables { choices.new.sheet.tables ≡ choices.old.sheet.tables }
+    ensures advances { Advances (rig_state rig.old) (rig_state rig.new) proof.old proof.new }
+    ensures cause { IsErrOf result RigFail.Failed → Rose (rig_state rig.old).failures (rig_state rig.new).failures }
+{
+    let Ok(()) = choices.open_purse(rig, proof, known, bad, field) else {
+        return Err(RigFail::Memory);
+    };
+    sweep_again(rig, proof, known, bad, field, &mut choices.sheet)?;
+    choices.close_purse(rig);
+    Ok(())
+}

@@ -1,0 +1,300 @@
+//! Which of shorted wires stays: what the choice remembers.
+//!
+//! Where two wires are shorted, the sweep knows the one that came first, mostly a line, and a table loses the pin that is shorted to it.
+//! Looks tell for such a pin to which known wires it can be shorted, its suspects. Where one is left for each pin of a table, these give
+//! way. Nothing rests on it: a wire that gives way in vain is known again later, or another one that is shorted to it.
+
+use crate::bad::Bad;
+use crate::board::in_set;
+use crate::choosing_tables::is_lost;
+use crate::climbs::Walk;
+use crate::heights::Level;
+use crate::search::Search;
+use diag_evidence::Proof;
+use diag_known::Known;
+use machine_shape::{Cross, Table, Wire};
+use std::alloc::{AllocError, Global};
+
+/// The height of the wires that are hung before all others in a sweep after a choice.
+pub(crate) const FIRST_HEIGHT: u32 = 9;
+
+/// How often a wire is looked at for a choice.
+const PARTNER_LOOKS: u32 = 16;
+
+/// How often one is looked at that was unfit before a choice.
+const AGAIN_LOOKS: u32 = 5;
+
+/// How often one is looked at that is neither known nor unfit.
+const REST_LOOKS: u32 = 4;
+
+/// What looks are for.
+#[derive(Clone, Copy, PartialEq, Eq)]
+pub(crate) enum Aim {
+    /// To find the known wires to which pins of tables are shorted.
+    Partners,
+    /// To mark wires unfit that were before a choice.
+    Again,
+    /// To mark wires unfit that are neither known nor marked.
+    Rest,
+}
+
+/// At which value a pin stayed on which a wire hung.
+#[derive(Clone, Copy, PartialEq, Eq)]
+pub(crate) enum Still {
+    No,
+    Low,
+    High,
+}
+
+/// Known wires, to one of which a wire seems to be shorted. None where nothing was seen of it.
+#[derive(Drop)]
+pub(crate) struct Suspects {
+    pub wires: Vec<Wire>,
+}
+
+/// A table, and those of its pins that aren't known.
+#[derive(Drop)]
+pub(crate) struct Lack {
+    pub table: Table,
+    pub pins: Vec<Wire>,
+}
+
+/// A crosspoint of a look's forest, and the wires that it leads from and to. A pin of the machine is led to from itself.
+#[derive(Clone, Copy)]
+pub(crate) struct Link {
+    pub cross: Cross,
+    pub from: Wire,
+    pub to: Wire,
+}
+
+/// A look that is to be taken: climbs, links by which the other known wires hang, in their order, and the feet of wires that aren't known.
+#[derive(Drop)]
+pub(crate) struct Told {
+    pub climbs: Vec<Walk>,
+    pub links: Vec<Link>,
+    pub feet: Vec<(Wire, Cross)>,
+}
+
+/// What the choice remembers. Where nothing else is said, there is an entry for each wire of the machine.
+#[derive(Drop)]
+pub(crate) struct Chooser {
+    pub alloc: Global,
+    pub aim: Aim,
+    // The wires that the next looks are about, and how often each wire was looked at for that.
+    pub wanted: Vec<Wire>,
+    pub looks: Vec<u32>,
+    pub still: Vec<Still>,
+    pub suspects: Vec<Suspects>,
+    // The known wire to which one was found to be shorted; and of a wire that gave way, for which one.
+    pub partner: Vec<Option<Wire>>,
+    pub heir: Vec<Option<Wire>>,
+    // Whether a wire is unfit, or was lost in growth; whether it gives way; and of each table whether it can't be used, and whether wires
+    // gave way for it before.
+    pub lost: Vec<bool>,
+    pub given: Vec<bool>,
+    pub dead: Vec<bool>,
+    pub favoured: Vec<bool>,
+    // The tables that would be free if all of their pins were known.
+    pub lacks: Vec<Lack>,
+    // The tables that the choice may free, and whether one was made before.
+    pub gains: Vec<Table>,
+    pub has_chosen: bool,
+    // The wires that are hung before all others in the next sweep, and those to be marked again then.
+    pub first: Vec<Wire>,
+    pub again: Vec<Wire>,
+}
+
+/// The entry of a wire or a table in a list of yes and no.
+pub(crate) fn flag_at(flags: &Vec<bool>, at: u32) -> bool {
+    flags.get(at as usize).copied().unwrap_or(false)
+}
+
+/// Changes the entry of a wire or a table.
+pub(crate) fn set_flag(flags: &mut Vec<bool>, at: u32, flag: bool) {
+    if (at as usize) < flags.len() {
+        flags[at as usize] = flag;
+    }
+}
+
+/// The wire that stands at a wire's place.
+pub(crate) fn wire_of(wires: &Vec<Option<Wire>>, w: Wire) -> Option<Wire> {
+    wires.get(w.0 as usize).copied().unwrap_or(None)
+}
+
+/// Changes the wire that stands at a wire's place.
+pub(crate) fn set_wire(wires: &mut Vec<Option<Wire>>, w: Wire, other: Option<Wire>) {
+    if (w.0 as usize) < wires.len() {
+        wires[w.0 as usize] = other;
+    }
+}
+
+/// Whether a wire is known.
+pub(crate) fn knows(known: &Known, w: Wire) -> bool {
+    if w.0 < known.shape().wires() {
+        return known.has(w);
+    }
+    false
+}
+
+impl Chooser {
+    /// Before the first choice.
+    pub(crate) fn new(alloc: Global, proof: &Proof) -> Result<Chooser, AllocError> {
+        let shape = proof.shape();
+        let wires = shape.wires() as usize;
+        let mut chooser = Chooser {
+            alloc,
+            aim: Aim::Rest,
+            wanted: Vec::new(alloc),
+            looks: Vec::new(alloc),
+            still: Vec::new(alloc),
+            suspects: Vec::new(alloc),
+            partner: Vec::new(alloc),
+            heir: Vec::new(alloc),
+            lost: Vec::new(alloc),
+            given: Vec::new(alloc),
+            dead: Vec::new(alloc),
+            favoured: Vec::new(alloc),
+            lacks: Vec::new(alloc),
+            gains: Vec::new(alloc),
+            has_chosen: false,
+            first: Vec::new(alloc),
+            again: Vec::new(alloc),
+        };
+        chooser.looks.resize(wires, 0)?;
+        chooser.still.resize(wires, Still::No)?;
+        chooser.partner.resize(wires, None)?;
+        chooser.heir.resize(wires, None)?;
+        chooser.lost.resize(wires, false)?;
+        chooser.given.resize(wires, false)?;
+        chooser.dead.resize(shape.tables() as usize, false)?;
+        chooser.favoured.resize(shape.tables() as usize, false)?;
+        'wires: for _w in 0..wires {
+            chooser.suspects.push(Suspects {
+                wires: Vec::new(alloc),
+            })?;
+        }
+        Ok(chooser)
+    }
+
+    /// Whether a pin was seen to stay at one value with a wire.
+    pub(crate) fn still_of(&self, w: Wire) -> Still {
+        self.still.get(w.0 as usize).copied().unwrap_or(Still::No)
+    }
+
+    /// How often a wire was looked at.
+    pub(crate) fn looks_of(&self, w: Wire) -> u32 {
+        self.looks.get(w.0 as usize).copied().unwrap_or(u32::MAX)
+    }
+
+    /// A wire was looked at so often.
+    pub(crate) fn set_looks(&mut self, w: Wire, looks: u32) {
+        let at = w.0 as usize;
+        if at < self.looks.len() {
+            self.looks[at] = looks;
+        }
+    }
+
+    /// How often a wire is looked at for what is aimed at.
+    pub(crate) fn most_looks(&self) -> u32 {
+        match self.aim {
+            Aim::Partners => PARTNER_LOOKS,
+            Aim::Again => AGAIN_LOOKS,
+            Aim::Rest => REST_LOOKS,
+        }
+    }
+
+    /// How many known wires one seems to be shorted to.
+    pub(crate) fn suspect_count(&self, w: Wire) -> usize {
+        match self.suspects.get(w.0 as usize) {
+            Some(suspects) => suspects.wires.len(),
+            None => 0,
+        }
+    }
+
+    /// One seems to be shorted to these.
+    pub(crate) fn set_suspects(&mut self, w: Wire, wires: Vec<Wire>) {
+        let at = w.0 as usize;
+        if at < self.suspects.len() {
+            self.suspects[at] = Suspects { wires };
+        }
+    }
+
+    // No wire was looked at.
+    fn forget_looks(&mut self) {
+        'wires: for at in 0..self.looks.len() {
+            if at < self.looks.len() {
+                self.looks[at] = 0;
+            }
+        }
+    }
+
+    /// Nothing was seen of any wire.
+    pub(crate) fn forget_suspects(&mut self) {
+        'wires: for at in 0..self.suspects.len() {
+            if at < self.suspects.len() {
+                self.suspects[at].wires.clear();
+            }
+        }
+    }
+
+    // All wires that were unfit before a choice.
+    fn want_again(&mut self) -> Result<(), AllocError> {
+        'wires: for at in 0..self.again.len() {
+            if let Some(w) = self.again.get(at).copied() {
+                self.wanted.push(w)?;
+            }
+        }
+        Ok(())
+    }
+
+    // All wires that are neither known nor unfit.
+    fn want_rest(&mut self, known: &Known, bad: &Bad) -> Result<(), AllocError> {
+        'wires: for w in 0..known.shape().wires() {
+            if !knows(known, Wire(w)) && !in_set(&bad.unfit, w) && !in_set(&bad.unclear, w) {
+                self.wanted.push(Wire(w))?;
+            }
+        }
+        Ok(())
+    }
+
+    // Which wires are unfit, or were lost in growth.
+    fn note_lost(&mut self, proof: &Proof, known: &Known, bad: &Bad) {
+        'wires: for at in 0..self.lost.len() {
+            let w = Wire(u32::try_from(at).unwrap_or(u32::MAX));
+            if at < self.lost.len() {
+                self.lost[at] = is_lost(proof, known, bad, w);
+            }
+        }
+    }
+
+    /// What the next looks are for.
+    pub(crate) fn begin(
+        &mut self,
+        aim: Aim,
+        proof: &Proof,
+        known: &Known,
+        bad: &Bad,
+    ) -> Result<(), AllocError> {
+        self.aim = aim;
+        self.wanted.clear();
+        self.forget_looks();
+        match aim {
+            Aim::Partners => {
+                self.note_lost(proof, known, bad);
+                self.want_pins(proof, known, bad)
+            }
+            Aim::Again => self.want_again(),
+            Aim::Rest => self.want_rest(known, bad),
+        }
+    }
+
+    /// Adds the wires that are hung before all others to what a search goes through.
+    pub(crate) fn hint(&self, search: &mut Search) -> Result<(), AllocError> {
+        let mut wires = Vec::new(self.alloc);
+        'wires: for w in &self.first {
+            wires.push(*w)?;
+        }
+        search.heights.levels.push(Level { wires })?;
+        Ok(())
+    }
+}

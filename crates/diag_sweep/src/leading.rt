@@ -1,0 +1,240 @@
+//! Loads of walks: looked at, paid for, and made.
+ghost use Rattle.std.specs.Prelude.{◌≡◌, [], true, Some, IfOk, OnOk, IsTrue, IsErrOf, length};
+ghost use Rattle.base_io.specs.Counts.{Rose};
+ghost use Rattle.machine_shape.specs.Shape.{crosses_of};
+ghost use Rattle.rig.specs.Rig.{shape_of};
+ghost use Rattle.diag_tests.specs.Routes.{IsRoute};
+ghost use Rattle.diag_tests.specs.Configs.{Closes};
+ghost use Rattle.diag_evidence.specs.Kept.{Advances};
+ghost use Rattle.diag_known.specs.Field.{IsFieldOf};
+ghost use Rattle.diag_known.specs.Known.{IsKnown};
+ghost use Rattle.diag_sweep.specs.Courses.{IsCourse};
+ghost use Rattle.diag_sweep.specs.Marks.{AreMarksFor};
+ghost use Rattle.diag_sweep.specs.Stages.{Goes, IsHand, Settles, in_hand};
+
+use crate::bad::Bad;
+use crate::climbs::Walk;
+use crate::gear::Gear;
+use crate::paths::lead_of;
+use crate::purse::Purse;
+use crate::search::Trial;
+use base_bits::BitSet;
+use diag_evidence::{Lead, Proof};
+use diag_known::{Field, Known};
+use diag_tests::Route;
+use machine_config::Config;
+use rig::{PinBits, Rig, RigFail};
+use std::alloc::AllocError;
+
+/// More loads of walks than a field takes.
+const MOST_LOADS: u32 = 10_000_000;
+
+/// Walks that are laid for one load, with what is closed and driven then, and the wires that they go over.
+#[derive(Drop)]
+struct Course {
+    config: Config,
+    drive: PinBits,
+    leads: Vec<Lead>,
+    seen: BitSet,
+}
+
+impl Course {
+    // No walks.
+    fn new(proof: &Proof, known: &Known, field: &Field) -> Result<Course, AllocError>
+        requires known { IsKnown proof.now known.now }
+        requires field { IsFieldOf proof.now.shape field.now }
+        ensures { IfOk result (λ c. IsCourse proof.now known.now.steps field.now c.config.config c.drive c.leads.items c.seen) }
+    {
+        let shape = proof.shape();
+        let alloc = known.alloc();
+        Ok(Course {
+            config: Config::with_room(alloc, shape, 0)?,
+            drive: PinBits::new(alloc, shape.pins())?,
+            leads: Vec::new(alloc),
+            seen: BitSet::new(alloc, shape.wires())?,
+        })
+    }
+}
+
+// Closes the crosspoints of a route.
+fn close_route(config: &mut Config, route: &Route) -> Result<(), AllocError>
+    requires { IsRoute config.old.config.shape route.now }
+    ensures { OnOk result (Closes route.now.crosses config.old.config config.new.config) }
+{
+    'steps: for k in 0..route.len() {
+        config.close_cross(route.cross_at(k))?;
+    }
+    Ok(())
+}
+
+// Lays a walk besides. False where it may not be laid.
+fn add_walk(
+    course: &mut Course,
+    proof: &Proof,
+    known: &Known,
+    field: &Field,
+    walk: &Walk,
+) -> Result<bool, AllocError>
+    requires known { IsKnown proof.now known.now }
+    requires field { IsFieldOf proof.now.shape field.now }
+    requires course { IsCourse proof.now known.now.steps field.now course.old.config.config course.old.drive course.old.leads.items
+        course.old.seen }
+    ensures { IfOk result (λ yes. IsTrue yes → IsCourse proof.now known.now.steps field.now course.new.config.config course.new.drive
+        course.new.leads.items course.new.seen) }
+{
+    let Some(lead) = lead_of(known.alloc(), proof, known, field, &mut course.seen, walk)? else {
+        return Ok(false);
+    };
+    close_route(&mut course.config, &lead.route)?;
+    course.drive.set(lead.route.pin(), false);
+    course.leads.push(lead)?;
+    Ok(true)
+}
+
+// Lays all walks of a load. False where one may not be laid.
+fn lay_walks(
+    course: &mut Course,
+    proof: &Proof,
+    known: &Known,
+    field: &Field,
+    trials: &Vec<Trial>,
+) -> Result<bool, AllocError>
+    requires known { IsKnown proof.now known.now }
+    requires field { IsFieldOf proof.now.shape field.now }
+    requires course { IsCourse proof.now known.now.steps field.now course.old.config.config course.old.drive course.old.leads.items
+        course.old.seen }
+    ensures { IfOk result (λ yes. IsTrue yes → IsCourse proof.now known.now.steps field.now course.new.config.config course.new.drive
+        course.new.leads.items course.new.seen) }
+{
+    'trials: for at in 0..trials.len() {
+        if !add_walk(course, proof, known, field, &trials[at].walk)? {
+            return Ok(false);
+        }
+    }
+    Ok(true)
+}
+
+// Leads the walks that the search has chosen, if they may be led together and it can be paid.
+fn lead_load(
+    rig: &mut Box<dyn Rig>,
+    proof: &mut Proof,
+    known: &Known,
+    bad: &mut Bad,
+    field: &Field,
+    gear: &Gear,
+) -> Result<(), RigFail>
+    requires attached { shape_of (rig_state rig.old) ≡ Some proof.old.shape }
+    requires hand { IsHand field.now (in_hand proof.old known.now bad.old gear.now.purse (rig_state rig.old).loads) }
+    ensures goes { Goes (rig_state rig.old).machine.faults field.now []
+        (in_hand proof.old known.now bad.old gear.now.purse (rig_state rig.old).loads)
+        (in_hand proof.new known.now bad.new gear.now.purse (rig_state rig.new).loads) }
+    ensures advances { Advances (rig_state rig.old) (rig_state rig.new) proof.old proof.new }
+    ensures cause { IsErrOf result RigFail.Failed → Rose (rig_state rig.old).failures (rig_state rig.new).failures }
+{
+    let Ok(mut course) = Course::new(proof, known, field) else {
+        return Err(RigFail::Memory);
+    };
+    let Ok(laid) = lay_walks(&mut course, proof, known, field, &gear.search.trials) else {
+        return Err(RigFail::Memory);
+    };
+    if !laid {
+        return Ok(());
+    }
+    if !gear.purse.can_pay(rig, 1) {
+        return Ok(());
+    }
+    proof.lead_each(
+        rig,
+        &course.config,
+        &course.drive,
+        &course.leads,
+        &mut bad.stuck,
+    )
+}
+
+// Takes loads in for the crosspoints of a walk that were undecided and aren't any more.
+fn settle_walk(purse: &mut Purse, proof: &Proof, bad: &Bad, walk: &Walk)
+    requires purse { length purse.old.unsettled ≡ crosses_of proof.now.shape }
+    requires marks { AreMarksFor proof.now.shape bad.now }
+    ensures { Settles proof.now bad.now purse.old purse.new }
+{
+    'crosses: for k in 0..walk.crosses.len() {
+        purse.settle(proof, bad, walk.crosses[k]);
+    }
+}
+
+// Takes loads in for the crosspoints of walks that were undecided and aren't any more.
+fn settle_walks(purse: &mut Purse, proof: &Proof, bad: &Bad, trials: &Vec<Trial>)
+    requires purse { length purse.old.unsettled ≡ crosses_of proof.now.shape }
+    requires marks { AreMarksFor proof.now.shape bad.now }
+    ensures { Settles proof.now bad.now purse.old purse.new }
+{
+    'trials: for at in 0..trials.len() {
+        settle_walk(purse, proof, bad, &trials[at].walk);
+    }
+}
+
+// Leads some walks in one load, if some are found and it can be paid. False where not.
+fn lead_turn(
+    rig: &mut Box<dyn Rig>,
+    proof: &mut Proof,
+    known: &Known,
+    bad: &mut Bad,
+    field: &Field,
+    gear: &mut Gear,
+) -> Result<bool, RigFail>
+    requires attached { shape_of (rig_state rig.old) ≡ Some proof.old.shape }
+    requires hand { IsHand field.now (in_hand proof.old known.now bad.old gear.old.purse (rig_state rig.old).loads) }
+    ensures goes { Goes (rig_state rig.old).machine.faults field.now []
+        (in_hand proof.old known.now bad.old gear.old.purse (rig_state rig.old).loads)
+        (in_hand proof.new known.now bad.new gear.new.purse (rig_state rig.new).loads) }
+    ensures advances { Advances (rig_state rig.old) (rig_state rig.new) proof.old proof.new }
+    ensures cause { IsErrOf result RigFail.Failed → Rose (rig_state rig.old).failures (rig_state rig.new).failures }
+{
+    let Ok(more) = gear.search.choose_walks() else {
+        return Err(RigFail::Memory);
+    };
+    if !more {
+        return Ok(false);
+    }
+    if gear.search.trials.is_empty() {
+        return Ok(true);
+    }
+    let before = rig.loads();
+    lead_load(rig, proof, known, bad, field, gear)?;
+    settle_walks(&mut gear.purse, proof, bad, &gear.search.trials);
+    if rig.loads() == before {
+        return Ok(false);
+    }
+    let Ok(()) = gear.search.note_walks(proof, &bad.stuck) else {
+        return Err(RigFail::Memory);
+    };
+    Ok(true)
+}
+
+/// Leads walks over undecided crosspoints between known wires, until no more are found or can be paid.
+#[tactic(auto, using(crate::proofs::Going::gone_none))]
+pub(crate) fn lead_paths(
+    rig: &mut Box<dyn Rig>,
+    proof: &mut Proof,
+    known: &Known,
+    bad: &mut Bad,
+    field: &Field,
+    gear: &mut Gear,
+) -> Result<(), RigFail>
+    requires attached { shape_of (rig_state rig.old) ≡ Some proof.old.shape }
+    requires hand { IsHand field.now (in_hand proof.old known.now bad.old gear.old.purse (rig_state rig.old).loads) }
+    ensures goes { Goes (rig_state rig.old).machine.faults field.now []
+        (in_hand proof.old known.now bad.old gear.old.purse (rig_state rig.old).loads)
+        (in_hand proof.new known.now bad.new gear.new.purse (rig_state rig.new).loads) }
+    ensures advances { Advances (rig_state rig.old) (rig_state rig.new) proof.old proof.new }
+    ensures cause { IsErrOf result RigFail.Failed → Rose (rig_state rig.old).failures (rig_state rig.new).failures }
+{
+    gear.search.begin_walks();
+    'loads: for _load in 0..MOST_LOADS {
+        if !lead_turn(rig, proof, known, bad, field, gear)? {
+            return Ok(());
+        }
+    }
+    Ok(())
+}

@@ -1,0 +1,154 @@
+//! Wires that come to be known.
+ghost use Rattle.std.specs.Prelude.{◌≡◌, ◌<◌, true, IsTrue, length};
+ghost use Rattle.base_bits.specs.Numbers.{has_number};
+ghost use Rattle.machine_shape.specs.Shape.{wires_of, pins_of};
+ghost use Rattle.diag_known.specs.Field.{IsFieldOf, GrowsIn};
+ghost use Rattle.diag_known.specs.Known.{IsKnown, IsFoot, IsGood, HasWire};
+
+use crate::search::Hung;
+use diag_evidence::Proof;
+use diag_known::{Field, Foot, Known, Stand, Step};
+use machine_shape::Wire;
+use std::alloc::AllocError;
+
+// Whether a wire is kept, and kept apart from each known one.
+fn is_good(proof: &Proof, known: &Known, w: Wire) -> bool
+    requires known { IsKnown proof.now known.now }
+    requires wire { w.0 < wires_of proof.now.shape }
+    requires new { ¬ HasWire known.now.steps w.0 }
+    ensures { IsTrue result → IsGood proof.now known.now.steps w.0 }
+{
+    if !proof.keeps_wire(w) {
+        return false;
+    }
+    'places: for place in 0..known.len() {
+        if !proof.keeps_pair(w, known.wire_at(place)) {
+            return false;
+        }
+    }
+    true
+}
+
+// Whether a kept crosspoint leads from a wire to a known one.
+fn is_foot(proof: &Proof, known: &Known, w: Wire, foot: Foot) -> bool
+    requires known { IsKnown proof.now known.now }
+    ensures { IsTrue result → IsFoot proof.now known.now.steps (length known.now.steps) w.0 foot }
+{
+    let shape = proof.shape();
+    if foot.cross.0 >= shape.crosses() {
+        return false;
+    }
+    if foot.wire.0 >= shape.wires() {
+        return false;
+    }
+    if !proof.keeps_cross(foot.cross) {
+        return false;
+    }
+    if !known.has(foot.wire) {
+        return false;
+    }
+    let (tap, line) = shape.ends(foot.cross);
+    if tap.0 == foot.wire.0 {
+        return line.0 == w.0;
+    }
+    if line.0 != foot.wire.0 {
+        return false;
+    }
+    tap.0 == w.0
+}
+
+// Whether a wire may come to be known: one of the field that isn't yet, is kept, and is kept apart from each known one.
+fn is_wanted(proof: &Proof, known: &Known, field: &Field, w: Wire) -> bool
+    requires known { IsKnown proof.now known.now }
+    requires field { IsFieldOf proof.now.shape field.now }
+    ensures within { IsTrue result → w.0 < wires_of proof.now.shape }
+    ensures new { IsTrue result → ¬ HasWire known.now.steps w.0 }
+    ensures field { IsTrue result → has_number field.now.wires w.0 ≡ true }
+    ensures good { IsTrue result → IsGood proof.now known.now.steps w.0 }
+{
+    if w.0 >= proof.shape().wires() {
+        return false;
+    }
+    if !field.wires.has(w.0) {
+        return false;
+    }
+    if known.has(w) {
+        return false;
+    }
+    is_good(proof, known, w)
+}
+
+// A wire comes to be known, if it hangs on two kept crosspoints to different known ones, and is kept apart from all known ones.
+fn learn_hung(known: &mut Known, proof: &Proof, field: &Field, hung: Hung) -> Result<(), AllocError>
+    requires known { IsKnown proof.now known.old }
+    requires field { IsFieldOf proof.now.shape field.now }
+    ensures known { IsKnown proof.now known.new }
+    ensures grows { GrowsIn field.now known.old.steps known.new.steps }
+{
+    if hung.first.wire.0 == hung.second.wire.0 {
+        return Ok(());
+    }
+    if !is_foot(proof, known, hung.wire, hung.first) {
+        return Ok(());
+    }
+    if !is_foot(proof, known, hung.wire, hung.second) {
+        return Ok(());
+    }
+    if !is_wanted(proof, known, field, hung.wire) {
+        return Ok(());
+    }
+    known.learn(Step {
+        wire: hung.wire,
+        stand: Stand::Feet(hung.first, hung.second),
+    })
+}
+
+/// Of some wires those come to be known that hang on two kept crosspoints to different known ones, are kept, and are kept apart from all
+/// known ones.
+pub(crate) fn learn_hangs(
+    known: &mut Known,
+    proof: &Proof,
+    field: &Field,
+    hangs: &Vec<Hung>,
+) -> Result<(), AllocError>
+    requires known { IsKnown proof.now known.old }
+    requires field { IsFieldOf proof.now.shape field.now }
+    ensures known { IsKnown proof.now known.new }
+    ensures grows { GrowsIn field.now known.old.steps known.new.steps }
+{
+    'hangs: for k in 0..hangs.len() {
+        learn_hung(known, proof, field, hangs[k])?;
+    }
+    Ok(())
+}
+
+// A pin of the machine comes to be known, if it is kept, and kept apart from all known wires.
+fn learn_pin(known: &mut Known, proof: &Proof, field: &Field, pin: u32) -> Result<(), AllocError>
+    requires known { IsKnown proof.now known.old }
+    requires field { IsFieldOf proof.now.shape field.now }
+    requires pin { pin < pins_of proof.now.shape }
+    ensures known { IsKnown proof.now known.new }
+    ensures grows { GrowsIn field.now known.old.steps known.new.steps }
+{
+    let wire = proof.shape().pin(pin);
+    if !is_wanted(proof, known, field, wire) {
+        return Ok(());
+    }
+    known.learn(Step {
+        wire,
+        stand: Stand::Pin(pin),
+    })
+}
+
+/// The pins of the machine come to be known that are kept, and kept apart from all known wires.
+pub(crate) fn learn_pins(known: &mut Known, proof: &Proof, field: &Field) -> Result<(), AllocError>
+    requires known { IsKnown proof.now known.old }
+    requires field { IsFieldOf proof.now.shape field.now }
+    ensures known { IsKnown proof.now known.new }
+    ensures grows { GrowsIn field.now known.old.steps known.new.steps }
+{
+    'pins: for pin in 0..proof.shape().pins() {
+        learn_pin(known, proof, field, pin)?;
+    }
+    Ok(())
+}

@@ -1,0 +1,241 @@
+//! Looks in which wires that aren't known hang over one crosspoint each: looked at, paid for, and made.
+ghost use Rattle.std.specs.Prelude.{◌≡◌, ◌<◌, [], true, Some, All, IfOk, IfSome, IsErrOf, IsTrue, length, map};
+ghost use Rattle.base_io.specs.Counts.{Rose};
+ghost use Rattle.base_bits.specs.Numbers.{has_number};
+ghost use Rattle.rig.specs.Rig.{shape_of};
+ghost use Rattle.diag_evidence.specs.Forests.{KeepsForest};
+ghost use Rattle.diag_evidence.specs.Hangs.{AreFeet};
+ghost use Rattle.diag_evidence.specs.Kept.{Advances};
+ghost use Rattle.diag_known.specs.Known.{IsKnown};
+ghost use Rattle.diag_sweep.specs.Stages.{Goes, IsHand, in_hand};
+ghost use Rattle.diag_sweep.specs.Views.{CanTell};
+
+use crate::bad::Bad;
+use crate::choosing::{Chooser, Link, Told, knows};
+use crate::footing::{foot_at, pins_over};
+use crate::gear::Gear;
+use crate::search::Search;
+use crate::seen::see_all;
+use crate::trees::{is_known, lay, lay_climbs, plant};
+use base_bits::BitSet;
+use diag_evidence::{Forest, Looks, Proof};
+use diag_known::{Field, Known};
+use machine_shape::{Cross, Wire};
+use rig::{Rig, RigFail};
+use std::alloc::{AllocError, Global};
+
+/// More looks than are taken for one thing.
+const MOST_LOOKS: u32 = 65_536;
+
+/// A look that may be made: what hangs, the forest, and room for what is read.
+#[derive(Drop)]
+pub(crate) struct View {
+    pub told: Told,
+    pub forest: Forest,
+    pub reads: Looks,
+}
+
+// Plants the pins of the machine that are known.
+fn plant_known(forest: &mut Forest, proof: &Proof, known: &Known)
+    requires { KeepsForest proof.now forest.old }
+    ensures { KeepsForest proof.now forest.new }
+{
+    let shape = proof.shape();
+    'pins: for pin in 0..shape.pins() {
+        let wire = shape.pin(pin);
+        if knows(known, wire) {
+            plant(forest, proof, wire);
+        }
+    }
+}
+
+// Lays links, where they may be laid.
+fn lay_links(forest: &mut Forest, proof: &Proof, links: &Vec<Link>) -> Result<(), AllocError>
+    requires { KeepsForest proof.now forest.old }
+    ensures { KeepsForest proof.now forest.new }
+{
+    'links: for link in links {
+        lay(forest, proof, link.cross, link.from, link.to)?;
+    }
+    Ok(())
+}
+
+// The forest of a look: the known pins of the machine, the climbs, and the links.
+fn told_forest(
+    alloc: Global,
+    proof: &Proof,
+    known: &Known,
+    told: &Told,
+) -> Result<Forest, AllocError>
+    ensures { IfOk result (KeepsForest proof.now) }
+{
+    let mut forest = Forest::new(alloc, &proof.shape())?;
+    plant_known(&mut forest, proof, known);
+    lay_climbs(&mut forest, proof, &told.climbs)?;
+    lay_links(&mut forest, proof, &told.links)?;
+    Ok(forest)
+}
+
+// The numbers of the wires of feet.
+fn wires_of_feet(alloc: Global, feet: &Vec<(Wire, Cross)>) -> Result<Vec<u32>, AllocError>
+    ensures { IfOk result (λ wires. wires.items ≡ map (λ foot. foot.0.0) feet.now.items) }
+{
+    let mut wires = Vec::new(alloc);
+    'feet: for k in 0..feet.len() {
+        wires.push(foot_at(feet, k).0.0)?;
+    }
+    Ok(wires)
+}
+
+// Whether wires may be hung on a forest together, over one crosspoint each.
+fn are_feet(alloc: Global, forest: &Forest, feet: &Vec<(Wire, Cross)>) -> Result<bool, AllocError>
+    ensures { IfOk result (λ yes. IsTrue yes → AreFeet forest.now feet.now.items) }
+{
+    let shape = forest.shape();
+    let mut seen = BitSet::new(alloc, shape.wires())?;
+    let wires = wires_of_feet(alloc, feet)?;
+    if !see_all(&mut seen, &wires) {
+        return Ok(false);
+    }
+    let Some(pins) = pins_over(alloc, forest, feet)? else {
+        return Ok(false);
+    };
+    let mut marks = BitSet::new(alloc, shape.pins())?;
+    Ok(see_all(&mut marks, &pins))
+}
+
+// Whether the wires of feet are of a field.
+fn are_of_field(field: &Field, feet: &Vec<(Wire, Cross)>) -> bool
+    ensures { IsTrue result → All (λ foot. has_number field.now.wires foot.0.0 ≡ true) feet.now.items }
+{
+    'feet: for k in 0..feet.len() {
+        let foot = foot_at(feet, k);
+        if foot.0.0 >= field.wires.len() {
+            return false;
+        }
+        if !field.wires.has(foot.0.0) {
+            return false;
+        }
+    }
+    true
+}
+
+// The next look, if one is wanted that may be made.
+fn next_view(
+    chooser: &mut Chooser,
+    search: &mut Search,
+    proof: &Proof,
+    known: &Known,
+    bad: &Bad,
+    field: &Field,
+) -> Result<Option<View>, AllocError>
+    requires known { IsKnown proof.now known.now }
+    ensures { IfOk result (λ found. IfSome found (CanTell proof.now known.now.steps field.now)) }
+{
+    let Some(told) = chooser.lay_look(search, proof, known, bad)? else {
+        return Ok(None);
+    };
+    let alloc = known.alloc();
+    let forest = told_forest(alloc, proof, known, &told)?;
+    if !is_known(proof, known, &forest) {
+        return Ok(None);
+    }
+    if !are_of_field(field, &told.feet) {
+        return Ok(None);
+    }
+    if !are_feet(alloc, &forest, &told.feet)? {
+        return Ok(None);
+    }
+    let reads = Looks::new(alloc, &proof.shape())?;
+    Ok(Some(View {
+        told,
+        forest,
+        reads,
+    }))
+}
+
+// True where there was memory for what a look tells.
+fn was_heard(heard: Result<(), AllocError>) -> Result<bool, RigFail>
+    ensures memory { IsErrOf result RigFail.Failed → ⊥ }
+{
+    match heard {
+        Ok(()) => Ok(true),
+        Err(_) => Err(RigFail::Memory),
+    }
+}
+
+// Takes a look, if one is wanted, may be made, and can be paid. False where not.
+fn tell_turn(
+    rig: &mut Box<dyn Rig>,
+    proof: &mut Proof,
+    known: &Known,
+    bad: &mut Bad,
+    field: &Field,
+    gear: &mut Gear,
+) -> Result<bool, RigFail>
+    requires attached { shape_of (rig_state rig.old) ≡ Some proof.old.shape }
+    requires hand { IsHand field.now (in_hand proof.old known.now bad.old gear.old.purse (rig_state rig.old).loads) }
+    ensures goes { Goes (rig_state rig.old).machine.faults field.now []
+        (in_hand proof.old known.now bad.old gear.old.purse (rig_state rig.old).loads)
+        (in_hand proof.new known.now bad.new gear.new.purse (rig_state rig.new).loads) }
+    ensures advances { Advances (rig_state rig.old) (rig_state rig.new) proof.old proof.new }
+    ensures cause { IsErrOf result RigFail.Failed → Rose (rig_state rig.old).failures (rig_state rig.new).failures }
+{
+    if !gear.purse.can_pay(rig, 1) {
+        return Ok(false);
+    }
+    let Ok(found) = next_view(
+        &mut gear.chooser,
+        &mut gear.search,
+        proof,
+        known,
+        bad,
+        field,
+    ) else {
+        return Err(RigFail::Memory);
+    };
+    let Some(mut view) = found else {
+        return Ok(false);
+    };
+    let feet = view.told.feet.as_slice();
+    proof.tell_each(
+        rig,
+        &view.forest,
+        feet,
+        &mut bad.unfit,
+        &mut bad.unclear,
+        &mut view.reads,
+    )?;
+    let chooser = &mut gear.chooser;
+    was_heard(chooser.hear(&view.told, &view.forest, &view.reads, proof, bad))
+}
+
+/// Takes looks for what the choice is asked for, until none is wanted, or it can't be paid.
+#[tactic(auto, using(crate::proofs::Going::gone_none))]
+pub(crate) fn tell_all(
+    rig: &mut Box<dyn Rig>,
+    proof: &mut Proof,
+    known: &Known,
+    bad: &mut Bad,
+    field: &Field,
+    gear: &mut Gear,
+) -> Result<(), RigFail>
+    requires attached { shape_of (rig_state rig.old) ≡ Some proof.old.shape }
+    requires hand { IsHand field.now (in_hand proof.old known.now bad.old gear.old.purse (rig_state rig.old).loads) }
+    ensures goes { Goes (rig_state rig.old).machine.faults field.now []
+        (in_hand proof.old known.now bad.old gear.old.purse (rig_state rig.old).loads)
+        (in_hand proof.new known.now bad.new gear.new.purse (rig_state rig.new).loads) }
+    ensures advances { Advances (rig_state rig.old) (rig_state rig.new) proof.old proof.new }
+    ensures cause { IsErrOf result RigFail.Failed → Rose (rig_state rig.old).failures (rig_state rig.new).failures }
+{
+    let aim = gear.aim;
+    let Ok(()) = gear.chooser.begin(aim, proof, known, bad) else {
+        return Err(RigFail::Memory);
+    };
+    'looks: for _look in 0..MOST_LOOKS {
+        if !tell_turn(rig, proof, known, bad, field, gear)? {
+            return Ok(());
+        }
+    }
+    Ok(())
+}

@@ -1,0 +1,190 @@
+//! Forests of a load.
+ghost use Rattle.std.specs.Prelude.{◌≡◌, ◌<◌, ℕ, true, IfOk, IfSome, IsTrue};
+ghost use Rattle.machine_shape.specs.Shape.{pins_of};
+ghost use Rattle.diag_evidence.specs.Forests.{KeepsForest, KnowsForest, is_hung};
+ghost use Rattle.diag_known.specs.Known.{IsKnown, HasWire};
+
+use crate::climbs::Walk;
+use crate::draws::Draws;
+use crate::search::Search;
+use diag_evidence::{Forest, Proof};
+use diag_known::{Known, Stand, Step};
+use machine_shape::{Cross, Shape, Wire};
+use std::alloc::{AllocError, Global};
+
+/// Lays a crosspoint, where it may be laid.
+pub(crate) fn lay(
+    forest: &mut Forest,
+    proof: &Proof,
+    cross: Cross,
+    from: Wire,
+    to: Wire,
+) -> Result<(), AllocError>
+    requires { KeepsForest proof.now forest.old }
+    ensures { KeepsForest proof.now forest.new }
+{
+    let shape = proof.shape();
+    if cross.0 >= shape.crosses() {
+        return Ok(());
+    }
+    if from.0 >= shape.wires() {
+        return Ok(());
+    }
+    if to.0 >= shape.wires() {
+        return Ok(());
+    }
+    forest.lay(proof, cross, from, to)?;
+    Ok(())
+}
+
+// Which pin of the machine a wire is, if it is one.
+fn machine_pin(shape: &Shape, w: Wire) -> Option<u32>
+    ensures { IfSome result (λ pin. pin < pins_of shape.now) }
+{
+    let pins = shape.pins();
+    let first = shape.pin(0).0;
+    if w.0 < first {
+        return None;
+    }
+    if w.0 - first >= pins {
+        return None;
+    }
+    Some(w.0 - first)
+}
+
+/// Plants a pin of the machine.
+pub(crate) fn plant(forest: &mut Forest, proof: &Proof, w: Wire)
+    requires { KeepsForest proof.now forest.old }
+    ensures { KeepsForest proof.now forest.new }
+{
+    let shape = proof.shape();
+    let Some(pin) = machine_pin(&shape, w) else {
+        return;
+    };
+    forest.plant(pin);
+}
+
+// A step of a walk: the crosspoint behind a wire, and its two ends, the one nearer to the pin first.
+fn link_at(walk: &Walk, place: usize) -> Option<(Cross, Wire, Wire)> {
+    let cross = walk.crosses.get(place).copied()?;
+    let to = walk.wires.get(place).copied()?;
+    let from = walk.wires.get(place.saturating_add(1)).copied()?;
+    Some((cross, from, to))
+}
+
+// Lays a climb from its pin on.
+fn lay_climb(forest: &mut Forest, proof: &Proof, walk: &Walk) -> Result<(), AllocError>
+    requires { KeepsForest proof.now forest.old }
+    ensures { KeepsForest proof.now forest.new }
+{
+    let len = walk.crosses.len();
+    if let Some(last) = walk.wires.get(len).copied() {
+        plant(forest, proof, last);
+    }
+    'links: for k in 0..len {
+        let Some((cross, from, to)) = link_at(walk, len - 1 - k) else {
+            continue;
+        };
+        lay(forest, proof, cross, from, to)?;
+    }
+    Ok(())
+}
+
+/// Lays all climbs.
+pub(crate) fn lay_climbs(
+    forest: &mut Forest,
+    proof: &Proof,
+    climbs: &Vec<Walk>,
+) -> Result<(), AllocError>
+    requires { KeepsForest proof.now forest.old }
+    ensures { KeepsForest proof.now forest.new }
+{
+    'climbs: for walk in climbs {
+        lay_climb(forest, proof, walk)?;
+    }
+    Ok(())
+}
+
+// Hangs a known wire on one of its feet, which is drawn, or plants it if it is a pin of the machine.
+fn lay_step(
+    forest: &mut Forest,
+    proof: &Proof,
+    step: &Step,
+    draws: &mut Draws,
+) -> Result<(), AllocError>
+    requires { KeepsForest proof.now forest.old }
+    ensures { KeepsForest proof.now forest.new }
+{
+    match step.stand {
+        Stand::Pin(_) => {
+            plant(forest, proof, step.wire);
+            Ok(())
+        }
+        Stand::Feet(first, second) => {
+            if draws.coin() {
+                return lay(forest, proof, first.cross, first.wire, step.wire);
+            }
+            lay(forest, proof, second.cross, second.wire, step.wire)
+        }
+    }
+}
+
+// Hangs all known wires that don't hang yet.
+fn lay_rest(
+    forest: &mut Forest,
+    proof: &Proof,
+    known: &Known,
+    draws: &mut Draws,
+) -> Result<(), AllocError>
+    requires { KeepsForest proof.now forest.old }
+    ensures { KeepsForest proof.now forest.new }
+{
+    'places: for place in 0..known.len() {
+        let step = known.step_at(place);
+        lay_step(forest, proof, &step, draws)?;
+    }
+    Ok(())
+}
+
+/// The forest of a load of hangs: the climbs, and all other known wires on feet.
+pub(crate) fn hang_forest(
+    alloc: Global,
+    proof: &Proof,
+    known: &Known,
+    search: &mut Search,
+) -> Result<Forest, AllocError>
+    ensures { IfOk result (KeepsForest proof.now) }
+{
+    let mut forest = Forest::new(alloc, &proof.shape())?;
+    lay_climbs(&mut forest, proof, &search.climbs)?;
+    lay_rest(&mut forest, proof, known, &mut search.draws)?;
+    Ok(forest)
+}
+
+/// The forest of the pins of the machine alone.
+pub(crate) fn pin_forest(alloc: Global, proof: &Proof) -> Result<Forest, AllocError>
+    ensures { IfOk result (KeepsForest proof.now) }
+{
+    let shape = proof.shape();
+    let mut forest = Forest::new(alloc, &shape)?;
+    'pins: for pin in 0..shape.pins() {
+        plant(&mut forest, proof, shape.pin(pin));
+    }
+    Ok(forest)
+}
+
+/// Whether all wires that hang are known.
+pub(crate) fn is_known(proof: &Proof, known: &Known, forest: &Forest) -> bool
+    requires known { IsKnown proof.now known.now }
+    requires forest { KeepsForest proof.now forest.now }
+    ensures knows { IsTrue result → KnowsForest proof.now forest.now }
+    ensures all { IsTrue result → (w : ℕ) → is_hung forest.now w ≡ true → HasWire known.now.steps w }
+{
+    let shape = forest.shape();
+    'wires: for w in 0..shape.wires() {
+        if forest.pin_of(Wire(w)).is_some() && !known.has(Wire(w)) {
+            return false;
+        }
+    }
+    true
+}

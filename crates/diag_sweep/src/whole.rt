@@ -1,0 +1,71 @@
+//! The whole sweep.
+ghost use Rattle.std.specs.Prelude.{◌≡◌, Some, IsErrOf};
+ghost use Rattle.base_io.specs.Counts.{Rose};
+ghost use Rattle.rig.specs.Rig.{shape_of};
+ghost use Rattle.diag_evidence.specs.Kept.{Advances};
+ghost use Rattle.diag_known.specs.Field.{IsFieldOf, GrowsIn};
+ghost use Rattle.diag_known.specs.Known.{IsKnown};
+ghost use Rattle.diag_sweep.specs.Marks.{AreMarksFor, MarksIn, Pays, TrueIf};
+
+use crate::bad::Bad;
+use crate::choosing::{Aim, Chooser};
+use crate::gear::{Gear, Sheet};
+use crate::purse::Purse;
+use crate::search::Search;
+use crate::tabling::sweep_sheet;
+use diag_evidence::Proof;
+use diag_known::{Field, Known};
+use machine_shape::Table;
+use rig::{Rig, RigFail};
+
+/// Tests many crosspoints, wires and tables at once, as far as a purse pays for it: a load for each pin of the machine in the field, and
+/// two for each crosspoint of the field that comes to be kept or marked stuck by it. What is known stays so, and further wires of the
+/// field may be; what is found bad is marked. Nothing is promised of what it finds.
+///
+/// # Errors
+///
+/// `Failed` where a call of the rig failed, `Memory` where memory was wanting. What is known, kept and marked is as right as after an `Ok`.
+pub fn sweep(
+    rig: &mut Box<dyn Rig>,
+    proof: &mut Proof,
+    known: &mut Known,
+    bad: &mut Bad,
+    field: &Field,
+    tables: &[Table],
+) -> Result<(), RigFail>
+    requires attached { shape_of (rig_state rig.old) ≡ Some proof.old.shape }
+    requires known { IsKnown proof.old known.old }
+    requires field { IsFieldOf proof.old.shape field.now }
+    requires marks { AreMarksFor proof.old.shape bad.old }
+
+    ensures known { IsKnown proof.new known.new }
+    ensures grows { GrowsIn field.now known.old.steps known.new.steps }
+    ensures marks { MarksIn field.now tables.now bad.old bad.new }
+    ensures right { TrueIf (rig_state rig.old).machine.faults proof.old known.old.steps bad.old →
+        TrueIf (rig_state rig.old).machine.faults proof.new known.new.steps bad.new }
+    ensures pays { Pays field.now proof.old bad.old (rig_state rig.old).loads proof.new bad.new (rig_state rig.new).loads }
+    ensures advances { Advances (rig_state rig.old) (rig_state rig.new) proof.old proof.new }
+    ensures cause { IsErrOf result RigFail.Failed → Rose (rig_state rig.old).failures (rig_state rig.new).failures }
+{
+    let Ok(purse) = Purse::new(known.alloc(), rig, proof, bad, field) else {
+        return Err(RigFail::Memory);
+    };
+    let Ok(search) = Search::new(known.alloc(), proof, known, bad, field) else {
+        return Err(RigFail::Memory);
+    };
+    let Ok(chooser) = Chooser::new(known.alloc(), proof) else {
+        return Err(RigFail::Memory);
+    };
+    let Ok(tables) = Vec::from_slice(known.alloc(), tables) else {
+        return Err(RigFail::Memory);
+    };
+    let gear = Gear {
+        purse,
+        search,
+        chooser,
+        aim: Aim::Rest,
+        height: 0,
+        start: 0,
+    };
+    sweep_sheet(rig, proof, known, bad, field, &mut Sheet { gear, tables })
+}

@@ -1,0 +1,7 @@
+use Rattle.std.proofs.Common.{take}
+use Rattle.diag_tests.specs.Routes.{cross_numbers}
+use Rattle.diag_tests.specs.Configs.{Closes}
+use Rattle.diag_tests.proofs.configs.close_all.Given as goal
+
+abbrev pub invariant-ties : goal.invariant-ties
+invariant-ties l = Closes (take l.c-index (cross_numbers l.ties)) l.fn.config.config l.config.config

@@ -1,6 +1,0 @@
-use Rattle.hierarchy.specs.Shape.{wires_of}
-use Rattle.diagnose.specs.Listing.{IsListing}
-use Rattle.diagnose.proofs.list.list_crosses.Given as goal
-
-abbrev pub invariant-crosses : goal.invariant-crosses
-invariant-crosses l = IsListing l.proof l.known.steps l.list (wires_of l.proof.shape) l.c 0

@@ -1,5 +1,0 @@
-use Rattle.diagnose.specs.Listing.{IsListing}
-use Rattle.diagnose.proofs.list.list_wires.Given as goal
-
-abbrev pub invariant-wires : goal.invariant-wires
-invariant-wires l = IsListing l.proof l.known.steps l.list l.w 0 0

@@ -1,5 +1,0 @@
-use Rattle.std.proofs.Common.{◌≡◌, take}
-use Rattle.doubled_rig.proofs.rows.are_same.Given as goal
-
-abbrev pub invariant-rows : goal.invariant-rows
-invariant-rows l = take l.k l.rows ≡ take l.k l.others

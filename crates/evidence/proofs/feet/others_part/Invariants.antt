@@ -1,9 +1,0 @@
-use Rattle.std.proofs.Common.{◌≡◌, ◌||◌, true, take}
-use Rattle.std.specs.Prelude.{◌==◌}
-use Rattle.std.specs.List.{list_all}
-use Rattle.evidence.specs.Hangs.{pin_at}
-use Rattle.evidence.specs.Looks.{parts}
-use Rattle.evidence.proofs.feet.others_part.Given as goal
-
-abbrev pub invariant-feet : goal.invariant-feet
-invariant-feet l = list_all (λ other. (other.0.0 == l.foot.0.0) || parts l.reads.rows (pin_at l.forest other) (pin_at l.forest l.foot)) (take l.k l.feet) ≡ true

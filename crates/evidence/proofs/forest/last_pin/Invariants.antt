@@ -1,6 +1,0 @@
-use Rattle.std.proofs.Common.{◌<◌, ◌≤◌, ℕ}
-use Rattle.hierarchy.specs.Shape.{pin_wire}
-use Rattle.evidence.proofs.forest.last_pin.Given as goal
-
-abbrev pub invariant-pins : goal.invariant-pins
-invariant-pins l = (j : ℕ) → j < l.k → pin_wire l.shape j ≤ l.last

@@ -1,7 +1,0 @@
-use Rattle.std.proofs.Common.{◌≡◌, take}
-use Rattle.std.specs.Prelude.{filter}
-use Rattle.evidence.specs.Hangs.{overs, is_shown}
-use Rattle.evidence.proofs.hangs.shown.Given as goal
-
-abbrev pub invariant-hangs : goal.invariant-hangs
-invariant-hangs l = l.feet.items ≡ overs (filter (is_shown l.forest l.hangs l.reads.rows l.without.rows) (take l.k l.hangs))

@@ -1,6 +1,0 @@
-use Rattle.std.proofs.Common.{◌≡◌, false, take}
-use Rattle.evidence.specs.Hangs.{some_answers}
-use Rattle.evidence.proofs.hangs.some_answers.Given as goal
-
-abbrev pub invariant-hangs : goal.invariant-hangs
-invariant-hangs l = some_answers l.forest (take l.k l.hangs) l.reads.rows ≡ false

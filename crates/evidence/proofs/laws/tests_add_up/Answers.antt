@@ -1,9 +1,0 @@
-use Rattle.evidence.proofs.Keeping.{advances_itself, advances_then, holds_earlier}
-use Rattle.evidence.proofs.laws.tests_add_up.Goals as goal
-
-pub returns : goal.returns
-returns c = record {
-  itself = advances_itself;
-  onward = λ a b c k l n. advances_then;
-  earlier = λ k l f. holds_earlier;
-}

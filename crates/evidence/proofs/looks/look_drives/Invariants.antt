@@ -1,8 +1,0 @@
-use Rattle.std.proofs.Common.{◌≡◌, ◌∷◌}
-use Rattle.std.specs.Prelude.{map}
-use Rattle.std.specs.List.{range_with_len}
-use Rattle.evidence.specs.Looks.{none_driven, one_driven}
-use Rattle.evidence.proofs.looks.look_drives.Given as goal
-
-abbrev pub invariant-pins : goal.invariant-pins
-invariant-pins l = l.drives.items ≡ none_driven l.pins ∷ map (one_driven l.pins) (range_with_len 0 l.k)

@@ -1,6 +1,0 @@
-use Rattle.std.proofs.Common.{◌≡◌, false, take}
-use Rattle.evidence.specs.Looks.{reads_somewhere}
-use Rattle.evidence.proofs.looks.reads_bit.Given as goal
-
-abbrev pub invariant-rows : goal.invariant-rows
-invariant-rows l = reads_somewhere (take l.k l.rows) l.pin l.bit ≡ false

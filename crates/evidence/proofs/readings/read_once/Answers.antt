@@ -1,5 +1,0 @@
-use Rattle.evidence.proofs.Sessions.{on_ok, cycled_once}
-use Rattle.evidence.proofs.readings.read_once.Goals as goal
-
-pub returns-clause-session : goal.returns-clause-session
-returns-clause-session g c = on_ok c.cycle.result c.cycle.ensures.cycles (λ one. cycled_once _ _ c.args.config.now.config _ c.args.drive.now _ c.in_ok-begin.ensures.begins one)

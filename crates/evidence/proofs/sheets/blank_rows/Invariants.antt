@@ -1,9 +1,0 @@
-use Rattle.std.proofs.Common.{◌≡◌, length}
-use Rattle.evidence.specs.Sheets.{HaveWidth}
-use Rattle.evidence.proofs.sheets.blank_rows.Given as goal
-
-abbrev pub invariant-rows : goal.invariant-rows
-invariant-rows l = record {
-  count : length l.rows.items ≡ l._k;
-  width : HaveWidth l.pins l.rows.items;
-}

@@ -1,5 +1,0 @@
-use Rattle.evidence.proofs.Settings.{opposed}
-use Rattle.evidence.proofs.sheets.opposite_of.Goals as goal
-
-pub returns : goal.returns
-returns c = opposed c.args.setting

@@ -1,9 +1,0 @@
-use Rattle.std.proofs.Common.{◌≡◌, length}
-use Rattle.evidence.specs.Sheets.{HasAddress}
-use Rattle.evidence.proofs.sheets.set_address.Given as goal
-
-abbrev pub invariant-inputs : goal.invariant-inputs
-invariant-inputs l = record {
-  address : HasAddress l.forest l.t.0 l.address l.j l.drive;
-  len : length l.drive ≡ length l.fn.drive;
-}

@@ -1,7 +1,0 @@
-use Rattle.std.proofs.Common.{◌∙◌, sym}
-use Rattle.hierarchy.proofs.Pairs.{pairs_total}
-use Rattle.fault_model.proofs.Keeping.{contains_is}
-use Rattle.fault_model.proofs.entries.is_in.Goals as goal
-
-pub returns : goal.returns
-returns c = c.contains.ensures ∙ sym (contains_is pairs_total c.args.pairs.now.keys (c.args.low, c.args.high))

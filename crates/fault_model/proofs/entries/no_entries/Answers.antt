@@ -1,5 +1,0 @@
-use Rattle.fault_model.proofs.Keeping.{lists_none}
-use Rattle.fault_model.proofs.entries.no_entries.Goals as goal
-
-pub returns-clause-listed : goal.returns-clause-listed
-returns-clause-listed c = lists_none c.new-6.result.items c.new-5.result.keys c.new-6.ensures.items c.new-5.ensures.empty

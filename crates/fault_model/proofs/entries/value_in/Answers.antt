@@ -1,7 +1,0 @@
-use Rattle.std.proofs.Common.{◌∙◌, sym}
-use Rattle.std.specs.Cmp.{nat_cmp_total}
-use Rattle.fault_model.proofs.Keeping.{get_is}
-use Rattle.fault_model.proofs.entries.value_in.Goals as goal
-
-pub returns : goal.returns
-returns c = c.copied.ensures ∙ c.get.ensures.value ∙ sym (get_is nat_cmp_total c.args.values.now.entries c.args.key)

@@ -1,6 +1,0 @@
-use Rattle.std.proofs.Common.{◌≡◌, ◌++◌, map}
-use Rattle.fault_model.specs.Written.{bridge_of}
-use Rattle.fault_model.proofs.write.bridges_of.Given as goal
-
-abbrev pub invariant-pairs : goal.invariant-pairs
-invariant-pairs l = l.bridges.items ++ map bridge_of l.p-iterator ≡ map bridge_of l.fn.pairs.keys

@@ -1,8 +1,0 @@
-use Rattle.std.proofs.Common.{◌≡◌, map, take}
-use Rattle.flatten.specs.Ordered.{line_in}
-use Rattle.flatten.specs.Needs.{lean_line}
-use Rattle.flatten.specs.Bodies.{lean_in}
-use Rattle.flatten.proofs.bodies.lean_lines.Given as goal
-
-abbrev pub invariant-lines : goal.invariant-lines
-invariant-lines l = map lean_in l.leans.items ≡ map (lean_line l.catalog.models.now) (map line_in (take l.line-index l.lines))

@@ -1,7 +1,0 @@
-use Rattle.std.proofs.Common.{◌≡◌, map, take}
-use Rattle.std.specs.List.{filter}
-use Rattle.flatten.specs.Uses.{is_among}
-use Rattle.flatten.proofs.bodies.pairs_among.Given as goal
-
-abbrev pub invariant-pairs : goal.invariant-pairs
-invariant-pairs l = map (λ p. p.now) l.needed.items ≡ filter (λ p. is_among l.names p.formal) (take l.pair-index l.pairs)

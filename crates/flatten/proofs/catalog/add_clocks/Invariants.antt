@@ -1,6 +1,0 @@
-use Rattle.std.proofs.Common.{◌≡◌, take}
-use Rattle.flatten.specs.NameSets.{with_names}
-use Rattle.flatten.proofs.catalog.add_clocks.Given as goal
-
-abbrev pub invariant-clocks : goal.invariant-clocks
-invariant-clocks l = l.set ≡ with_names l.fn.set (take l.clock-index l.clocks)

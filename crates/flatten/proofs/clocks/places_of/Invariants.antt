@@ -1,6 +1,0 @@
-use Rattle.std.proofs.Common.{◌≡◌, ℕ, List, take}
-use Rattle.flatten.specs.Clocks.{at_name, place_in}
-use Rattle.flatten.proofs.clocks.places_of.Given as goal
-
-abbrev pub invariant-names : goal.invariant-names
-invariant-names l = (w : List ℕ) → at_name l.places w ≡ place_in (take l.place l.names) w

@@ -1,9 +1,0 @@
-use Rattle.std.proofs.Common.{◌≡◌, ℕ, vec_len}
-use Rattle.flatten.specs.Drives.{first_at}
-use Rattle.flatten.proofs.drives.make_room.Given as goal
-
-abbrev pub invariant-room : goal.invariant-room
-invariant-room l = record {
-  len : vec_len l.firsts ≡ l._place;
-  same : (s : ℕ) → first_at l.firsts.items s ≡ first_at l.fn.firsts.items s;
-}

@@ -1,7 +1,0 @@
-use Rattle.std.proofs.Common.{map, take}
-use Rattle.flatten.specs.Lists.{AreLists}
-use Rattle.flatten.specs.Placed.{placed_line}
-use Rattle.flatten.proofs.lists.lists_of.Given as goal
-
-abbrev pub invariant-placed : goal.invariant-placed
-invariant-placed l = AreLists l.signals (map placed_line (take l.line-index l.placed)) l.lists

@@ -1,6 +1,0 @@
-use Rattle.std.proofs.Common.{◌∙◌, sym, ap, length}
-use Rattle.std.proofs.lemmas.List.{length-map}
-use Rattle.flatten.proofs.name_set.NameSet.len.Goals as goal
-
-pub returns : goal.returns
-returns c = c.len.ensures.len ∙ sym (length-map c.self.inside.set.keys (λ k. k.now)) ∙ ap length c.self.view_is

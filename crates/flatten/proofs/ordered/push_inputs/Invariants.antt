@@ -1,7 +1,0 @@
-use Rattle.std.proofs.Common.{◌≡◌, ◌++◌, map, take}
-use Rattle.flatten.specs.Lines.{input_line}
-use Rattle.flatten.specs.Ordered.{line_in}
-use Rattle.flatten.proofs.ordered.push_inputs.Given as goal
-
-abbrev pub invariant-ports : goal.invariant-ports
-invariant-ports l = map line_in l.lines.items ≡ map line_in l.fn.lines.items ++ map input_line (take l.port-index l.ports)

@@ -1,7 +1,0 @@
-use Rattle.std.proofs.Common.{◌≡◌, [], map, take}
-use Rattle.flatten.specs.Given.{place_of}
-use Rattle.flatten.specs.Substitution.{becomes}
-use Rattle.flatten.proofs.placed.signals_of.Given as goal
-
-abbrev pub invariant-signals : goal.invariant-signals
-invariant-signals l = l.found.items ≡ map (becomes (place_of l.given []) l.names) (take l.signal-index l.signals)

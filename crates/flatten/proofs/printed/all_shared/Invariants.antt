@@ -1,8 +1,0 @@
-use Rattle.std.proofs.Common.{◌≡◌, List, map, take}
-use Rattle.flatten.specs.declared.model.Model.{Model}
-use Rattle.flatten.specs.Substitution.{first_model}
-use Rattle.flatten.specs.Origins.{AreAllOrigins, shared_as}
-use Rattle.flatten.proofs.printed.all_shared.Given as goal
-
-abbrev pub invariant-signals : goal.invariant-signals
-invariant-signals l = (models : List Model) → AreAllOrigins models l.origins → l.first ≡ (first_model models).names → l.all.items ≡ map (shared_as models) (take l.signal-index l.signals)

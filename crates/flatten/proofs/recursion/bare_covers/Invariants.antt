@@ -1,5 +1,0 @@
-use Rattle.flatten.specs.Links.{AreBare}
-use Rattle.flatten.proofs.recursion.bare_covers.Given as goal
-
-abbrev pub invariant-names : goal.invariant-names
-invariant-names l = AreBare l.number l.covers.items

@@ -1,7 +1,0 @@
-use Rattle.std.proofs.Common.{map}
-use Rattle.flatten.specs.Links.{AreLinked}
-use Rattle.flatten.specs.UseLines.{use_in}
-use Rattle.flatten.proofs.recursion.covers_of.Given as goal
-
-abbrev pub invariant-uses : goal.invariant-uses
-invariant-uses l = AreLinked l.names (map use_in l.uses) l.place l.covers.items

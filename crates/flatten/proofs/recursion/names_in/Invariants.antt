@@ -1,7 +1,0 @@
-use Rattle.std.proofs.Common.{map}
-use Rattle.flatten.specs.Links.{HaveNames}
-use Rattle.flatten.specs.UseLines.{use_in}
-use Rattle.flatten.proofs.recursion.names_in.Given as goal
-
-abbrev pub invariant-uses : goal.invariant-uses
-invariant-uses l = HaveNames l.names (map use_in l.uses) l.place

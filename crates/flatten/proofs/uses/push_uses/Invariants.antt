@@ -1,8 +1,0 @@
-use Rattle.std.proofs.Common.{◌≡◌, ◌++◌, map, take}
-use Rattle.std.specs.List.{flat_map}
-use Rattle.flatten.specs.Uses.{use_on}
-use Rattle.flatten.specs.UseLines.{use_in}
-use Rattle.flatten.proofs.uses.push_uses.Given as goal
-
-abbrev pub invariant-pieces : goal.invariant-pieces
-invariant-pieces l = map use_in l.uses.items ≡ map use_in l.fn.uses.items ++ flat_map (use_on l.own) (take l.piece-index l.pieces)

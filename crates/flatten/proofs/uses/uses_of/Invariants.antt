@@ -1,8 +1,0 @@
-use Rattle.std.proofs.Common.{◌≡◌, map, take}
-use Rattle.std.specs.List.{flat_map}
-use Rattle.flatten.specs.Uses.{uses_in}
-use Rattle.flatten.specs.UseLines.{use_in}
-use Rattle.flatten.proofs.uses.uses_of.Given as goal
-
-abbrev pub invariant-models : goal.invariant-models
-invariant-models l = map use_in l.uses.items ≡ flat_map uses_in (take l.model-index l.models)

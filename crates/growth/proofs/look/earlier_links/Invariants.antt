@@ -1,5 +1,0 @@
-use Rattle.growth.specs.Looks.{AreEarlierUpTo}
-use Rattle.growth.proofs.look.earlier_links.Given as goal
-
-abbrev pub invariant-links : goal.invariant-links
-invariant-links l = AreEarlierUpTo l.near.items l.known.steps l.look.place l.look.link.wire.0 l.others.items l.j

@@ -1,4 +1,0 @@
--- For this crate's bodies alone.
-pub mod Partings
-pub mod Grown
-pub mod Looks

@@ -1,9 +1,0 @@
-use Rattle.std.proofs.Common.{◌∙◌, arith}
-use Rattle.hierarchy.proofs.Totals.{crosses_are}
-use Rattle.hierarchy.proofs.Shape.crosses.Goals as goal
-
-pub returns-clause-crosses : goal.returns-clause-crosses
-returns-clause-crosses c = c.total.ensures ∙ (crosses_are c.args.self.now).0
-
-pub returns-clause-few : goal.returns-clause-few
-returns-clause-few c = let t = crosses_are c.args.self.now in let e = c.total.ensures ∙ t.0 in omega arith

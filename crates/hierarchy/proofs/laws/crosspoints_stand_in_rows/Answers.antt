@@ -1,5 +1,0 @@
-use Rattle.hierarchy.proofs.InRows.{has_rows}
-use Rattle.hierarchy.proofs.laws.crosspoints_stand_in_rows.Goals as goal
-
-pub returns : goal.returns
-returns c = has_rows

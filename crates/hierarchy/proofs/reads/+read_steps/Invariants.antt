@@ -1,5 +1,0 @@
-use Rattle.std.proofs.Common.{length}
-use Rattle.hierarchy.proofs.reads.+read_steps.Given as goal
-
-abbrev pub decreases-read_steps : goal.decreases-read_steps
-decreases-read_steps l = length l.levels.now

@@ -1,6 +1,0 @@
-use Rattle.std.proofs.Common.{◌-◌, arith}
-use Rattle.hierarchy.proofs.Weighing.{times_are}
-use Rattle.hierarchy.proofs.tree.divided.Goals as goal
-
-pub returns-then-thrice-by-clause-left : goal.returns-then-thrice-by-clause-left
-returns-then-thrice-by-clause-left c = (times_are c.args.number c.args.by 3 (c.args.number - c.args.by - c.args.by - c.args.by) c.if-thrice-by.true (omega arith)).1

@@ -1,5 +1,0 @@
-use Rattle.hierarchy.proofs.Weighing.{start_last}
-use Rattle.hierarchy.proofs.tree.start_in_hextant.Goals as goal
-
-pub returns-in-len1-up : goal.returns-in-len1-up
-returns-in-len1-up c = start_last c.args.hextants c.args.way.now c.in-len1-up.len_at_least

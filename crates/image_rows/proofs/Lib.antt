@@ -1,6 +1,0 @@
--- What is cited above.
-pub mod CourseLemmas
--- For the proofs of this crate alone.
-mod ImageLemmas
-mod RowLemmas
-mod CycleLemmas

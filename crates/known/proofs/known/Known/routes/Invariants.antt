@@ -1,9 +1,0 @@
-use Rattle.std.proofs.Common.{length}
-use Rattle.known.proofs.Rising.{IsRising}
-use Rattle.known.proofs.known.Known.routes.Given as goal
-
-abbrev pub invariant-up : goal.invariant-up
-invariant-up l = IsRising l.proof l.self.steps l.from l.other l.descent.downs.items l.left l.right
-
-abbrev pub decreases-up : goal.decreases-up
-decreases-up l = length l.descent.downs.items

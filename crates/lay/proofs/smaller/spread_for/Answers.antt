@@ -1,7 +1,0 @@
-use Rattle.lay.proofs.LayLemmas.{is-for}
-use Rattle.lay.proofs.smaller.spread_for.Goals as goal
-
-pub planned-requires : goal.planned-requires
-planned-requires c =
-    let s = c.in_ok-spread.ensures in
-    is-for c.args.netlist.now c.args.whole.now c.in_ok-spread.spread c.requires.plain c.requires.rows s.network s.rows s.fewer s.inputs s.outputs

@@ -1,4 +1,0 @@
--- What is cited above.
-pub mod Driving
--- For the proofs of this crate alone.
-mod Vectors

@@ -1,6 +1,0 @@
-use Rattle.std.proofs.Common.{◌<◌, length}
-use Rattle.hierarchy.proofs.Halves.{All-right}
-use Rattle.loader.proofs.run.Run.row.Goals as goal
-
-pub read_pins-requires-clause-below : goal.read_pins-requires-clause-below
-read_pins-requires-clause-below g c = rw (c.deref-in-Ok.ensures.value, c.cycle.ensures.length, c.self.invariant.1) (All-right (λ k. k < length c.self.inside.drive) c.self.inside.inputs.items c.self.inside.outputs.items c.self.invariant.0.within)

@@ -1,7 +1,0 @@
-use Rattle.std.proofs.Common.{◌∙◌, ap}
-use Rattle.loader.specs.Driven.{driven}
-use Rattle.loader.proofs.Vectors.{driven_is}
-use Rattle.loader.proofs.run.put_vector.Goals as goal
-
-pub returns-clause-driven : goal.returns-clause-driven
-returns-clause-driven c = c.set_pins.ensures.driven ∙ ap (driven c.args.pins.now c.args.vector.now) c.release_all.ensures.ones ∙ driven_is _ c.args.pins.now c.args.vector.now c.requires.apart

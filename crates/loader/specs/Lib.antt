@@ -1,4 +1,0 @@
--- Runs of images.
-pub mod Driven
-pub mod Pins
-pub mod Run

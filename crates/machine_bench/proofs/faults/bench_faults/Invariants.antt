@@ -1,0 +1,6 @@
+use Rattle.std.proofs.Common.{◌≡◌}
+use Rattle.machine_bench.specs.Faults.{turn_state, AfterTurns}
+use Rattle.machine_bench.proofs.faults.bench_faults.Given as goal
+
+abbrev pub invariant-turns : goal.invariant-turns
+invariant-turns l = (l.set.shape ≡ l.shape) × (l.draws ≡ turn_state l.n l.turn) × AfterTurns l.shape l.n l.turn l.set.faults

@@ -1,0 +1,10 @@
+use Rattle.std.proofs.Common.{◌≡◌}
+use Rattle.std.specs.Vec.{vec_capacity}
+use Rattle.machine_config.specs.Kept.{AreListed}
+use Rattle.machine_config.proofs.lists.switch_all_off.Given as goal
+
+abbrev pub invariant-loop-t : goal.invariant-loop-t
+invariant-loop-t l = AreListed l.tables l.on.items × (vec_capacity l.on ≡ vec_capacity l.initial.on)
+
+abbrev pub decreases-loop-t : goal.decreases-loop-t
+decreases-loop-t l = goal.left-loop-t l

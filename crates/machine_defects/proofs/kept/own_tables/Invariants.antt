@@ -1,0 +1,7 @@
+use Rattle.std.proofs.Common.{◌≡◌, length}
+use Rattle.machine_shape.specs.Shape.{wires_of}
+use Rattle.machine_defects.specs.Kept.{AreOwnersBefore}
+use Rattle.machine_defects.proofs.kept.own_tables.Given as goal
+
+abbrev pub invariant-tables : goal.invariant-tables
+invariant-tables l = (length l.owners ≡ wires_of l.shape) × AreOwnersBefore l.shape l.t 0 l.owners

@@ -1,0 +1,8 @@
+use Rattle.std.proofs.Common.{◌∙◌, sym, ap}
+use Rattle.std.specs.FinSet as set
+use Rattle.machine_defects.specs.Lists.{DefectList}
+use Rattle.machine_defects.proofs.Marks.{in_marked}
+use Rattle.machine_defects.proofs.list.Defects.lists_cross.Goals as goal
+
+pub returns : goal.returns
+returns c = c.has.ensures ∙ sym (in_marked c.self.inside.kept.crosses c.args.c.0) ∙ ap (λ (d : DefectList). set.contains d.list.crosses c.args.c.0) c.self.view_is

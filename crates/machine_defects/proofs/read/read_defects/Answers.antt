@@ -1,0 +1,17 @@
+use Rattle.std.proofs.Common.{subst}
+use Rattle.machine_shape.specs.declared.Counts.{Counts}
+use Rattle.machine_defects.specs.Text.{counts_of}
+use Rattle.machine_defects.specs.Faults.{AreCounts}
+use Rattle.machine_defects.proofs.Only.{IsTold, only_is}
+use Rattle.machine_defects.proofs.read.read_defects.Goals as goal
+
+pub returns-clause-only : goal.returns-clause-only
+returns-clause-only c = λ d p few.
+    let m = c.args.shape.now in
+    let told : IsTold m = record {
+      names = c.names_are_one_to_one.ensures m;
+      crosses = c.the_crosspoints_are_sound.ensures.crosses m;
+      numbered = c.the_numbering_is_sound.ensures.numbered m;
+      counts = subst (λ (n : Counts). AreCounts (counts_of n)) c.counts.ensures c.counts_of.ensures.small;
+    } in
+    only_is m told c.args.bytes.now c.read_within.result c.read_within.ensures.found c.read_within.ensures.refused d p

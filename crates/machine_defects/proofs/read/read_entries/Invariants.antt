@@ -1,0 +1,10 @@
+use Rattle.std.proofs.Common.{◌≡◌, ◌+◌, length}
+use Rattle.machine_defects.specs.Text.{rows_of}
+use Rattle.machine_defects.specs.Steps.{IsReadTo}
+use Rattle.machine_defects.proofs.read.read_entries.Given as goal
+
+abbrev pub invariant-lines : goal.invariant-lines
+invariant-lines l = (l.line ≡ length (rows_of l.list) + 1) × IsReadTo l.fn.list.shape l.bytes l.left l.list l.last
+
+abbrev pub decreases-lines : goal.decreases-lines
+decreases-lines l = length l.left

@@ -1,0 +1,6 @@
+use Rattle.std.proofs.Common.{◌≡◌, ◌++◌, take}
+use Rattle.machine_defects.specs.Steps.{numerals}
+use Rattle.machine_defects.proofs.write.put_numbers.Given as goal
+
+abbrev pub invariant-numbers : goal.invariant-numbers
+invariant-numbers l = l.text.items ≡ l.fn.text.items ++ numerals (take l.n-index l.numbers)

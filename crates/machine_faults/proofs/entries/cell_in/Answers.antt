@@ -1,0 +1,7 @@
+use Rattle.std.proofs.Common.{◌∙◌, sym}
+use Rattle.machine_shape.proofs.Pairs.{pairs_total}
+use Rattle.machine_faults.proofs.Keeping.{get_is}
+use Rattle.machine_faults.proofs.entries.cell_in.Goals as goal
+
+pub returns : goal.returns
+returns c = c.copied.ensures ∙ c.get.ensures.value ∙ sym (get_is pairs_total c.args.cells.now.entries (c.args.table, c.args.address))

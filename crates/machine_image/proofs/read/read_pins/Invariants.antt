@@ -1,0 +1,8 @@
+use Rattle.std.proofs.Common.{◌-◌}
+use Rattle.machine_shape.specs.Shape.{pins_of}
+use Rattle.machine_image.specs.Fields.{AreMarks}
+use Rattle.machine_image.specs.Reading.{ArePins}
+use Rattle.machine_image.proofs.read.read_pins.Given as goal
+
+abbrev pub invariant-pins : goal.invariant-pins
+invariant-pins l = ArePins l.shape l.bytes l.fn.at l.at l.count (l.count - l.counter) l.pins.items × AreMarks (pins_of l.shape) l.pins.items l.marks.items

@@ -1,0 +1,7 @@
+use Rattle.std.proofs.Common.{◌<◌, ℕ, get_or}
+use Rattle.machine_shape.specs.Shape.{pin_wire}
+use Rattle.machine_shape.specs.Defects.{IsFreeWire}
+use Rattle.machine_image.proofs.touch.free_pins.Given as goal
+
+abbrev pub invariant-pins : goal.invariant-pins
+invariant-pins l = (j : ℕ) → j < l.i → IsFreeWire l.defects.list (pin_wire l.defects.shape (get_or l.pins j 0))

@@ -1,0 +1,7 @@
+use Rattle.std.proofs.Common.{◌≡◌, ◌++◌, take}
+use Rattle.std.specs.List.{flat_map}
+use Rattle.machine_image.specs.Images.{two}
+use Rattle.machine_image.proofs.write.put_pins.Given as goal
+
+abbrev pub invariant-pins : goal.invariant-pins
+invariant-pins l = l.out.items ≡ l.initial.out.items ++ flat_map two (take l.i l.pins)

@@ -1,0 +1,15 @@
+use Rattle.std.proofs.Common.{◌<◌, ◌∙◌, sym, ap, subst, take}
+use Rattle.machine_shape.specs.Shape.{levels_of, node_at, nodes_of}
+use Rattle.machine_shape.specs.Walk.{IsSpot}
+use Rattle.machine_shape.proofs.Whereabouts.{hextant_leads}
+use Rattle.machine_shape.proofs.Shape.hextant_of.Goals as goal
+
+pub node_number-requires : goal.node_number-requires
+node_number-requires c = subst (IsSpot (levels_of c.args.self.now)) (sym (c.trunk_of.ensures ∙ ap (take 3) c.table_way-way.ensures)) (hextant_leads c.args.self.now c.args.t.0 c.requires).spot
+
+pub returns-clause-node : goal.returns-clause-node
+returns-clause-node c = c.node_number.ensures ∙ ap (node_at c.args.self.now) (c.trunk_of.ensures ∙ ap (take 3) c.table_way-way.ensures) ∙ sym (hextant_leads c.args.self.now c.args.t.0 c.requires).number
+
+pub returns-clause-within : goal.returns-clause-within
+returns-clause-within c = subst (λ k. k < nodes_of c.args.self.now)
+    (sym (c.node_number.ensures ∙ ap (node_at c.args.self.now) (c.trunk_of.ensures ∙ ap (take 3) c.table_way-way.ensures) ∙ sym (hextant_leads c.args.self.now c.args.t.0 c.requires).number)) (hextant_leads c.args.self.now c.args.t.0 c.requires).within

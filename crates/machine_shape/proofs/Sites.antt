@@ -1,0 +1,20 @@
+-- What the levels of a shape are, and where its numbers are.
+use Rattle.std.proofs.Common.{◌<◌, ◌^◌, arith}
+use Rattle.machine_shape.specs.declared.Shape.{Shape}
+use Rattle.machine_shape.specs.declared.way.Kind.{Kind}
+use Rattle.machine_shape.specs.declared.way.Kind.TheVariants.{Wires, Nodes, Tables, Crosses}
+use Rattle.machine_shape.specs.Counts.{AreFull}
+use Rattle.machine_shape.specs.Kinds.{numbers_in}
+use Rattle.machine_shape.specs.Walk.{size}
+use Rattle.machine_shape.specs.Shape.{levels_of}
+
+pub full_of : (m : Shape) → AreFull (levels_of m)
+unfolding levels_of
+full_of m = m.full
+
+pub small_of : (m : Shape) (kind : Kind) → size (numbers_in kind) (levels_of m) < 2 ^ 32
+unfolding levels_of
+small_of m Wires = let f = m.few_wires in omega arith
+small_of m Nodes = let f = m.few_nodes in omega arith
+small_of m Tables = let f = m.few_tables in omega arith
+small_of m Crosses = let f = m.few_crosses in omega arith

@@ -1,0 +1,67 @@
+-- Which counts make a shape, and what is wrong with the others.
+use Rattle.std.specs.Prelude.{◌≡◌, ℕ, ◌<◌, ◌≤◌, Contains}
+use Rattle.machine_shape.specs.declared.Counts.{Counts}
+use Rattle.machine_shape.specs.declared.Field.{Field}
+use Rattle.machine_shape.specs.declared.Field.TheVariants.{Modules, Chips, Hextants, Tables, Ports, Lines, Pins}
+use Rattle.machine_shape.specs.declared.Which.{Which}
+use Rattle.machine_shape.specs.declared.Which.TheVariants as which
+use Rattle.machine_shape.specs.declared.ShapeFault.{ShapeFault}
+use Rattle.machine_shape.specs.declared.ShapeFault.TheVariants.{Zero, Limit}
+use Rattle.machine_shape.specs.Counts.{levels_from, IsFull}
+use Rattle.machine_shape.specs.Walk.{size, wires_in, crosses_in, tables_in}
+
+-- a count of this field is 0
+abbrev pub HasZero : Counts → Field → Type 0
+HasZero c Modules = c.modules ≡ 0
+HasZero c Chips = c.chips ≡ 0
+HasZero c Hextants = c.hextants ≡ 0
+HasZero c Tables = c.tables ≡ 0
+HasZero c Ports = Contains c.ports 0
+HasZero c Lines = Contains c.lines 0
+HasZero c Pins = c.pins ≡ 0
+
+-- the order of the fields
+abbrev pub place_of_field : Field → ℕ
+place_of_field Modules = 0
+place_of_field Chips = 1
+place_of_field Hextants = 2
+place_of_field Tables = 3
+place_of_field Ports = 4
+place_of_field Lines = 5
+place_of_field Pins = 6
+
+pub record IsFirstZero (c : Counts) (field : Field) : Type 0 where
+  pub zero : HasZero c field
+  pub first : (other : Field) → place_of_field other < place_of_field field → ¬ HasZero c other
+
+-- how many a machine of these counts has
+abbrev pub amount_of : Counts → Which → ℕ
+amount_of c which.Tables = size tables_in (levels_from c)
+amount_of c which.Wires = size wires_in (levels_from c)
+amount_of c which.Crosspoints = size crosses_in (levels_from c)
+
+-- and how many it may have
+abbrev pub most_of : Which → ℕ
+most_of which.Tables = 4096
+most_of which.Wires = 16384
+most_of which.Crosspoints = 4194304
+
+-- the order of the limits
+abbrev pub place_of_limit : Which → ℕ
+place_of_limit which.Tables = 0
+place_of_limit which.Wires = 1
+place_of_limit which.Crosspoints = 2
+
+pub record IsFirstPassed (c : Counts) (which : Which) : Type 0 where
+  pub passed : most_of which < amount_of c which
+  pub first : (other : Which) → place_of_limit other < place_of_limit which → amount_of c other ≤ most_of other
+
+-- the counts make no shape, for this reason
+abbrev pub IsShapeFault : Counts → ShapeFault → Type 0
+IsShapeFault c (Zero field) = IsFirstZero c field
+IsShapeFault c (Limit which value) = IsFull c × IsFirstPassed c which × (value ≡ amount_of c which)
+
+-- the counts make a shape
+pub record MakeShape (c : Counts) : Type 0 where
+  pub full : (field : Field) → ¬ HasZero c field
+  pub within : (which : Which) → amount_of c which ≤ most_of which

@@ -1,0 +1,151 @@
+//! Which counts make a shape.
+ghost use Rattle.std.specs.Prelude.{◌≡◌, ◌+◌, ◌*◌, ◌<◌, ◌≤◌, ◌^◌, IfOk, IfErr, IfSome, IfNone};
+ghost use Rattle.machine_shape.specs.Counts.{IsFull, levels_from};
+ghost use Rattle.machine_shape.specs.Limits.{HasZero, IsShapeFault, IsFirstZero, MakeShape};
+ghost use Rattle.machine_shape.specs.Walk.{size, wires_in, crosses_in, tables_in};
+ghost use Rattle.machine_shape.specs.declared.Field.{Field};
+
+use crate::{Counts, Field, Shape, ShapeFault, Which};
+
+/// The first field with a count of 0.
+fn first_zero(counts: Counts) -> Option<Field>
+    ensures found { IfSome result (λ field. IsFirstZero counts field) }
+    ensures none { IfNone result ((field : Field) → ¬ HasZero counts field) }
+    ensures full { IfNone result (IsFull counts) }
+{
+    if counts.modules == 0 {
+        Some(Field::Modules)
+    } else if counts.chips == 0 {
+        Some(Field::Chips)
+    } else if counts.hextants == 0 {
+        Some(Field::Hextants)
+    } else if counts.tables == 0 {
+        Some(Field::Tables)
+    } else if counts.ports.contains(&0) {
+        Some(Field::Ports)
+    } else if counts.lines.contains(&0) {
+        Some(Field::Lines)
+    } else if counts.pins == 0 {
+        Some(Field::Pins)
+    } else {
+        None
+    }
+}
+
+/// How many a node has with all below it, where it has so many of its own and each child so many.
+fn with_children(own: u128, children: u16, each: u128) -> u128
+    requires few_own { own < 2 ^ 100 }
+    requires few_each { each < 2 ^ 100 }
+    ensures sum { result ≡ own + children * each }
+    ensures within { result ≤ own + 65535 * each }
+{
+    own + children as u128 * each
+}
+
+/// How many tables a machine of these counts has.
+#[tactic(auto, unfolding(crate::specs::Counts::levels_from))]
+fn tables_from(c: Counts) -> u128
+    ensures { result ≡ size tables_in (levels_from c) }
+{
+    let hextant = with_children(0, c.tables, 1);
+    let chip = with_children(0, c.hextants, hextant);
+    let module = with_children(0, c.chips, chip);
+    with_children(0, c.modules, module)
+}
+
+/// How many wires it has.
+#[tactic(auto, unfolding(crate::specs::Counts::levels_from))]
+fn wires_from(c: Counts) -> u128
+    ensures { result ≡ size wires_in (levels_from c) }
+{
+    let hextant = with_children(c.ports[2] as u128 + c.lines[3] as u128, c.tables, 7);
+    let chip = with_children(c.ports[1] as u128 + c.lines[2] as u128, c.hextants, hextant);
+    let module = with_children(c.ports[0] as u128 + c.lines[1] as u128, c.chips, chip);
+    with_children(c.pins as u128 + c.lines[0] as u128, c.modules, module)
+}
+
+/// How many crosspoints a crossbar has: its node's ports and those of the children, by its lines.
+fn crossbar(ports: u16, children: u16, each: u16, lines: u16) -> u128
+    ensures product { result ≡ (ports + children * each) * lines }
+    ensures within { result < 2 ^ 50 }
+{
+    (ports as u128 + children as u128 * each as u128) * lines as u128
+}
+
+/// How many crosspoints it has.
+#[tactic(auto, unfolding(crate::specs::Counts::levels_from))]
+fn crosses_from(c: Counts) -> u128
+    ensures { result ≡ size crosses_in (levels_from c) }
+{
+    let hextant = crossbar(c.ports[2], c.tables, 7, c.lines[3]);
+    let chip = with_children(
+        crossbar(c.ports[1], c.hextants, c.ports[2], c.lines[2]),
+        c.hextants,
+        hextant,
+    );
+    let module = with_children(
+        crossbar(c.ports[0], c.chips, c.ports[1], c.lines[1]),
+        c.chips,
+        chip,
+    );
+    with_children(
+        crossbar(c.pins, c.modules, c.ports[0], c.lines[0]),
+        c.modules,
+        module,
+    )
+}
+
+/// The first limit that is passed, and by which number.
+fn first_passed(counts: Counts) -> Option<ShapeFault>
+    requires { IsFull counts }
+    ensures found { IfSome result (λ fault. IsShapeFault counts fault) }
+    ensures none { IfNone result ((size tables_in (levels_from counts) ≤ 4096) × (size wires_in (levels_from counts) ≤ 16384)
+        × (size crosses_in (levels_from counts) ≤ 4194304)) }
+{
+    let tables = tables_from(counts);
+    if tables > 4096 {
+        return Some(ShapeFault::Limit {
+            which: Which::Tables,
+            value: tables,
+        });
+    }
+    let wires = wires_from(counts);
+    if wires > 16384 {
+        return Some(ShapeFault::Limit {
+            which: Which::Wires,
+            value: wires,
+        });
+    }
+    let crosses = crosses_from(counts);
+    if crosses > 4194304 {
+        return Some(ShapeFault::Limit {
+            which: Which::Crosspoints,
+            value: crosses,
+        });
+    }
+    None
+}
+
+impl Shape {
+    /// The shape of a machine of these counts. It is refused exactly where a count is 0, with the first such
+    /// field, or where none is and a limit is passed, with the first such limit and the number that passes it.
+    pub fn new(counts: Counts) -> Result<Shape, ShapeFault>
+        ensures made { IfOk result (λ shape. (shape.counts ≡ counts) × MakeShape counts) }
+        ensures refused { IfErr result (λ fault. IsShapeFault counts fault) }
+    {
+        if let Some(field) = first_zero(counts) {
+            return Err(ShapeFault::Zero { field });
+        }
+        if let Some(fault) = first_passed(counts) {
+            return Err(fault);
+        }
+        Ok(Shape { counts })
+    }
+
+    /// The counts that the shape was made of.
+    pub fn counts(&self) -> Counts
+        ensures { result ≡ self.now.counts }
+    {
+        self.counts
+    }
+}

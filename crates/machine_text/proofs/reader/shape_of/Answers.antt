@@ -1,0 +1,10 @@
+use Rattle.std.proofs.Common.{ap, None, Some, if◌then◌else◌}
+use Rattle.machine_text.specs.declared.kind.MachineKind.TheVariants.{Limit}
+use Rattle.machine_text.proofs.CountLemmas.{limit_fault, is_shape-made}
+use Rattle.machine_text.proofs.reader.shape_of.Goals as goal
+
+pub returns-in-Ok-clause-steps : goal.returns-in-Ok-clause-steps
+returns-in-Ok-clause-steps c = (ap (λ t. if t then None else Some Limit) (is_shape-made c.args.counts c.in-Ok.ensures.made.1), tt)
+
+pub returns-in-Err-clause-steps : goal.returns-in-Err-clause-steps
+returns-in-Err-clause-steps c = ap (λ t. if t then None else Some Limit) (limit_fault c.args.counts c.in-Err.field-0 c.in-Err.ensures.refused)

@@ -1,0 +1,12 @@
+use Rattle.std.proofs.Common.{◌≡◌, ◌++◌, ◌<◌, map, take}
+use Rattle.std.specs.List.{All}
+use Rattle.base_text.specs.Written.{written}
+use Rattle.machine_text.specs.Heads.{heads}
+use Rattle.machine_text.specs.Machine.{count_row, numbers_of}
+use Rattle.machine_text.proofs.text.put_lines.Given as goal
+
+abbrev pub invariant-heads : goal.invariant-heads
+invariant-heads l = record {
+  put : l.text.items ≡ l.fn.text.items ++ written (map (count_row l.counts) (take l.head-index heads));
+  small : All (λ h. All (λ n. n < 65536) (numbers_of l.counts h)) (take l.head-index heads);
+}

@@ -1,0 +1,82 @@
+-- Which fault a text has, and where.
+use Rattle.std.specs.Prelude.{ℕ, ◌≡◌, ◌≢◌, ◌<◌, ◌≤◌, ◌⊎◌, true, false, List, [], ◌∷◌, ◌++◌, Result, Ok, Err, length, map, take, All}
+use Rattle.std.specs.Fmt.{decimal}
+use Rattle.std.specs.List.{AllByRecursion}
+use Rattle.machine_shape.specs.declared.Counts.{Counts}
+use Rattle.machine_shape.specs.declared.Shape.{Shape}
+use Rattle.machine_shape.specs.declared.Which.{Which}
+use Rattle.machine_shape.specs.Limits.{MakeShape, amount_of, most_of}
+use Rattle.base_text.specs.Lines.{LogicalLine, logical_lines, is_bad_line}
+use Rattle.base_text.specs.Size.{most_bytes}
+use Rattle.machine_text.specs.declared.head.Head.{Head}
+use Rattle.machine_text.specs.declared.head.Head.TheVariants as head
+use Rattle.machine_text.specs.declared.kind.MachineKind.{MachineKind}
+use Rattle.machine_text.specs.declared.kind.MachineKind.TheVariants.{Byte, Word, Order, Number, Missing, Limit, After}
+use Rattle.machine_text.specs.declared.kind.MachineFault.{MachineFault}
+use Rattle.machine_text.specs.declared.kind.MachineFault.TheVariants.{At, Memory}
+use Rattle.machine_text.specs.Heads.{heads, word_of, place_of, follow_of}
+use Rattle.machine_text.specs.Machine.{numbers_of, count_row}
+
+abbrev pub AreCounts : List ℕ → Type 0
+AreCounts ns = All (λ n. (0 < n) × (n ≤ 65535)) ns
+
+-- a line of this kind has as many counts as it is to have
+abbrev pub HasCounts : Counts → Head → Type 0
+HasCounts c h = (length (numbers_of c h) ≡ follow_of h) × AreCounts (numbers_of c h)
+
+-- These are the first lines of a text with these counts: each is right. Where the last is among them, the counts make
+-- a shape.
+pub record AreFirstLines (c : Counts) (lines : List LogicalLine) : Type 0 where
+  pub rows : map (λ l. l.words) lines ≡ map (count_row c) (take (length lines) heads)
+  pub counts : AllByRecursion (HasCounts c) (take (length lines) heads)
+  pub shape : 8 < length lines → MakeShape c
+
+-- it has too many tables, wires or crosspoints
+abbrev pub PassesLimit : Counts → Type 0
+PassesLimit c = (which : Which) × (most_of which < amount_of c which)
+
+-- what is wrong with the words behind the first word of a line of this kind
+pub data IsRestFault (c : Counts) : Head → List (List ℕ) → MachineKind → Type 0 where
+  size : {h : Head} {rest : List (List ℕ)} → length rest ≢ follow_of h → IsRestFault c h rest Word
+  format : {rest : List (List ℕ)} → length rest ≡ 1 → rest ≢ decimal 1 ∷ [] → IsRestFault c head.Teramac rest Word
+  number : {h : Head} {rest : List (List ℕ)} → length rest ≡ follow_of h → h ≢ head.Teramac →
+      ((ns : List ℕ) → AreCounts ns → rest ≢ map decimal ns) → IsRestFault c h rest Number
+  limit : {rest : List (List ℕ)} → rest ≡ [] → PassesLimit c → IsRestFault c head.End rest Limit
+
+-- what is wrong with the words of a line, n right lines above which give these counts
+pub data IsWordsFault (c : Counts) (n : ℕ) (words : List (List ℕ)) : MachineKind → Type 0 where
+  over : n ≡ 9 → IsWordsFault c n words After
+  unknown : n < 9 → ((h : Head) (rest : List (List ℕ)) → words ≢ word_of h ∷ rest) → IsWordsFault c n words Word
+  not_due : n < 9 → (h : Head) (rest : List (List ℕ)) → words ≡ word_of h ∷ rest → place_of h ≢ n →
+      IsWordsFault c n words Order
+  due : {kind : MachineKind} → (h : Head) (rest : List (List ℕ)) → words ≡ word_of h ∷ rest → place_of h ≡ n →
+      IsRestFault c h rest kind → IsWordsFault c n words kind
+
+-- a bad byte comes before what is wrong with the words
+pub data IsLineFault (c : Counts) (n : ℕ) (line : LogicalLine) : MachineKind → Type 0 where
+  bad : is_bad_line line ≡ true → IsLineFault c n line Byte
+  words : {kind : MachineKind} → is_bad_line line ≡ false → IsWordsFault c n line.words kind → IsLineFault c n line kind
+
+-- The first line that is wrong: those above it are right. A text of right lines alone that ends before the ninth is
+-- wrong as a whole, at line 0.
+pub data IsFirstFault (lines : List LogicalLine) : ℕ → MachineKind → Type 0 where
+  at_line : {kind : MachineKind} (c : Counts) (above : List LogicalLine) (line : LogicalLine) (below : List LogicalLine) →
+      above ++ line ∷ below ≡ lines → AreFirstLines c above → IsLineFault c (length above) line kind → IsFirstFault lines line.number kind
+  at_end : (c : Counts) → AreFirstLines c lines → length lines < 9 → IsFirstFault lines 0 Missing
+
+-- too many bytes are a fault of the whole text; else it is the first fault of the lines
+abbrev pub IsFault : List ℕ → ℕ → MachineKind → Type 0
+IsFault bytes line kind =
+    ((most_bytes < length bytes) × ((line ≡ 0) × (kind ≡ Limit)))
+    ⊎ ((length bytes ≤ most_bytes) × IsFirstFault (logical_lines false bytes) line kind)
+
+-- a text is refused for its fault; of want of memory nothing is said
+abbrev pub IsRefusedAs : List ℕ → MachineFault → Type 0
+IsRefusedAs bytes Memory = Unit {0}
+IsRefusedAs bytes (At line kind) = IsFault bytes line kind
+
+-- a call gives the shape of these counts, or memory was wanting
+abbrev pub GivesOrLacks : Counts → Result Shape MachineFault → Type 0
+GivesOrLacks c (Ok s) = s.counts ≡ c
+GivesOrLacks c (Err Memory) = Unit {0}
+GivesOrLacks c (Err (At line kind)) = ⊥

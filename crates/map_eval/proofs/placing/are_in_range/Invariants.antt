@@ -1,0 +1,6 @@
+use Rattle.std.proofs.Common.{◌<◌, ℕ}
+use Rattle.map_eval.specs.Placing.{AreInsInRange}
+use Rattle.map_eval.proofs.placing.are_in_range.Given as goal
+
+abbrev pub invariant-tables : goal.invariant-tables
+invariant-tables l = (t : ℕ) → t < l.table → AreInsInRange l.network t

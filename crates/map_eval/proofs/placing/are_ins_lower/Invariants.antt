@@ -1,0 +1,7 @@
+use Rattle.std.proofs.Common.{◌<◌, ℕ}
+use Rattle.map_eval.specs.Pins.{source_at}
+use Rattle.map_eval.specs.States.{IsLower}
+use Rattle.map_eval.proofs.placing.are_ins_lower.Given as goal
+
+abbrev pub invariant-ins : goal.invariant-ins
+invariant-ins l = (p : ℕ) → p < l.k → IsLower l.network l.table (source_at l.network l.table p)

@@ -1,0 +1,6 @@
+use Rattle.std.proofs.Common.{◌≡◌, ◌<◌, ℕ, length}
+use Rattle.map_network.specs.Compacting.{named_by}
+use Rattle.map_eval.proofs.placing.are_inverse.Given as goal
+
+abbrev pub invariant-tables : goal.invariant-tables
+invariant-tables l = (j : ℕ) → j < l.table → (named_by l.places j < length l.order) × (named_by l.order (named_by l.places j) ≡ j)

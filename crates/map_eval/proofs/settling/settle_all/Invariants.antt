@@ -1,0 +1,13 @@
+use Rattle.std.proofs.Common.{◌≡◌, ◌<◌, ℕ, false}
+use Rattle.map_network.specs.Networks.{IsCombinational}
+use Rattle.map_eval.specs.Changes.{differs_in}
+use Rattle.map_eval.specs.Settling.{AreGivenBefore}
+use Rattle.map_eval.specs.States.{IsKept}
+use Rattle.map_eval.proofs.settling.settle_all.Given as goal
+
+abbrev pub invariant-tables : goal.invariant-tables
+invariant-tables l = record {
+  kept : IsKept l.plan l.state;
+  before : AreGivenBefore l.plan.network l.fn.state l.state;
+  settled : (t : ℕ) → t < l.table → IsCombinational l.plan.network t → differs_in l.state t ≡ false;
+}

@@ -1,0 +1,11 @@
+use Rattle.std.proofs.Common.{◌≡◌, ◌<◌, ℕ, true, length, get_or}
+use Rattle.map_network.specs.declared.source.Source.TheVariants.{Input}
+use Rattle.map_network.specs.Rows.{bit_of}
+use Rattle.map_eval.specs.States.{value_in}
+use Rattle.map_eval.proofs.showing.show.Given as goal
+
+abbrev pub invariant-outputs : goal.invariant-outputs
+invariant-outputs l = record {
+  len : length l.row ≡ length l.fn.row;
+  bits : (j : ℕ) → j < l.k → get_or l.row j true ≡ bit_of l.state.inputs.items (value_in l.state.values.items) (get_or l.plan.network.outputs j (Input 0));
+}

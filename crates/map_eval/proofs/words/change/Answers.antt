@@ -1,0 +1,17 @@
+use Rattle.std.proofs.Common.{◌≡◌, ◌<◌, ◌==◌, ◌∙◌, ℕ, Bool, sym, ap, subst}
+use Rattle.std.specs.Prelude.{bit_xor}
+use Rattle.std.specs.Int.{bit_at}
+use Rattle.std.proofs.lemmas.Nat.Bits.{bit_at-lt}
+use Rattle.map_network.specs.Rows.{cell_at}
+use Rattle.map_network.specs.Plain.{flip}
+use Rattle.map_eval.proofs.WordLemmas.{change_few, change_turns}
+use Rattle.map_eval.proofs.words.change.Goals as goal
+
+pub returns-clause-few : goal.returns-clause-few
+returns-clause-few c = change_few c.cell.result c.cell-2.result (subst (λ (x : ℕ). x < 2) (sym c.cell.ensures) (bit_at-lt c.args.mask c.args.before)) (subst (λ (x : ℕ). x < 2) (sym c.cell-2.ensures) (bit_at-lt c.args.mask c.args.after))
+
+pub returns-clause-turned : goal.returns-clause-turned
+returns-clause-turned c =
+    ap (λ (x : ℕ). flip (bit_xor c.cell.result c.cell-2.result == 1) (x == 1)) (sym c.cell.ensures)
+    ∙ change_turns c.cell.result c.cell-2.result (subst (λ (x : ℕ). x < 2) (sym c.cell.ensures) (bit_at-lt c.args.mask c.args.before)) (subst (λ (x : ℕ). x < 2) (sym c.cell-2.ensures) (bit_at-lt c.args.mask c.args.after))
+    ∙ ap (λ (x : ℕ). x == 1) c.cell-2.ensures

@@ -1,0 +1,10 @@
+use Rattle.std.proofs.Common.{ap, arith, w64}
+use Rattle.std.specs.Prelude.{◌==◌}
+use Rattle.std.proofs.lemmas.Nat.Bits.{bit_at-trailing_zeros}
+use Rattle.map_eval.proofs.words.lowest.Goals as goal
+
+pub returns : goal.returns
+returns c =
+    let some = c.if-word-eq0.false in
+    let h = bit_at-trailing_zeros w64 c.args.word (omega arith) (omega arith) in
+    (h.0, ap (λ b. b == 1) h.1)

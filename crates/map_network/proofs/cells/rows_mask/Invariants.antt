@@ -1,0 +1,8 @@
+use Rattle.std.proofs.Common.{◌≡◌, ◌<◌, ◌||◌, ℕ, drop}
+use Rattle.design_netlist.specs.Covers.{some_matches}
+use Rattle.map_network.specs.Rows.{cell_at}
+use Rattle.map_network.specs.Cells.{masks_at}
+use Rattle.map_network.proofs.cells.rows_mask.Given as goal
+
+abbrev pub invariant-rows : goal.invariant-rows
+invariant-rows l = (a : ℕ) → a < 64 → (cell_at l.cells a || some_matches (drop l.k l.rows) (masks_at l.masks a)) ≡ some_matches l.rows (masks_at l.masks a)

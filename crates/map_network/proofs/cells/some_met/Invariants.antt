@@ -1,0 +1,7 @@
+use Rattle.std.proofs.Common.{◌≡◌, ◌<◌, ◌||◌, ℕ, drop}
+use Rattle.map_network.specs.Rows.{cell_at}
+use Rattle.map_network.specs.Plain.{any, met, six_bits}
+use Rattle.map_network.proofs.cells.some_met.Given as goal
+
+abbrev pub invariant-wants : goal.invariant-wants
+invariant-wants l = (a : ℕ) → a < 64 → (cell_at l.cells a || any (met (drop l.k l.wants) (drop l.k (six_bits a)))) ≡ any (met l.wants (six_bits a))

@@ -1,0 +1,7 @@
+use Rattle.std.proofs.Common.{ℕ, ◌<◌, get_or}
+use Rattle.map_network.specs.declared.source.Source.TheVariants.{Input}
+use Rattle.map_network.specs.Compacting.{IsKept}
+use Rattle.map_network.proofs.compact.are_kept.Given as goal
+
+abbrev pub invariant-sources : goal.invariant-sources
+invariant-sources l = (m : ℕ) → m < l.k → IsKept l.dropped (get_or l.sources m (Input 0))

@@ -1,0 +1,7 @@
+use Rattle.std.proofs.Common.{ℕ, ◌<◌, ◌≡◌, false}
+use Rattle.map_network.specs.Joining.{in_tables}
+use Rattle.map_network.specs.Compacting.{is_dropped, AreKept}
+use Rattle.map_network.proofs.compact.is_closed.Given as goal
+
+abbrev pub invariant-tables : goal.invariant-tables
+invariant-tables l = (i : ℕ) → i < l.j → is_dropped l.dropped i ≡ false → AreKept l.dropped (in_tables l.network.tables i).ins

@@ -1,0 +1,7 @@
+use Rattle.std.proofs.Common.{◌≡◌, ◌++◌, drop}
+use Rattle.map_network.specs.Plain.{row_wants}
+use Rattle.map_network.specs.Drives.{source_in}
+use Rattle.map_network.proofs.covers.gather.Given as goal
+
+abbrev pub invariant-places : goal.invariant-places
+invariant-places l = l.wants.items ++ row_wants (source_in l.sources) (drop l.k l.row) (drop l.k l.ins) ≡ row_wants (source_in l.sources) l.row l.ins

@@ -1,0 +1,6 @@
+use Rattle.std.proofs.Common.{◌≡◌, map, take}
+use Rattle.map_network.specs.Drives.{source_in}
+use Rattle.map_network.proofs.covers.sources_of.Given as goal
+
+abbrev pub invariant-names : goal.invariant-names
+invariant-names l = l.ins ≡ map (source_in l.sources) (take l.k l.names)

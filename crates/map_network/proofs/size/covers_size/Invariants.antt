@@ -1,0 +1,6 @@
+use Rattle.std.proofs.Common.{◌≡◌, take, sum_by}
+use Rattle.map_network.specs.Plain.{cover_size}
+use Rattle.map_network.proofs.size.covers_size.Given as goal
+
+abbrev pub invariant-covers : goal.invariant-covers
+invariant-covers l = l.size ≡ sum_by cover_size (take l.k l.covers)

@@ -1,0 +1,6 @@
+use Rattle.std.proofs.Common.{◌≡◌, map, take}
+use Rattle.map_network.specs.declared.want.Want.{Want}
+use Rattle.map_network.proofs.trees.sources_of.Given as goal
+
+abbrev pub invariant-wants : goal.invariant-wants
+invariant-wants l = l.ins ≡ map (λ (w : Want). w.source) (take l.k l.wants)

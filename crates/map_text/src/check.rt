@@ -1,0 +1,100 @@
+//! Texts that the search wrote, and whether they are another text of a design.
+ghost use Rattle.std.specs.Prelude.{IsTrue, IfOk, IfSome};
+ghost use Rattle.std.specs.List.{All};
+ghost use Rattle.design_netlist.specs.Checks.{IsChecked};
+ghost use Rattle.map_network.specs.Plain.{is_narrow};
+ghost use Rattle.map_text.specs.Remapped.{HaveSameRows, HaveSamePorts, HasNarrowCovers, IsAnotherText};
+
+use crate::names::have_same_names;
+use crate::text::{Remapped, read_again};
+use base_lists::{Items, TABLE_INPUTS};
+use design_equal::laws::labelled_alike;
+use design_equal::{Graph, agree};
+use design_netlist::{Cover, Draft, Netlist};
+use map_search::{Made, Mapped, design_text, labels_by_name};
+use std::alloc::{AllocError, Global};
+
+// Whether each cover has at most six inputs. One that names an input twice counts it twice.
+fn have_few_inputs(covers: &[Cover]) -> bool
+    ensures { IsTrue result → All (λ c. IsTrue (is_narrow c)) covers.now }
+{
+    'covers: for k in 0..covers.len() {
+        if covers[k].ins.as_slice().len() > TABLE_INPUTS {
+            return false;
+        }
+    }
+    true
+}
+
+// Whether two designs have the same names at inputs and outputs.
+fn have_same_ports(alloc: Global, design: &Draft, other: &Draft) -> Result<bool, AllocError>
+    ensures { IfOk result (λ yes. IsTrue yes → HaveSamePorts design.now other.now) }
+{
+    let inputs = design.inputs.as_slice();
+    let outputs = design.outputs.as_slice();
+    if !have_same_names(alloc, other, other.inputs.as_slice(), design, inputs)? {
+        return Ok(false);
+    }
+    if !have_same_names(alloc, other, other.outputs.as_slice(), design, outputs)? {
+        return Ok(false);
+    }
+    Ok(true)
+}
+
+// Whether labels show that two designs have the same rows.
+fn have_same_rows(
+    alloc: Global,
+    graph: &Graph,
+    design: &Netlist,
+    labels: &[u32],
+    other: &Netlist,
+    other_labels: &[u32],
+) -> Result<bool, AllocError>
+    requires design { IsChecked design.now }
+    requires other { IsChecked other.now }
+    ensures { IfOk result (λ yes. IsTrue yes → HaveSameRows design.now other.now) }
+{
+    labelled_alike();
+    let agreed = agree(alloc, graph, design, labels, other, other_labels)?;
+    Ok(agreed)
+}
+
+/// The text of what the search drew for a design, with the netlist that it is read as, where that has the design's names and rows
+/// and each of its covers few inputs.
+pub fn checked(
+    alloc: Global,
+    design: &Netlist,
+    made: &Made,
+    drawn: &Mapped,
+) -> Result<Option<Remapped>, AllocError>
+    ensures another { IfOk result (λ o. IfSome o (λ r. IsAnotherText design.now r.text r.netlist)) }
+    ensures narrow { IfOk result (λ o. IfSome o (λ r. HasNarrowCovers r.netlist)) }
+{
+    let text = design_text(alloc, &drawn.draft)?;
+    let read = match read_again(alloc, &text)? {
+        Some(read) => read,
+        None => return Ok(None),
+    };
+    if !have_same_ports(alloc, design.parts(), read.parts())? {
+        return Ok(None);
+    }
+    if !have_few_inputs(read.parts().covers.as_slice()) {
+        return Ok(None);
+    }
+    let labels = labels_by_name(alloc, &drawn.draft, drawn.labels.as_slice(), &read)?;
+    if !have_same_rows(
+        alloc,
+        &made.graph,
+        design,
+        made.labels.as_slice(),
+        &read,
+        &labels,
+    )? {
+        return Ok(None);
+    }
+    let text = Items::new(text);
+    Ok(Some(Remapped {
+        text,
+        netlist: read,
+    }))
+}

@@ -1,0 +1,68 @@
+//! Texts with their netlists.
+ghost use Rattle.std.specs.Prelude.{◌≡◌, ◌≤◌, ◌⊎◌, Some, IfOk, IfSome, length};
+ghost use Rattle.base_text.specs.Size.{most_bytes};
+ghost use Rattle.design_blif.specs.Designs.{IsDesign};
+ghost use Rattle.map_text.specs.Remapped.{tables_in};
+
+use base_lists::Items;
+use design_blif::read_blif;
+use design_netlist::{DesignFault, Netlist};
+use map_network::plain_size;
+use std::alloc::{AllocError, Global};
+
+/// A text of a design, and the netlist that it is read as.
+#[derive(Debug, Drop)]
+pub struct Remapped {
+    /// The bytes of the text.
+    pub text: Items<u8>,
+    pub netlist: Netlist,
+}
+
+/// The netlist of a text, if it is that of a design.
+pub fn read_again(alloc: Global, text: &[u8]) -> Result<Option<Netlist>, AllocError>
+    ensures { IfOk result (λ o. IfSome o (λ n. IsDesign text.now n × (length text.now ≤ most_bytes))) }
+{
+    match read_blif(alloc, text) {
+        Ok(netlist) => Ok(Some(netlist)),
+        Err(DesignFault::At { .. }) => Ok(None),
+        Err(DesignFault::Memory) => Err(AllocError),
+    }
+}
+
+/// The given text with its netlist, which it is read as again.
+pub fn given(alloc: Global, text: &[u8], netlist: &Netlist) -> Result<Remapped, AllocError>
+    requires design { IsDesign text.now netlist.now }
+    requires short { length text.now ≤ most_bytes }
+    ensures text { IfOk result (λ r. r.text ≡ text.now) }
+    ensures netlist { IfOk result (λ r. r.netlist ≡ netlist.now) }
+{
+    let bytes = Vec::from_slice(alloc, text)?;
+    match read_blif(alloc, text) {
+        Ok(netlist) => Ok(Remapped {
+            text: Items::new(bytes),
+            netlist,
+        }),
+        // The text of a design is refused for want of memory alone.
+        Err(_) => Err(AllocError),
+    }
+}
+
+/// The text that was found, where it has no more tables than the one before, and else that.
+pub fn lesser(
+    alloc: Global,
+    before: Remapped,
+    found: Option<Remapped>,
+) -> Result<Remapped, AllocError>
+    ensures { IfOk result (λ r. (r ≡ before) ⊎ ((found ≡ Some r) × (tables_in r.netlist ≤ tables_in before.netlist))) }
+{
+    match found {
+        Some(new) => {
+            if plain_size(alloc, &new.netlist)? <= plain_size(alloc, &before.netlist)? {
+                Ok(new)
+            } else {
+                Ok(before)
+            }
+        }
+        None => Ok(before),
+    }
+}

@@ -1,7 +1,0 @@
-use Rattle.std.proofs.Common.{subst}
-use Rattle.netlist.specs.Words.{IsFoundIn}
-use Rattle.netlist.proofs.CheckLemmas.{not_checked}
-use Rattle.netlist.proofs.checks.check.Goals as goal
-
-pub returns-in_ok-name-in-Cyclic-clause-only : goal.returns-in_ok-name-in-Cyclic-clause-only
-returns-in_ok-name-in-Cyclic-clause-only c = λ is. absurd (not_checked c.args.draft c.in-Cyclic.word (subst (λ f. IsFoundIn c.args.draft f) c.in-Cyclic.is c.in_ok-word.ensures) is)

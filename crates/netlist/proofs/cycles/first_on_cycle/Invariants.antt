@@ -1,6 +1,0 @@
-use Rattle.netlist.specs.Orders.{IsFirst}
-use Rattle.netlist.specs.Covers.{cover_line, IsOnCycle}
-use Rattle.netlist.proofs.cycles.first_on_cycle.Given as goal
-
-abbrev pub invariant-covers : goal.invariant-covers
-invariant-covers l = IsFirst (cover_line l.covers) l.place (IsOnCycle l.covers) l.found

@@ -1,6 +1,0 @@
-use Rattle.std.proofs.Common.{◌≡◌, length}
-use Rattle.netlist.specs.Drivers.{AreDriversBelow}
-use Rattle.netlist.proofs.drives.drivers_of.Given as goal
-
-abbrev pub invariant-covers : goal.invariant-covers
-invariant-covers l = record { len : length l.drivers.items ≡ l.count; drivers : AreDriversBelow l.covers l.i l.count l.drivers.items }

@@ -1,7 +1,0 @@
-use Rattle.netlist.specs.Orders.{IsFirst}
-use Rattle.netlist.specs.Drafts.{line_at}
-use Rattle.netlist.specs.Checks.{IsDoubledIn}
-use Rattle.netlist.proofs.drives.first_doubled.Given as goal
-
-abbrev pub invariant-words : goal.invariant-words
-invariant-words l = IsFirst (line_at l.words) l.i (IsDoubledIn l.words) l.found

@@ -1,6 +1,0 @@
-use Rattle.std.proofs.Common.{◌≡◌, ◌++◌, take, map}
-use Rattle.netlist.specs.Drafts.{cover_drive}
-use Rattle.netlist.proofs.drives.push_covers.Given as goal
-
-abbrev pub invariant-covers : goal.invariant-covers
-invariant-covers l = l.words.items ≡ l.fn.words.items ++ map cover_drive (take l.k l.covers)

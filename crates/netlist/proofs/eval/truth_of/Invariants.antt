@@ -1,7 +1,0 @@
-use Rattle.std.proofs.Common.{◌≡◌, ◌<◌, ℕ, get_or, false, map, []}
-use Rattle.netlist.specs.Covers.{matches}
-use Rattle.netlist.specs.Valuations.{bit_at}
-use Rattle.netlist.proofs.eval.truth_of.Given as goal
-
-abbrev pub invariant-rows : goal.invariant-rows
-invariant-rows l = (j : ℕ) → j < l.k → matches (get_or l.rows j []) (map (bit_at l.values) l.ins) ≡ false

@@ -1,6 +1,0 @@
-use Rattle.std.proofs.Common.{◌≡◌, take, map}
-use Rattle.netlist.specs.Searches.{search_number}
-use Rattle.netlist.proofs.groups.numbers_of.Given as goal
-
-abbrev pub invariant-states : goal.invariant-states
-invariant-states l = l.numbers.items ≡ map search_number (take l.k l.states.items)

@@ -1,5 +1,0 @@
-use Rattle.netlist.proofs.ValuationLemmas.{one_valuation}
-use Rattle.netlist.proofs.laws.covers_have_one_valuation.Goals as goal
-
-pub returns : goal.returns
-returns c = λ covers base apart acyclic. one_valuation covers apart acyclic base

@@ -1,8 +1,0 @@
-use Rattle.std.proofs.lemmas.List.{length-map}
-use Rattle.netlist.specs.declared.draft.LatchDef.{LatchDef}
-use Rattle.netlist.specs.Rows.{first_state}
-use Rattle.netlist.proofs.RightLemmas.{one_rows}
-use Rattle.netlist.proofs.laws.designs_have_one_list_of_rows.Goals as goal
-
-pub returns : goal.returns
-returns c = λ d vectors is all. one_rows d is (first_state d) vectors (length-map d.latches (λ (l : LatchDef). l.init)) all

@@ -1,5 +1,0 @@
-use Rattle.netlist.proofs.RightLemmas.{settled_is_right}
-use Rattle.netlist.proofs.laws.settled_valuations_are_right.Goals as goal
-
-pub returns : goal.returns
-returns c = λ d state vector base given is. settled_is_right d is state vector base given

@@ -1,9 +1,0 @@
-use Rattle.std.proofs.Common.{◌≡◌, ◌++◌, vec_len}
-use Rattle.netlist.specs.Names.{joined}
-use Rattle.netlist.proofs.names.put_texts.Given as goal
-
-abbrev pub invariant-places : goal.invariant-places
-invariant-places l = l.text.items ++ joined l.beginnings l.places.items ≡ l.fn.text.items ++ joined l.beginnings l.fn.back.items
-
-abbrev pub decreases-places : goal.decreases-places
-decreases-places l = vec_len l.places

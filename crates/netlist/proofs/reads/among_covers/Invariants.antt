@@ -1,8 +1,0 @@
-use Rattle.std.proofs.Common.{◌≡◌, take}
-use Rattle.std.specs.Prelude.{fold}
-use Rattle.netlist.specs.Drafts.{cover_reads}
-use Rattle.netlist.specs.Words.{sooner}
-use Rattle.netlist.proofs.reads.among_covers.Given as goal
-
-abbrev pub invariant-covers : goal.invariant-covers
-invariant-covers l = l.best ≡ fold (λ b c. fold (sooner l.firsts) b (cover_reads c)) l.fn.found (take l.k l.covers)

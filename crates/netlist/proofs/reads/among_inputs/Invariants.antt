@@ -1,8 +1,0 @@
-use Rattle.std.proofs.Common.{◌≡◌, take}
-use Rattle.std.specs.Prelude.{fold}
-use Rattle.netlist.specs.Drafts.{word}
-use Rattle.netlist.specs.Words.{sooner}
-use Rattle.netlist.proofs.reads.among_inputs.Given as goal
-
-abbrev pub invariant-ins : goal.invariant-ins
-invariant-ins l = l.best ≡ fold (λ b s. sooner l.firsts b (word l.cover.line s)) l.fn.found (take l.k l.cover.ins)

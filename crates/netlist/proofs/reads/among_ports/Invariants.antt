@@ -1,7 +1,0 @@
-use Rattle.std.proofs.Common.{◌≡◌, take}
-use Rattle.std.specs.Prelude.{fold}
-use Rattle.netlist.specs.Words.{sooner}
-use Rattle.netlist.proofs.reads.among_ports.Given as goal
-
-abbrev pub invariant-ports : goal.invariant-ports
-invariant-ports l = l.best ≡ fold (sooner l.firsts) l.fn.found (take l.k l.ports)

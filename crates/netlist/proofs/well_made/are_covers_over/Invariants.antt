@@ -1,6 +1,0 @@
-use Rattle.std.proofs.Common.{ℕ, ◌<◌}
-use Rattle.netlist.specs.Covers.{cover_at, IsCoverOver}
-use Rattle.netlist.proofs.well_made.are_covers_over.Given as goal
-
-abbrev pub invariant-covers : goal.invariant-covers
-invariant-covers l = (j : ℕ) → j < l.k → IsCoverOver (cover_at l.covers j) l.count

@@ -1,6 +1,0 @@
-use Rattle.std.proofs.Common.{ℕ, ◌<◌}
-use Rattle.netlist.specs.Words.{latch_at}
-use Rattle.netlist.proofs.well_made.are_latches_below.Given as goal
-
-abbrev pub invariant-latches : goal.invariant-latches
-invariant-latches l = (j : ℕ) → j < l.k → ((latch_at l.latches j).out < l.count) × ((latch_at l.latches j).from < l.count)

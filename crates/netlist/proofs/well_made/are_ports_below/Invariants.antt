@@ -1,6 +1,0 @@
-use Rattle.std.proofs.Common.{ℕ, ◌<◌}
-use Rattle.netlist.specs.Drafts.{signal_at}
-use Rattle.netlist.proofs.well_made.are_ports_below.Given as goal
-
-abbrev pub invariant-ports : goal.invariant-ports
-invariant-ports l = (j : ℕ) → j < l.k → signal_at l.ports j < l.count

@@ -1,6 +1,0 @@
-use Rattle.std.proofs.Common.{◌≡◌, ◌+◌, take, sum_by}
-use Rattle.netlist.specs.Drafts.{cover_characters}
-use Rattle.netlist.proofs.well_made.have_few_characters.Given as goal
-
-abbrev pub invariant-covers : goal.invariant-covers
-invariant-covers l = l.left + sum_by cover_characters (take l.k l.covers) ≡ 16777216

@@ -1,8 +1,0 @@
-use Rattle.std.proofs.Common.{◌≡◌, ◌<◌, ℕ, take, map}
-use Rattle.netlist.specs.Covers.{matches}
-use Rattle.netlist.specs.Valuations.{bit_at}
-use Rattle.netlist.specs.Lanes.{is_bit, lane_bits}
-use Rattle.netlist.proofs.word_truth.row_word.Given as goal
-
-abbrev pub invariant-places : goal.invariant-places
-invariant-places l = (j : ℕ) → j < 64 → is_bit l.word j ≡ matches (take l.k l.row) (map (bit_at (lane_bits l.words j)) (take l.k l.ins))

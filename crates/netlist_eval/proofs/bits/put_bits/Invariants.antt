@@ -1,6 +1,0 @@
-use Rattle.std.proofs.Common.{◌≡◌, take}
-use Rattle.netlist_eval.specs.Bits.{bits_put}
-use Rattle.netlist_eval.proofs.bits.put_bits.Given as goal
-
-abbrev pub invariant-signals : goal.invariant-signals
-invariant-signals l = l.values ≡ bits_put l.fn.values (take l.k l.signals) (take l.k l.bits)

@@ -1,7 +1,0 @@
-use Rattle.std.proofs.Common.{◌≡◌, take, map}
-use Rattle.netlist.specs.Valuations.{bit_at}
-use Rattle.netlist.specs.Lanes.{lane_bits}
-use Rattle.netlist_eval.proofs.lanes.read_lane.Given as goal
-
-abbrev pub invariant-signals : goal.invariant-signals
-invariant-signals l = take l.k l.out ≡ map (bit_at (lane_bits l.words l.lane)) (take l.k l.signals)

@@ -1,7 +1,0 @@
-use Rattle.std.proofs.Common.{◌≡◌, ℕ, ◌<◌, ◌≤◌, length}
-use Rattle.netlist.specs.Valuations.{bit_at}
-use Rattle.netlist_eval.specs.Latches.{HavePut}
-use Rattle.netlist_eval.proofs.latches.put_chunk.Given as goal
-
-abbrev pub invariant-latches : goal.invariant-latches
-invariant-latches l = HavePut l.readers l.drives l.state l.fn.last l.fn.marks l.fn.values l.last l.marks l.values × (length l.hints ≡ 1024) × ((j : ℕ) → l.from ≤ j → j < l.k → bit_at l.last j ≡ bit_at l.state j)

@@ -1,7 +1,0 @@
-use Rattle.std.proofs.Common.{refl}
-use Rattle.netlist_eval.proofs.LatchLemmas.{take-all}
-use Rattle.netlist_eval.proofs.latches.take_changed.Goals as goal
-
-pub returns-else-is_one_marked : goal.returns-else-is_one_marked
-returns-else-is_one_marked c =
-    take-all c.args.first c.args.reads.now c.words.state c.words.marks c.args.values.now c.words.invariant.2 c.words.invariant.3 (λ k fk lk. c.if-is_one_marked.ensures refl k fk lk)

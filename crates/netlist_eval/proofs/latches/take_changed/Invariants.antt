@@ -1,6 +1,0 @@
-use Rattle.std.proofs.Common.{◌≡◌, length}
-use Rattle.netlist_eval.specs.Marks.{AreTaken}
-use Rattle.netlist_eval.proofs.latches.take_changed.Given as goal
-
-abbrev pub invariant-words : goal.invariant-words
-invariant-words l = (length l.marks ≡ 65536) × (length l.hints ≡ 1024) × (length l.state ≡ length l.reads) × AreTaken l.first l.reads l.state l.marks l.values

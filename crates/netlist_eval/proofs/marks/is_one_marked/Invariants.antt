@@ -1,6 +1,0 @@
-use Rattle.std.proofs.Common.{◌≡◌, ℕ, ◌<◌, ◌≤◌, false}
-use Rattle.netlist.specs.Valuations.{bit_at}
-use Rattle.netlist_eval.proofs.marks.is_one_marked.Given as goal
-
-abbrev pub invariant-marks : goal.invariant-marks
-invariant-marks l = l.found ≡ false → (j : ℕ) → l.from ≤ j → j < l.k → bit_at l.marks j ≡ false

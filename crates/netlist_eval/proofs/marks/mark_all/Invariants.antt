@@ -1,6 +1,0 @@
-use Rattle.std.proofs.Common.{◌≡◌, ℕ, ◌<◌, true, length}
-use Rattle.netlist.specs.Valuations.{bit_at}
-use Rattle.netlist_eval.proofs.marks.mark_all.Given as goal
-
-abbrev pub invariant-marks : goal.invariant-marks
-invariant-marks l = (length l.marks ≡ 65536) × ((j : ℕ) → j < l.k → bit_at l.marks j ≡ true)

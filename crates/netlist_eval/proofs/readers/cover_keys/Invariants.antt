@@ -1,6 +1,0 @@
-use Rattle.netlist_eval.specs.Turns.{places}
-use Rattle.netlist_eval.specs.Readers.{AreKeys}
-use Rattle.netlist_eval.proofs.readers.cover_keys.Given as goal
-
-abbrev pub invariant-turns : goal.invariant-turns
-invariant-turns l = AreKeys l.covers (places l.turns) l.k l.keys.items

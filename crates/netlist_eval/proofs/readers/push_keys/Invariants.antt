@@ -1,6 +1,0 @@
-use Rattle.std.proofs.Common.{◌≡◌, ◌++◌, take, map}
-use Rattle.netlist_eval.specs.Readers.{reader_key}
-use Rattle.netlist_eval.proofs.readers.push_keys.Given as goal
-
-abbrev pub invariant-ins : goal.invariant-ins
-invariant-ins l = l.keys.items ≡ l.fn.keys.items ++ map (reader_key l.turn) (take l.i l.ins)

@@ -1,6 +1,0 @@
-use Rattle.std.proofs.Common.{ℕ, ◌<◌, ◌*◌}
-use Rattle.netlist.specs.Valuations.{number_at}
-use Rattle.netlist_eval.proofs.readers.start_of.Given as goal
-
-abbrev pub invariant-keys : goal.invariant-keys
-invariant-keys l = (j : ℕ) → j < l.i → number_at l.keys j < l.signal * 65536

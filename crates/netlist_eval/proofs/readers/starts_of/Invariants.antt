@@ -1,7 +1,0 @@
-use Rattle.std.proofs.Common.{◌≡◌, ℕ, ◌<◌, length}
-use Rattle.netlist.specs.Valuations.{number_at}
-use Rattle.netlist_eval.specs.Readers.{IsFrom, Splits}
-use Rattle.netlist_eval.proofs.readers.starts_of.Given as goal
-
-abbrev pub invariant-signals : goal.invariant-signals
-invariant-signals l = (length l.starts.items ≡ l.signal) × ((s : ℕ) → s < l.signal → Splits l.keys s (number_at l.starts.items s)) × IsFrom l.keys l.signal l.from

@@ -1,5 +1,0 @@
-use Rattle.netlist_eval.proofs.SmallLemmas.{first-wires}
-use Rattle.netlist_eval.proofs.smalls.first_wires.Goals as goal
-
-pub returns : goal.returns
-returns c = first-wires c.args.wires.now c.told-wires

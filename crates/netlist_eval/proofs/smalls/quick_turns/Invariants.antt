@@ -1,8 +1,0 @@
-use Rattle.std.proofs.Common.{◌≡◌, ◌<◌, ℕ, length}
-use Rattle.netlist.specs.Covers.{cover_at}
-use Rattle.netlist_eval.specs.Turns.{turn_at}
-use Rattle.netlist_eval.specs.Smalls.{quick_at, IsQuick}
-use Rattle.netlist_eval.proofs.smalls.quick_turns.Given as goal
-
-abbrev pub invariant-turns : goal.invariant-turns
-invariant-turns l = (length l.quicks.items ≡ l.k) × ((j : ℕ) → j < l.k → IsQuick (cover_at l.covers (turn_at l.turns j).place) (quick_at l.quicks.items j))

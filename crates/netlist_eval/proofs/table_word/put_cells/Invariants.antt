@@ -1,7 +1,0 @@
-use Rattle.std.proofs.Common.{◌≡◌, ◌<◌, ℕ, get_or, false}
-use Rattle.netlist.specs.Valuations.{number_at}
-use Rattle.netlist.specs.Lanes.{is_bit}
-use Rattle.netlist_eval.proofs.table_word.put_cells.Given as goal
-
-abbrev pub invariant-cells : goal.invariant-cells
-invariant-cells l = (b j : ℕ) → b < l.a → j < 64 → is_bit (number_at l.parts b) j ≡ get_or l.cells b false

@@ -1,7 +1,0 @@
-use Rattle.std.proofs.Common.{◌≡◌, ◌-◌, drop}
-use Rattle.netlist.specs.Valuations.{bit_at}
-use Rattle.netlist_eval.specs.Tables.{address}
-use Rattle.netlist_eval.proofs.tables.address_of.Given as goal
-
-abbrev pub invariant-wires : goal.invariant-wires
-invariant-wires l = l.place ≡ address (bit_at l.values) (drop (6 - l.k) l.wires)

@@ -1,6 +1,0 @@
-use Rattle.std.proofs.Common.{◌≡◌, ℕ, ◌<◌, take, get_or, length, false}
-use Rattle.netlist_eval.specs.Tables.{truth_at, six_bits}
-use Rattle.netlist_eval.proofs.tables.cells_of.Given as goal
-
-abbrev pub invariant-cells : goal.invariant-cells
-invariant-cells l = (length l.cells ≡ 64) × ((j : ℕ) → j < l.a → get_or l.cells j false ≡ truth_at l.cover (take (length l.cover.ins) (six_bits j)))

@@ -1,6 +1,0 @@
-use Rattle.std.proofs.Common.{◌≡◌, length}
-use Rattle.network_eval.specs.Wires.{AreTablesIn}
-use Rattle.network_eval.proofs.busy.store_values.Given as goal
-
-abbrev pub invariant-tables : goal.invariant-tables
-invariant-tables l = (length l.values ≡ length l.fn.values) × AreTablesIn l.table l.values l.bits

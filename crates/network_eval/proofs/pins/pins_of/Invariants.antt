@@ -1,5 +1,0 @@
-use Rattle.network_eval.specs.Pins.{ArePinsTo}
-use Rattle.network_eval.proofs.pins.pins_of.Given as goal
-
-abbrev pub invariant-tables : goal.invariant-tables
-invariant-tables l = ArePinsTo l.network l.table 0 l.lists.items

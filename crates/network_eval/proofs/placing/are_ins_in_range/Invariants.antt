@@ -1,7 +1,0 @@
-use Rattle.std.proofs.Common.{◌<◌, ℕ}
-use Rattle.table_map.specs.Networks.{IsSourceOf}
-use Rattle.network_eval.specs.Pins.{source_at}
-use Rattle.network_eval.proofs.placing.are_ins_in_range.Given as goal
-
-abbrev pub invariant-ins : goal.invariant-ins
-invariant-ins l = (p : ℕ) → p < l.k → IsSourceOf l.network (source_at l.network l.table p)

@@ -1,7 +1,0 @@
-use Rattle.std.proofs.Common.{◌<◌, ℕ}
-use Rattle.network_eval.specs.Pins.{source_at}
-use Rattle.network_eval.specs.States.{IsLower}
-use Rattle.network_eval.proofs.placing.are_ins_lower.Given as goal
-
-abbrev pub invariant-ins : goal.invariant-ins
-invariant-ins l = (p : ℕ) → p < l.k → IsLower l.network l.table (source_at l.network l.table p)

@@ -1,6 +1,0 @@
-use Rattle.std.proofs.Common.{◌≡◌, ◌<◌, ℕ, length}
-use Rattle.table_map.specs.Compacting.{named_by}
-use Rattle.network_eval.proofs.placing.are_inverse.Given as goal
-
-abbrev pub invariant-tables : goal.invariant-tables
-invariant-tables l = (j : ℕ) → j < l.table → (named_by l.places j < length l.order) × (named_by l.order (named_by l.places j) ≡ j)

@@ -1,7 +1,0 @@
-use Rattle.std.proofs.Common.{◌≡◌, ◌<◌, ℕ, false}
-use Rattle.table_map.specs.Joining.{in_tables}
-use Rattle.network_eval.specs.Placing.{AreInsLower}
-use Rattle.network_eval.proofs.placing.is_ordered.Given as goal
-
-abbrev pub invariant-tables : goal.invariant-tables
-invariant-tables l = (t : ℕ) → t < l.table → (in_tables l.tables t).latched ≡ false → AreInsLower l.network t

@@ -1,5 +1,0 @@
-use Rattle.network_eval.specs.Starting.{IsAddress}
-use Rattle.network_eval.proofs.refreshing.address_of.Given as goal
-
-abbrev pub invariant-pins : goal.invariant-pins
-invariant-pins l = IsAddress l.ins l.inputs l.values l.pin l.address

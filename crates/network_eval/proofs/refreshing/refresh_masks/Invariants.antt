@@ -1,5 +1,0 @@
-use Rattle.network_eval.specs.Starting.{HaveMasksTo}
-use Rattle.network_eval.proofs.refreshing.refresh_masks.Given as goal
-
-abbrev pub invariant-tables : goal.invariant-tables
-invariant-tables l = HaveMasksTo l.tables l.values l.j l.masks

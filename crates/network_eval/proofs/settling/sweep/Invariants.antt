@@ -1,6 +1,0 @@
-use Rattle.network_eval.specs.Settling.{AreGivenBefore}
-use Rattle.network_eval.specs.States.{IsKept}
-use Rattle.network_eval.proofs.settling.sweep.Given as goal
-
-abbrev pub invariant-words : goal.invariant-words
-invariant-words l = IsKept l.plan l.state × AreGivenBefore l.plan.network l.fn.state l.state

@@ -1,6 +1,0 @@
-use Rattle.std.proofs.Common.{◌≡◌, take}
-use Rattle.network_eval.specs.Starting.{first_values}
-use Rattle.network_eval.proofs.starting.first_values.Given as goal
-
-abbrev pub invariant-tables : goal.invariant-tables
-invariant-tables l = l.values.items ≡ first_values (take l.j l.tables)

@@ -1,2 +1,0 @@
--- What is cited above.
-pub mod Number

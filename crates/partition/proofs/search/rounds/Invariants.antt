@@ -1,5 +1,0 @@
-use Rattle.std.specs.List.Sorted.{IsPermutation}
-use Rattle.partition.proofs.search.rounds.Given as goal
-
-abbrev pub invariant-loop-heat : goal.invariant-loop-heat
-invariant-loop-heat l = IsPermutation l.fn.trial.seats.items l.trial.seats.items

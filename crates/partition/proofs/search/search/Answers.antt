@@ -1,5 +1,0 @@
-use Rattle.std.proofs.lemmas.List.Sorted.{IsPermutation-trans}
-use Rattle.partition.proofs.search.search.Goals as goal
-
-pub returns : goal.returns
-returns c = IsPermutation-trans _ _ _ c.begin.ensures c.rounds.ensures

@@ -1,7 +1,0 @@
-use Rattle.std.proofs.Common.{◌≤◌, length, map}
-use Rattle.partition.specs.Seats.{AreFreeTables, number_at}
-use Rattle.partition.proofs.seats.add_others.Given as goal
-
-abbrev pub invariant-loop-t : goal.invariant-loop-t
-invariant-loop-t l =
-    AreFreeTables l.defects.shape l.defects.list (map number_at l.seats.items) × (length l.fn.seats.items ≤ length l.seats.items)

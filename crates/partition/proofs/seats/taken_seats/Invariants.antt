@@ -1,7 +1,0 @@
-use Rattle.std.proofs.Common.{◌≡◌, map, take}
-use Rattle.place.specs.Plans.{number_of}
-use Rattle.partition.specs.Seats.{number_at}
-use Rattle.partition.proofs.seats.taken_seats.Given as goal
-
-abbrev pub invariant-loop-table : goal.invariant-loop-table
-invariant-loop-table l = map number_at l.seats.items ≡ take l.table-index (map number_of l.tables)

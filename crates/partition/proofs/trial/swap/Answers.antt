@@ -1,5 +1,0 @@
-use Rattle.std.proofs.lemmas.List.Sorted.{IsPermutation-swap}
-use Rattle.partition.proofs.trial.swap.Goals as goal
-
-pub returns : goal.returns
-returns c = IsPermutation-swap _ _ _ _ c.requires.a c.requires.b c.swap.ensures.items

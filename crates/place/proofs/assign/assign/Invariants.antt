@@ -1,7 +1,0 @@
-use Rattle.std.specs.List.{range_with_len}
-use Rattle.place.specs.Choices.{serves_by}
-use Rattle.place.specs.Search.{IsPartial}
-use Rattle.place.proofs.assign.assign.Given as goal
-
-abbrev pub invariant-loop-k : goal.invariant-loop-k
-invariant-loop-k l = IsPartial (serves_by l.defects l.asks) l.lines (range_with_len 0 l.k) l.owners.items

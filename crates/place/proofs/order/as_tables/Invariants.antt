@@ -1,6 +1,0 @@
-use Rattle.std.proofs.Common.{◌≡◌, map, take}
-use Rattle.place.specs.Plans.{number_of}
-use Rattle.place.proofs.order.as_tables.Given as goal
-
-abbrev pub invariant-loop-number : goal.invariant-loop-number
-invariant-loop-number l = map number_of l.tables ≡ take l.number-index l.numbers

@@ -1,6 +1,0 @@
-use Rattle.place.specs.Lists.{AreThose, IsAmongFirst, same_number}
-use Rattle.place.specs.Plans.{IsFreePin}
-use Rattle.place.proofs.order.free_pins.Given as goal
-
-abbrev pub invariant-loop-k : goal.invariant-loop-k
-invariant-loop-k l = AreThose (IsAmongFirst same_number l.k (IsFreePin l.defects.shape l.defects.list)) l.pins

@@ -1,6 +1,0 @@
-use Rattle.hierarchy.specs.Defects.{IsFreeTable}
-use Rattle.place.specs.Lists.{AreThose, IsAmongFirst, same_number}
-use Rattle.place.proofs.order.free_tables.Given as goal
-
-abbrev pub invariant-loop-t : goal.invariant-loop-t
-invariant-loop-t l = AreThose (IsAmongFirst same_number l.t (IsFreeTable l.defects.shape l.defects.list)) l.tables

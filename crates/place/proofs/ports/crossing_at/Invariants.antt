@@ -1,6 +1,0 @@
-use Rattle.place.specs.Lists.{AreThose, IsAmongFirst, nth_of}
-use Rattle.place.specs.Room.{CrossesIn}
-use Rattle.place.proofs.ports.crossing_at.Given as goal
-
-abbrev pub invariant-loop-k : goal.invariant-loop-k
-invariant-loop-k l = AreThose (IsAmongFirst (nth_of l.touched) l.k-index (CrossesIn l.tree.shape l.nets l.node)) l.crossing

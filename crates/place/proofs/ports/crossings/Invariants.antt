@@ -1,7 +1,0 @@
-use Rattle.std.proofs.Common.{length}
-use Rattle.place.specs.Lists.{AreLists}
-use Rattle.place.specs.Room.{CrossesAt, HasTerminal}
-use Rattle.place.proofs.ports.crossings.Given as goal
-
-abbrev pub invariant-loop-n : goal.invariant-loop-n
-invariant-loop-n l = AreLists l.n (CrossesAt l.tree.shape (length l.nets) (HasTerminal l.nets)) l.lists.items

@@ -1,7 +1,0 @@
-use Rattle.hierarchy.specs.Shape.{port_at}
-use Rattle.hierarchy.specs.Defects.{IsFreeWire}
-use Rattle.place.specs.Lists.{AreThose, IsAmongFirst}
-use Rattle.place.proofs.ports.ports_at.Given as goal
-
-abbrev pub invariant-loop-k : goal.invariant-loop-k
-invariant-loop-k l = AreThose (IsAmongFirst (port_at l.defects.shape l.node) l.k (IsFreeWire l.defects.list)) l.ports

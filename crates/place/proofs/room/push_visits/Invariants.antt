@@ -1,6 +1,0 @@
-use Rattle.std.proofs.Common.{◌≡◌, ◌++◌, map, take}
-use Rattle.place.specs.Layouts.{visit_by}
-use Rattle.place.proofs.room.push_visits.Given as goal
-
-abbrev pub invariant-loop-hold : goal.invariant-loop-hold
-invariant-loop-hold l = l.visits.items ≡ l.fn.visits.items ++ map (visit_by l.node l.asks) (take l.hold-index l.holds)

@@ -1,7 +1,0 @@
-use Rattle.std.proofs.Common.{length}
-use Rattle.place.specs.Layouts.{IsEnough}
-use Rattle.place.specs.Room.{HasTerminal}
-use Rattle.place.proofs.room.rooms.Given as goal
-
-abbrev pub invariant-loop-n : goal.invariant-loop-n
-invariant-loop-n l = IsEnough l.defects.shape l.defects.list (length l.nets) (HasTerminal l.nets) l.n l.ports.items l.visits.items

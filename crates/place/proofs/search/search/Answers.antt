@@ -1,9 +1,0 @@
-use Rattle.std.proofs.Common.{◌≤◌, length, arith}
-use Rattle.std.proofs.lemmas.Grind.{common_steps}
-use Rattle.place.proofs.Stuck.{stuck}
-use Rattle.place.proofs.search.search.Goals as goal
-
-pub returns-clause-found : goal.returns-clause-found
-returns-clause-found c =
-    let le : length c.loop-h.steps.items ≤ c.loop-h.h = grind (arith, common_steps) in
-    stuck _ _ _ _ _ _ c.loop-h.invariant.trail c.loop-h.invariant.marks le c.loop-h.invariant.scanned

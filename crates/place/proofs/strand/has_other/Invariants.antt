@@ -1,7 +1,0 @@
-use Rattle.std.proofs.Common.{take}
-use Rattle.std.specs.List.{All}
-use Rattle.place.specs.Strands.{IsAt}
-use Rattle.place.proofs.strand.has_other.Given as goal
-
-abbrev pub invariant-loop-wire : goal.invariant-loop-wire
-invariant-loop-wire l = All (λ w. IsAt l.tree.shape l.node w l.strand) (take l.wire-index l.wires)

@@ -1,7 +1,0 @@
-use Rattle.std.proofs.Common.{take}
-use Rattle.std.specs.List.{All}
-use Rattle.place.specs.Strands.{IsInside}
-use Rattle.place.proofs.strand.leaves.Given as goal
-
-abbrev pub invariant-loop-wire : goal.invariant-loop-wire
-invariant-loop-wire l = All (IsInside l.tree.shape l.node) (take l.wire-index l.wires)

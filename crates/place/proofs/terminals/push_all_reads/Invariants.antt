@@ -1,7 +1,0 @@
-use Rattle.std.proofs.Common.{◌≡◌, ◌++◌, map}
-use Rattle.place.specs.Plans.{number_of}
-use Rattle.place.specs.Terminals.{reads_to}
-use Rattle.place.proofs.terminals.push_all_reads.Given as goal
-
-abbrev pub invariant-loop-j : goal.invariant-loop-j
-invariant-loop-j l = l.terminals.items ≡ l.fn.terminals.items ++ reads_to l.shape l.network (map number_of l.places) l.j

@@ -1,6 +1,0 @@
-use Rattle.std.proofs.Common.{◌≡◌, ◌++◌}
-use Rattle.place.specs.Terminals.{drive_terminals}
-use Rattle.place.proofs.terminals.push_drives.Given as goal
-
-abbrev pub invariant-loop-k : goal.invariant-loop-k
-invariant-loop-k l = l.terminals.items ≡ l.fn.terminals.items ++ drive_terminals l.shape l.pins l.k

@@ -1,6 +1,0 @@
-use Rattle.std.proofs.Common.{◌≡◌, ◌++◌}
-use Rattle.place.specs.Terminals.{reads_of}
-use Rattle.place.proofs.terminals.push_reads.Given as goal
-
-abbrev pub invariant-loop-k : goal.invariant-loop-k
-invariant-loop-k l = l.terminals.items ≡ l.fn.terminals.items ++ reads_of l.shape l.inputs l.place.0 l.sources l.k

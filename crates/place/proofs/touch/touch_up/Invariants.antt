@@ -1,9 +1,0 @@
-use Rattle.hierarchy.specs.Shape.{node_of}
-use Rattle.place.specs.Touches.{IsSpreadUp}
-use Rattle.place.proofs.touch.touch_up.Given as goal
-
-abbrev pub invariant-loop-at : goal.invariant-loop-at
-invariant-loop-at l = IsSpreadUp l.tree.shape (node_of l.tree.shape l.wire) l.at l.net l.fn.touched l.touched
-
-abbrev pub decreases-loop-at : goal.decreases-loop-at
-decreases-loop-at l = l.at

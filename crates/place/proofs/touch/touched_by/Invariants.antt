@@ -1,5 +1,0 @@
-use Rattle.place.specs.Touches.{AreTouched}
-use Rattle.place.proofs.touch.touched_by.Given as goal
-
-abbrev pub invariant-loop-k : goal.invariant-loop-k
-invariant-loop-k l = AreTouched l.tree.shape l.nets l.k l.touched.items

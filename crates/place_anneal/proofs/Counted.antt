@@ -1,0 +1,22 @@
+-- The nets that cross nodes, by the terminals of a plan.
+use Rattle.std.proofs.Common.{ℕ, List, [], length, slice_index_or, subst}
+use Rattle.machine_shape.specs.declared.Shape.{Shape}
+use Rattle.machine_shape.specs.Shape.{nodes_of}
+use Rattle.machine_shape.specs.Defects.{Defects}
+use Rattle.map_network.specs.declared.network.Network.{Network}
+use Rattle.place_plan.specs.declared.plan.Plan.{Plan}
+use Rattle.place_plan.specs.Lists.{AreLists, AreThose}
+use Rattle.place_plan.specs.Plans.{IsTerminal, nets_in}
+use Rattle.place_plan.specs.Room.{CrossesAt, HasTerminal}
+use Rattle.place_plan.specs.Terminals.{ArePlanNets}
+use Rattle.place_plan.proofs.Transfer.{those_on}
+use Rattle.place_anneal.specs.Crossings.{AreCrossings}
+
+pub crossings_are : (m : Shape) (d : Defects) (n : Network) (p : Plan) (nets lists : List (List ℕ)) → ArePlanNets m n p nets →
+    AreLists (nodes_of m) (CrossesAt m (length nets) (HasTerminal nets)) lists → AreCrossings m n p lists
+crossings_are m d n p nets lists are those = record {
+  sized = those.sized;
+  those = λ k lt. those_on m d (nets_in n) (HasTerminal nets) (IsTerminal m n p)
+      (λ i w h. (are.same i w).0 h) (λ i w t. (are.same i w).1 t) k (slice_index_or lists k [])
+      (subst (λ z. AreThose (CrossesAt m z (HasTerminal nets) k) (slice_index_or lists k [])) are.sized (those.those k lt));
+}

@@ -1,0 +1,7 @@
+use Rattle.std.proofs.Common.{◌≡◌, map, take}
+use Rattle.place_plan.specs.Plans.{number_of}
+use Rattle.place_anneal.specs.Seats.{number_at}
+use Rattle.place_anneal.proofs.seats.taken_seats.Given as goal
+
+abbrev pub invariant-loop-table : goal.invariant-loop-table
+invariant-loop-table l = map number_at l.seats.items ≡ take l.table-index (map number_of l.tables)

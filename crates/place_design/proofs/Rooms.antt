@@ -1,0 +1,50 @@
+-- A design has room on a list or lacks it, and never both.
+use Rattle.std.proofs.Common.{◌≡◌, ◌⊎◌, ◌∙◌, sym, subst, refl, inl, inr}
+use Rattle.machine_shape.specs.declared.Shape.{Shape}
+use Rattle.machine_shape.specs.Defects.{Defects}
+use Rattle.machine_defects.specs.Lists.{DefectList}
+use Rattle.design_netlist.specs.declared.draft.Draft.{Draft}
+use Rattle.map_network.specs.declared.network.Network.{Network}
+use Rattle.map_network.specs.Plain.{IsPlainNetwork}
+use Rattle.place_plan.specs.declared.plan.Plan.{Plan}
+use Rattle.place_plan.specs.declared.short.Short.{Short}
+use Rattle.place_plan.specs.Plans.{FitsInOrder, IsShortInOrder}
+use Rattle.cmd_steps.specs.Faults.{ShortPlace}
+use Rattle.cmd_steps.specs.Outside.{Around}
+use Rattle.cmd_steps.specs.Stops.{status_of}
+use Rattle.cmd_steps.specs.Jobs.{IsExcused}
+use Rattle.cmd_steps.specs.declared.refusal.Refusal.{Refusal}
+use Rattle.cmd_steps.specs.declared.refusal.Refusal.TheVariants as refused
+use Rattle.place_design.specs.Laying.{HasRoom, LacksRoom, IsNoRoom, NotLaid}
+
+-- a plan and a want of room exclude each other
+abbrev pub AreDecided : Type 0
+AreDecided = (m : Shape) (d : Defects) (n : Network) (p : Plan) (s : Short) → FitsInOrder m d n p → ¬ IsShortInOrder m d n s
+
+-- a design has one plain network
+pub one-network : (draft : Draft) (n k : Network) → IsPlainNetwork draft n → IsPlainNetwork draft k → n ≡ k
+one-network draft n k first second = first ∙ sym second
+
+module _ (decided : AreDecided) (d : DefectList) (draft : Draft) where
+  never-both : (room : HasRoom d draft) (k : Network) (s : Short) → IsPlainNetwork draft k → IsShortInOrder d.shape d.list k s → ⊥
+  never-both room k s plain short =
+      let same = one-network draft room.network k room.plain plain in
+      decided d.shape d.list k room.plan s (subst (λ (x : Network). FitsInOrder d.shape d.list x room.plan) same room.fits) short
+
+  pub never-lacks : HasRoom d draft → LacksRoom d draft → ⊥
+  never-lacks room lacks = never-both room lacks.network lacks.short lacks.plain lacks.is_short
+
+  pub never-refused : HasRoom d draft → (place : ShortPlace) → IsNoRoom d draft place → ⊥
+  never-refused room place none = never-both room none.network place.short none.plain none.short
+
+-- where room is never refused a design that isn't laid is excused
+pub lay-excused : (d : DefectList) (draft : Draft) (old new : Around) → ((place : ShortPlace) → IsNoRoom d draft place → ⊥) → (refusal : Refusal) → NotLaid d draft refusal → IsExcused refusal old new
+lay-excused d draft old new never (refused.Room place) stops = absurd (never place stops)
+lay-excused d draft old new never refused.Memory stops = tt
+lay-excused d draft old new never refusal stops = absurd stops
+
+-- and otherwise the status is that of want of room
+pub lay-short : (d : DefectList) (draft : Draft) (old new : Around) (refusal : Refusal) → NotLaid d draft refusal → (status_of refusal ≡ 3) ⊎ IsExcused refusal old new
+lay-short d draft old new (refused.Room place) stops = inl refl
+lay-short d draft old new refused.Memory stops = inr tt
+lay-short d draft old new refusal stops = absurd stops

@@ -1,0 +1,52 @@
+//! Room for a network, or what there is too little of.
+ghost use Rattle.std.specs.Prelude.{◌≡◌, ◌<◌, IfOk, IfErr};
+ghost use Rattle.machine_defects.specs.Lists.{DefectList};
+ghost use Rattle.machine_shape.specs.Shape.{nodes_of};
+ghost use Rattle.map_network.specs.Networks.{IsNetwork};
+ghost use Rattle.map_network.specs.declared.network.Network.{Network};
+ghost use Rattle.place_plan.specs.Laying.{IsLayout};
+ghost use Rattle.place_plan.specs.Plans.{FitsInOrder, IsPlaceFail};
+ghost use Rattle.place_design.specs.Wants.{IsRefusedFor, PlanStops};
+
+use cmd_steps::{Refusal, RefusedRoom, Stop};
+use machine_defects::Defects;
+use machine_shape::Shape;
+use map_network::Network;
+use place_plan::{PlaceFail, Placed, Short, in_order_laid};
+use std::alloc::Global;
+
+// The refusal for want of room.
+fn no_room(alloc: Global, shape: Shape, short: Short) -> Stop
+    requires { short.node.0 < nodes_of shape }
+    ensures { IsRefusedFor shape short result }
+{
+    match RefusedRoom::new(alloc, shape, short) {
+        Ok(place) => Stop::Refused(Refusal::Room(place)),
+        Err(_) => Stop::Refused(Refusal::Memory),
+    }
+}
+
+/// Why there is no place for a network, as a refusal.
+pub fn no_place(alloc: Global, shape: Shape, fail: PlaceFail) -> Stop
+    requires { (d : DefectList) × (n : Network) × (shape ≡ d.shape) × IsPlaceFail d.shape d.list n fail }
+    // Of each list and each network of which that is so.
+    ensures { (d : DefectList) (n : Network) → shape ≡ d.shape → IsPlaceFail d.shape d.list n fail → PlanStops d n result }
+{
+    match fail {
+        PlaceFail::Short(short) => no_room(alloc, shape, short),
+        PlaceFail::Memory => Stop::Refused(Refusal::Memory),
+    }
+}
+
+/// The in-order plan of a network with its layout, where it fits.
+pub fn plan_of(alloc: Global, network: &Network, defects: &Defects) -> Result<Placed, Stop>
+    requires { IsNetwork network.now }
+    ensures found { IfOk result (λ placed. FitsInOrder defects.now.shape defects.now.list network.now placed.plan) }
+    ensures layout { IfOk result (λ placed. IsLayout defects.now.shape defects.now.list network.now placed.plan placed.layout) }
+    ensures refused { IfErr result (PlanStops defects.now network.now) }
+{
+    match in_order_laid(alloc, network, defects) {
+        Ok(placed) => Ok(placed),
+        Err(fail) => Err(no_place(alloc, defects.shape(), fail)),
+    }
+}

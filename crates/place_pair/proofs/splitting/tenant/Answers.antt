@@ -1,0 +1,37 @@
+use Rattle.std.proofs.Common.{◌≡◌, length, sym, ap, ◌∙◌, subst}
+use Rattle.machine_config.specs.Configuration.{Configuration}
+use Rattle.place_pair.specs.JointNetworks.{part}
+use Rattle.place_pair.specs.Sites.{IsShare, IsTenant}
+use Rattle.place_pair.proofs.Cutting.{cut_within, cut_apart}
+use Rattle.place_pair.proofs.splitting.tenant.Goals as goal
+
+pub new-requires-clause-within : goal.new-requires-clause-within
+new-requires-clause-within c =
+    let w = c.args.whole.now in
+    let s = c.args.site.now in
+    let n = c.args.network.now in
+    let ins = c.in_ok-inputs.ensures ∙ ap (part s.input n.inputs) c.inputs.ensures.pins in
+    let outs = c.in_ok-outputs.ensures ∙ (λ i. part s.output (length (c.as_slice-shown.ensures i)) (c.outputs.ensures.pins i)) in
+    let same : c.in_ok-config.config.config.shape ≡ w.config.shape = c.in_ok-config.ensures.shape ∙ ap (λ (g : Configuration). g.shape) c.config.ensures.config in
+    cut_within s.input n.inputs s.output (length n.outputs) w c.inputs.ensures.right c.requires.inputs c.requires.outputs c.in_ok-inputs.inputs.items c.in_ok-outputs.outputs.items ins outs c.in_ok-config.config.config.shape same
+
+pub new-requires-clause-apart : goal.new-requires-clause-apart
+new-requires-clause-apart c =
+    let s = c.args.site.now in
+    let n = c.args.network.now in
+    cut_apart s.input n.inputs s.output (length n.outputs) c.args.whole.now c.inputs.ensures.right c.requires.inputs c.requires.outputs c.in_ok-inputs.inputs.items c.in_ok-outputs.outputs.items
+    (c.in_ok-inputs.ensures ∙ ap (part s.input n.inputs) c.inputs.ensures.pins) (c.in_ok-outputs.ensures ∙ (λ i. part s.output (length (c.as_slice-shown.ensures i)) (c.outputs.ensures.pins i)))
+
+pub returns : goal.returns
+returns c =
+    let w = c.args.whole.now in
+    let s = c.args.site.now in
+    let n = c.args.network.now in
+    let p = c.args.plan.now in
+    let owners = c.args.owners.now in
+    let g = c.in_ok-config.config.config in
+    let seats : c.some_seats-seats.result.now ≡ part s.table (length n.tables) p.tables = c.some_seats-seats.ensures ∙ (λ i. part s.table (length (c.as_slice-tables.ensures i)) (c.as_slice.ensures i)) in
+    let share : IsShare s n owners (part s.table (length n.tables) p.tables) w.config g = subst (λ ts. IsShare s n owners ts w.config g) seats (subst (λ (z : Configuration). IsShare s n owners c.some_seats-seats.result.now z g) c.config.ensures.config c.in_ok-config.ensures) in
+    let ins = c.in_ok-inputs.ensures ∙ ap (part s.input n.inputs) c.inputs.ensures.pins in
+    let outs = c.in_ok-outputs.ensures ∙ (λ i. part s.output (length (c.as_slice-shown.ensures i)) (c.outputs.ensures.pins i)) in
+    subst (IsTenant s n p owners w) (sym c.new.ensures.value) (record { share = share; inputs = ins; outputs = outs })

@@ -1,0 +1,69 @@
+use Rattle.std.proofs.Common.{◌≡◌, ◌≤◌, ◌+◌, ℕ, List, length, ap, ◌∙◌, subst}
+use Rattle.machine_shape.specs.declared.Shape.{Shape}
+use Rattle.machine_shape.specs.Defects.{Defects}
+use Rattle.map_network.specs.declared.network.Network.{Network}
+use Rattle.place_plan.specs.declared.layout.Laid.TheVariants as laid
+use Rattle.place_plan.specs.declared.plan.Plan.{Plan}
+use Rattle.place_plan.specs.declared.short.Need.{Need}
+use Rattle.place_plan.specs.Laying.{IsLaid}
+use Rattle.place_plan.specs.Lists.{AreThose}
+use Rattle.place_plan.specs.Plans.{AreNeeds, IsFreeTableOf, IsFreePinOf, IsInOrder, IsInOrderOf, IsPlan}
+use Rattle.place_plan.proofs.Fitting.{needs_are, in_order_is, plan_is}
+use Rattle.place_plan.proofs.fit.in_order_laid.Goals as goal
+
+-- what is known once tables and pins suffice
+record Known (m : Shape) (d : Defects) (n : Network) (p : Plan) (tables pins : Need) : Type 0 where
+  pub needs : AreNeeds m d n tables pins
+  pub plan : IsPlan m d n p
+  pub in_order : IsInOrder m d n p
+
+known : (m : Shape) (d : Defects) (n : Network) (p : Plan) (free_tables free_pins ts ps us vs : List ℕ) (tables pins : Need) → AreThose (IsFreeTableOf m d) free_tables → AreThose (IsFreePinOf m d) free_pins → ts ≡ free_tables → ps ≡ free_pins → us ≡ free_tables → vs ≡ free_pins →
+    tables.need ≡ length n.tables → tables.have ≡ length ts → pins.need ≡ n.inputs + length n.outputs → pins.have ≡ length ps → tables.need ≤ tables.have → pins.need ≤ pins.have → IsInOrderOf n us vs p → Known m d n p tables pins
+known m d n p free_tables free_pins ts ps us vs tables pins a b e f g h tn th pn ph tm pm sits = record {
+  needs = needs_are m d n free_tables free_pins tables pins a b tn th' pn ph';
+  plan = plan_is m d n p free_tables free_pins a b t q on;
+  in_order = in_order_is m d n p free_tables free_pins a b t q on;
+}
+  where
+    th' : tables.have ≡ length free_tables
+    th' = th ∙ ap length e
+
+    ph' : pins.have ≡ length free_pins
+    ph' = ph ∙ ap length f
+
+    t : length n.tables ≤ length free_tables
+    t = subst (λ z. z ≤ length free_tables) tn (subst (λ z. tables.need ≤ z) th' tm)
+
+    q : n.inputs + length n.outputs ≤ length free_pins
+    q = subst (λ z. z ≤ length free_pins) pn (subst (λ z. pins.need ≤ z) ph' pm)
+
+    on : IsInOrderOf n free_tables free_pins p
+    on = subst (λ z. IsInOrderOf n free_tables z p) h (subst (λ z. IsInOrderOf n z vs p) g sits)
+
+pub laid-requires-clause-plan : goal.laid-requires-clause-plan
+laid-requires-clause-plan c =
+    let D = c.args.defects.now in
+    (known D.shape D.list c.args.network.now c.in_ok-plan.plan c.in_ok-free_tables.free_tables c.in_ok-free_pins.free_pins c.as_slice.result.now c.as_slice-2.result.now c.as_slice-3.result.now c.as_slice-4.result.now c.tables_wanted-tables.result c.pins_wanted-pins.result c.in_ok-free_tables.ensures c.in_ok-free_pins.ensures c.as_slice.ensures c.as_slice-2.ensures c.as_slice-3.ensures c.as_slice-4.ensures
+    c.tables_wanted-tables.ensures.need c.tables_wanted-tables.ensures.have c.pins_wanted-pins.ensures.need c.pins_wanted-pins.ensures.have c.if-tables.false c.if-pins.false c.in_ok-plan.ensures).plan
+
+pub returns-in-Out-clause-plan : goal.returns-in-Out-clause-plan
+returns-in-Out-clause-plan c =
+    let D = c.args.defects.now in
+    let m = D.shape in
+    let n = c.args.network.now in
+    let p = c.in_ok-plan.plan in
+    let t = c.tables_wanted-tables.result in
+    let q = c.pins_wanted-pins.result in
+    let k : Known m D.list n p t q = known m D.list n p c.in_ok-free_tables.free_tables c.in_ok-free_pins.free_pins c.as_slice.result.now c.as_slice-2.result.now c.as_slice-3.result.now c.as_slice-4.result.now t q c.in_ok-free_tables.ensures c.in_ok-free_pins.ensures c.as_slice.ensures c.as_slice-2.ensures c.as_slice-3.ensures c.as_slice-4.ensures
+    c.tables_wanted-tables.ensures.need c.tables_wanted-tables.ensures.have c.pins_wanted-pins.ensures.need c.pins_wanted-pins.ensures.have c.if-tables.false c.if-pins.false c.in_ok-plan.ensures in
+    let is : IsLaid m D.list n p t q c.in_ok-layout.field-0 = c.in_ok-layout.ensures in
+    let out : IsLaid m D.list n p t q (laid.Out c.in-Out.layout) = subst (IsLaid m D.list n p t q) c.in-Out.is is in
+    record { plan = k.plan; in_order = k.in_order; fits = record { tables = t; pins = q; needs = k.needs; suffices = out.0 } }
+
+pub returns-in-Out-clause-layout : goal.returns-in-Out-clause-layout
+returns-in-Out-clause-layout c =
+    let D = c.args.defects.now in
+    let L = IsLaid D.shape D.list c.args.network.now c.in_ok-plan.plan c.tables_wanted-tables.result c.pins_wanted-pins.result in
+    let is : L c.in_ok-layout.field-0 = c.in_ok-layout.ensures in
+    let out : L (laid.Out c.in-Out.layout) = subst L c.in-Out.is is in
+    out.1

@@ -1,0 +1,6 @@
+use Rattle.place_plan.specs.Lists.{AreThose, IsAmongFirst, same_number}
+use Rattle.place_plan.specs.Plans.{IsFreePin}
+use Rattle.place_plan.proofs.order.free_pins.Given as goal
+
+abbrev pub invariant-loop-k : goal.invariant-loop-k
+invariant-loop-k l = AreThose (IsAmongFirst same_number l.k (IsFreePin l.defects.shape l.defects.list)) l.pins

@@ -1,0 +1,6 @@
+use Rattle.machine_shape.specs.Defects.{IsFreeTable}
+use Rattle.place_plan.specs.Lists.{AreThose, IsAmongFirst, same_number}
+use Rattle.place_plan.proofs.order.free_tables.Given as goal
+
+abbrev pub invariant-loop-t : goal.invariant-loop-t
+invariant-loop-t l = AreThose (IsAmongFirst same_number l.t (IsFreeTable l.defects.shape l.defects.list)) l.tables

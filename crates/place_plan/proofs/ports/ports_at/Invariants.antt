@@ -1,0 +1,7 @@
+use Rattle.machine_shape.specs.Shape.{port_at}
+use Rattle.machine_shape.specs.Defects.{IsFreeWire}
+use Rattle.place_plan.specs.Lists.{AreThose, IsAmongFirst}
+use Rattle.place_plan.proofs.ports.ports_at.Given as goal
+
+abbrev pub invariant-loop-k : goal.invariant-loop-k
+invariant-loop-k l = AreThose (IsAmongFirst (port_at l.defects.shape l.node) l.k (IsFreeWire l.defects.list)) l.ports

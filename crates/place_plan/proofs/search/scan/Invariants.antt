@@ -1,0 +1,10 @@
+use Rattle.std.proofs.Common.{length}
+use Rattle.place_plan.specs.Choices.{serves_by}
+use Rattle.place_plan.specs.Search.{IsScanning, AskWithin}
+use Rattle.place_plan.proofs.search.scan.Given as goal
+
+abbrev pub invariant-loop-j : goal.invariant-loop-j
+invariant-loop-j l = record {
+  scanning : IsScanning (serves_by l.defects l.asks) l.lines l.owners l.fn.steps.items l.steps.items l.seen l.h l.ask l.j;
+  asks : AskWithin (length l.asks) l.steps.items;
+}

@@ -1,0 +1,6 @@
+use Rattle.std.proofs.Common.{take}
+use Rattle.place_plan.specs.Taps.{AreTaps}
+use Rattle.place_plan.proofs.taps.taps_of.Given as goal
+
+abbrev pub invariant-loop-wire : goal.invariant-loop-wire
+invariant-loop-wire l = AreTaps l.tree.shape l.crossing l.ports l.node l.net (take l.wire-index l.wires) l.taps

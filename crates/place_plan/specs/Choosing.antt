@@ -1,0 +1,41 @@
+-- A choice of ports and lines for nets, as it is laid on the tree of crossbars.
+use Rattle.std.specs.Prelude.{◌≡◌, ◌≢◌, ℕ, ◌<◌, ◌==◌, ◌&&◌, List, [], ◌∷◌, if◌then◌else◌}
+use Rattle.std.specs.List.{All, AllPairs, Contains}
+use Rattle.machine_shape.specs.declared.Shape.{Shape}
+use Rattle.machine_shape.specs.Shape.{crosses_of, ends_of, IsLine, IsPort}
+use Rattle.machine_shape.specs.Defects.{Defects, IsFreeWire, IsFreeCross}
+use Rattle.place_plan.specs.declared.short.Port.{Port}
+use Rattle.place_plan.specs.declared.short.Visit.{Visit}
+use Rattle.place_plan.specs.declared.tree.Strand.{Strand}
+use Rattle.place_plan.specs.Strands.{IsAt, tap_of}
+use Rattle.place_plan.specs.Room.{CrossesAt, VisitsAt, HasPort}
+
+-- the port of a net at a node, by a list
+abbrev pub port_in : List Port → ℕ → ℕ → ℕ
+port_in [] n k = 0
+port_in (p ∷ ps) n k = if (p.node == n) && (p.net == k) then p.wire else port_in ps n k
+
+-- the net has the line at the node
+abbrev pub HasLine : List Visit → ℕ → ℕ → ℕ → Type 0
+HasLine vs n k w = Contains vs (record { node = n; net = k; line = w })
+
+-- the crosspoint of the tap and the line is there, and free
+abbrev pub HasFreeCross : Shape → Defects → ℕ → ℕ → Type 0
+HasFreeCross m d tap line = (x : ℕ) × (x < crosses_of m) × (ends_of m x ≡ (tap, line)) × IsFreeCross m d x
+
+-- a line for each net that visits a node, and for each net that crosses it its port
+pub record IsChoice (m : Shape) (d : Defects) (count : ℕ) (terminal : ℕ → ℕ → Type 0) (ports : List Port) (vs : List Visit) : Type 0 where
+  -- each net that visits a node has a line there, which is a free line of the node
+  pub given : (n k : ℕ) → VisitsAt m count terminal n k → (w : ℕ) × HasLine vs n k w
+  pub each : All (λ v. VisitsAt m count terminal v.node v.net × IsLine m v.node v.line × IsFreeWire d v.line) vs
+  -- one line for each, and no line twice
+  pub nets_apart : AllPairs (λ v u. v.node ≡ u.node → v.net ≢ u.net) vs
+  pub lines_apart : AllPairs (λ v u. v.line ≢ u.line) vs
+  -- the j-th net that crosses a node has the j-th free port of it
+  pub are_ports : (n k : ℕ) → CrossesAt m count terminal n k → HasPort m d count terminal n k (port_in ports n k)
+      × IsPort m n (port_in ports n k) × IsFreeWire d (port_in ports n k)
+  pub ports_apart : (n k l : ℕ) → CrossesAt m count terminal n k → CrossesAt m count terminal n l →
+      port_in ports n k ≡ port_in ports n l → k ≡ l
+  -- the crosspoints of a net's line and its taps are free
+  pub serves : All (λ v. (t : ℕ) (s : Strand) → terminal v.net t → IsAt m v.node t s →
+      HasFreeCross m d (tap_of (λ c. port_in ports c v.net) v.node s) v.line) vs

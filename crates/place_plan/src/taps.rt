@@ -1,0 +1,134 @@
+//! The nets that ask for a line at a node, and their taps there.
+ghost use Rattle.std.specs.Prelude.{◌≡◌, ◌<◌, OnOk, IfOk, All, AllPairs, length};
+ghost use Rattle.machine_shape.specs.Shape.{wires_of, nodes_of};
+ghost use Rattle.place_plan.specs.Choices.{AreWires};
+ghost use Rattle.place_plan.specs.Lists.{AreThose};
+ghost use Rattle.place_plan.specs.Taps.{AreAscending, AreAsks, AreTaps, IsFound, IsFreeLine, IsHeld, IsTapFor, with_option};
+ghost use Rattle.place_plan.specs.Touches.{TouchesOf, list_at};
+
+use crate::numbers::{push_if, push_last};
+use crate::ports::port_of;
+use crate::search::Ask;
+use crate::strand::{strand_at, visits};
+use crate::tree::{Strand, Tree};
+use base_lists::Items;
+use machine_defects::Defects;
+use machine_shape::Node;
+use std::alloc::{AllocError, Global};
+
+// The port that a net has at a node, if there are so many.
+fn held(crossing: &[Items<u32>], ports: &[Items<u32>], node: u32, net: u32) -> Option<u32>
+    requires crossing { node < length crossing.now }
+    requires ports { node < length ports.now }
+    requires ascending { AllPairs (λ a b. a < b) (list_at crossing.now node) }
+    ensures { IsFound (IsHeld crossing.now ports.now node net) result }
+{
+    port_of(
+        crossing[node as usize].as_slice(),
+        ports[node as usize].as_slice(),
+        net,
+    )
+}
+
+// The tap by which a net comes to a node for one of its terminals, if the net has the port.
+fn tap_at(
+    tree: &Tree,
+    crossing: &[Items<u32>],
+    ports: &[Items<u32>],
+    node: u32,
+    net: u32,
+    wire: u32,
+) -> Option<u32>
+    requires node { node < nodes_of tree.now.shape }
+    requires wire { wire < wires_of tree.now.shape }
+    requires crossing { length crossing.now ≡ nodes_of tree.now.shape }
+    requires ports { length ports.now ≡ nodes_of tree.now.shape }
+    requires ascending { AreAscending (nodes_of tree.now.shape) crossing.now }
+    ensures { IsFound (IsTapFor tree.now.shape crossing.now ports.now node net wire) result }
+{
+    machine_shape::the_numbering_is_sound();
+    match strand_at(tree, node, wire) {
+        Strand::Own(tap) => Some(tap),
+        Strand::Child(child) => held(crossing, ports, child, net),
+        Strand::Outside => held(crossing, ports, node, net),
+    }
+}
+
+// Puts a tap at the end, if there is one and it isn't there.
+fn push_tap(taps: &mut Items<u32>, tap: Option<u32>) -> Result<(), AllocError>
+    ensures { OnOk result (taps.new ≡ with_option taps.old tap) }
+{
+    match tap {
+        Some(tap) => push_last(taps, tap),
+        None => Ok(()),
+    }
+}
+
+// The taps by which a net with these terminals comes to a node. Neighbours differ.
+fn taps_of(
+    alloc: Global,
+    tree: &Tree,
+    crossing: &[Items<u32>],
+    ports: &[Items<u32>],
+    node: u32,
+    net: u32,
+    wires: &[u32],
+) -> Result<Items<u32>, AllocError>
+    requires node { node < nodes_of tree.now.shape }
+    requires wires { AreWires tree.now.shape wires.now }
+    requires crossing { length crossing.now ≡ nodes_of tree.now.shape }
+    requires ports { length ports.now ≡ nodes_of tree.now.shape }
+    requires ascending { AreAscending (nodes_of tree.now.shape) crossing.now }
+    ensures { IfOk result (AreTaps tree.now.shape crossing.now ports.now node net wires.now) }
+{
+    let mut taps = Items::empty(alloc);
+    for wire in wires {
+        push_tap(&mut taps, tap_at(tree, crossing, ports, node, net, *wire))?;
+    }
+    Ok(taps)
+}
+
+/// The nets that visit a node, of those that have a terminal inside, with their taps there.
+pub fn asks_at(
+    alloc: Global,
+    tree: &Tree,
+    nets: &[Items<u32>],
+    touched: &[u32],
+    crossing: &[Items<u32>],
+    ports: &[Items<u32>],
+    node: u32,
+) -> Result<Vec<Ask>, AllocError>
+    requires node { node < nodes_of tree.now.shape }
+    requires within { All (AreWires tree.now.shape) nets.now }
+    requires touched { AreThose (TouchesOf tree.now.shape nets.now (length nets.now) node) touched.now }
+    requires crossing { length crossing.now ≡ nodes_of tree.now.shape }
+    requires ports { length ports.now ≡ nodes_of tree.now.shape }
+    requires ascending { AreAscending (nodes_of tree.now.shape) crossing.now }
+    ensures { IfOk result (λ asks. AreAsks tree.now.shape nets.now crossing.now ports.now node asks.items) }
+{
+    let mut asks = Vec::new(alloc);
+    for k in touched {
+        let wires = nets[*k as usize].as_slice();
+        if visits(tree, wires, node) {
+            let taps = taps_of(alloc, tree, crossing, ports, node, *k, wires)?;
+            asks.push(Ask { net: *k, taps })?;
+        }
+    }
+    Ok(asks)
+}
+
+/// The free lines of a node, ascending.
+pub fn free_lines(alloc: Global, defects: &Defects, node: u32) -> Result<Items<u32>, AllocError>
+    requires { node < nodes_of defects.now.shape }
+    ensures lines { IfOk result (AreThose (IsFreeLine defects.now.shape defects.now.list node)) }
+    ensures within { IfOk result (AreWires defects.now.shape) }
+{
+    machine_shape::ports_and_lines_ascend();
+    let shape = defects.shape();
+    let mut lines = Items::empty(alloc);
+    for k in 0..shape.lines(Node(node)) {
+        let line = shape.line(Node(node), k);
+        push_if(&mut lines, line.0, defects.free_wire(line))?;
+    }
+    Ok(lines)
+}

@@ -1,0 +1,18 @@
+-- A switched-on table is one of the machine.
+use Rattle.std.proofs.Common.{◌≡◌, ◌⊎◌, ℕ, ◌<◌, ◌≤◌, Option, None, length, subst, inl, inr}
+use Rattle.std.specs.Prelude.{IsSome}
+use Rattle.std.proofs.lemmas.Bool.{cases_lt}
+use Rattle.std.proofs.lemmas.List.{get_or_past}
+use Rattle.machine_shape.specs.Shape.{tables_of}
+use Rattle.machine_config.specs.declared.Setting.{Setting}
+use Rattle.machine_config.specs.Configuration.{Configuration, IsConfiguration, setting_of}
+
+pub some_none : {o : Option Setting} → IsSome o → o ≡ None → ⊥
+some_none is e = cc
+
+pub on_within : (g : Configuration) → IsConfiguration g → (t : ℕ) → IsSome (setting_of g t) → t < tables_of g.shape
+on_within g right t on = by (cases_lt t (length g.tables))
+  where
+    by : (t < length g.tables) ⊎ (length g.tables ≤ t) → t < tables_of g.shape
+    by (inl l) = subst (λ n. t < n) right.tables l
+    by (inr l) = absurd (some_none on (get_or_past g.tables t None l))

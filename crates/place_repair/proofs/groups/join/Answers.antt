@@ -1,0 +1,12 @@
+use Rattle.std.proofs.Common.{ℕ, ◌<◌, sym, subst}
+use Rattle.place_repair.specs.Groups.{IsUnited}
+use Rattle.place_repair.proofs.groups.join.Goals as goal
+
+pub unite-requires-clause-a : goal.unite-requires-clause-a
+unite-requires-clause-a c = subst (λ n. c.ends.result.0.0 < n) (sym c.requires.sized) c.ends.ensures.tap
+
+pub unite-requires-clause-b : goal.unite-requires-clause-b
+unite-requires-clause-b c = subst (λ n. c.ends.result.1.0 < n) (sym c.requires.sized) c.ends.ensures.line
+
+pub returns : goal.returns
+returns c = subst (λ (p : ℕ × ℕ). IsUnited c.args.parents.now c.unite.new.parents p.0 p.1) c.ends.ensures.ends c.unite.ensures

@@ -1,0 +1,7 @@
+use Rattle.place_repair.specs.Groups.{HasJoined}
+use Rattle.place_repair.specs.Making.{IsCross, no_cross}
+use Rattle.place_repair.specs.Marks.{IsOfFirst}
+use Rattle.place_repair.proofs.groups.join_all.Given as goal
+
+abbrev pub invariant-loop-k : goal.invariant-loop-k
+invariant-loop-k l = HasJoined l.config.config (IsOfFirst IsCross no_cross l.closed l.k) l.parents

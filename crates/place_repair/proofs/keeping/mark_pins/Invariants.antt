@@ -1,0 +1,6 @@
+use Rattle.place_repair.specs.Making.{IsBrokenBy}
+use Rattle.place_repair.specs.Marks.{IsMarked}
+use Rattle.place_repair.proofs.keeping.mark_pins.Given as goal
+
+abbrev pub invariant-loop-j : goal.invariant-loop-j
+invariant-loop-j l = IsMarked (IsBrokenBy l.config.config l.nets.lowest l.table.0 l.j) l.fn.marks l.marks

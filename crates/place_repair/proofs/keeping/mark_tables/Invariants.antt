@@ -1,0 +1,6 @@
+use Rattle.place_repair.specs.Making.{IsBrokenHere, no_table}
+use Rattle.place_repair.specs.Marks.{IsMarked, IsOfFirst}
+use Rattle.place_repair.proofs.keeping.mark_tables.Given as goal
+
+abbrev pub invariant-loop-k : goal.invariant-loop-k
+invariant-loop-k l = IsMarked (IsOfFirst (λ t. IsBrokenHere l.defects.list l.config.config l.nets.lowest t.0) no_table l.tables l.k) l.fn.marks l.marks

@@ -1,0 +1,6 @@
+use Rattle.place_plan.specs.Lists.{AreThose, IsAmongFirst, same_number}
+use Rattle.place_repair.specs.Nets.{IsLowest}
+use Rattle.place_repair.proofs.nets.lowest_wires.Given as goal
+
+abbrev pub invariant-loop-w : goal.invariant-loop-w
+invariant-loop-w l = AreThose (IsAmongFirst same_number l.w (IsLowest l.config.config)) l.lowest

@@ -1,0 +1,9 @@
+use Rattle.std.proofs.Common.{◌≡◌, length}
+use Rattle.place_repair.specs.Making.{AreNumbersTo}
+use Rattle.place_repair.proofs.nets.number.Given as goal
+
+abbrev pub invariant-loop-k : goal.invariant-loop-k
+invariant-loop-k l = record {
+  sized : length l.numbers ≡ length l.fn.numbers;
+  so_far : AreNumbersTo l.k l.wires l.numbers;
+}

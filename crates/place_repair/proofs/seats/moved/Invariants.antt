@@ -1,0 +1,6 @@
+use Rattle.std.proofs.Common.{◌≡◌, map, take}
+use Rattle.place_plan.specs.Lists.{nth_of}
+use Rattle.place_repair.proofs.seats.moved.Given as goal
+
+abbrev pub invariant-loop-i : goal.invariant-loop-i
+invariant-loop-i l = l.moved.items ≡ map (nth_of l.places) (take l.i l.pins)

@@ -1,0 +1,7 @@
+use Rattle.std.proofs.Common.{◌≡◌, ◌++◌, take}
+use Rattle.std.specs.List.{filter}
+use Rattle.place_repair.specs.Plans.{is_gone_pin}
+use Rattle.place_repair.proofs.seats.push_gone.Given as goal
+
+abbrev pub invariant-loop-i : goal.invariant-loop-i
+invariant-loop-i l = l.gone ≡ l.fn.gone ++ filter (is_gone_pin l.defects.shape l.defects.list) (take l.i l.pins)

@@ -1,0 +1,6 @@
+use Rattle.place_plan.specs.Lists.{AreThose, IsAmongFirst, same_number}
+use Rattle.place_repair.specs.Plans.{IsSparePin}
+use Rattle.place_repair.proofs.seats.spare_pins.Given as goal
+
+abbrev pub invariant-loop-p : goal.invariant-loop-p
+invariant-loop-p l = AreThose (IsAmongFirst same_number l.p (IsSparePin l.defects.list l.image)) l.spare

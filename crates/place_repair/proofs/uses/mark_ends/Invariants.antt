@@ -1,0 +1,6 @@
+use Rattle.place_repair.specs.Making.{IsEndOf, no_cross}
+use Rattle.place_repair.specs.Marks.{IsMarked, IsOfFirst}
+use Rattle.place_repair.proofs.uses.mark_ends.Given as goal
+
+abbrev pub invariant-loop-k : goal.invariant-loop-k
+invariant-loop-k l = IsMarked (IsOfFirst (λ c. IsEndOf l.shape c.0) no_cross l.closed l.k) l.fn.marks l.marks

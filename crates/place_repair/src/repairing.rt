@@ -1,0 +1,115 @@
+//! Repairs an image.
+ghost use Rattle.std.specs.Prelude.{◌≡◌, ◌≤◌, ◌<◌, IfOk, IfErr, length};
+ghost use Rattle.std.specs.FinSet as set;
+ghost use Rattle.machine_image.specs.Parts.{IsFreeImage};
+ghost use Rattle.place_route.specs.Routed.{AreWiresOf};
+ghost use Rattle.place_repair.specs.Making.{AreApart, ArePinsApart, AreSizedFor, IsRedrawn};
+ghost use Rattle.place_plan.specs.Room.{IsMet};
+ghost use Rattle.place_repair.specs.Plans.{AreSeats, need_of};
+ghost use Rattle.place_repair.specs.Repairs.{HasSameRows, IsRepair, IsRepairFail};
+
+use crate::drawing::draw;
+use crate::plan::{Plan, plan_of};
+use crate::rest::rest_of;
+use crate::seats::{Seats, moved, need_of, seats_of};
+use crate::terminals::terminals_of;
+use machine_defects::Defects;
+use machine_image::Image;
+use place_plan::{Layout, PlaceFail, Resource, Room, look_for_room, short_of};
+use std::alloc::{AllocError, Global};
+
+// The image that follows a plan and whose moving nets have this layout.
+fn redraw(alloc: Global, image: &Image, plan: &Plan, layout: &Layout) -> Result<Image, AllocError>
+    requires few { set.len image.now.config.closed ≤ 1000000 }
+    requires plan { AreSizedFor image.now.config plan.now }
+    requires tables { AreApart image.now.config plan.now }
+    requires pins { ArePinsApart image.now plan.now }
+    requires nets { length layout.now.nets.items < 4294967296 }
+    requires wires { AreWiresOf image.now.config.shape layout.now.nets.items layout.now.ports.items layout.now.visits.items }
+    ensures { IfOk result (IsRedrawn image.now plan.now layout.now.nets.items layout.now.ports.items layout.now.visits.items) }
+{
+    let old = image.config();
+    // Says that the machine has few wires.
+    let _wires = old.shape().wires();
+    let config = draw(alloc, old, plan, layout)?;
+    let inputs = moved(alloc, &plan.pins, image.inputs())?;
+    let outputs = moved(alloc, &plan.pins, image.outputs())?;
+    Ok(Image::new(config, inputs, outputs))
+}
+
+// The repair of an image where there are tables and pins for all that go.
+fn laid(alloc: Global, image: &Image, defects: &Defects, seats: &Seats) -> Result<Image, PlaceFail>
+    requires few { set.len image.now.config.closed ≤ 1000000 }
+    requires shape { defects.now.shape ≡ image.now.config.shape }
+    requires seats { AreSeats defects.now.list image.now seats.now }
+    requires tables { IsMet (need_of seats.now.tables) }
+    requires pins { IsMet (need_of seats.now.pins) }
+    ensures repair { IfOk result (IsRepair defects.now.list image.now) }
+    ensures free { IfOk result (IsFreeImage defects.now.list) }
+    ensures rows { IfOk result (HasSameRows defects.now.list image.now) }
+    ensures fail { IfErr result (IsRepairFail defects.now.list image.now) }
+{
+    machine_shape::the_numbering_is_sound();
+    machine_shape::the_crosspoints_are_sound();
+    machine_shape::ports_and_lines_ascend();
+    machine_defects::the_tests_are_right();
+    // Say that what is set is of the machine, and that it has few wires.
+    let _config = image.config();
+    let _wires = defects.shape().wires();
+    let plan = plan_of(alloc, image, defects, seats)?;
+    let terminals = terminals_of(alloc, image, &plan)?;
+    let rest = rest_of(alloc, image, &plan, defects)?;
+    let room = look_for_room(
+        alloc,
+        &rest,
+        &terminals,
+        need_of(&seats.tables),
+        need_of(&seats.pins),
+    )?;
+    match room {
+        Room::Lacks(short) => Err(PlaceFail::Short(short)),
+        Room::Enough { ports, visits } => {
+            let layout = Layout {
+                nets: terminals,
+                ports,
+                visits,
+            };
+            let repaired = redraw(alloc, image, &plan, &layout)?;
+            Ok(repaired)
+        }
+    }
+}
+
+/// Repairs an image for a list of defects: what touches nothing listed stays, and the rest is laid anew on what is free.
+///
+/// A switched-on table that isn't free goes: the k-th of them to the k-th free table that is off and has no used pin. So do pins, inputs
+/// before outputs, to free pins that aren't used. A net, that is a group of wires that closed crosspoints join, is kept where its wires and
+/// closed crosspoints are free and none of its tables and pins goes; all other nets are laid anew, on ports and lines that are free and
+/// that no kept net has. The j-th of them that crosses a node has the j-th of these ports there. Nothing else is closed: what a net leaves
+/// that is laid anew is open, but where another one needs it.
+///
+/// The new image has the rows of the old one under each fault set that the list covers, and touches only what is free.
+///
+/// # Errors
+///
+/// `Short` exactly where the plan hasn't room, with the first short resource: tables, pins, and then node by node ports, lines. The numbers
+/// of nets are by their lowest wires. `Memory` for want of memory.
+pub fn repair(alloc: Global, image: &Image, defects: &Defects) -> Result<Image, PlaceFail>
+    requires few { set.len image.now.config.closed ≤ 1000000 }
+    requires shape { defects.now.shape ≡ image.now.config.shape }
+    ensures repair { IfOk result (IsRepair defects.now.list image.now) }
+    ensures free { IfOk result (IsFreeImage defects.now.list) }
+    ensures rows { IfOk result (HasSameRows defects.now.list image.now) }
+    ensures fail { IfErr result (IsRepairFail defects.now.list image.now) }
+{
+    let seats = seats_of(alloc, image, defects)?;
+    let tables = need_of(&seats.tables);
+    let pins = need_of(&seats.pins);
+    if tables.have < tables.need {
+        return Err(PlaceFail::Short(short_of(alloc, Resource::Tables, tables)));
+    }
+    if pins.have < pins.need {
+        return Err(PlaceFail::Short(short_of(alloc, Resource::Pins, pins)));
+    }
+    laid(alloc, image, defects, &seats)
+}

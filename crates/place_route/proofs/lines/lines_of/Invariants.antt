@@ -1,0 +1,6 @@
+use Rattle.std.proofs.Common.{take}
+use Rattle.place_route.specs.Owners.{AreLines}
+use Rattle.place_route.proofs.lines.lines_of.Given as goal
+
+abbrev pub invariant-loop-visit : goal.invariant-loop-visit
+invariant-loop-visit l = AreLines (take l.visit-index l.visits) l.lines

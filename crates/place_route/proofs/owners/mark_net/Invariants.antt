@@ -1,0 +1,6 @@
+use Rattle.std.proofs.Common.{take}
+use Rattle.place_route.specs.Owners.{IsClaimedBy, IsMarked}
+use Rattle.place_route.proofs.owners.mark_net.Given as goal
+
+abbrev pub invariant-loop-wire : goal.invariant-loop-wire
+invariant-loop-wire l = IsMarked (IsClaimedBy l.net (take l.wire-index l.wires)) l.fn.owners l.owners

@@ -1,7 +1,0 @@
-use Rattle.std.proofs.Common.{◌≡◌, take}
-use Rattle.port_board.specs.Requests.{edited}
-use Rattle.port_board.specs.RigPorts.{edits_of}
-use Rattle.port_board.proofs.rig_port.make_all.Given as goal
-
-abbrev pub invariant-changes : goal.invariant-changes
-invariant-changes l = (l.set.config.shape ≡ l.initial.set.config.shape) × (l.set.config ≡ edited l.initial.set.config (edits_of (take l.k l.changes)))

@@ -1,7 +1,0 @@
-use Rattle.std.proofs.Common.{◌≡◌, ◌++◌, take}
-use Rattle.port_board.specs.Requests.{edits_text}
-use Rattle.port_board.specs.RigPorts.{edits_of}
-use Rattle.port_board.proofs.rig_port.put_changes.Given as goal
-
-abbrev pub invariant-changes : goal.invariant-changes
-invariant-changes l = l.line.items ≡ l.initial.line.items ++ edits_text (edits_of (take l.k l.changes))

@@ -1,7 +1,0 @@
-use Rattle.std.proofs.Common.{◌≡◌, take}
-use Rattle.std.specs.List.{sum_by}
-use Rattle.port_board.specs.Lines.{word_room}
-use Rattle.port_board.proofs.rig_port.room_of.Given as goal
-
-abbrev pub invariant-rows : goal.invariant-rows
-invariant-rows l = l.total ≡ sum_by word_room (take l.k l.rows)

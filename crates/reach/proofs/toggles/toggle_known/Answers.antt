@@ -1,5 +1,0 @@
-use Rattle.reach.proofs.Passing.{known_passes}
-use Rattle.reach.proofs.toggles.toggle_known.Goals as goal
-
-pub returns-in-Ok-toggle-clause-kept : goal.returns-in-Ok-toggle-clause-kept
-returns-in-Ok-toggle-clause-kept g c = known_passes c.requires.known c.in-Ok.ensures c.requires.at c.in-Ok-toggle.ensures.passes c.toggle.ensures.advances.more c.in-Ok-toggle.ensures.kept

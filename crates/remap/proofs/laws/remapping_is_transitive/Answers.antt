@@ -1,5 +1,0 @@
-use Rattle.remap.proofs.RemapLemmas.{remapped-then}
-use Rattle.remap.proofs.laws.remapping_is_transitive.Goals as goal
-
-pub returns : goal.returns
-returns c = λ d e f text again first second. remapped-then d e f text again first second

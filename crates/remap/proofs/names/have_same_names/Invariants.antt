@@ -1,6 +1,0 @@
-use Rattle.std.proofs.Common.{◌≡◌, ℕ, ◌<◌}
-use Rattle.netlist.specs.Drafts.{name_at, signal_at}
-use Rattle.remap.proofs.names.have_same_names.Given as goal
-
-abbrev pub invariant-words : goal.invariant-words
-invariant-words l = (j : ℕ) → j < l.k → name_at l.design (signal_at l.words j) ≡ name_at l.other (signal_at l.other_words j)

@@ -1,7 +1,0 @@
-use Rattle.crossbar_route.specs.Closing.{Closes}
-use Rattle.repair.specs.Making.{IsKeptCrossOf, no_cross}
-use Rattle.repair.specs.Marks.{IsOfFirst}
-use Rattle.repair.proofs.drawing.keep_crosses.Given as goal
-
-abbrev pub invariant-loop-k : goal.invariant-loop-k
-invariant-loop-k l = Closes (IsOfFirst (λ c. IsKeptCrossOf l.old.config l.plan c.0) no_cross l.closed l.k) l.k l.fn.config.config l.config.config

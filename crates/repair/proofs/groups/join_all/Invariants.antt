@@ -1,7 +1,0 @@
-use Rattle.repair.specs.Groups.{HasJoined}
-use Rattle.repair.specs.Making.{IsCross, no_cross}
-use Rattle.repair.specs.Marks.{IsOfFirst}
-use Rattle.repair.proofs.groups.join_all.Given as goal
-
-abbrev pub invariant-loop-k : goal.invariant-loop-k
-invariant-loop-k l = HasJoined l.config.config (IsOfFirst IsCross no_cross l.closed l.k) l.parents

@@ -1,6 +1,0 @@
-use Rattle.repair.specs.Making.{IsBrokenBy}
-use Rattle.repair.specs.Marks.{IsMarked}
-use Rattle.repair.proofs.keeping.mark_pins.Given as goal
-
-abbrev pub invariant-loop-j : goal.invariant-loop-j
-invariant-loop-j l = IsMarked (IsBrokenBy l.config.config l.nets.lowest l.table.0 l.j) l.fn.marks l.marks

@@ -1,6 +1,0 @@
-use Rattle.repair.specs.Making.{IsBrokenHere, no_table}
-use Rattle.repair.specs.Marks.{IsMarked, IsOfFirst}
-use Rattle.repair.proofs.keeping.mark_tables.Given as goal
-
-abbrev pub invariant-loop-k : goal.invariant-loop-k
-invariant-loop-k l = IsMarked (IsOfFirst (λ t. IsBrokenHere l.defects.list l.config.config l.nets.lowest t.0) no_table l.tables l.k) l.fn.marks l.marks

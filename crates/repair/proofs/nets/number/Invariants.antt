@@ -1,9 +1,0 @@
-use Rattle.std.proofs.Common.{◌≡◌, length}
-use Rattle.repair.specs.Making.{AreNumbersTo}
-use Rattle.repair.proofs.nets.number.Given as goal
-
-abbrev pub invariant-loop-k : goal.invariant-loop-k
-invariant-loop-k l = record {
-  sized : length l.numbers ≡ length l.fn.numbers;
-  so_far : AreNumbersTo l.k l.wires l.numbers;
-}

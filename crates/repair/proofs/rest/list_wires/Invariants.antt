@@ -1,5 +1,0 @@
-use Rattle.repair.specs.Making.{IsWireRest}
-use Rattle.repair.proofs.rest.list_wires.Given as goal
-
-abbrev pub invariant-loop-w : goal.invariant-loop-w
-invariant-loop-w l = IsWireRest l.defects.list l.config.config l.plan l.w l.rest

@@ -1,6 +1,0 @@
-use Rattle.std.proofs.Common.{◌≡◌, map, take}
-use Rattle.place.specs.Lists.{nth_of}
-use Rattle.repair.proofs.seats.moved.Given as goal
-
-abbrev pub invariant-loop-i : goal.invariant-loop-i
-invariant-loop-i l = l.moved.items ≡ map (nth_of l.places) (take l.i l.pins)

@@ -1,7 +1,0 @@
-use Rattle.std.proofs.Common.{◌≡◌, ◌++◌, take}
-use Rattle.std.specs.List.{filter}
-use Rattle.repair.specs.Plans.{is_gone_pin}
-use Rattle.repair.proofs.seats.push_gone.Given as goal
-
-abbrev pub invariant-loop-i : goal.invariant-loop-i
-invariant-loop-i l = l.gone ≡ l.fn.gone ++ filter (is_gone_pin l.defects.shape l.defects.list) (take l.i l.pins)

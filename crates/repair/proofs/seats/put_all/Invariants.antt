@@ -1,5 +1,0 @@
-use Rattle.repair.specs.Making.{IsPut}
-use Rattle.repair.proofs.seats.put_all.Given as goal
-
-abbrev pub invariant-loop-k : goal.invariant-loop-k
-invariant-loop-k l = IsPut l.gone l.spare l.k l.fn.places l.places

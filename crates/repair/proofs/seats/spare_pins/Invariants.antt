@@ -1,6 +1,0 @@
-use Rattle.place.specs.Lists.{AreThose, IsAmongFirst, same_number}
-use Rattle.repair.specs.Plans.{IsSparePin}
-use Rattle.repair.proofs.seats.spare_pins.Given as goal
-
-abbrev pub invariant-loop-p : goal.invariant-loop-p
-invariant-loop-p l = AreThose (IsAmongFirst same_number l.p (IsSparePin l.defects.list l.image)) l.spare

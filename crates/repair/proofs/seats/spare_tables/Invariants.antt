@@ -1,6 +1,0 @@
-use Rattle.place.specs.Lists.{AreThose, IsAmongFirst, same_number}
-use Rattle.repair.specs.Plans.{IsSpareTable}
-use Rattle.repair.proofs.seats.spare_tables.Given as goal
-
-abbrev pub invariant-loop-t : goal.invariant-loop-t
-invariant-loop-t l = AreThose (IsAmongFirst same_number l.t (IsSpareTable l.defects.list l.image)) l.spare

@@ -1,7 +1,0 @@
-use Rattle.std.proofs.Common.{◌≡◌}
-use Rattle.hierarchy.specs.Shape.{pin_wire}
-use Rattle.repair.specs.Marks.{IsMarked, IsOfFirst}
-use Rattle.repair.proofs.uses.mark_pins.Given as goal
-
-abbrev pub invariant-loop-i : goal.invariant-loop-i
-invariant-loop-i l = IsMarked (IsOfFirst (λ k w. pin_wire l.shape k ≡ w) 0 l.pins l.i) l.fn.marks l.marks

@@ -1,6 +1,0 @@
-use Rattle.repair.specs.Making.{IsTablePin}
-use Rattle.repair.specs.Marks.{IsMarked}
-use Rattle.repair.proofs.uses.mark_table.Given as goal
-
-abbrev pub invariant-loop-j : goal.invariant-loop-j
-invariant-loop-j l = IsMarked (IsTablePin l.shape l.table.0 l.j) l.fn.marks l.marks

@@ -1,0 +1,11 @@
+use Rattle.std.proofs.Common.{◌≡◌, List, ◌++◌, take}
+use Rattle.machine_shape.specs.Circuit.{Pins}
+use Rattle.rig_doubled.specs.Repeats.{IsRoomy, IsKept}
+use Rattle.rig_doubled.proofs.kept.Kept.add_all.Given as goal
+
+abbrev pub invariant-cycles : goal.invariant-cycles
+invariant-cycles l = record {
+  config : l.self.config ≡ l.fn.self.config;
+  roomy : IsRoomy l.self;
+  kept : (before after : List Pins) → IsKept l.fn.self before after → IsKept l.self (before ++ take l.k l.drives) (after ++ take l.k l.readings);
+}

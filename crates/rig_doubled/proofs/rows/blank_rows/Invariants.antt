@@ -1,0 +1,9 @@
+use Rattle.std.proofs.Common.{◌≡◌, length}
+use Rattle.rig_doubled.specs.Repeats.{HaveWidth}
+use Rattle.rig_doubled.proofs.rows.blank_rows.Given as goal
+
+abbrev pub invariant-rows : goal.invariant-rows
+invariant-rows l = record {
+  count : length l.rows.items ≡ l._k;
+  wide : HaveWidth l.pins l.rows.items;
+}

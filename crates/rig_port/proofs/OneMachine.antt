@@ -1,0 +1,130 @@
+-- A line of counts is that of one machine.
+use Rattle.std.proofs.Common.{◌≡◌, ℕ, suc, zero, ◌+◌, ◌%◌, ◌^◌, ◌<◌, ◌≤◌, List, [], ◌∷◌, ◌++◌, drop, map, length, get_or, All, Option, None, Some, refl, sym, ap, ◌∙◌, arith, subst}
+use Rattle.std.proofs.lemmas.List.{append_assoc, ext_get_or}
+use Rattle.std.proofs.lemmas.Fmt.{decimal_injective, decimal_digit, decimal-digits_of}
+use Rattle.std.specs.Prelude.{flat_map, sum, decimal, codes, IfSome}
+use Rattle.std.specs.List.{join_by}
+use Rattle.std.specs.Int.Digits.{digits_of}
+use Rattle.hex.specs.Hex.{encode_lower}
+use Rattle.std.proofs.Math.Bridge.{le_prop}
+use Rattle.machine_shape.specs.declared.Counts.{Counts}
+use Rattle.machine_shape.specs.declared.Shape.{Shape}
+use Rattle.machine_shape.specs.Counts.{levels_from, IsFull}
+use Rattle.machine_shape.specs.Walk.{size, tables_in, wires_in, crosses_in, nodes_in}
+use Rattle.machine_config.specs.Configuration.{cleared}
+use Rattle.rig_board.specs.Device.{Device, WhereTold}
+use Rattle.rig_port.specs.Answers.{Answers}
+use Rattle.rig_port.specs.Requests.{attach_line}
+use Rattle.rig_port.specs.Lines.{numbers_of, AreCounts, counts_line}
+use Rattle.rig_port.proofs.Spelled.{led}
+use Rattle.rig_port.proofs.Readings.{sealed, at_end}
+
+-- a numeral ends where what isn't a digit begins
+abbrev pub AreDigits : List ℕ → Type 0
+AreDigits [] = Unit {0}
+AreDigits (c ∷ cs) = (48 ≤ c) × AreDigits cs
+
+abbrev pub BeginsLow : List ℕ → Type 0
+BeginsLow [] = ⊥
+BeginsLow (c ∷ cs) = c < 48
+
+mapped : (ds : List ℕ) → AreDigits (map (λ d. 48 + d) ds)
+mapped [] = tt
+mapped (d ∷ ds) = (let h : 48 ≤ 48 + d = omega arith in h, mapped ds)
+
+pub digits : (n : ℕ) → n < 2 ^ 64 → AreDigits (decimal n)
+digits zero h = subst AreDigits (sym (decimal_digit zero (omega arith))) (omega arith, tt)
+digits (suc n) h = subst AreDigits (sym (decimal-digits_of (suc n) (omega arith) h)) (mapped (digits_of 10 (suc n)))
+
+pub cut_low : (a b r q : List ℕ) → AreDigits a → AreDigits b → BeginsLow r → BeginsLow q → a ++ r ≡ b ++ q → (a ≡ b) × (r ≡ q)
+cut_low [] [] r q da db lr lq e = (refl, e)
+cut_low [] (y ∷ b) r q da db lr lq e = absurd (let low : BeginsLow (y ∷ b ++ q) = subst BeginsLow e lr in let high = db.0 in omega (arith, low, high))
+cut_low (x ∷ a) [] r q da db lr lq e = absurd (let low : BeginsLow (x ∷ a ++ r) = subst BeginsLow (sym e) lq in let high = da.0 in omega (arith, low, high))
+cut_low (x ∷ a) (y ∷ b) r q da db lr lq e =
+    let heads : x ≡ y = cc in
+    let tails : a ++ r ≡ b ++ q = cc in
+    let more = cut_low a b r q da.1 db.1 lr lq tails in
+    (ap (λ z. z ∷ a) heads ∙ ap (λ l. y ∷ l) more.0, more.1)
+
+low : (xs s : List ℕ) → BeginsLow (flat_map (led decimal) xs ++ 42 ∷ s)
+low [] s = omega arith
+low (x ∷ xs) s = omega arith
+
+abbrev AreSmall : List ℕ → Type 0
+AreSmall xs = All (λ n. n < 2 ^ 16) xs
+
+same_numbers : (xs ys s t : List ℕ) → AreSmall xs → AreSmall ys → length xs ≡ length ys → flat_map (led decimal) xs ++ 42 ∷ s ≡ flat_map (led decimal) ys ++ 42 ∷ t → xs ≡ ys
+same_numbers [] [] s t a b len e = refl
+same_numbers [] (y ∷ ys) s t a b len e = absurd (omega (arith, len))
+same_numbers (x ∷ xs) [] s t a b len e = absurd (omega (arith, len))
+same_numbers (x ∷ xs) (y ∷ ys) s t a b len e =
+    let small : x < 2 ^ 64 = (let h : x < 2 ^ 16 = a 0 0 (omega arith) in omega (arith, h)) in
+    let small_too : y < 2 ^ 64 = (let h : y < 2 ^ 16 = b 0 0 (omega arith) in omega (arith, h)) in
+    let r = flat_map (led decimal) xs ++ 42 ∷ s in
+    let q = flat_map (led decimal) ys ++ 42 ∷ t in
+    let whole : decimal x ++ r ≡ decimal y ++ q
+    = ap (λ l. drop 1 l) (sym (append_assoc (led decimal x) (flat_map (led decimal) xs) (42 ∷ s)) ∙ e ∙ append_assoc (led decimal y) (flat_map (led decimal) ys) (42 ∷ t)) in
+    let parts = cut_low (decimal x) (decimal y) r q (digits x small) (digits y small_too) (low xs s) (low ys t) whole in
+    ap (λ z. z ∷ xs) (decimal_injective x y small small_too parts.0)
+    ∙ ap (λ l. y ∷ l) (same_numbers xs ys s t (λ k d lt. a (suc k) d (omega (arith, lt))) (λ k d lt. b (suc k) d (omega (arith, lt))) (omega (arith, len)) parts.1)
+
+-- lists of three and of four
+three_items : (xs ys : List ℕ) → length xs ≡ 3 → length ys ≡ 3 → get_or xs 0 0 ≡ get_or ys 0 0 → get_or xs 1 0 ≡ get_or ys 1 0 → get_or xs 2 0 ≡ get_or ys 2 0 → xs ≡ ys
+three_items xs ys m n a b c = ext_get_or 0 xs ys (m ∙ sym n) at where
+  at : (k : ℕ) → k < length xs → get_or xs k 0 ≡ get_or ys k 0
+  at zero lt = a
+  at (suc zero) lt = b
+  at (suc (suc zero)) lt = c
+  at (suc (suc (suc k))) lt = absurd (omega (arith, lt, m))
+
+four_items : (xs ys : List ℕ) → length xs ≡ 4 → length ys ≡ 4 → get_or xs 0 0 ≡ get_or ys 0 0 → get_or xs 1 0 ≡ get_or ys 1 0 → get_or xs 2 0 ≡ get_or ys 2 0 → get_or xs 3 0 ≡ get_or ys 3 0 → xs ≡ ys
+four_items xs ys m n a b c d = ext_get_or 0 xs ys (m ∙ sym n) at where
+  at : (k : ℕ) → k < length xs → get_or xs k 0 ≡ get_or ys k 0
+  at zero lt = a
+  at (suc zero) lt = b
+  at (suc (suc zero)) lt = c
+  at (suc (suc (suc zero))) lt = d
+  at (suc (suc (suc (suc k)))) lt = absurd (omega (arith, lt, m))
+
+same_counts : (a b : Counts) → AreCounts a → AreCounts b → numbers_of a ≡ numbers_of b → a ≡ b
+same_counts a b h g e =
+    let nth : (k : ℕ) → get_or (numbers_of a) k 0 ≡ get_or (numbers_of b) k 0 = λ k. ap (λ l. get_or l k 0) e in
+    let ports = three_items a.ports b.ports h.ports g.ports (nth 4) (nth 5) (nth 6) in
+    let lines = four_items a.lines b.lines h.lines g.lines (nth 7) (nth 8) (nth 9) (nth 10) in
+    λ i. record { modules = nth 0 i; chips = nth 1 i; hextants = nth 2 i; tables = nth 3 i; ports = ports i; lines = lines i; pins = nth 11 i }
+
+-- a line of counts is that of one machine
+pub one_machine : (a b : Counts) → AreCounts a → AreCounts b → counts_line a ≡ counts_line b → a ≡ b
+one_machine a b h g e =
+    let body_of : Counts → List ℕ = λ c. codes "=1 " ++ join_by decimal (32 ∷ []) (numbers_of c) in
+    let whole : body_of a ++ sealed (body_of a) ≡ body_of b ++ sealed (body_of b)
+    = sym (at_end (body_of a) (42 ∷ []) (encode_lower (sum (body_of a) % 256 ∷ [])) (10 ∷ [])) ∙ e ∙ at_end (body_of b) (42 ∷ []) (encode_lower (sum (body_of b) % 256 ∷ [])) (10 ∷ []) in
+    same_counts a b h g (same_numbers (numbers_of a) (numbers_of b) (drop 1 (sealed (body_of a))) (drop 1 (sealed (body_of b))) h.small g.small refl (ap (λ l. 32 ∷ drop 3 l) whole))
+
+abbrev ShapeFacts : Counts → Type 0
+ShapeFacts c = IsFull c × (size tables_in (levels_from c) ≤ 4096) × (size wires_in (levels_from c) ≤ 16384) × (size crosses_in (levels_from c) ≤ 4194304) × (size nodes_in (levels_from c) ≤ 16384)
+
+abbrev made : (c : Counts) → ShapeFacts c → Shape
+made c p = record { counts = c; full = p.0; few_tables = p.1; few_wires = p.2; few_crosses = p.3; few_nodes = p.4 }
+
+facts-prop : (c : Counts) → IsProp (ShapeFacts c)
+facts-prop c = hlevel le_prop
+
+made-same : (c d : Counts) (p : ShapeFacts c) (q : ShapeFacts d) → c ≡ d → made c p ≡ made d q
+made-same c d p q same =
+    (subst (λ (e : Counts). (other : ShapeFacts e) → made c p ≡ made e other) same (λ other. ap (λ (facts : ShapeFacts c). made c facts) (facts-prop c p other))) q
+
+-- a shape is what its counts are
+same-shape : (m n : Shape) → m.counts ≡ n.counts → m ≡ n
+same-shape m n same =
+    made-same m.counts n.counts (m.full, m.few_tables, m.few_wires, m.few_crosses, m.few_nodes) (n.full, n.few_tables, n.few_wires, n.few_crosses, n.few_nodes) same
+
+-- the machine that answered an attach with these counts has this shape, and nothing set
+pub attached : (old new : Option Device) (request reply expected : List ℕ) (m : Shape) → WhereTold (λ d e. Answers d request reply e) old new → request ≡ attach_line → reply ≡ expected
+    → expected ≡ counts_line m.counts → AreCounts m.counts → IfSome old (λ d. AreCounts d.shape.counts) → IfSome new (λ d. (d.shape ≡ m) × (d.set ≡ cleared m))
+attached None new request reply expected m w asked same right counts told = rw w tt
+attached (Some d) None request reply expected m w asked same right counts told = absurd w
+attached (Some d) (Some e) request reply expected m w asked same right counts told =
+    let fresh = w.attaches asked in
+    let one : d.shape ≡ m = same-shape d.shape m (one_machine d.shape.counts m.counts told counts (sym fresh.reply_is ∙ same ∙ right)) in
+    (w.shape ∙ one, fresh.cleared ∙ ap cleared one)

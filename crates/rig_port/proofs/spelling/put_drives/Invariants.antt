@@ -1,0 +1,12 @@
+use Rattle.std.proofs.Common.{◌≡◌, ◌+◌, ◌≤◌, ◌++◌, take}
+use Rattle.std.specs.Prelude.{vec_len}
+use Rattle.std.specs.List.{sum_by}
+use Rattle.std.specs.Vec.{vec_capacity}
+use Rattle.rig_port.specs.Lines.{word_room}
+use Rattle.rig_port.specs.Requests.{drives_text}
+use Rattle.rig_port.proofs.spelling.put_drives.Given as goal
+
+abbrev pub invariant-drives : goal.invariant-drives
+invariant-drives l = (l.line.items ≡ l.initial.line.items ++ drives_text (take l.k l.drives))
+    × (vec_len l.line ≤ vec_len l.initial.line + sum_by word_room (take l.k l.drives))
+    × (vec_capacity l.initial.line ≤ vec_capacity l.line)

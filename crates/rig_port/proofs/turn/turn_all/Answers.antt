@@ -1,0 +1,78 @@
+use Rattle.std.proofs.Common.{ℕ, ◌+◌, ◌*◌, ◌≡◌, ◌∙◌, ◌-◌, ◌≤◌, All, take, drop, length, refl, sym, ap, subst, arith}
+use Rattle.std.proofs.lemmas.List.Elements.{All-take, All-drop}
+use Rattle.machine_shape.specs.Shape.{pins_of}
+use Rattle.machine_shape.specs.Circuit.{Pins}
+use Rattle.rig_board.proofs.OneByOne.{lengths_kept}
+use Rattle.rig_port.proofs.Held.{put_lengths, not_turned, turned_next}
+use Rattle.std.specs.Int.{div_ceil}
+use Rattle.std.specs.List.{sum_by}
+use Rattle.machine_config.specs.Configuration.{Configuration}
+use Rattle.rig_port.specs.Lines.{word_room, turn_room}
+use Rattle.rig_port.proofs.Alarm.{still_told, rose_later}
+use Rattle.rig_port.proofs.Room.{few_enough, piece_few}
+use Rattle.rig_port.proofs.turn.turn_all.Goals as goal
+
+pub turn-requires-clause-few : goal.turn-requires-clause-few
+turn-requires-clause-few g c =
+    let set = c.args.link.now.set.config in
+    let n = pins_of set.shape in
+    let k = c.min-end.result - c.turns.at in
+    let piece = take k (drop c.turns.at c.args.drives.now) in
+    let rows = All-take (λ (row : Pins). length row ≡ n) k (drop c.turns.at c.args.drives.now) (All-drop (λ (row : Pins). length row ≡ n) c.turns.at c.args.drives.now c.requires.drives) in
+    let pins : c.pins.result ≡ n = c.pins.ensures.pins ∙ ap pins_of c.shape-shape.ensures.shape in
+    let fits = subst (λ p. c.most_drives-most.result * (2 * div_ceil p 8 + 2) + 6 ≤ turn_room p) pins c.most_drives-most.ensures.few in
+    let short = piece_few c.args.drives.now c.turns.at k in
+    let few = few_enough n c.most_drives-most.result piece rows (omega (arith, short, c.min-end.ensures, c.saturating_add.ensures)) fits in
+    subst (λ (s : Configuration). sum_by word_room piece + 6 ≤ turn_room (pins_of s.shape)) (sym c.turns.invariant.3.set) few
+
+pub returns-then-not-turn-clause-alarm : goal.returns-then-not-turn-clause-alarm
+returns-then-not-turn-clause-alarm g c = λ _ some.
+    let told = still_told (λ d. (d.shape, d.faults)) (g.P.Port.port_state c.args.port.now).device (g.P.Port.port_state c.turns.port).device c.turns.invariant.0 some in
+    rose_later (g.P.Port.port_state c.args.port.now).failures (g.P.Port.port_state c.turns.port).failures (g.P.Port.port_state c.turn.new.port).failures
+    c.turns.invariant.1 (c.turn.ensures.alarm c.if-not-turn.true told)
+
+pub turns-init : goal.turns-init
+turns-init g c = (
+  refl,
+  omega arith,
+  refl,
+  record { is_open = c.requires.open; set = refl; lost = refl; running = c.requires.running; linked = c.requires.linked; room = c.requires.room },
+  not_turned c.args.link.now.set.config c.args.link.now.line.items c.args.link.now.anew c.args.link.now.running c.args.link.now.due
+      (g.P.Port.port_state c.args.port.now).device c.requires.linked c.requires.running,
+  omega arith,
+)
+
+pub turn-requires-clause-reads : goal.turn-requires-clause-reads
+turn-requires-clause-reads g c =
+    let n = pins_of c.args.link.now.set.config.shape in
+    let rows = lengths_kept (λ l. l ≡ n) c.args.reads.now c.turns.reads c.turns.invariant.2 c.requires.reads in
+    let wide : ℕ → Type 0 = λ w. All (λ (row : Pins). length row ≡ w) (take (c.min-end.result - c.turns.at) (drop c.turns.at c.turns.reads)) in
+    subst wide (sym (ap (λ s. pins_of s.shape) c.turns.invariant.3.set))
+    (All-take (λ row. length row ≡ n) (c.min-end.result - c.turns.at) (drop c.turns.at c.turns.reads) (All-drop (λ row. length row ≡ n) c.turns.at c.turns.reads rows))
+
+pub returns-then-not-turn-clause-lengths : goal.returns-then-not-turn-clause-lengths
+returns-then-not-turn-clause-lengths g c =
+    put_lengths c.turns.at (c.min-end.result - c.turns.at) c.args.reads.now c.turns.reads c.turn.new.reads c.turns.invariant.2 c.turn.ensures.lengths
+
+pub turns-preserved : goal.turns-preserved
+turns-preserved g c =
+    let held = c.turn.ensures.held c.if-not-turn.false in
+    let le : c.turns.at ≤ c.min-end.result = omega (arith, c.min-end.ensures, c.saturating_add.ensures, c.turns-test.true, c.turns.invariant.5) in
+    let within : c.min-end.result ≤ length c.args.drives.now = omega (arith, c.min-end.ensures) in (
+      c.turn.ensures.machine ∙ c.turns.invariant.0,
+      omega (arith, c.turns.invariant.1, c.turn.ensures.later),
+      put_lengths c.turns.at (c.min-end.result - c.turns.at) c.args.reads.now c.turns.reads c.turn.new.reads c.turns.invariant.2 c.turn.ensures.lengths,
+      record {
+        is_open = held.is_open;
+        set = held.set ∙ c.turns.invariant.3.set;
+        lost = held.lost ∙ c.turns.invariant.3.lost;
+        running = held.running;
+        linked = held.linked;
+        room = held.room;
+      },
+      turned_next c.args.link.now.set.config c.turns.link.set.config c.args.drives.now c.turns.reads c.turn.new.reads c.turns.at c.min-end.result
+          c.args.link.now.due c.turns.link.due c.turn.new.link.due (g.P.Port.port_state c.args.port.now).device (g.P.Port.port_state c.turns.port).device
+          (g.P.Port.port_state c.turn.new.port).device c.turns.invariant.3.set le (omega (arith, within, c.requires.as_many, c.turns.auto.reads))
+          c.turn.ensures.lengths c.turns.invariant.4 (c.turn.ensures.turned c.if-not-turn.false),
+      within,
+    )

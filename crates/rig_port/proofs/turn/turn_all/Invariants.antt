@@ -1,0 +1,18 @@
+use Rattle.std.proofs.Common.{◌≡◌, ◌-◌, ◌≤◌, take, length}
+use Rattle.rig.specs.Rig.{KeepLengths}
+use Rattle.rig_port.specs.Ports.{machine_told}
+use Rattle.rig_port.specs.Linked.{HasTurned}
+use Rattle.rig_port.specs.Boards.{IsKeptUp}
+use Rattle.rig_port.proofs.turn.turn_all.Given as goal
+
+abbrev pub invariant-turns : goal.invariant-turns
+invariant-turns g l = (machine_told (g.P.Port.port_state l.port) ≡ machine_told (g.P.Port.port_state l.initial.port))
+    × ((g.P.Port.port_state l.initial.port).failures ≤ (g.P.Port.port_state l.port).failures)
+    × KeepLengths l.initial.reads l.reads
+    × IsKeptUp (g.P.Port.port_state l.port) l.initial.link l.link
+    × HasTurned (take l.at l.drives) (take l.at l.reads) l.initial.link.due l.initial.link.set.config (g.P.Port.port_state l.initial.port).device
+    l.link.due (g.P.Port.port_state l.port).device
+    × (l.at ≤ length l.drives)
+
+abbrev pub decreases-turns : goal.decreases-turns
+decreases-turns g l = length l.drives - l.at

@@ -1,0 +1,48 @@
+-- What a board over a port means, by what it keeps.
+use Rattle.std.specs.Prelude.{◌≡◌, ℕ, ◌+◌, ◌≤◌, true, false, vec_len, Option, Some, IfSome, is_some}
+use Rattle.std.specs.Vec.{vec_capacity}
+use Rattle.std.specs.Option.{option_map_or}
+use Rattle.machine_shape.specs.declared.Shape.{Shape}
+use Rattle.machine_shape.specs.Shape.{pins_of}
+use Rattle.rig.specs.Flaky.{both_counts}
+use Rattle.rig_port.specs.declared.link.Link.{Link}
+use Rattle.rig_port.specs.Lines.{turn_room}
+use Rattle.rig_port.specs.Ports.{PortState}
+use Rattle.rig_port.specs.Linked.{PortBoardState, IsLinked, told_with}
+
+-- its count of failures is the port's and its own together
+abbrev pub state_of : PortState → Option Shape → Option Link → ℕ → PortBoardState
+state_of port found link failures = record {
+  found = found;
+  is_up = is_some link;
+  in_session = option_map_or (λ l. l.running) link false;
+  device = option_map_or (λ l. told_with l.due l.set.config port.device) link port.device;
+  port_failures = port.failures;
+  failures = both_counts failures port.failures;
+}
+
+-- a line that is due has room for all that a request takes, and what is expected for all that a reply takes
+pub record HasRoom (pins : ℕ) (l : Link) : Type 0 where
+  pub line : l.running ≡ true → vec_len l.line + turn_room pins ≤ vec_capacity l.line
+  pub expected : turn_room pins ≤ vec_capacity l.expected
+
+-- while it is up, the port is open, a told machine has the shape that was found, and what is kept goes with it where nothing was lost
+pub record IsHeld (port : PortState) (found : Option Shape) (l : Link) : Type 0 where
+  pub is_open : port.is_open ≡ true
+  pub shape : found ≡ Some l.set.config.shape
+  pub told : IfSome port.device (λ d. d.shape ≡ l.set.config.shape)
+  pub linked : l.lost ≡ false → IsLinked port.device l.set.config l.line.items l.anew l.running l.due
+  pub running : l.lost ≡ true → l.running ≡ false
+  pub room : HasRoom (pins_of l.set.config.shape) l
+
+abbrev pub IsUp : PortState → Option Shape → Option Link → Type 0
+IsUp port found link = IfSome link (IsHeld port found)
+
+-- after turns the configuration is as it was, and what is kept goes with the machine
+pub record IsKeptUp (port : PortState) (old new : Link) : Type 0 where
+  pub is_open : port.is_open ≡ true
+  pub set : new.set.config ≡ old.set.config
+  pub lost : new.lost ≡ old.lost
+  pub running : new.running ≡ true
+  pub linked : IsLinked port.device new.set.config new.line.items new.anew new.running new.due
+  pub room : HasRoom (pins_of new.set.config.shape) new

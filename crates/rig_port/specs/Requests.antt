@@ -1,0 +1,80 @@
+-- What is asked of a machine behind a port.
+use Rattle.std.specs.Prelude.{◌≡◌, ℕ, ◌+◌, ◌*◌, ◌^◌, ◌<◌, ◌≤◌, Bool, true, false}
+use Rattle.std.specs.Prelude.{List, [], ◌∷◌, ◌++◌, Some, None, All, fold, flat_map, length, decimal}
+use Rattle.std.specs.Int.{to_be_bytes, w64}
+use Rattle.std.specs.List.{join_by}
+use Rattle.hex.specs.Hex.{encode_lower}
+use Rattle.machine_shape.specs.declared.Shape.{Shape}
+use Rattle.machine_shape.specs.Shape.{crosses_of, tables_of, pins_of}
+use Rattle.machine_shape.specs.Circuit.{Pins}
+use Rattle.machine_config.specs.declared.Setting.{Setting}
+use Rattle.machine_config.specs.Configuration.{Configuration, with_closed, with_open, with_setting, with_ticks}
+use Rattle.rig_port.specs.Lines.{line_of, pin_bit, pin_text}
+
+-- a change of what is set
+pub data Edit : Type 0 where
+  -- a crosspoint is closed, is open
+  Close : (x : ℕ) → Edit
+  Open : (x : ℕ) → Edit
+  -- a table is on and does this, is off
+  On : (t : ℕ) (s : Setting) → Edit
+  Off : (t : ℕ) → Edit
+  -- a cycle has so many ticks
+  Tick : (n : ℕ) → Edit
+
+-- what it makes of a configuration; what it doesn't name stays
+abbrev pub edited_by : Configuration → Edit → Configuration
+edited_by g (Close x) = with_closed g x
+edited_by g (Open x) = with_open g x
+edited_by g (On t s) = with_setting g t (Some s)
+edited_by g (Off t) = with_setting g t None
+edited_by g (Tick n) = with_ticks g n
+
+-- after each of these, in order
+abbrev pub edited : Configuration → List Edit → Configuration
+edited g edits = fold edited_by g edits
+
+-- its numbers are in range
+abbrev pub IsEditOf : Shape → Edit → Type 0
+IsEditOf m (Close x) = x < crosses_of m
+IsEditOf m (Open x) = x < crosses_of m
+IsEditOf m (On t s) = (t < tables_of m) × (s.cells < 2 ^ 64)
+IsEditOf m (Off t) = t < tables_of m
+IsEditOf m (Tick n) = (1 ≤ n) × (n ≤ 4096)
+
+-- the flags of a table: bit 0 says that it is latched, bit 1 is its initial bit
+abbrev pub flag_digit : Setting → ℕ
+flag_digit s = 48 + pin_bit s.latched + 2 * pin_bit s.init
+
+-- how it is spelled
+abbrev pub edit_text : Edit → List ℕ
+edit_text (Close x) = 99 ∷ [] ++ decimal x
+edit_text (Open x) = 111 ∷ [] ++ decimal x
+edit_text (On t s) = 116 ∷ [] ++ decimal t ++ 44 ∷ [] ++ encode_lower (to_be_bytes w64 s.cells) ++ 44 ∷ [] ++ flag_digit s ∷ []
+edit_text (Off t) = 120 ∷ [] ++ decimal t
+edit_text (Tick n) = 107 ∷ [] ++ decimal n
+
+abbrev pub edits_text : List Edit → List ℕ
+edits_text edits = flat_map (λ e. edit_text e ++ 32 ∷ []) edits
+
+-- a drive for each cycle
+abbrev pub drives_text : List Pins → List ℕ
+drives_text drives = join_by (λ pins. 100 ∷ [] ++ pin_text pins) (32 ∷ []) drives
+
+abbrev pub AreDrivesOf : Shape → List Pins → Type 0
+AreDrivesOf m drives = (0 < length drives) × All (λ pins. length pins ≡ pins_of m) drives
+
+-- the words before edits that are made on a machine where all is cleared first, and on it as it stands
+abbrev pub start_text : Bool → List ℕ
+start_text true = 122 ∷ 32 ∷ []
+start_text false = []
+
+-- the four requests: attach; edits and drives, anew or not; drives
+abbrev pub attach_line : List ℕ
+attach_line = line_of (97 ∷ [])
+
+abbrev pub load_line : Bool → List Edit → List Pins → List ℕ
+load_line anew edits drives = line_of (start_text anew ++ edits_text edits ++ 108 ∷ 32 ∷ [] ++ drives_text drives)
+
+abbrev pub drives_line : List Pins → List ℕ
+drives_line drives = line_of (drives_text drives)

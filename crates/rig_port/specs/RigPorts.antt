@@ -1,0 +1,100 @@
+-- A rig as the other end of a port.
+use Rattle.std.specs.Prelude.{◌≡◌, ℕ, ◌-◌, ◌^◌, ◌<◌, min, Bool, true, false, List, [], ◌++◌, map, length, All, Option, Some, None, IfSome, IsSome, is_some, option_map, if◌then◌else◌}
+use Rattle.std.specs.Option.{option_map_or}
+use Rattle.machine_shape.specs.declared.Shape.{Shape}
+use Rattle.machine_shape.specs.Shape.{pins_of}
+use Rattle.machine_shape.specs.Circuit.{Pins}
+use Rattle.machine_config.specs.Configuration.{Configuration, cleared}
+use Rattle.rig.specs.Rig.{RigState, Exchange, shape_of, config_of, cycles_of, drives_of, readings_of, IsTold, KeepLengths}
+use Rattle.rig_board.specs.Device.{Device, WhereTold}
+use Rattle.rig_port.specs.Answers.{Answers}
+use Rattle.rig_port.specs.Lines.{counts_line, reading_line}
+use Rattle.rig_port.specs.Requests.{Edit, Close, Open, On, Off, Tick, IsEditOf, AreDrivesOf, attach_line, load_line, drives_line}
+use Rattle.rig_port.specs.Ports.{PortState}
+use Rattle.rig_port.specs.declared.wanted.Change.{Change}
+use Rattle.rig_port.specs.declared.wanted.Change.TheVariants as change
+use Rattle.rig_port.specs.declared.wanted.Wanted.{Wanted}
+
+-- a change as an edit
+abbrev pub edit_of : Change → Edit
+edit_of (change.Close c) = Close c.0
+edit_of (change.Open c) = Open c.0
+edit_of (change.On t s) = On t.0 s
+edit_of (change.Off t) = Off t.0
+edit_of (change.Ticks n) = Tick n
+
+abbrev pub edits_of : List Change → List Edit
+edits_of changes = map edit_of changes
+
+-- the line that asks it
+abbrev pub wanted_line : Wanted → List ℕ
+wanted_line w = if w.loads then load_line w.anew (edits_of w.changes.items) w.drives.items else drives_line w.drives.items
+
+-- its numbers are in range
+pub record IsWantedOf (m : Shape) (w : Wanted) : Type 0 where
+  pub edits : All (λ c. IsEditOf m (edit_of c)) w.changes.items
+  pub drives : AreDrivesOf m w.drives.items
+
+-- a rig, the shape that it is to be, what is set while the port is open, whether that was loaded, and failures
+pub record RigEnd (I : Type 0) : Type 0 where
+  pub inner : I
+  pub shape : Shape
+  pub set : Option Configuration
+  pub running : Bool
+  pub failures : ℕ
+
+-- the machine that it tells
+abbrev pub rig_device : Shape → Configuration → Bool → RigState → Option Device
+rig_device m g running rig = option_map (λ f. record { shape = m; faults = f; set = g; session = if running then rig.session else None }) rig.machine.faults
+
+abbrev pub set_or_cleared : Shape → Option Configuration → Configuration
+set_or_cleared m set = option_map_or (λ g. g) set (cleared m)
+
+abbrev pub rig_port_state : {I : Type 0} → RigState → RigEnd I → PortState
+rig_port_state rig e = record {
+  is_open = is_some e.set;
+  device = rig_device e.shape (set_or_cleared e.shape e.set) e.running rig;
+  failures = min e.failures (2 ^ 64 - 1);
+}
+
+-- what is set is of the attached machine, and what runs there is a session of it
+pub record IsReady (m : Shape) (g : Configuration) (running : Bool) (rig : RigState) : Type 0 where
+  pub attached : shape_of rig ≡ Some m
+  pub shape : g.shape ≡ m
+  pub session : running ≡ true → (option_map (λ h. h.shape) (config_of rig) ≡ Some m) × IsTold rig
+
+-- these drives went behind the cycles of a session of this configuration, and this line says what was read
+pub record IsDriven (pins : ℕ) (g : Configuration) (before : List Exchange) (drives : List Pins) (line : List ℕ) (rig : RigState) : Type 0 where
+  pub pairs : List Exchange
+  pub driven : drives_of pairs ≡ drives
+  pub wide : All (λ row. length row ≡ pins) (readings_of pairs)
+  pub line_is : line ≡ reading_line (readings_of pairs)
+  pub config : config_of rig ≡ Some g
+  pub cycles : cycles_of rig ≡ before ++ pairs
+  pub told : IsTold rig
+
+-- where a load's changes begin
+abbrev pub start_from : Bool → Configuration → Configuration
+start_from true g = cleared g.shape
+start_from false g = g
+
+-- what was asked is answered: by this line the machine that is told went from one state to another
+abbrev pub IsAnswered : Shape → List ℕ → List ℕ → Configuration → Bool → RigState → Configuration → Bool → RigState → Type 0
+IsAnswered m request line g running old h runs new =
+    WhereTold (λ d e. Answers d request line e) (rig_device m g running old) (rig_device m h runs new)
+
+-- it is none of the four requests of a machine of this shape
+pub record IsNoRequest (m : Shape) (request : List ℕ) : Type 0 where
+  pub attach : request ≡ attach_line → ⊥
+  pub load : (anew : Bool) (edits : List Edit) (drives : List Pins) → All (IsEditOf m) edits → AreDrivesOf m drives →
+      request ≡ load_line anew edits drives → ⊥
+  pub drives : (drives : List Pins) → AreDrivesOf m drives → request ≡ drives_line drives → ⊥
+
+-- it is one of the four requests of a machine of this shape, and a line that answers it has more bytes than these; all that answer it
+-- have as many
+pub data IsShort (m : Shape) (request : List ℕ) (room : ℕ) : Type 0 where
+  asks_counts : request ≡ attach_line → room < length (counts_line m.counts) → IsShort m request room
+  asks_load : (anew : Bool) (edits : List Edit) (drives readings : List Pins) → All (IsEditOf m) edits → AreDrivesOf m drives →
+      request ≡ load_line anew edits drives → KeepLengths drives readings → room < length (reading_line readings) → IsShort m request room
+  asks_cycles : (drives readings : List Pins) → AreDrivesOf m drives → request ≡ drives_line drives → KeepLengths drives readings →
+      room < length (reading_line readings) → IsShort m request room

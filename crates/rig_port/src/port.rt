@@ -1,0 +1,56 @@
+//! A port as a trait.
+ghost use Rattle.std.specs.Prelude.{◌≡◌, ◌^◌, ◌<◌, ◌≤◌, true, false, length, take, IfOk, IfErr, OnOk, OnErr, IsErrOf};
+ghost use Rattle.base_io.specs.Counts.{Rose};
+ghost use Rattle.rig_board.specs.Device.{WhereTold};
+ghost use Rattle.rig_port.specs.Answers.{Answers};
+ghost use Rattle.rig_port.specs.Ports.{PortState, machine_told, Opens, AskFails};
+
+/// Why a port isn't opened or gives no reply.
+#[derive(Clone, Copy, Debug, PartialEq, Eq)]
+pub enum PortFail {
+    /// The port failed, and counted it.
+    Failed,
+    /// Memory is wanting.
+    Memory,
+}
+
+/// A way to a machine: a request is sent, and a line comes back.
+///
+/// Contracts see whether it is open, the device at the other end where the port tells one, and a count of failures, which is a
+/// `u64` and never falls. No code sees the device.
+pub trait Port: Drop {
+    ghost port_state: { Self → PortState };
+
+    /// Opens the port of this name. A refusal leaves it closed.
+    ///
+    /// # Errors
+    ///
+    /// `Failed` where it can't be opened; the count rose. Want of memory.
+    fn open(&mut self, name: &str) -> Result<(), PortFail>
+        ensures later { (port_state self.old).failures ≤ (port_state self.new).failures }
+        ensures count { (port_state self.new).failures < 2 ^ 64 }
+        ensures opens { OnOk result (Opens (port_state self.new)) }
+        ensures closed { OnErr result ((port_state self.new).is_open ≡ false) }
+        ensures refused { IsErrOf result PortFail.Failed → Rose (port_state self.old).failures (port_state self.new).failures };
+
+    /// Sends a request, and reads the line that answers to the front of `reply`; answers its length. A refusal leaves the port closed,
+    /// and any bytes in `reply`. It takes no memory, but for what an end that is code takes in the same process (`RigPort`).
+    ///
+    /// # Errors
+    ///
+    /// `Failed` where the request doesn't go out, no whole line comes that `reply` has room for, or the other end refuses; the count
+    /// rose. Never `Memory`.
+    fn ask(&mut self, request: &[u8], reply: &mut [u8]) -> Result<usize, PortFail>
+        requires { (port_state self.old).is_open ≡ true }
+
+        ensures machine { machine_told (port_state self.new) ≡ machine_told (port_state self.old) }
+        ensures later { (port_state self.old).failures ≤ (port_state self.new).failures }
+        ensures count { (port_state self.new).failures < 2 ^ 64 }
+        ensures length { length reply.new ≡ length reply.old }
+        ensures within { IfOk result (λ n. n ≤ length reply.new) }
+        ensures stays { OnOk result ((port_state self.new).is_open ≡ true) }
+        ensures told { IfOk result (λ n. WhereTold (λ d e. Answers d request.now (take n reply.new) e) (port_state self.old).device
+            (port_state self.new).device) }
+        ensures closed { OnErr result ((port_state self.new).is_open ≡ false) }
+        ensures refused { IfErr result (λ e. AskFails e (port_state self.old) (port_state self.new)) };
+}

@@ -1,0 +1,229 @@
+//! A turn: a request goes out, and its reply is read.
+ghost use Rattle.std.specs.Prelude.{◌≡◌, ℕ, ◌+◌, ◌*◌, ◌/◌, ◌%◌, ◌^◌, ◌<◌, ◌≤◌, ◌==◌, ◌++◌, ◌∷◌, [], List, true, false};
+ghost use Rattle.std.specs.Prelude.{length, vec_len, drop, get_or, All, IsTrue, IsSome};
+ghost use Rattle.std.specs.Int.{div_ceil};
+ghost use Rattle.std.specs.List.{sum_by};
+ghost use Rattle.std.specs.Vec.{vec_capacity};
+ghost use Rattle.hex.specs.Hex.{encode_lower};
+ghost use Rattle.machine_shape.specs.Shape.{pins_of};
+ghost use Rattle.machine_shape.specs.Circuit.{Pins};
+ghost use Rattle.base_io.specs.Counts.{Rose};
+ghost use Rattle.rig.specs.Rig.{KeepLengths};
+ghost use Rattle.rig_port.specs.Lines.{line_of, pin_text, reading_line, word_room, turn_room};
+ghost use Rattle.rig_port.specs.Requests.{AreDrivesOf, drives_line, drives_text};
+ghost use Rattle.rig_port.specs.Ports.{machine_told};
+ghost use Rattle.rig_port.specs.Linked.{IsLinked, HasTurned};
+ghost use Rattle.rig_port.specs.Boards.{IsKeptUp, HasRoom};
+
+use crate::link::Link;
+use crate::port::Port;
+use crate::spelling::{put_drives, put_readings, put_sum};
+use rig::PinBits;
+
+/// A right reply has at most this many bytes before its sum.
+const MOST_BODY: usize = 4096;
+
+// Adds the word of a load where one is due. There is room for it.
+fn put_load(line: &mut Vec<u8>, due: bool)
+    requires { vec_len line.old + 2 ≤ vec_capacity line.old }
+
+    ensures loads { due ≡ true → line.new.items ≡ line.old.items ++ 108 ∷ 32 ∷ [] }
+    ensures idle { due ≡ false → line.new.items ≡ line.old.items }
+    ensures len { vec_len line.new ≤ vec_len line.old + 2 }
+    ensures room { vec_capacity line.old ≤ vec_capacity line.new }
+{
+    if due {
+        line.push_reserved(b'l');
+        line.push_reserved(b' ');
+    }
+}
+
+// Ends the line that is due: behind the edits of a load its `l` and the drives, or the drives alone. There is room for them.
+fn put_request(line: &mut Vec<u8>, due: bool, drives: &[PinBits])
+    requires { vec_len line.old + sum_by word_room drives.now + 6 ≤ vec_capacity line.old }
+
+    ensures loads { due ≡ true → line.new.items ≡ line_of (line.old.items ++ 108 ∷ 32 ∷ [] ++ drives_text drives.now) }
+    ensures drives { due ≡ false → line.old.items ≡ [] → line.new.items ≡ drives_line drives.now }
+    ensures room { vec_capacity line.old ≤ vec_capacity line.new }
+{
+    put_load(line, due);
+    put_drives(line, drives);
+    put_sum(line);
+}
+
+// A byte of a line; beyond its end it is a zero.
+fn digit_at(reply: &[u8], place: usize) -> u8
+    ensures { result ≡ get_or reply.now place 48 }
+{
+    if place < reply.len() {
+        return reply[place];
+    }
+    b'0'
+}
+
+// The byte of two digits. What isn't such a text gives any byte.
+fn byte_at(reply: &[u8], place: usize) -> u8
+    requires { place + 1 < 2 ^ 64 }
+    ensures { (v : ℕ) → v < 256 → get_or reply.now place 48 ∷ get_or reply.now (place + 1) 48 ∷ [] ≡ encode_lower (v ∷ []) → result ≡ v }
+{
+    let digits = [digit_at(reply, place), digit_at(reply, place + 1)];
+    let mut byte = [0u8; 1];
+    let _ = hex::decode_to_slice(digits, &mut byte);
+    byte[0]
+}
+
+// A bit of a byte, by its place from the lowest.
+fn bit_in(octet: u8, place: u32) -> bool
+    requires { place < 8 }
+    ensures { result ≡ (octet / 2 ^ place % 2 == 1) }
+{
+    match place {
+        0 => octet % 2 == 1,
+        1 => octet / 2 % 2 == 1,
+        2 => octet / 4 % 2 == 1,
+        3 => octet / 8 % 2 == 1,
+        4 => octet / 16 % 2 == 1,
+        5 => octet / 32 % 2 == 1,
+        6 => octet / 64 % 2 == 1,
+        _ => octet / 128 % 2 == 1,
+    }
+}
+
+// Reads pins from the text of them that begins at a place. What isn't such a text gives any bits.
+pub fn read_pins(reply: &[u8], at: usize, read: &mut PinBits)
+    requires { at ≤ 2 ^ 63 }
+
+    ensures length { length read.new ≡ length read.old }
+    ensures right { (pins : Pins) (rest : List ℕ) → length pins ≡ length read.old → drop at reply.now ≡ pin_text pins ++ rest →
+        read.new ≡ pins }
+{
+    let count = read.len().div_ceil(8);
+    'pins: for k in 0..read.len() {
+        let octet = byte_at(reply, at + 2 * (count - 1 - k / 8) as usize);
+        read.set(k, bit_in(octet, k % 8));
+    }
+}
+
+// How many digits the text of these pins has.
+fn digits_of(pins: &PinBits) -> usize
+    ensures digits { result ≡ 2 * div_ceil (length pins.now) 8 }
+    ensures small { result < 2 ^ 32 }
+{
+    pins.len().div_ceil(8) as usize * 2
+}
+
+// Reads the pins of each cycle. What isn't a line of so many readings gives any bits.
+fn read_all(reply: &[u8], reads: &mut [PinBits])
+    ensures lengths { KeepLengths reads.old reads.new }
+    ensures right { (rows : List Pins) → KeepLengths reads.old rows → reply.now ≡ reading_line rows → reads.new ≡ rows }
+{
+    let mut at = 0usize;
+    'reads: for k in 0..reads.len() {
+        // A line of so many readings isn't at its end here.
+        let begin = at.min(reply.len()) + 1;
+        let digits = digits_of(&reads[k]);
+        read_pins(reply, begin, &mut reads[k]);
+        at = begin + digits;
+    }
+}
+
+// Whether a line is, byte by byte, that of these readings. There is room for it.
+fn is_right(reply: &[u8], expected: &mut Vec<u8>, reads: &[PinBits]) -> bool
+    requires { sum_by word_room reads.now + 5 ≤ vec_capacity expected.old }
+
+    ensures right { IsTrue result → reply.now ≡ reading_line reads.now }
+    ensures wrong { result ≡ false → reply.now ≡ reading_line reads.now → ⊥ }
+    ensures room { vec_capacity expected.old ≤ vec_capacity expected.new }
+{
+    expected.clear();
+    put_readings(expected, reads);
+    reply == expected.as_slice()
+}
+
+/// Sends what is due with these drives, and reads what comes. False where the port fails or the line isn't right, and of a machine
+/// that is told no line is wrong.
+pub fn turn<P: Port>(
+    port: &mut P,
+    link: &mut Link,
+    drives: &[PinBits],
+    reads: &mut [PinBits],
+) -> bool
+    requires open { (P.port_state port.old).is_open ≡ true }
+    requires linked { IsLinked (P.port_state port.old).device link.old.set.config link.old.line.items link.old.anew link.old.running
+        link.old.due }
+    requires running { link.old.running ≡ true }
+    requires drives { AreDrivesOf link.old.set.config.shape drives.now }
+    requires reads { All (λ row. length row ≡ pins_of link.old.set.config.shape) reads.old }
+    requires as_many { length drives.now ≡ length reads.old }
+    requires room { HasRoom (pins_of link.old.set.config.shape) link.old }
+    requires few { sum_by word_room drives.now + 6 ≤ turn_room (pins_of link.old.set.config.shape) }
+
+    ensures machine { machine_told (P.port_state port.new) ≡ machine_told (P.port_state port.old) }
+    ensures later { (P.port_state port.old).failures ≤ (P.port_state port.new).failures }
+    ensures lengths { KeepLengths reads.old reads.new }
+    ensures held { IsTrue result → IsKeptUp (P.port_state port.new) link.old link.new }
+    ensures turned { IsTrue result → HasTurned drives.now reads.new link.old.due link.old.set.config (P.port_state port.old).device
+        link.new.due (P.port_state port.new).device }
+    ensures alarm { result ≡ false → IsSome (P.port_state port.old).device →
+        Rose (P.port_state port.old).failures (P.port_state port.new).failures }
+{
+    put_request(&mut link.line, link.due, drives);
+    let Ok(count) = port.ask(&link.line, &mut link.reply) else {
+        return false;
+    };
+    read_all(&link.reply[..count], reads);
+    if !is_right(&link.reply[..count], &mut link.expected, reads) {
+        return false;
+    }
+    link.line.clear();
+    link.anew = false;
+    link.due = false;
+    true
+}
+
+// For how many drives a request has room at most: as many as their reply has room for, and always one.
+fn most_drives(pins: u32) -> usize
+    ensures some { 1 ≤ result }
+    ensures few { result * (2 * div_ceil pins 8 + 2) + 6 ≤ turn_room pins }
+{
+    let digits = pins.div_ceil(8) as usize * 2;
+    (MOST_BODY / (digits + 1)).max(1)
+}
+
+/// Sends all drives, in as few requests as their replies allow. False where a turn fails.
+pub fn turn_all<P: Port>(
+    port: &mut P,
+    link: &mut Link,
+    drives: &[PinBits],
+    reads: &mut [PinBits],
+) -> bool
+    requires open { (P.port_state port.old).is_open ≡ true }
+    requires linked { IsLinked (P.port_state port.old).device link.old.set.config link.old.line.items link.old.anew link.old.running
+        link.old.due }
+    requires running { link.old.running ≡ true }
+    requires drives { All (λ row. length row ≡ pins_of link.old.set.config.shape) drives.now }
+    requires reads { All (λ row. length row ≡ pins_of link.old.set.config.shape) reads.old }
+    requires as_many { length drives.now ≡ length reads.old }
+    requires room { HasRoom (pins_of link.old.set.config.shape) link.old }
+
+    ensures machine { machine_told (P.port_state port.new) ≡ machine_told (P.port_state port.old) }
+    ensures later { (P.port_state port.old).failures ≤ (P.port_state port.new).failures }
+    ensures lengths { KeepLengths reads.old reads.new }
+    ensures held { IsTrue result → IsKeptUp (P.port_state port.new) link.old link.new }
+    ensures turned { IsTrue result → HasTurned drives.now reads.new link.old.due link.old.set.config (P.port_state port.old).device
+        link.new.due (P.port_state port.new).device }
+    ensures alarm { result ≡ false → IsSome (P.port_state port.old).device →
+        Rose (P.port_state port.old).failures (P.port_state port.new).failures }
+{
+    let shape = link.set.shape();
+    let most = most_drives(shape.pins());
+    let mut at = 0usize;
+    'turns: while at < drives.len() {
+        let end = at.saturating_add(most).min(drives.len());
+        if !turn(port, link, &drives[at..end], &mut reads[at..end]) {
+            return false;
+        }
+        at = end;
+    }
+    true
+}

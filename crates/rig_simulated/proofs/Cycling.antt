@@ -1,0 +1,25 @@
+-- A whole cycle.
+use Rattle.std.proofs.Common.{◌≡◌, ⊎_elim, ℕ, Bool, List, length, sym, ◌∙◌, subst}
+use Rattle.std.proofs.lemmas.Bool.{false≢true}
+use Rattle.machine_shape.specs.Circuit.{Outputs, Pins}
+use Rattle.machine_shape.specs.Faults.{Faults}
+use Rattle.machine_config.specs.Configuration.{Configuration}
+use Rattle.rig_simulated.specs.declared.classes.Knot.{Knot}
+use Rattle.rig_simulated.specs.declared.gates.Gate.{Gate}
+use Rattle.rig_simulated.specs.Gates.{IsClear, AreOutputs, IsDrivenBy, AreMarkedToo}
+use Rattle.rig_simulated.specs.Cycles.{IsWired, AreDriven, HaveTicked, IsEdge, HasTicked, HasCycled}
+use Rattle.rig_simulated.proofs.Levels.{has_ticked, edge_cycle}
+
+-- the marks that pins set over none are those of the drive
+pub driven_by_marks : (pins : List ℕ) (drive : Pins) (old low : List Bool) → IsClear old → AreMarkedToo old low (IsDrivenBy pins drive (length pins)) → AreDriven pins drive low
+driven_by_marks pins drive old low is_clear are = record {
+  to = λ r e. ⊎_elim (λ o. absurd (false≢true (sym (is_clear r) ∙ o))) (λ d. d) (are.only r e);
+  from = are.more;
+}
+
+-- ticks and a clock edge are a cycle
+pub whole_cycle : (f : Faults) (g : Configuration) (root : ℕ → ℕ) (knots : List Knot) (pins : List ℕ) (drive read : Pins) (low clear : List Bool) (old mid new : List Gate) (before : Outputs) (ticks : ℕ) → g.ticks ≡ ticks →
+    AreDriven pins drive low → IsClear clear → IsWired f g root knots pins old → AreOutputs g old before → HaveTicked f knots low old ticks mid →
+    IsEdge f knots low clear pins read mid new → HasCycled f g root knots pins drive read before new
+whole_cycle f g root knots pins drive read low clear old mid new before ticks same driven is_clear wired gives ticked edge =
+    edge_cycle driven is_clear (subst (λ n. HasTicked f g root knots pins drive n before mid) (sym same) (has_ticked driven wired gives ticked)) edge

@@ -1,0 +1,71 @@
+-- A session goes on.
+use Rattle.std.proofs.Common.{◌≡◌, ℕ, suc, ◌+◌, ◌*◌, ◌-◌, ◌<◌, ◌≤◌, Bool, true, false, cond, Some, None, [], ◌∷◌, ◌++◌, length, refl, sym, ap, ◌∙◌, subst, arith, add-one}
+use Rattle.std.specs.Prelude.{option_map}
+use Rattle.std.proofs.Math.Nat.{mul-le-mul_left}
+use Rattle.std.proofs.lemmas.List.FromFn.{length-map-range_with_len}
+use Rattle.machine_shape.specs.Shape.{tables_of, pins_of}
+use Rattle.machine_shape.specs.Circuit.{Outputs, Pins}
+use Rattle.machine_config.specs.Configuration.{Configuration}
+use Rattle.machine_faults.specs.Adding.{Faulty}
+use Rattle.rig.specs.Rig.{Session}
+use Rattle.rig_simulated.specs.declared.board.Board.{Board}
+use Rattle.rig_simulated.specs.declared.sim.Sim.TheInside.{Inside}
+use Rattle.rig_simulated.specs.Boards.{IsLoaded, AreFitting}
+use Rattle.rig_simulated.specs.Gates.{AreOutputs}
+use Rattle.rig_simulated.specs.States.{SimState, GoesOnFrom, HasGoneOn}
+use Rattle.rig_simulated.specs.Stored.{setting_in, config_in, cycles_in}
+use Rattle.rig_simulated.specs.Sims.{config_of_sim, cycles_of_sim, state_of_sim, IsRunning, IsSim}
+use Rattle.rig_simulated.specs.Tracks.{GivesCycle}
+use Rattle.rig_simulated.proofs.Sessions.{has_session, config_is, cycles_more, run_more}
+
+pub room_for : (used n p bits room : ℕ) → bits ≡ used * (2 * p) → used + 1 ≤ n → n * (2 * p) ≤ room → bits + (p + p) ≤ room
+room_for used n p bits room e h r =
+    let m : 2 * p * (used + 1) ≤ 2 * p * n = mul-le-mul_left (2 * p) h in
+    omega (arith, e, r, m)
+
+module _ (a : Inside) (s : SimState) (view : state_of_sim a ≡ s) (n : ℕ) (width : option_map (λ (t : Session). pins_of t.config.shape) s.session ≡ Some n) where
+  both : (a.running ≡ true) × (pins_of a.faults.shape ≡ n)
+  both = has_session a.running (record { config = config_of_sim a; cycles = cycles_of_sim a; spare = a.room - a.used }) (λ (t : Session). pins_of t.config.shape) n
+      (ap (λ (v : SimState). option_map (λ (t : Session). pins_of t.config.shape) v.session) view ∙ width)
+
+  pub is_running : a.running ≡ true
+  is_running = both.0
+
+  pub width_is : pins_of a.faults.shape ≡ n
+  width_is = both.1
+
+  pub pins_count : IsSim a → n ≡ length a.board.pins.items
+  pins_count is = sym width_is ∙ sym (is.running is_running).loaded.wired.count
+
+  pub fitting : IsSim a → AreFitting a.faults.shape a.board
+  fitting is = (is.running is_running).loaded.fitting
+
+-- the tables of a board that goes on are those that were kept
+pub config_stays : (a : Inside) (b : Board) → IsLoaded a.faults.faults (config_of_sim a) b → config_in a.faults.shape a.closed.items b.gates.items a.ticks ≡ config_of_sim a
+config_stays a b loaded = config_is {g = config_of_sim a} b.gates.items loaded.wired.gates_are a.faults.shape a.closed.items a.ticks refl refl (length-map-range_with_len (setting_in a.board.gates.items) 0 (tables_of a.faults.shape)) refl
+
+module _ (a : Inside) (b : Board) (drive read bits : Pins) (is : IsSim a) (running : a.running ≡ true)
+    (loaded_on : (g : Configuration) (before : Outputs) → g.shape ≡ a.faults.shape → g.ticks ≡ a.ticks → IsLoaded a.faults.faults g a.board → AreOutputs g a.board.gates.items before → IsLoaded a.faults.faults g b)
+    (cycled : (g : Configuration) (before : Outputs) → g.shape ≡ a.faults.shape → g.ticks ≡ a.ticks → IsLoaded a.faults.faults g a.board → AreOutputs g a.board.gates.items before → GivesCycle a.faults.faults g before drive read b.gates.items)
+    (log : bits ≡ (a.log.bits ++ drive) ++ read) (drive_len : length drive ≡ pins_of a.faults.shape) (read_len : length read ≡ pins_of a.faults.shape) where
+  was : IsRunning a.faults.faults (config_of_sim a) (cycles_of_sim a) a.board
+  was = is.running running
+
+  loaded : IsLoaded a.faults.faults (config_of_sim a) b
+  loaded = loaded_on (config_of_sim a) was.run.outputs refl refl was.loaded was.run.gives
+
+  pub same_config : config_in a.faults.shape a.closed.items b.gates.items a.ticks ≡ config_of_sim a
+  same_config = config_stays a b loaded
+
+  pub more_cycles : cycles_in (pins_of a.faults.shape) (a.used + 1) bits ≡ cycles_of_sim a ++ record { drive = drive; reading = read } ∷ []
+  more_cycles = ap (λ n. cycles_in (pins_of a.faults.shape) n bits) (add-one a.used) ∙ ap (cycles_in (pins_of a.faults.shape) (suc a.used)) log ∙ cycles_more (pins_of a.faults.shape) a.used a.log.bits drive read is.bits drive_len read_len
+
+  pub goes_on : IsRunning a.faults.faults (config_in a.faults.shape a.closed.items b.gates.items a.ticks) (cycles_in (pins_of a.faults.shape) (a.used + 1) bits) b
+  goes_on = subst (λ g. IsRunning a.faults.faults g (cycles_in (pins_of a.faults.shape) (a.used + 1) bits) b) (sym same_config)
+      (subst (λ cs. IsRunning a.faults.faults (config_of_sim a) cs b) (sym more_cycles)
+      (record { loaded = loaded; run = run_more (cycles_of_sim a) drive read was.run (cycled (config_of_sim a) was.run.outputs refl refl was.loaded was.run.gives) }))
+
+-- a session that stays
+pub gone_on : (b : Bool) (machine : Faulty) (drive read : Pins) (s t : Session) → b ≡ true → GoesOnFrom machine.faults drive read s t → HasGoneOn drive read (record { machine = machine; session = cond b (Some s) None }) (record { machine = machine; session = cond b (Some t) None })
+gone_on true machine drive read s t e on = record { session = refl; goes_on = on }
+gone_on false machine drive read s t e on = cc

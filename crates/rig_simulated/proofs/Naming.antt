@@ -1,0 +1,48 @@
+-- Names and their faults.
+use Rattle.std.proofs.Common.{◌≡◌, ◌⊎◌, ⊎_elim, ℕ, ◌≤◌, Bool, true, false, cond, leb, ◌&&◌, Some, None, List, length, refl, sym, ap, ◌∙◌, subst, arith}
+use Rattle.std.specs.Prelude.{IfSome, bytes_eq}
+use Rattle.std.specs.Fmt.{decimal}
+use Rattle.std.proofs.lemmas.Bool.{cases_lt, le-leb, leb-true, and_parts}
+use Rattle.std.proofs.lemmas.Slice.Eq.{bytes_eq-Decides}
+use Rattle.std.proofs.lemmas.Fmt.{digits_value-decimal}
+use Rattle.machine_shape.specs.declared.Shape.{Shape}
+use Rattle.machine_shape.specs.Faults.{Faults}
+use Rattle.base_text.specs.Number.{read_on}
+use Rattle.base_text.proofs.NumberLemmas.{own}
+use Rattle.machine_faults.specs.Text.{IsFaultText}
+use Rattle.base_text.specs.Size.{most_bytes}
+use Rattle.machine_faults.specs.Refusals.{IsFaultAt}
+use Rattle.machine_faults.specs.declared.kind.FaultsKind.{FaultsKind}
+use Rattle.base_io.specs.Told.{Told, untold, absent, holds, bytes_of, IfTold}
+use Rattle.rig.specs.Rig.{IsNoText}
+use Rattle.rig_simulated.specs.Named.{number_of_word}
+
+pub no_text : (m : Shape) (told : Told) (text bytes : List ℕ) (line : ℕ) (kind : FaultsKind) → IfTold told (λ b. (text ≡ b) × (length b ≤ 16777216)) → bytes ≡ text → IsFaultAt m bytes line kind →
+    ((f : Faults) → IsFaultText m bytes f → length bytes ≤ most_bytes → ⊥) → IfSome (bytes_of told) (λ b. IsNoText m b line kind)
+no_text m untold text bytes line kind w e is only = tt
+no_text m absent text bytes line kind w e is only = tt
+no_text m (holds b) text bytes line kind w e is only =
+    subst (λ (l : List ℕ). IsNoText m l line kind) (e ∙ w.0) (record { first = is; too_long = λ f t. ⊎_elim (λ l. l) (λ l. absurd (only f t l)) (cases_lt most_bytes (length bytes)) })
+
+same_bytes : (xs ys : List ℕ) → xs ≡ ys → bytes_eq xs ys ≡ true
+same_bytes xs ys e = grind (arith, bytes_eq-Decides xs ys, e)
+
+bytes_same : (xs ys : List ℕ) → bytes_eq xs ys ≡ true → xs ≡ ys
+bytes_same xs ys e = grind (arith, bytes_eq-Decides xs ys, e)
+
+value_is : (word : List ℕ) (n : ℕ) → n ≤ 4294967295 → word ≡ decimal n → read_on 0 word ≡ n
+value_is word n le e = ap (read_on 0) e ∙ digits_value-decimal own n (omega (arith, le))
+
+pub some_number : (word : List ℕ) (n : ℕ) → word ≡ decimal n → n ≤ 4294967295 → Some n ≡ number_of_word word
+some_number word n e le =
+    let v = value_is word n le e in
+    let same : bytes_eq (decimal (read_on 0 word)) word ≡ true = same_bytes (decimal (read_on 0 word)) word (ap decimal v ∙ sym e) in
+    let low : leb (read_on 0 word) 4294967295 ≡ true = le-leb (read_on 0 word) 4294967295 (omega (arith, v, le)) in
+    rw (same, low) (ap Some (sym v))
+
+pub no_number : (word : List ℕ) → ((n : ℕ) → n ≤ 4294967295 → word ≡ decimal n → ⊥) → None ≡ number_of_word word
+no_number word none = by_test (bytes_eq (decimal (read_on 0 word)) word && leb (read_on 0 word) 4294967295) refl
+  where
+    by_test : (b : Bool) → (bytes_eq (decimal (read_on 0 word)) word && leb (read_on 0 word) 4294967295) ≡ b → None ≡ cond b (Some (read_on 0 word)) None
+    by_test true e = let p = and_parts _ _ e in absurd (none (read_on 0 word) (leb-true (read_on 0 word) 4294967295 p.1) (sym (bytes_same (decimal (read_on 0 word)) word p.0)))
+    by_test false e = refl

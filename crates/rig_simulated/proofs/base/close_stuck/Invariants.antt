@@ -1,0 +1,11 @@
+use Rattle.std.proofs.Common.{◌≡◌, ◌+◌, length}
+use Rattle.machine_shape.specs.Faults.{stuck_wire}
+use Rattle.rig_simulated.specs.Classes.{AreTied}
+use Rattle.rig_simulated.specs.Building.{stuck_net}
+use Rattle.rig_simulated.proofs.base.close_stuck.Given as goal
+
+abbrev pub invariant-crosses : goal.invariant-crosses
+invariant-crosses l = record {
+  len : length l.knots ≡ length l.fn.knots;
+  tied : AreTied (stuck_net l.faults.shape l.faults.faults l.x) (stuck_wire l.faults.faults) l.knots (65536 + l.x);
+}

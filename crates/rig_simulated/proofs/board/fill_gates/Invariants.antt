@@ -1,0 +1,14 @@
+use Rattle.std.proofs.Common.{◌≡◌, ℕ, All, map, take}
+use Rattle.std.specs.Prelude.{unwrap_or}
+use Rattle.machine_shape.specs.Shape.{wires_of, tables_of}
+use Rattle.rig_simulated.specs.Classes.{HasRoots}
+use Rattle.rig_simulated.specs.Gates.{Fits, IsGate}
+use Rattle.rig_simulated.proofs.board.fill_gates.Given as goal
+
+abbrev pub invariant-tables : goal.invariant-tables
+invariant-tables l = record {
+  tables : map (λ x. x.table) l.gates.items ≡ take l.i l.tables;
+  fits : All (Fits (tables_of l.faults.shape) (wires_of l.faults.shape)) l.gates.items;
+  gates : (most : ℕ) (root : ℕ → ℕ) → HasRoots l.knots most root → All (IsGate l.faults.faults l.config.config root) l.gates.items;
+  first : All (λ x. x.output ≡ unwrap_or x.held x.setting.init) l.gates.items;
+}

@@ -1,0 +1,18 @@
+use Rattle.std.proofs.Common.{◌∙◌, length, sym, refl}
+use Rattle.machine_shape.specs.Shape.{tables_of}
+use Rattle.rig_simulated.specs.Gates.{level_at, ticked}
+use Rattle.rig_simulated.proofs.Ticking.{stepped_outputs, stepped_fit, stepped_within, ticked_fits}
+use Rattle.rig_simulated.proofs.cycle.tick.Goals as goal
+
+pub clear_tables-requires-clause-fits : goal.clear_tables-requires-clause-fits
+clear_tables-requires-clause-fits c =
+    stepped_within (ticked c.args.faults.now.faults (level_at c.args.knots.now c.args.low_pins.now c.mark_tables.new.low)) (λ x. refl) c.args.gates.now (tables_of c.args.faults.now.shape) (length c.args.knots.now) (ticked_fits c.args.faults.now.faults (level_at c.args.knots.now c.args.low_pins.now c.mark_tables.new.low) _ _) c.requires.fits c.tick_all-changed.ensures.next (sym (c.mark_tables.ensures.len ∙ c.requires.tables))
+
+pub clear_tables-requires-clause-only : goal.clear_tables-requires-clause-only
+clear_tables-requires-clause-only c = stepped_outputs (ticked c.args.faults.now.faults (level_at c.args.knots.now c.args.low_pins.now c.mark_tables.new.low)) (λ x. refl) c.args.gates.now c.requires.clear c.mark_tables.ensures c.tick_all-changed.ensures.next
+
+pub returns-clause-fits : goal.returns-clause-fits
+returns-clause-fits c = stepped_fit (ticked c.args.faults.now.faults (level_at c.args.knots.now c.args.low_pins.now c.mark_tables.new.low)) (λ x. refl) c.args.gates.now (tables_of c.args.faults.now.shape) (length c.args.knots.now) (ticked_fits c.args.faults.now.faults (level_at c.args.knots.now c.args.low_pins.now c.mark_tables.new.low) _ _) c.requires.fits c.tick_all-changed.ensures.next
+
+pub returns-clause-tick : goal.returns-clause-tick
+returns-clause-tick c = record { clear = c.args.low_tables.now; is_clear = c.requires.clear; marks = c.mark_tables.new.low; marked = c.mark_tables.ensures; next = c.tick_all-changed.ensures.next }

@@ -1,0 +1,12 @@
+use Rattle.std.proofs.Common.{◌≡◌, ◌≤◌, length}
+use Rattle.rig_simulated.specs.Gates.{level_at}
+use Rattle.rig_simulated.specs.Events.{AreFlips, HaveFlips}
+use Rattle.rig_simulated.proofs.events.evaluate.Given as goal
+
+abbrev pub invariant-due : goal.invariant-due
+invariant-due l = record {
+  len : length l.flips.items ≡ length l.fn.flips.items;
+  few : l.count ≤ l.i;
+  flips : AreFlips l.faults.faults (level_at l.knots l.low_pins l.low_tables) l.gates l.flips.items l.count;
+  due : HaveFlips l.faults.faults (level_at l.knots l.low_pins l.low_tables) l.gates l.queue.due.items l.i l.flips.items l.count;
+}

@@ -1,0 +1,19 @@
+use Rattle.std.proofs.Common.{◌<◌, ◌∙◌, length, sym, subst, arith}
+use Rattle.rig_simulated.specs.declared.events.Flip.{Flip}
+use Rattle.rig_simulated.specs.Gates.{level_at}
+use Rattle.rig_simulated.proofs.Eventing.{alike_on, alike_given, inputs_on, put_next}
+use Rattle.rig_simulated.proofs.events.flip_all.Goals as goal
+
+pub flips-preserved : goal.flips-preserved
+flips-preserved c =
+    let inv = c.flips.invariant in
+    let room : c.flips.j < length c.args.flips.now.items = omega (arith, c.flips-test.true, c.requires.room) in
+    let within : c.index.result.now.place < length c.flips.gates = (let w = subst (λ (x : Flip). x.place < length c.args.gates.now) (sym c.index.ensures) (c.requires.within c.flips.j c.index.result.now c.flips-test.true) in omega (arith, w, inv.alike.len)) in
+    record {
+      len = c.flip_one.ensures.len ∙ inv.len;
+      sound = c.flip_one.ensures.sound;
+      alike = alike_on c.args.gates.now c.flips.gates c.flip_one.new.gates inv.alike (alike_given c.index.result.now.place c.index.result.now.output c.flips.gates c.flip_one.new.gates within c.flip_one.ensures.gates);
+      put = λ f level are.
+          put_next f level c.args.gates.now c.args.flips.now.items c.args.count c.flips.j c.flips.gates c.flip_one.new.gates c.index.result.now c.index.ensures c.flips-test.true room inv.alike.len are (inv.put f level are) c.flip_one.ensures.gates;
+      inputs = inputs_on c.args.gates.now c.flips.gates c.flips.queue.marks.items c.flip_one.new.queue.marks.items (level_at c.args.knots.now c.args.low_pins.now c.args.low_tables.now) (level_at c.args.knots.now c.args.low_pins.now c.flips.low_tables) (level_at c.args.knots.now c.args.low_pins.now c.flip_one.new.low_tables) inv.alike c.flip_one.ensures.kept inv.inputs c.flip_one.ensures.inputs;
+    }

@@ -1,0 +1,13 @@
+use Rattle.std.proofs.Common.{◌≡◌, length}
+use Rattle.rig_simulated.specs.Gates.{level_at}
+use Rattle.rig_simulated.specs.Events.{AreAlike, PutFlips, InputsKept, IsSound}
+use Rattle.rig_simulated.proofs.events.flip_all.Given as goal
+
+abbrev pub invariant-flips : goal.invariant-flips
+invariant-flips l = record {
+  len : length l.low_tables ≡ length l.fn.low_tables;
+  sound : IsSound l.gates l.readers l.queue l.pulls.items l.low_tables;
+  alike : AreAlike l.fn.gates l.gates;
+  put : PutFlips l.fn.gates l.flips.items l.count l.j l.gates;
+  inputs : InputsKept l.fn.gates l.queue.marks.items (level_at l.knots l.low_pins l.fn.low_tables) (level_at l.knots l.low_pins l.low_tables);
+}

@@ -1,0 +1,6 @@
+use Rattle.machine_shape.specs.Shape.{tables_of}
+use Rattle.rig_simulated.proofs.SoFar.{AreTickedListed}
+use Rattle.rig_simulated.proofs.events.tick_listed_on.Given as goal
+
+abbrev pub invariant-ticks : goal.invariant-ticks
+invariant-ticks l = AreTickedListed (tables_of l.faults.shape) l.faults.faults l.knots l.low_pins l.low_tables l.fn.gates l.gates l.fn.events l.events l._n

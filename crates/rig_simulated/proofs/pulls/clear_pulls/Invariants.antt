@@ -1,0 +1,10 @@
+use Rattle.std.proofs.Common.{◌≡◌, ◌<◌, ℕ, length}
+use Rattle.std.specs.Prelude.{slice_index}
+use Rattle.rig_simulated.specs.Gates.{IsOutputOf}
+use Rattle.rig_simulated.proofs.pulls.clear_pulls.Given as goal
+
+abbrev pub invariant-gates : goal.invariant-gates
+invariant-gates l = record {
+  len : length l.pulls.items ≡ length l.fn.pulls.items;
+  only : (r : ℕ) → 0 < slice_index l.pulls.items r → IsOutputOf l.gates l.i r;
+}

@@ -1,0 +1,8 @@
+use Rattle.std.proofs.Common.{take}
+use Rattle.std.specs.Prelude.{slice_index}
+use Rattle.std.specs.List.{All}
+use Rattle.rig_simulated.specs.Settling.{IsRankedOrLatched}
+use Rattle.rig_simulated.proofs.ranks.are_ranked.Given as goal
+
+abbrev pub invariant-gates : goal.invariant-gates
+invariant-gates l = All (IsRankedOrLatched (slice_index l.ranks) l.most) (take l.i l.gates)

@@ -1,0 +1,10 @@
+use Rattle.std.proofs.Common.{◌<◌, length, All}
+use Rattle.rig_simulated.specs.declared.readers.Reader.{Reader}
+use Rattle.rig_simulated.specs.Readers.{AreListed}
+use Rattle.rig_simulated.proofs.readers.fill_list.Given as goal
+
+abbrev pub invariant-gates : goal.invariant-gates
+invariant-gates l = record {
+  within : All (λ (x : Reader). x.place < length l.gates) l.list.items;
+  listed : AreListed l.gates l.k l.list.items;
+}

@@ -1,0 +1,60 @@
+-- The faults that a name stands for.
+use Rattle.std.specs.Prelude.{◌≡◌, ◌⊎◌, ℕ, ◌≤◌, ◌&&◌, nat_le, ◌==◌, if◌then◌else◌, Option, Some, None, IfSome, List, [], ◌∷◌, ◌++◌, length}
+use Rattle.std.specs.Prelude.{slice_index, drop, bytes_eq}
+use Rattle.std.specs.Fmt.{decimal}
+use Rattle.machine_shape.specs.declared.Shape.{Shape}
+use Rattle.machine_shape.specs.Faults.{Faults}
+use Rattle.base_text.specs.Number.{read_on}
+use Rattle.base_io.specs.Counts.{Rose}
+use Rattle.base_io.specs.Told.{Told, bytes_of, IfTold}
+use Rattle.base_io.specs.Store.{StoreState}
+use Rattle.machine_faults.specs.Text.{IsFaultText}
+use Rattle.base_text.specs.Size.{most_bytes}
+use Rattle.machine_faults.specs.declared.kind.FaultsFault.TheVariants as text
+use Rattle.machine_bench.specs.Faults.{AreBenchFaults}
+use Rattle.rig.specs.Rig.{IsNoText}
+use Rattle.rig.specs.declared.rig.AttachFail.{AttachFail}
+use Rattle.rig.specs.declared.rig.AttachFail.TheVariants as attach
+
+-- the number of at most 4,294,967,295 whose numeral the word is
+abbrev pub number_of_word : List ℕ → Option ℕ
+number_of_word word = if bytes_eq (decimal (read_on 0 word)) word && nat_le (read_on 0 word) 4294967295 then Some (read_on 0 word) else None
+
+-- the number of a name of an at sign and a numeral, which stands for generated faults
+abbrev pub generated_of : List ℕ → Option ℕ
+generated_of name = if slice_index name 0 == 64 then number_of_word (drop 1 name) else None
+
+-- the fault text of a name by its number, if it has one: that of generated faults is empty
+abbrev pub text_by : Option ℕ → Option (List ℕ) → Option (List ℕ)
+text_by (Some n) told = Some []
+text_by None told = told
+
+abbrev pub texts_of : (List ℕ → Told) → List ℕ → Option (List ℕ)
+texts_of contents name = text_by (generated_of name) (bytes_of (contents name))
+
+-- the faults are those that the number makes, or else those that the file spells, where it is told
+abbrev pub AreNamed : Option ℕ → Shape → Told → Faults → Type 0
+AreNamed (Some n) m told f = AreBenchFaults m n f
+AreNamed None m told f = IfTold told (λ bytes. IsFaultText m bytes f × (length bytes ≤ most_bytes))
+
+-- the store was asked for nothing where the name has a number, and else for the name alone
+abbrev pub Asks : Option ℕ → List ℕ → StoreState → StoreState → Type 0
+Asks (Some n) name old new = new ≡ old
+Asks None name old new = new.asked ≡ old.asked ++ name ∷ []
+
+-- the same where memory may have been wanting before
+abbrev pub AsksAtMost : Option ℕ → List ℕ → StoreState → StoreState → Type 0
+AsksAtMost (Some n) name old new = new ≡ old
+AsksAtMost None name old new = (new.asked ≡ old.asked) ⊎ (new.asked ≡ old.asked ++ name ∷ [])
+
+-- why the faults of a name aren't given
+abbrev pub NamesFail : AttachFail → Shape → Option (List ℕ) → StoreState → StoreState → Type 0
+NamesFail attach.Failed m told old new = Rose old.failures new.failures
+NamesFail (attach.Faults (text.At line kind)) m told old new = IfSome told (λ bytes. IsNoText m bytes line kind)
+NamesFail (attach.Faults text.Memory) m told old new = ⊥
+NamesFail attach.Memory m told old new = Unit {0}
+
+-- the faults are told, and are those of the name
+abbrev pub TellsNamed : Option ℕ → Shape → Told → Option Faults → Type 0
+TellsNamed number m told None = ⊥
+TellsNamed number m told (Some f) = AreNamed number m told f

@@ -1,0 +1,31 @@
+-- What is kept of a session.
+use Rattle.std.specs.Prelude.{ℕ, zero, suc, ◌*◌, Bool, ◌==◌, Option, List, [], ◌∷◌, take, drop, map, find, option_map}
+use Rattle.std.specs.List.{range_with_len}
+use Rattle.machine_shape.specs.declared.Shape.{Shape}
+use Rattle.machine_shape.specs.declared.Cross.{Cross}
+use Rattle.machine_shape.specs.Shape.{tables_of}
+use Rattle.machine_config.specs.declared.Setting.{Setting}
+use Rattle.machine_config.specs.Configuration.{Configuration}
+use Rattle.machine_config.specs.Kept.{set_of}
+use Rattle.rig.specs.Rig.{Exchange}
+use Rattle.rig_simulated.specs.declared.gates.Gate.{Gate}
+
+-- what a table does, by the list of those that are on
+abbrev pub setting_in : List Gate → ℕ → Option Setting
+setting_in gates t = option_map (λ (x : Gate). x.setting) (find (λ (x : Gate). x.table.0 == t) gates)
+
+-- the configuration of these closed crosspoints and these tables
+abbrev pub config_in : Shape → List Cross → List Gate → ℕ → Configuration
+config_in m closed gates ticks = record {
+  shape = m;
+  closed = set_of closed;
+  tables = map (setting_in gates)
+      (range_with_len 0 (tables_of m));
+  ticks = ticks;
+}
+
+-- so many cycles, of each of which the drive stands before the reading
+abbrev pub cycles_in : ℕ → ℕ → List Bool → List Exchange
+cycles_in pins zero bits = []
+cycles_in pins (suc n) bits = record { drive = take pins bits; reading = take pins (drop pins bits) } ∷ cycles_in pins n
+    (drop (2 * pins) bits)

@@ -1,0 +1,191 @@
+//! A machine that is prepared for its faults, and loaded.
+
+ghost use Rattle.std.specs.Prelude.{◌≡◌, ℕ, ◌<◌, Some, None, OnOk, IfOk, length, slice_index, All, unwrap_or};
+ghost use Rattle.machine_shape.specs.Shape.{wires_of, tables_of, pins_of, pin_wire, table_wire};
+ghost use Rattle.machine_config.specs.Configuration.{Configuration, setting_of};
+ghost use Rattle.machine_config.specs.Faulty.{circuit_of};
+ghost use Rattle.machine_config.specs.Run.{at_load};
+ghost use Rattle.rig_simulated.specs.Classes.{HasRoots, AreRooted};
+ghost use Rattle.rig_simulated.specs.Boards.{IsPrepared, IsLoaded};
+ghost use Rattle.rig_simulated.specs.Gates.{Fits, IsGate, AreGates, AreOutputs};
+
+use crate::base::classes_of;
+use crate::classes::{Classes, Knot, root_of};
+use crate::closing::close_all;
+use crate::events::{Events, list_tables, new_events};
+use crate::gates::Gate;
+use crate::known::{Closing, nothing_known};
+use crate::past::{MANY_TICKS, Past, make_past, no_past};
+use crate::ranks::{FEW_TICKS, Turn, order_gates};
+use machine_config::{Config, Setting};
+use machine_faults::FaultSet;
+use machine_shape::{Shape, Table};
+use std::alloc::{AllocError, Global};
+
+/// What is kept of a machine: its wires in classes, what its crosspoints do, its tables that are on, its pins, and marks.
+#[derive(Drop)]
+pub struct Board {
+    pub classes: Classes,
+    /// For each crosspoint, once it was closed, what it does then.
+    pub known: Vec<Option<Closing>>,
+    pub gates: Vec<Gate>,
+    /// The roots of the pins.
+    pub pins: Vec<u32>,
+    /// The classes that pins pull to 0.
+    pub low_pins: Vec<bool>,
+    /// The classes that tables pull to 0.
+    pub low_tables: Vec<bool>,
+    /// The ranks of the classes, where the tables are ranked.
+    pub ranks: Vec<u16>,
+    /// The order in which the tables are evaluated, where they are ranked.
+    pub turns: Vec<Turn>,
+    /// Whether no way through combinational tables is longer than the ticks.
+    pub ranked: bool,
+    /// The readers of what tables give, where the tables aren't ranked.
+    pub events: Events,
+    /// What the tables gave some ticks before, where ticks are many.
+    pub past: Past,
+}
+
+/// The root of a table's pin.
+fn root_at(knots: &[Knot], shape: Shape, table: Table, pin: u32) -> u32
+    requires len { length knots.now ≡ wires_of shape }
+    requires rooted { AreRooted knots.now }
+    requires table { table.0 < tables_of shape }
+    requires pin { pin < 7 }
+    ensures root { (most : ℕ) (root : ℕ → ℕ) → HasRoots knots.now most root → result ≡ root (table_wire shape table.0 pin) }
+    ensures within { result < wires_of shape }
+{
+    root_of(knots, shape.pin_of(table, pin).0)
+}
+
+/// A table with this setting, as it is after a load.
+fn gate_of(faults: &FaultSet, knots: &[Knot], table: Table, setting: Setting) -> Gate
+    requires len { length knots.now ≡ wires_of faults.now.shape }
+    requires rooted { AreRooted knots.now }
+    requires table { table.0 < tables_of faults.now.shape }
+    ensures fits { Fits (tables_of faults.now.shape) (wires_of faults.now.shape) result }
+    ensures gate { (g : Configuration) (most : ℕ) (root : ℕ → ℕ) → g.shape ≡ faults.now.shape → setting_of g table.0 ≡ Some setting →
+        HasRoots knots.now most root → IsGate faults.now.faults g root result }
+    ensures table { result.table ≡ table }
+    ensures first { result.output ≡ unwrap_or result.held result.setting.init }
+{
+    let shape = faults.shape();
+    let held = if setting.latched {
+        faults.register(table)
+    } else {
+        None
+    };
+    Gate {
+        table,
+        setting,
+        held,
+        ins: [
+            root_at(knots, shape, table, 0),
+            root_at(knots, shape, table, 1),
+            root_at(knots, shape, table, 2),
+            root_at(knots, shape, table, 3),
+            root_at(knots, shape, table, 4),
+            root_at(knots, shape, table, 5),
+        ],
+        out: root_at(knots, shape, table, 6),
+        output: held.unwrap_or(setting.init),
+    }
+}
+
+/// The tables that are on.
+fn fill_gates(
+    gates: &mut Vec<Gate>,
+    faults: &FaultSet,
+    knots: &[Knot],
+    config: &Config,
+) -> Result<(), AllocError>
+    requires shape { config.now.config.shape ≡ faults.now.shape }
+    requires len { length knots.now ≡ wires_of faults.now.shape }
+    requires rooted { AreRooted knots.now }
+    ensures fits { OnOk result (All (Fits (tables_of faults.now.shape) (wires_of faults.now.shape)) gates.new.items) }
+    ensures gates { OnOk result ((most : ℕ) (root : ℕ → ℕ) → HasRoots knots.now most root →
+        AreGates faults.now.faults config.now.config root gates.new.items) }
+    ensures first { OnOk result (AreOutputs config.now.config gates.new.items (at_load (circuit_of faults.now.faults config.now.config))) }
+{
+    // Each table of the shape has its setting, and only these have one.
+    let _shape = config.shape();
+    gates.clear();
+    let tables = config.tables_on();
+    'tables: for i in 0..tables.len() {
+        let table = tables[i];
+        if let Some(setting) = config.setting(table) {
+            gates.push(gate_of(faults, knots, table, setting))?;
+        }
+    }
+    Ok(())
+}
+
+/// The roots of the pins.
+fn fill_pins(pins: &mut Vec<u32>, knots: &[Knot], shape: Shape) -> Result<(), AllocError>
+    requires len { length knots.now ≡ wires_of shape }
+    requires rooted { AreRooted knots.now }
+    ensures len { OnOk result (length pins.new.items ≡ pins_of shape) }
+    ensures within { OnOk result (All (λ r. r < wires_of shape) pins.new.items) }
+    ensures roots { OnOk result ((most : ℕ) (root : ℕ → ℕ) → HasRoots knots.now most root → (k : ℕ) → k < pins_of shape →
+        slice_index pins.new.items k ≡ root (pin_wire shape k)) }
+{
+    pins.clear();
+    'pins: for k in 0..shape.pins() {
+        pins.push(root_of(knots, shape.pin(k).0))?;
+    }
+    Ok(())
+}
+
+/// A machine with these faults, with nothing loaded.
+pub fn prepare(alloc: Global, faults: &FaultSet) -> Result<Board, AllocError>
+    ensures { IfOk result (IsPrepared faults.now.shape faults.now.faults) }
+{
+    let wires = faults.shape().wires() as usize;
+    Ok(Board {
+        classes: classes_of(alloc, faults)?,
+        known: nothing_known(alloc, faults)?,
+        gates: Vec::new(alloc),
+        pins: Vec::new(alloc),
+        low_pins: vec![in alloc; false; wires]?,
+        low_tables: vec![in alloc; false; wires]?,
+        ranks: vec![in alloc; 0; wires]?,
+        turns: Vec::new(alloc),
+        ranked: false,
+        events: new_events(alloc, wires)?,
+        past: no_past(alloc),
+    })
+}
+
+/// Loads a configuration. Its cost grows with what is closed, on and faulty, with the pins, and, where there are more
+/// than two ticks, with the longest way through combinational tables. If that is longer than the ticks, what the tables
+/// read is sorted.
+pub fn load(board: &mut Board, faults: &FaultSet, config: &Config) -> Result<(), AllocError>
+    requires prepared { IsPrepared faults.now.shape faults.now.faults board.old }
+    requires shape { config.now.config.shape ≡ faults.now.shape }
+    ensures prepared { IsPrepared faults.now.shape faults.now.faults board.new }
+    ensures loaded { OnOk result (IsLoaded faults.now.faults config.now.config board.new) }
+    ensures first { OnOk result (AreOutputs config.now.config board.new.gates.items
+        (at_load (circuit_of faults.now.faults config.now.config))) }
+{
+    let shape = config.shape();
+    close_all(
+        &mut board.classes,
+        &mut board.known,
+        faults,
+        config.closed(),
+    )?;
+    fill_gates(&mut board.gates, faults, &board.classes.knots, config)?;
+    fill_pins(&mut board.pins, &board.classes.knots, shape)?;
+    board.ranked = order_gates(
+        &mut board.turns,
+        &mut board.ranks,
+        &board.gates,
+        config.ticks(),
+    )?;
+    let is_worth = !board.ranked && config.ticks() >= FEW_TICKS;
+    list_tables(&mut board.events, &board.gates, is_worth)?;
+    let looks_back = is_worth && config.ticks() >= MANY_TICKS;
+    make_past(&mut board.past, board.gates.len(), looks_back)?;
+    Ok(())
+}

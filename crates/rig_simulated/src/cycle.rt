@@ -1,0 +1,220 @@
+//! A cycle of a loaded machine.
+
+ghost use Rattle.std.specs.Prelude.{◌≡◌, ◌<◌, true, false, length, All};
+ghost use Rattle.machine_shape.specs.Circuit.{Outputs};
+ghost use Rattle.machine_shape.specs.Shape.{tables_of};
+ghost use Rattle.machine_config.specs.Configuration.{Configuration};
+ghost use Rattle.rig_simulated.specs.Gates.{Fits, IsClear, AreOutputs};
+ghost use Rattle.rig_simulated.specs.Boards.{IsPrepared, AreFitting, IsLoaded};
+ghost use Rattle.rig_simulated.specs.Tracks.{GivesCycle};
+ghost use Rattle.rig_simulated.specs.Cycles.{IsTick, HaveTicked, IsEdge};
+ghost use Rattle.rig_simulated.specs.Settling.{Settles};
+ghost use Rattle.rig_simulated.specs.Pulls.{AreZero};
+ghost use Rattle.rig_simulated.specs.Events.{AreEvents};
+
+use crate::board::Board;
+use crate::classes::Knot;
+use crate::events::{Events, give_up, settle_listed};
+use crate::gates::{Gate, clock_all, read_pins, tick_all};
+use crate::marks::{clear_pins, clear_tables, mark_pins, mark_tables};
+use crate::past::{Past, forget, look_back};
+use crate::ranks::Turn;
+use crate::sweeping::sweep;
+use machine_faults::FaultSet;
+use rig::PinBits;
+
+/// Makes one tick. Whether a table gives something else now.
+fn tick(
+    faults: &FaultSet,
+    knots: &[Knot],
+    low_pins: &[bool],
+    low_tables: &mut [bool],
+    gates: &mut [Gate],
+) -> bool
+    requires fits { All (Fits (tables_of faults.now.shape) (length knots.now)) gates.old }
+    requires pins { length low_pins.now ≡ length knots.now }
+    requires tables { length low_tables.old ≡ length knots.now }
+    requires clear { IsClear low_tables.old }
+    ensures fits { All (Fits (tables_of faults.now.shape) (length knots.now)) gates.new }
+    ensures tables { length low_tables.new ≡ length knots.now }
+    ensures clear { IsClear low_tables.new }
+    ensures tick { IsTick faults.now.faults knots.now low_pins.now gates.old gates.new }
+    ensures same { result ≡ false → gates.new ≡ gates.old }
+{
+    mark_tables(gates, low_tables);
+    let changed = tick_all(faults, knots, low_pins, low_tables, gates);
+    clear_tables(gates, low_tables);
+    changed
+}
+
+/// Makes so many ticks. After one that changes nothing all further ones are the same, and are left out.
+fn tick_on(
+    faults: &FaultSet,
+    knots: &[Knot],
+    low_pins: &[bool],
+    low_tables: &mut [bool],
+    gates: &mut [Gate],
+    ticks: u16,
+)
+    requires fits { All (Fits (tables_of faults.now.shape) (length knots.now)) gates.old }
+    requires pins { length low_pins.now ≡ length knots.now }
+    requires tables { length low_tables.old ≡ length knots.now }
+    requires clear { IsClear low_tables.old }
+    ensures fits { All (Fits (tables_of faults.now.shape) (length knots.now)) gates.new }
+    ensures tables { length low_tables.new ≡ length knots.now }
+    ensures clear { IsClear low_tables.new }
+    ensures ticked { HaveTicked faults.now.faults knots.now low_pins.now gates.old ticks gates.new }
+{
+    'ticks: for _n in 0..ticks {
+        if !tick(faults, knots, low_pins, low_tables, gates) {
+            return;
+        }
+    }
+}
+
+/// Makes so many ticks, or fewer that lead to the same: after one that changes nothing, and after those that lead back to
+/// what the tables gave before, which would do so over and over.
+fn tick_times(
+    faults: &FaultSet,
+    knots: &[Knot],
+    low_pins: &[bool],
+    low_tables: &mut [bool],
+    gates: &mut [Gate],
+    past: &mut Past,
+    ticks: u16,
+)
+    requires fits { All (Fits (tables_of faults.now.shape) (length knots.now)) gates.old }
+    requires pins { length low_pins.now ≡ length knots.now }
+    requires tables { length low_tables.old ≡ length knots.now }
+    requires clear { IsClear low_tables.old }
+    ensures fits { All (Fits (tables_of faults.now.shape) (length knots.now)) gates.new }
+    ensures tables { length low_tables.new ≡ length knots.now }
+    ensures clear { IsClear low_tables.new }
+    ensures ticked { HaveTicked faults.now.faults knots.now low_pins.now gates.old ticks gates.new }
+{
+    forget(past);
+    'ticks: for n in 0..ticks {
+        if !tick(faults, knots, low_pins, low_tables, gates) {
+            return;
+        }
+        if let Some(left) = look_back(past, gates, n + 1, ticks) {
+            tick_on(faults, knots, low_pins, low_tables, gates, left);
+            return;
+        }
+    }
+}
+
+/// Makes so many ticks. Where the readers are listed, each tick costs what changed, unless nearly everything does. Where
+/// what the combinational tables gave before doesn't matter after the ticks, all that is left to do is to come to rest,
+/// for which the tables are evaluated in their order first.
+fn settle(
+    faults: &FaultSet,
+    knots: &[Knot],
+    low_pins: &[bool],
+    low_tables: &mut [bool],
+    gates: &mut [Gate],
+    turns: &[Turn],
+    ranked: bool,
+    events: &mut Events,
+    past: &mut Past,
+    ticks: u16,
+)
+    requires fits { All (Fits (tables_of faults.now.shape) (length knots.now)) gates.old }
+    requires pins { length low_pins.now ≡ length knots.now }
+    requires tables { length low_tables.old ≡ length knots.now }
+    requires clear { IsClear low_tables.old }
+    requires pulls { length events.old.pulls.items ≡ length knots.now }
+    requires zero { AreZero events.old.pulls.items }
+    requires events { events.old.listed ≡ true → AreEvents gates.old events.old }
+    ensures fits { All (Fits (tables_of faults.now.shape) (length knots.now)) gates.new }
+    ensures tables { length low_tables.new ≡ length knots.now }
+    ensures clear { IsClear low_tables.new }
+    ensures pulls { length events.new.pulls.items ≡ length knots.now }
+    ensures zero { AreZero events.new.pulls.items }
+    ensures events { events.new.listed ≡ true → AreEvents gates.new events.new }
+    ensures ticked { (ranked ≡ true → Settles gates.old ticks) →
+        HaveTicked faults.now.faults knots.now low_pins.now gates.old ticks gates.new }
+{
+    if events.listed {
+        let busy = settle_listed(
+            events, faults, knots, low_pins, low_tables, gates, past, ticks,
+        );
+        give_up(events, busy);
+        return;
+    }
+    if !ranked {
+        tick_times(faults, knots, low_pins, low_tables, gates, past, ticks);
+        return;
+    }
+    sweep(faults, knots, low_pins, low_tables, gates, turns);
+    tick_times(faults, knots, low_pins, low_tables, gates, past, ticks);
+}
+
+/// Reads the pins, and makes the clock edge.
+fn clock(
+    faults: &FaultSet,
+    knots: &[Knot],
+    low_pins: &[bool],
+    low_tables: &mut [bool],
+    gates: &mut [Gate],
+    pins: &[u32],
+    read: &mut PinBits,
+)
+    requires fits { All (Fits (tables_of faults.now.shape) (length knots.now)) gates.old }
+    requires pins { length low_pins.now ≡ length knots.now }
+    requires tables { length low_tables.old ≡ length knots.now }
+    requires clear { IsClear low_tables.old }
+    requires within { All (λ r. r < length knots.now) pins.now }
+    requires read { length read.old ≡ length pins.now }
+    ensures fits { All (Fits (tables_of faults.now.shape) (length knots.now)) gates.new }
+    ensures tables { length low_tables.new ≡ length knots.now }
+    ensures clear { IsClear low_tables.new }
+    ensures edge { IsEdge faults.now.faults knots.now low_pins.now low_tables.old pins.now read.new gates.old gates.new }
+{
+    mark_tables(gates, low_tables);
+    read_pins(knots, low_pins, low_tables, pins, read);
+    clock_all(faults, knots, low_pins, low_tables, gates);
+    clear_tables(gates, low_tables);
+}
+
+/// Makes a cycle of so many ticks. Its cost grows with the tables that are on, the pins, and what changes in the ticks.
+/// Where there are fewer than three ticks, each tick costs what is on.
+pub fn cycle(board: &mut Board, faults: &FaultSet, ticks: u16, drive: &PinBits, read: &mut PinBits)
+    requires prepared { IsPrepared faults.now.shape faults.now.faults board.old }
+    requires fitting { AreFitting faults.now.shape board.old }
+    requires drive { length drive.now ≡ length board.old.pins.items }
+    requires read { length read.old ≡ length board.old.pins.items }
+    ensures prepared { IsPrepared faults.now.shape faults.now.faults board.new }
+    ensures loaded { (g : Configuration) (before : Outputs) → g.shape ≡ faults.now.shape → g.ticks ≡ ticks →
+        IsLoaded faults.now.faults g board.old → AreOutputs g board.old.gates.items before → IsLoaded faults.now.faults g board.new }
+    ensures cycled { (g : Configuration) (before : Outputs) → g.shape ≡ faults.now.shape → g.ticks ≡ ticks →
+        IsLoaded faults.now.faults g board.old → AreOutputs g board.old.gates.items before →
+        GivesCycle faults.now.faults g before drive.now read.new board.new.gates.items }
+    ensures length { length read.new ≡ length read.old }
+{
+    // The shape keeps its limits, so its wires can be numbered.
+    let _shape = faults.shape();
+    mark_pins(&board.pins, drive, &mut board.low_pins);
+    settle(
+        faults,
+        &board.classes.knots,
+        &board.low_pins,
+        &mut board.low_tables,
+        &mut board.gates,
+        &board.turns,
+        board.ranked,
+        &mut board.events,
+        &mut board.past,
+        ticks,
+    );
+    clock(
+        faults,
+        &board.classes.knots,
+        &board.low_pins,
+        &mut board.low_tables,
+        &mut board.gates,
+        &board.pins,
+        read,
+    );
+    clear_pins(&board.pins, &mut board.low_pins);
+}

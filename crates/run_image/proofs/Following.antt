@@ -1,0 +1,77 @@
+-- How the steps follow one another: a lemma for each place where the body ends, over plain states.
+use Rattle.std.proofs.Common.{◌≡◌, ◌∙◌, ℕ, List, [], ◌∷◌, Bool, Option, None, Some, IfSome, length, refl, sym, ap, subst}
+use Rattle.std.specs.Prelude.{Result, Ok, Err}
+use Rattle.std.specs.List.{All}
+use Rattle.base_io.specs.Store.{StoreState}
+use Rattle.base_io.specs.Sink.{SinkState}
+use Rattle.machine_shape.specs.declared.Shape.{Shape}
+use Rattle.machine_shape.specs.Defects.{Covers}
+use Rattle.machine_shape.specs.Faults.{Faults}
+use Rattle.machine_defects.specs.Lists.{DefectList}
+use Rattle.machine_image.specs.Images.{ImageValue}
+use Rattle.place_route.specs.RightImages.{ReadsRows}
+use Rattle.rig.specs.Rig.{RigState, Machine}
+use Rattle.cmd_steps.specs.Outside.{Outside, StandsIn, outside, around}
+use Rattle.cmd_steps.specs.Took.{Took, Follows}
+use Rattle.cmd_steps.specs.declared.refusal.Stop.{Stop}
+use Rattle.cmd_steps.proofs.Following.{course-map}
+use Rattle.cmd_steps.proofs.Taking.{step-stops, step-gives}
+use Rattle.diag_list.specs.Lists.{Listed, IsListed, WritesList}
+use Rattle.diag_list.proofs.Following.{list-ends, list-goes}
+use Rattle.run_image.specs.Rows.{RowsBegin, AreRunRows, AreRowsOf, image_rows, image_course}
+use Rattle.run_image.proofs.CourseLemmas.{rows-also}
+use Rattle.run_image.specs.Laid.{Laid, IsLaidOn, AreLaidRows}
+use Rattle.run_image.specs.Runs.{RunBegin, HasStayed, machine_listed, laid_run, image_run}
+
+-- ---- rows of an image that are those of what was laid
+
+told-rows : (faults : Option Faults) (w : Laid) (i : ImageValue) (vectors rows : List (List Bool)) → ((f : Faults) → faults ≡ Some f → ReadsRows f i w.rows) → All (λ vector. length vector ≡ length i.inputs) vectors → IfSome faults (λ f. AreRunRows f i vectors rows) → IfSome faults (λ f. w.rows vectors rows)
+told-rows None w i vectors rows right widths read = tt
+told-rows (Some f) w i vectors rows right widths read =
+    subst (λ (r : List (List Bool)). w.rows vectors r) (sym read.2) (right f refl vectors read.0 widths read.1)
+
+are-laid : (w : Laid) (i : ImageValue) (rig : RigState) → ((f : Faults) → rig.machine.faults ≡ Some f → ReadsRows f i w.rows) → (vectors rows : List (List Bool)) → AreRowsOf rig i vectors rows → AreLaidRows w rig i vectors rows
+are-laid w i rig right vectors rows are =
+    record { read = are; right = told-rows rig.machine.faults w i vectors rows right are.widths are.read }
+
+-- ---- it is laid
+
+module _ {U : Type 0} (w : Laid) (d : DefectList) (b : RunBegin) where
+  lay-stops : (stop : Stop) (result : Result U Stop) (o : Outside) → result ≡ Err stop → Took [] (w.lays d) (Err stop) o o → StandsIn b.files b.begun o.store → Follows ⊥ (b.vectors ∷ []) (o.rig.machine ≡ o.rig.machine) (laid_run w b (around o) (record { list = d; loads = o.rig.loads })) result o o
+  lay-stops stop result o is took at =
+      let made : Listed = record { list = d; loads = o.rig.loads } in
+      step-stops (w.lays d) (HasStayed b made (around o)) (image_run w b (around o) made) (w.lays d) [] (b.vectors ∷ []) _ stop result o o is took took.stops (at, refl) refl
+
+  -- the image is right under the faults that the list covers, so its rows are those of what was laid
+  lay-gives : (m : Shape) (before : ℕ) (i : ImageValue) (result : Result U Stop) (old new : Outside) → IsListed m before old.rig (record { list = d; loads = old.rig.loads }) → Took [] (w.lays d) (Ok i) old old → IsLaidOn w d i → old.store.contents ≡ b.begun.contents → Follows ⊥ (b.vectors ∷ []) (new.rig.machine ≡ old.rig.machine) (image_course (image_rows i (old.store.contents b.vectors) new.store.current b.failures new.rig) (record { image = i; vectors = b.vectors; files = b.files; begun = b.begun; before = old.rig.loads }) (around new)) result old new → Follows ⊥ (b.vectors ∷ []) (new.rig.machine ≡ old.rig.machine) (laid_run w b (around new) (record { list = d; loads = old.rig.loads })) result old new
+  lay-gives m before i result old new list took on same is =
+      let made : Listed = record { list = d; loads = old.rig.loads } in
+      let at : RowsBegin = record { image = i; vectors = b.vectors; files = b.files; begun = b.begun; before = old.rig.loads } in
+      let right : (f : Faults) → new.rig.machine.faults ≡ Some f → ReadsRows f i w.rows = λ f faults.
+      on.right f (subst (λ (s : Shape). Covers s d.list f) (sym list.shape) (list.right.covers f (sym (ap (λ (x : Machine). x.faults) is.machines) ∙ faults))) in
+      let rows = image_rows i (old.store.contents b.vectors) new.store.current b.failures new.rig in
+      let written = course-map (image_course rows at (around new)) _ (rows-also rows (AreLaidRows w new.rig i) (are-laid w i new.rig right) at (around new)) result old.sink new.sink is.written in
+      step-gives (w.lays d) (HasStayed b made (around new)) (image_run w b (around new) made) (w.lays d) [] (b.vectors ∷ []) _ _ i i result old old new took took.gives
+      (record { later = is.later; asked = is.asked; machines = is.machines; written = rw same at written; counted = is.counted }) is.machines
+
+-- ---- the list is made and written
+
+module _ (w : Laid) (m : Shape) (before : ℕ) (b : RunBegin) (s : StoreState) (r0 r1 : RigState) (a k : SinkState) (loads : r0.loads ≡ before) (machine : r1.machine ≡ r0.machine) (at : StandsIn b.files b.begun s) where
+  pub list-fails : {U : Type 0} (stop : Stop) (result : Result U Stop) → result ≡ Err stop → WritesList m (Err stop) (outside s r0 a) (outside s r1 k) → Follows ⊥ (b.vectors ∷ []) (r1.machine ≡ r0.machine) (machine_listed w m before b (around (outside s r1 k))) result (outside s r0 a) (outside s r1 k)
+  list-fails stop result is written =
+      let end = around (outside s r1 k) in
+      list-ends m before (StandsIn b.files b.begun s) (λ l. HasStayed b l end) (λ l. laid_run w b end l) (b.vectors ∷ []) s r0 r1 a k loads machine stop result is written at (λ l is. (at, sym is))
+
+  module _ (d : DefectList) (written : WritesList m (Ok d) (outside s r0 a) (outside s r1 k)) where
+    listed-then : {U : Type 0} (result : Result U Stop) (new : Outside) → Follows ⊥ (b.vectors ∷ []) (new.rig.machine ≡ r1.machine) (laid_run w b (around new) (record { list = d; loads = r1.loads })) result (outside s r1 k) new → Follows ⊥ (b.vectors ∷ []) (new.rig.machine ≡ r0.machine) (machine_listed w m before b (around new)) result (outside s r0 a) new
+    listed-then result new rest =
+        list-goes m before (StandsIn b.files b.begun new.store) (λ l. HasStayed b l (around new)) (λ l. laid_run w b (around new) l) (b.vectors ∷ []) s r0 r1 a k loads machine d result new written rest
+
+    -- it isn't laid
+    pub lay-fails : {U : Type 0} (stop : Stop) (result : Result U Stop) → result ≡ Err stop → Took [] (w.lays d) (Err stop) (outside s r1 k) (outside s r1 k) → Follows ⊥ (b.vectors ∷ []) (r1.machine ≡ r0.machine) (machine_listed w m before b (around (outside s r1 k))) result (outside s r0 a) (outside s r1 k)
+    lay-fails stop result is took = listed-then result (outside s r1 k) (lay-stops w d b stop result (outside s r1 k) is took at)
+
+    -- or it is, and its image is run
+    pub laid-runs : {U : Type 0} (i : ImageValue) (result : Result U Stop) (new : Outside) → s.contents ≡ b.begun.contents → Took [] (w.lays d) (Ok i) (outside s r1 k) (outside s r1 k) → IsLaidOn w d i → Follows ⊥ (b.vectors ∷ []) (new.rig.machine ≡ r1.machine) (image_course (image_rows i (s.contents b.vectors) new.store.current b.failures new.rig) (record { image = i; vectors = b.vectors; files = b.files; begun = b.begun; before = r1.loads }) (around new)) result (outside s r1 k) new → Follows ⊥ (b.vectors ∷ []) (new.rig.machine ≡ r0.machine) (machine_listed w m before b (around new)) result (outside s r0 a) new
+    laid-runs i result new same took on is =
+        listed-then result new (lay-gives w d b m r0.loads i result (outside s r1 k) new written.0.gives took on same is)

@@ -1,0 +1,82 @@
+-- How the steps of an image's rows follow one another.
+use Rattle.std.proofs.Common.{◌≡◌, ℕ, ◌≤◌, List, [], ◌∷◌, refl, sym, ap, ◌∙◌, inl}
+use Rattle.std.specs.Prelude.{Result, Ok, Err}
+use Rattle.base_io.specs.Counts.{next_count}
+use Rattle.base_io.specs.Told.{Told}
+use Rattle.base_io.specs.Store.{StoreState}
+use Rattle.base_io.specs.Sink.{SinkState}
+use Rattle.rig.specs.Rig.{RigState, LoadFails}
+use Rattle.rig.specs.declared.rig.RigFail.{RigFail}
+use Rattle.rig.specs.declared.rig.RigFail.TheVariants.{Failed, Memory}
+use Rattle.machine_image.specs.Images.{ImageValue}
+use Rattle.cmd_steps.specs.Lines.{outputs_line}
+use Rattle.cmd_steps.specs.Outside.{Outside, outside, around, StandsIn}
+use Rattle.cmd_steps.specs.Courses.{Course, RowWork, all_rows}
+use Rattle.cmd_steps.specs.Stops.{stop_of_rig}
+use Rattle.cmd_steps.specs.Texts.{opens}
+use Rattle.cmd_steps.specs.Took.{Took, Puts, Follows}
+use Rattle.cmd_steps.specs.declared.refusal.Stop.{Stop}
+use Rattle.cmd_steps.proofs.Making.{rig-took, rig-stopped}
+use Rattle.cmd_steps.proofs.OpenedRows.{opening-stops, outputs-stops, rows-then}
+use Rattle.cmd_steps.proofs.Taking.{step-stops, step-gives}
+use Rattle.run_image.specs.Rows.{RowsBegin, IsAtOutputs, image_rows, image_course, loaded_course, loads}
+use Rattle.run_image.specs.Running.{prepares}
+use Rattle.run_image.specs.declared.image.Running.{Running}
+
+-- ---- the load as a step
+
+module _ (old new : RigState) (machine : new.machine ≡ old.machine) (store : StoreState) (sink : SinkState) (later : old.failures ≤ new.failures) where
+  pub load-took : (rows : Running) → new.loads ≡ next_count old.loads → Took [] (prepares old new) (Ok rows) (outside store old sink) (outside store new sink)
+  load-took rows counted = rig-took (prepares old new) old new store sink machine later rows counted
+
+  pub load-stopped : (fail : RigFail) → new.loads ≡ old.loads → LoadFails fail old new → Took [] (prepares old new) (Err (stop_of_rig fail)) (outside store old sink) (outside store new sink)
+  load-stopped Failed same fails = rig-stopped (prepares old new) old new store sink machine later (stop_of_rig Failed) (tt, inl same) fails
+  load-stopped Memory same fails = rig-stopped (prepares old new) old new store sink machine later (stop_of_rig Memory) (tt, inl same) tt
+
+-- ---- what follows on it
+
+-- the rig is as it was but for its session
+abbrev pub SameRig : RigState → RigState → Type 0
+SameRig old new = (new.machine ≡ old.machine) × (new.loads ≡ old.loads)
+
+-- the image was loaded
+loaded-then : {U : Type 0} (w : RowWork) (b : RowsBegin) (rows : Running) (result : Result U Stop) (old mid new : Outside) → Took [] (prepares old.rig mid.rig) (Ok rows) old mid → b.before ≡ old.rig.loads → mid.rig.machine ≡ old.rig.machine → Follows ⊥ (b.vectors ∷ []) (SameRig mid.rig new.rig) (loaded_course w b (around new)) result mid new → Follows ⊥ (b.vectors ∷ []) (new.rig.machine ≡ old.rig.machine) (image_course w b (around new)) result old new
+loaded-then w b rows result old mid new took before machine rest_is =
+    let same = rest_is.machines in
+    let counted : new.rig.loads ≡ next_count b.before = same.1 ∙ (took.gives ∙ ap next_count (sym before)) in
+    step-gives (loads b.before new.rig) (StandsIn b.files b.begun new.store) (λ _. loaded_course w b (around new)) (prepares old.rig mid.rig) [] (b.vectors ∷ []) _ _ rows tt result old mid new took counted rest_is (same.0 ∙ machine)
+
+module _ (i : ImageValue) (vectors : List ℕ) (files : List (List ℕ)) (begun : StoreState) (failures : ℕ) (old mid : Outside) (stands : StandsIn files begun mid.store) where
+  abbrev begin : RowsBegin
+  begin = record { image = i; vectors = vectors; files = files; begun = begun; before = old.rig.loads }
+
+  abbrev work : Outside → RowWork
+  work new = image_rows i (mid.store.contents vectors) new.store.current failures new.rig
+
+  abbrev course : Outside → Course
+  course new = image_course (work new) begin (around new)
+
+  abbrev here : Outside → Type 0
+  here new = IsAtOutputs i vectors (around new)
+
+  -- it isn't loaded
+  pub load-stops : {U : Type 0} (stop : Stop) (result : Result U Stop) → result ≡ Err stop → mid.rig.machine ≡ old.rig.machine → Took [] (prepares old.rig mid.rig) (Err stop) old mid → Follows ⊥ (vectors ∷ []) (mid.rig.machine ≡ old.rig.machine) (course mid) result old mid
+  load-stops stop result is machine took =
+      step-stops (loads old.rig.loads mid.rig) (StandsIn files begun mid.store) (λ _. loaded_course (work mid) begin (around mid)) (prepares old.rig mid.rig) [] (vectors ∷ []) _ stop result old mid is took took.stops stands machine
+
+  module _ (rows : Running) (machine : mid.rig.machine ≡ old.rig.machine) (loaded : Took [] (prepares old.rig mid.rig) (Ok rows) old mid) where
+    -- the vectors aren't opened
+    pub open-stops : {U : Type 0} (stop : Stop) (result : Result U Stop) (new : Outside) → result ≡ Err stop → Took (vectors ∷ []) (opens (mid.store.contents vectors)) (Err stop) mid new → SameRig mid.rig new.rig → Follows ⊥ (vectors ∷ []) (new.rig.machine ≡ old.rig.machine) (course new) result old new
+    open-stops stop result new is took same =
+        loaded-then (work new) begin rows result old mid new loaded refl machine (opening-stops (mid.store.contents vectors) vectors files begun (here new) (all_rows (work new)) mid refl stands new _ stop result is took same)
+
+    module _ (opened : Outside) (took : Took (vectors ∷ []) (opens (mid.store.contents vectors)) (Ok tt) mid opened) (same : SameRig mid.rig opened.rig) where
+      -- the line isn't written
+      pub line-stops : {U : Type 0} (stop : Stop) (result : Result U Stop) (sink : SinkState) → result ≡ Err stop → Puts {T = Unit {0}} outputs_line (Err stop) opened.sink sink → here opened → Follows ⊥ (vectors ∷ []) (opened.rig.machine ≡ old.rig.machine) (course opened) result old (outside opened.store opened.rig sink)
+      line-stops stop result sink is puts at =
+          loaded-then (work opened) begin rows result old mid (outside opened.store opened.rig sink) loaded refl machine (outputs-stops (mid.store.contents vectors) vectors files begun (here opened) (all_rows (work opened)) mid refl stands opened took _ stop result sink is puts at same)
+
+      -- or it is, and the rows are followed: those of this image and this file
+      pub rows-follow : {U : Type 0} (j : ImageValue) (told : Told) (result : Result U Stop) (sink : SinkState) (new : Outside) → j ≡ i → told ≡ mid.store.contents vectors → Puts {T = Unit {0}} outputs_line (Ok tt) opened.sink sink → SameRig mid.rig new.rig → Follows ⊥ [] (SameRig opened.rig new.rig) (all_rows (image_rows j told new.store.current failures new.rig)) result (outside opened.store opened.rig sink) new → Follows ⊥ (vectors ∷ []) (new.rig.machine ≡ old.rig.machine) (course new) result old new
+      rows-follow j told result sink new image file puts rigs rest_is =
+          loaded-then (work new) begin rows result old mid new loaded refl machine (rows-then (mid.store.contents vectors) vectors files begun (here new) (all_rows (work new)) mid refl stands opened took _ (SameRig opened.rig new.rig) _ result sink new puts (rw (← image, ← file) rest_is) rigs)

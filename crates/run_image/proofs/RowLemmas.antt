@@ -1,0 +1,216 @@
+-- How the rows of an image go on, and how they stop.
+use Rattle.std.proofs.Common.{◌≡◌, ◌⊎◌, ℕ, zero, suc, ◌≤◌, Bool, false, List, [], ◌∷◌, ◌++◌, length, map, flat_map, Option, None, Some, IfSome, arith, refl, ap, subst, inl, inr, ◌∙◌}
+use Rattle.std.specs.Prelude.{Ok, Err}
+use Rattle.std.specs.List.{All}
+use Rattle.std.proofs.lemmas.List.Elements.{All-append}
+use Rattle.base_io.specs.Sink.{SinkState}
+use Rattle.machine_shape.specs.Circuit.{Pins}
+use Rattle.machine_shape.specs.Faults.{Faults}
+use Rattle.machine_config.specs.Configuration.{Configuration}
+use Rattle.machine_config.specs.Faulty.{IsRun}
+use Rattle.rig.specs.Rig.{RigState, Exchange, config_of, cycles_of, drives_of, readings_of}
+use Rattle.machine_image.specs.Images.{ImageValue, drive_of, image_row}
+use Rattle.run_image.specs.Pins.{pins_in}
+use Rattle.run_image.specs.Run.{RunsRow}
+use Rattle.run_image.proofs.Driving.{HasDriven, driven-start, driven-more}
+use Rattle.design_vectors.specs.declared.vectors.VectorsFail.{VectorsFail}
+use Rattle.design_vectors.specs.declared.vectors.VectorsFail.TheVariants.{Text, Failed}
+use Rattle.design_vectors.specs.Readings.{NextGives, NextFails}
+use Rattle.design_vectors.specs.Rows.{row_line}
+use Rattle.cmd_steps.specs.Files.{file_of, IsBegun, IsNearNext}
+use Rattle.cmd_steps.specs.NextVectors.{IsRead, IsPutOut, IsHeldUp, WaitsOrPuts}
+use Rattle.cmd_steps.specs.Outside.{Outside, outside, IsLater}
+use Rattle.cmd_steps.specs.Courses.{RowWork, all_rows, HasRows, refuses}
+use Rattle.cmd_steps.specs.Stops.{IsCounted, stop_of_vectors}
+use Rattle.cmd_steps.specs.Took.{Follows}
+use Rattle.cmd_steps.specs.declared.refusal.Refusal.{Refusal}
+use Rattle.cmd_steps.specs.declared.refusal.Refusal.TheVariants as refused
+use Rattle.cmd_steps.specs.declared.refusal.Stop.{Stop}
+use Rattle.cmd_steps.specs.declared.refusal.Stop.TheVariants.{Refused, Sink}
+use Rattle.cmd_steps.proofs.WrittenRows.{AreWritten, none-written, row-later, put-out, after-put, read-after, was-read, all-written, added, not-added, some-lines, stays-same, near-next, waits-more, has-rows, rows-follow, vectors-follow, end-follows, held-follows}
+use Rattle.run_image.specs.Rows.{most_rows, image_rows, AreRunRows, AreRowsOf, IsSession}
+use Rattle.run_image.specs.Running.{IsFitting, IsLoaded, IsDriven, Keeps, CycleGives, CycleStops, HasOrFailed, at_rows}
+use Rattle.run_image.specs.declared.image.Running.{Running}
+
+-- the vector has a bit for each input pin
+abbrev pub HasWidth : ImageValue → List Bool → Type 0
+HasWidth image vector = length vector ≡ length image.inputs
+
+no-widths : (image : ImageValue) → All (HasWidth image) []
+no-widths image k e lt = absurd (let no : ⊥ = omega (arith, lt) in no)
+
+one-width : (image : ImageValue) (vector : List Bool) → HasWidth image vector → All (HasWidth image) (vector ∷ [])
+one-width image vector is zero e lt = is
+one-width image vector is (suc k) e lt = absurd (let no : ⊥ = omega (arith, lt) in no)
+
+-- the rows so far
+pub record IsDriving (image : ImageValue) (begun : Outside) (rows : Running) (now : Outside) : Type 0 where
+  pub image_is : rows.image ≡ image
+  pub fits : IsFitting rows
+  pub vectors : List (List Bool)
+  pub done : List (List Bool)
+  pub written : AreWritten (length image.inputs) begun rows.vectors rows.block.text now vectors done
+  pub widths : All (HasWidth image) vectors
+  pub machine : now.rig.machine ≡ begun.rig.machine
+  pub loads : now.rig.loads ≡ begun.rig.loads
+  pub driven : HasDriven most_rows image vectors done now.rig
+
+-- ---- what a session has read
+
+read-told : (faults : Option Faults) (config : Option Configuration) (cycles : List Exchange) (i : ImageValue) (vectors rows : List (List Bool)) → config ≡ Some i.config → drives_of cycles ≡ map (drive_of i) vectors → rows ≡ map (image_row i) (readings_of cycles) → IfSome faults (λ f. IfSome config (λ g. IsRun f g (drives_of cycles) (readings_of cycles))) → IfSome faults (λ f. AreRunRows f i vectors rows)
+read-told None config cycles i vectors rows is drives rows_are told = tt
+read-told (Some f) config cycles i vectors rows is drives rows_are told =
+    let run : IsRun f i.config (drives_of cycles) (readings_of cycles) = rw is at told in
+    (readings_of cycles, subst (λ (d : List Pins). IsRun f i.config d (readings_of cycles)) drives run, rows_are)
+
+-- the rows of a session are those of the machine, also where it has ended since
+session-rows : (rig rig' : RigState) (i : ImageValue) (vectors rows : List (List Bool)) → rig'.machine ≡ rig.machine → length rows ≡ length vectors → All (HasWidth i) vectors → HasDriven most_rows i vectors rows rig → AreRowsOf rig' i vectors rows
+session-rows rig rig' i vectors rows same count widths is = record {
+  count = count;
+  widths = widths;
+  read = rw same (read-told rig.machine.faults (config_of rig) (cycles_of rig) i vectors rows is.config is.drives is.rows_are is.told);
+}
+
+-- a session that is still open
+pub session-is : (rig rig' : RigState) (i : ImageValue) (vectors rows : List (List Bool)) → rig'.session ≡ rig.session → HasDriven most_rows i vectors rows rig → IsSession rig' i vectors rows
+session-is rig rig' i vectors rows same is = record {
+  config = rw same is.config;
+  drives = rw same is.drives;
+  rows_are = rw same is.rows_are;
+  room = rw same is.left;
+}
+
+-- ---- the loop
+
+pub IsDriving-start : (rows : Running) (o : Outside) → IsLoaded rows o.rig → IsBegun o.store → IsDriving rows.image o rows o
+IsDriving-start rows o loaded begun = record {
+  image_is = refl;
+  fits = loaded.fits;
+  vectors = [];
+  done = [];
+  written = rw (loaded.vectors, loaded.none) (none-written (length rows.image.inputs) o begun);
+  widths = no-widths rows.image;
+  machine = refl;
+  loads = refl;
+  driven = driven-start most_rows rows.image o.rig loaded.begins;
+}
+
+module _ (image : ImageValue) (failures : ℕ) (begun now new : Outside) (rows rows' : Running) (so_far : IsDriving image begun rows now) (few : failures ≤ begun.rig.failures) (keeps : Keeps rows rows' now.store new.store now.rig new.rig) where
+  abbrev work : RowWork
+  work = image_rows image (file_of begun.store) new.store.current failures new.rig
+
+  abbrev same_rig : Type 0
+  same_rig = (new.rig.machine ≡ begun.rig.machine) × (new.rig.loads ≡ begun.rig.loads)
+
+  rig-same : same_rig
+  rig-same = (keeps.machine ∙ so_far.machine, keeps.loads ∙ so_far.loads)
+
+  onward : (from to : SinkState) → to.can_lack ≡ from.can_lack → from.failures ≤ to.failures → IsLater (outside now.store now.rig from) (outside new.store new.rig to)
+  onward from to kind later = row-later now.store new.store now.rig new.rig from to keeps.store keeps.machine keeps.failures kind later
+
+  -- the rows so far are those of the machine
+  are-rows : AreRowsOf new.rig image so_far.vectors so_far.done
+  are-rows = session-rows now.rig new.rig image so_far.vectors so_far.done keeps.machine so_far.written.count so_far.widths so_far.driven
+
+  session-still : new.rig.session ≡ now.rig.session → IsSession new.rig image so_far.vectors so_far.done
+  session-still same = session-is now.rig new.rig image so_far.vectors so_far.done same so_far.driven
+
+  -- ---- no further row is made, and those that wait aren't put out
+
+  has-or-lost : HasOrFailed now.rig new.rig → IsSession new.rig image so_far.vectors so_far.done ⊎ work.lost
+  has-or-lost (inl same) = inl (session-still same)
+  has-or-lost (inr rose) = inr (omega (arith, few, so_far.written.later.rig, rose))
+
+  held-stops : {U : Type 0} (stop : Stop) → IsHeldUp stop rows.block.text now.store new.store now.sink new.sink → HasOrFailed now.rig new.rig → Follows {T = U} ⊥ [] same_rig (all_rows work) (Err stop) begun new
+  held-stops stop held rig =
+      held-follows work begun now new rows.vectors rows.block.text so_far.vectors so_far.done so_far.written (onward now.sink new.sink held.kind held.later) keeps.store.asked refl refl same_rig rig-same are-rows (has-or-lost rig) held.still stop held
+
+  -- ---- or they are
+
+  abbrev put_now : Outside
+  put_now = outside now.store now.rig new.sink
+
+  put-later : IsLater put_now new
+  put-later = onward new.sink new.sink refl (omega arith)
+
+  module _ (out : IsPutOut rows.block.text rows'.block.text now.sink new.sink) where
+    all-put : AreWritten (length image.inputs) begun rows.vectors rows'.block.text put_now so_far.vectors so_far.done
+    all-put = put-out _ _ _ _ now _ _ so_far.written rows'.block.text new.sink out
+
+    abbrev has : HasRows work (flat_map row_line so_far.done)
+    has = has-rows work begun put_now new rows.vectors rows'.block.text so_far.vectors so_far.done all-put put-later keeps.store.asked refl refl same_rig rig-same are-rows
+
+    put-fails : {U : Type 0} (fail : VectorsFail) → NextFails fail rows.vectors now.store new.store → new.rig ≡ now.rig → Follows {T = U} ⊥ [] same_rig (all_rows work) (Err (stop_of_vectors fail)) begun new
+    put-fails fail fails same =
+        vectors-follow work begun put_now new rows.vectors rows'.block.text so_far.vectors so_far.done all-put put-later keeps.store.asked refl refl same_rig rig-same are-rows (session-still (ap (λ (r : RigState). r.session) same)) out.empty refl fail fails
+
+    put-ends : {U : Type 0} (x : U) → NextGives false rows'.vector.items rows.vectors rows'.vectors now.store new.store → new.rig ≡ now.rig → Follows ⊥ [] same_rig (all_rows work) (Ok x) begun new
+    put-ends x gives same =
+        end-follows work begun put_now new rows.vectors rows'.block.text so_far.vectors so_far.done all-put put-later keeps.store.asked refl refl same_rig rig-same are-rows (session-still (ap (λ (r : RigState). r.session) same)) out.empty refl x rows'.vectors rows'.vector.items gives
+
+    -- the rig doesn't drive the vector that was read
+    put-stops : {U : Type 0} (refusal : Refusal) → IsCounted ⊥ (Refused refusal) put_now new → (IsNearNext (length image.inputs) (file_of begun.store) new.store.current (length so_far.done) → all_rows work (flat_map row_line so_far.done) (refuses refusal)) → IsRead rows'.vector.items rows.vectors rows'.vectors now.store new.store → Follows {T = U} ⊥ [] same_rig (all_rows work) (Err (Refused refusal)) begun new
+    put-stops refusal counted at read =
+        let near = near-next (length image.inputs) begun put_now new rows.vectors rows'.vectors rows'.block.text so_far.vectors so_far.done rows'.vector.items all-put put-later keeps.store.asked read in
+        let wrote = all-written _ begun _ _ put_now _ _ all-put out.empty in
+        rows-follow work begun put_now new rows.vectors rows'.block.text so_far.vectors so_far.done all-put put-later keeps.store.asked refl refl same_rig rig-same (Err (Refused refusal)) (flat_map row_line so_far.done, at near, wrote) counted
+
+  pub cycle-stops : {U : Type 0} (stop : Stop) → CycleStops stop rows rows' (at_rows rows now.store now.sink) (at_rows rows' new.store new.sink) now.rig new.rig → Follows {T = U} ⊥ [] same_rig (all_rows work) (Err stop) begun new
+  cycle-stops (Sink fail) stops = held-stops (Sink fail) stops.0 stops.1
+  cycle-stops (Refused (refused.Vectors line kind)) stops = put-fails stops.0.1 (Text line kind) stops.0.0 stops.1
+  cycle-stops (Refused refused.Store) stops = put-fails stops.0.1 Failed stops.0.0 stops.1
+  cycle-stops (Refused refused.Rig) stops =
+      put-stops stops.out refused.Rig stops.fails.0 (λ near. (has stops.out, near)) stops.read
+  cycle-stops (Refused refused.Memory) stops =
+      let left = so_far.driven.left in
+      let lacks : most_rows ≤ length so_far.done = omega (arith, left, stops.fails.0) in
+      put-stops stops.out refused.Memory tt (λ near. (record { has = has stops.out; session = session-still stops.fails.1 }, lacks, near)) stops.read
+  cycle-stops (Refused refusal) stops = absurd stops.0
+
+  -- the file has ended
+  pub file-ends : {U : Type 0} (x : U) → CycleGives false rows rows' (at_rows rows now.store now.sink) (at_rows rows' new.store new.sink) now.rig new.rig → Follows ⊥ [] same_rig (all_rows work) (Ok x) begun new
+  file-ends x gives = put-ends gives.0.1 x gives.0.0 gives.1
+
+  -- ---- the row of one more vector
+
+  module _ (driven : IsDriven rows rows' (at_rows rows now.store now.sink) (at_rows rows' new.store new.sink) now.rig new.rig) (fits : IsFitting rows') where
+    driven-next : HasDriven most_rows image (so_far.vectors ++ rows'.vector.items ∷ []) (so_far.done ++ rows'.row.items ∷ []) new.rig
+    driven-next =
+        let row : RunsRow (pins_in image) now.rig new.rig rows'.vector.items rows'.row.items = rw so_far.image_is at driven.row in
+        driven-more most_rows image so_far.vectors so_far.done rows'.vector.items rows'.row.items now.rig new.rig so_far.driven row
+
+    widths-next : All (HasWidth image) (so_far.vectors ++ rows'.vector.items ∷ [])
+    widths-next =
+        let width : HasWidth image rows'.vector.items = fits.vector ∙ ap (λ (i : ImageValue). length i.inputs) (keeps.image ∙ so_far.image_is) in
+        All-append (HasWidth image) so_far.vectors (rows'.vector.items ∷ []) so_far.widths (one-width image rows'.vector.items width)
+
+    -- the rows before it, and with it
+    before-it : AreWritten (length image.inputs) begun rows.vectors rows'.block.text put_now so_far.vectors so_far.done
+    before-it = read-after _ _ _ _ now _ _ so_far.written _ new.store new.sink driven.next.1
+
+    with-it : AreWritten (length image.inputs) begun rows'.vectors (rows'.block.text ++ row_line rows'.row.items) new (so_far.vectors ++ rows'.vector.items ∷ []) (so_far.done ++ rows'.row.items ∷ [])
+    with-it = waits-more _ _ put_now new _ _ _ _ _ _ before-it put-later keeps.store.asked driven.next.0 (was-read _ _ _ _ _ _ driven.next.1) refl rows'.row.items
+
+    still : (last : SinkState) → last.can_lack ≡ new.sink.can_lack → new.sink.failures ≤ last.failures → IsLater new (outside new.store new.rig last)
+    still last kind later = row-later new.store new.store new.rig new.rig new.sink last (stays-same new.store) refl (omega arith) kind later
+
+    -- the rows aren't written
+    pub row-stops : {U : Type 0} (stop : Stop) (left : List ℕ) (last : SinkState) → WaitsOrPuts (rows'.block.text ++ row_line rows'.row.items) left (Err stop) new.sink last → Follows {T = U} ⊥ [] same_rig (all_rows work) (Err stop) begun (outside new.store new.rig last)
+    row-stops stop left last waits =
+        let held = not-added _ left stop new.store new.sink last (some-lines rows'.block.text rows'.row.items) waits in
+        held-follows work begun new (outside new.store new.rig last) rows'.vectors _ _ _ with-it (still last held.kind held.later) refl refl refl same_rig rig-same
+        (session-rows new.rig new.rig image _ _ refl with-it.count widths-next driven-next) (inl (session-is new.rig new.rig image _ _ refl driven-next)) refl stop held
+
+    -- or they are, or wait
+    pub IsDriving-more : (last_rows : Running) (last : SinkState) → last_rows.image ≡ rows'.image → last_rows.vectors ≡ rows'.vectors → IsFitting last_rows → WaitsOrPuts (rows'.block.text ++ row_line rows'.row.items) last_rows.block.text (Ok tt) new.sink last → IsDriving image begun last_rows (outside new.store new.rig last)
+    IsDriving-more last_rows last same vectors last_fits waits = record {
+      image_is = same ∙ (keeps.image ∙ so_far.image_is);
+      fits = last_fits;
+      vectors = so_far.vectors ++ rows'.vector.items ∷ [];
+      done = so_far.done ++ rows'.row.items ∷ [];
+      written = rw vectors (after-put _ _ _ _ new _ _ with-it _ last (added _ _ _ _ waits));
+      widths = widths-next;
+      machine = rig-same.0;
+      loads = rig-same.1;
+      driven = driven-next;
+    }

@@ -1,0 +1,46 @@
+use Rattle.std.proofs.Common.{refl, inl}
+use Rattle.std.proofs.lemmas.Result.{err_from_is_err_and}
+use Rattle.cmd_steps.specs.Outside.{outside}
+use Rattle.cmd_steps.proofs.Taking.{took-nothing}
+use Rattle.run_image.specs.Running.{prepares}
+use Rattle.run_image.proofs.ImageLemmas.{load-took, load-stopped}
+use Rattle.run_image.proofs.image.prepare.Goals as goal
+
+pub returns-in_err-vectors-clause-took : goal.returns-in_err-vectors-clause-took
+returns-in_err-vectors-clause-took g c =
+    let p = err_from_is_err_and c.from_residual.result c.from_residual.ensures.1 in
+    let box = c.args.rig.now in
+    let rig = (goal.Rig-dyn g (box.vtable, box.value)).rig_state box.value in
+    λ store sink. rw (p.1, p.2) (took-nothing (prepares rig rig) _ (outside store rig sink) refl (tt, inl refl))
+
+pub returns-in_err-vector-clause-took : goal.returns-in_err-vector-clause-took
+returns-in_err-vector-clause-took g c =
+    let p = err_from_is_err_and c.from_residual-in_err-vector.result c.from_residual-in_err-vector.ensures.1 in
+    let box = c.args.rig.now in
+    let rig = (goal.Rig-dyn g (box.vtable, box.value)).rig_state box.value in
+    λ store sink. rw (p.1, p.2) (took-nothing (prepares rig rig) _ (outside store rig sink) refl (tt, inl refl))
+
+pub returns-in_err-row-clause-took : goal.returns-in_err-row-clause-took
+returns-in_err-row-clause-took g c =
+    let p = err_from_is_err_and c.from_residual-in_err-row.result c.from_residual-in_err-row.ensures.1 in
+    let box = c.args.rig.now in
+    let rig = (goal.Rig-dyn g (box.vtable, box.value)).rig_state box.value in
+    λ store sink. rw (p.1, p.2) (took-nothing (prepares rig rig) _ (outside store rig sink) refl (tt, inl refl))
+
+pub returns-in_err-block-clause-took : goal.returns-in_err-block-clause-took
+returns-in_err-block-clause-took g c =
+    let p = err_from_is_err_and c.from_residual-in_err-block.result c.from_residual-in_err-block.ensures.1 in
+    let box = c.args.rig.now in
+    let rig = (goal.Rig-dyn g (box.vtable, box.value)).rig_state box.value in
+    λ store sink. rw (p.1, p.2) (took-nothing (prepares rig rig) _ (outside store rig sink) refl (tt, inl refl))
+
+pub returns-in_err-run-clause-took : goal.returns-in_err-run-clause-took
+returns-in_err-run-clause-took g c =
+    let p = err_from_is_err_and c.from_residual-in_err-run.result c.from_residual-in_err-run.ensures.1 in
+    let e = c.in_err-run.ensures in
+    λ store sink. rw (p.1, p.2) (load-stopped _ _ e.machine store sink e.later _ e.not_counted e.refused)
+
+pub returns-clause-took : goal.returns-clause-took
+returns-clause-took g c =
+    let e = c.in_ok-run.ensures in
+    λ store sink. load-took _ _ e.machine store sink e.later _ e.counted

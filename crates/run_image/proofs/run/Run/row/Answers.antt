@@ -1,0 +1,6 @@
+use Rattle.std.proofs.Common.{◌<◌, length}
+use Rattle.machine_shape.proofs.Halves.{All-right}
+use Rattle.run_image.proofs.run.Run.row.Goals as goal
+
+pub read_pins-requires-clause-below : goal.read_pins-requires-clause-below
+read_pins-requires-clause-below g c = rw (c.deref-in-Ok.ensures.value, c.cycle.ensures.length, c.self.invariant.1) (All-right (λ k. k < length c.self.inside.drive) c.self.inside.inputs.items c.self.inside.outputs.items c.self.invariant.0.within)

@@ -1,0 +1,46 @@
+-- What is laid on a machine: one design, or several side by side.
+use Rattle.std.specs.Prelude.{◌≡◌, ◌≤◌, ℕ, Bool, List, length, Option, IfSome}
+use Rattle.base_io.specs.Told.{Told}
+use Rattle.base_io.specs.Counts.{Rose}
+use Rattle.base_io.specs.Store.{StorePlace}
+use Rattle.machine_shape.specs.Defects.{Covers}
+use Rattle.machine_shape.specs.Faults.{Faults}
+use Rattle.machine_defects.specs.Lists.{DefectList}
+use Rattle.machine_image.specs.Images.{ImageValue, IsImage}
+use Rattle.machine_image.specs.Parts.{IsFreeImage}
+use Rattle.place_route.specs.RightImages.{ReadsRows}
+use Rattle.rig.specs.Rig.{RigState}
+use Rattle.cmd_steps.specs.Courses.{Step, RowWork}
+use Rattle.run_image.specs.Rows.{most_rows, AreRowsOf, IsSession}
+
+-- how it is laid on what a list leaves free, how many bits a vector of it has, and what its rows are
+pub record Laid : Type 1 where
+  pub lays : DefectList → Step ImageValue
+  pub width : ℕ
+  pub rows : (vectors rows : List (List Bool)) → Type 0
+
+-- The image is of the machine, has a pin for each bit of a vector, and touches only what the list leaves free. Under all faults
+-- that the list covers it reads the rows
+pub record IsLaidOn (w : Laid) (d : DefectList) (i : ImageValue) : Type 0 where
+  pub image : IsImage i
+  pub shape : i.config.shape ≡ d.shape
+  pub inputs : length i.inputs ≡ w.width
+  pub free : IsFreeImage d.list i
+  pub right : (f : Faults) → Covers d.shape d.list f → ReadsRows f i w.rows
+
+-- the rows are those of the image; where the faults of the machine are told, they are those of what was laid
+pub record AreLaidRows (w : Laid) (rig : RigState) (i : ImageValue) (vectors rows : List (List Bool)) : Type 0 where
+  pub read : AreRowsOf rig i vectors rows
+  pub right : IfSome rig.machine.faults (λ f. w.rows vectors rows)
+
+-- the rig had failed so many times as the command began
+abbrev pub rows_work : Laid → ImageValue → Told → Option StorePlace → (failures : ℕ) → RigState → RowWork
+rows_work w i told place failures rig = record {
+  width = length i.inputs;
+  told = told;
+  place = place;
+  are = AreLaidRows w rig i;
+  session = IsSession rig i;
+  lost = Rose failures rig.failures;
+  lacks = λ count. most_rows ≤ count;
+}

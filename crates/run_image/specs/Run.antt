@@ -1,0 +1,15 @@
+-- A row of a run.
+use Rattle.std.specs.Prelude.{◌≡◌, ◌⊎◌, Bool, List, None}
+use Rattle.machine_shape.specs.Circuit.{Pins}
+use Rattle.machine_image.specs.Images.{drive_on, row_at}
+use Rattle.rig.specs.Rig.{RigState, GoesOn}
+use Rattle.run_image.specs.Pins.{Rows}
+
+-- the session goes on by a cycle that drives the vector, and the row is its reading at the output pins
+abbrev pub RunsRow : Rows → RigState → RigState → List Bool → List Bool → Type 0
+RunsRow r old new vector row = (reading : Pins) × GoesOn (drive_on r.pins r.inputs vector) reading old new
+    × (row ≡ row_at r.outputs reading)
+
+-- where a run doesn't begin there is no session, or nothing changed
+abbrev pub EndsOrKeeps : RigState → RigState → Type 0
+EndsOrKeeps old new = (new.session ≡ None) ⊎ (new ≡ old)

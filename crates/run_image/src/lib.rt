@@ -1,0 +1,27 @@
+//! Runs an image on a rig, a row for a vector.
+//!
+//! The rig's session is the image's configuration; each row drives the vector on the input pins and 1 on all others, makes one
+//! cycle, and gives the reading at the output pins. Where the faults are told, they are faults of the image's shape. A row takes
+//! no memory of its own.
+//!
+//! The rows of an image that is loaded on a machine of the rig.
+//!
+//! Promised (`run_image`): an image, wherever it comes from, is loaded, and a row is written for each vector of the file: what
+//! its output pins read in the rig's session, whose drives are the vectors on the input pins and 1 on all others. All memory for
+//! the rows is taken before the line `outputs`; the load asks for room for 4,096 cycles.
+//!
+//! The rows of what is laid on a machine: its defects are listed and the list is written, something is laid on what the list
+//! leaves free, and a row is written for each vector. What is laid is the caller's: one design, or several side by side.
+//!
+//! Promised (`list_and_run`): what `go` and `pair` do once their designs are read. It lists, writes the list, lays what it is
+//! given, and runs the image, of any value that says by its trait (`Lays`) how it is laid, how wide its vectors are and what its
+//! rows are, and that its images are right for these.
+#![tactic(auto)]
+
+mod image;
+mod laid;
+mod run;
+
+pub use image::run_image;
+pub use laid::{Lays, list_and_run};
+pub use run::{Run, begin};

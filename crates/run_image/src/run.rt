@@ -1,0 +1,165 @@
+//! Runs of images.
+ghost use Rattle.std.specs.Prelude.{◌≡◌, ◌^◌, ◌≤◌, ◌<◌, Some, length, IfOk, IfErr, OnOk, OnErr, All, AllPairs, ◌≢◌};
+ghost use Rattle.base_io.specs.Counts.{next_count};
+ghost use Rattle.machine_shape.specs.Shape.{pins_of};
+ghost use Rattle.machine_image.specs.Images.{drive_on, row_at};
+ghost use Rattle.rig.specs.Rig.{shape_of, width_of, HasFaultsOf, Begins, LoadFails, CycleFails};
+ghost use Rattle.run_image.specs.Driven.{driven};
+ghost use Rattle.run_image.specs.Run.{RunsRow, EndsOrKeeps};
+
+use machine_image::Image;
+use rig::{PinBits, Rig, RigFail, cycle, load};
+use std::alloc::{AllocError, Global};
+use std::marker::Model;
+
+/// A run of an image that is loaded. Contracts see the number of pins of its machine, and the image's input pins
+/// and output pins.
+#[derive(Drop)]
+pub struct Run {
+    inputs: Vec<u32>,
+    outputs: Vec<u32>,
+    drive: PinBits,
+    read: PinBits,
+}
+
+impl Model for Run {
+    ghost use Rattle.std.specs.Prelude.{◌≡◌, length};
+    ghost use Rattle.run_image.specs.Pins.{Rows, ArePinsOfRows, coded_rows};
+
+    ghost Value = { Rows };
+
+    ghost coded = { coded_rows };
+
+    ghost view = { λ r. record { pins = length r.drive; inputs = r.inputs.items; outputs = r.outputs.items } };
+
+    ghost invariant = { λ r. ArePinsOfRows (record { pins = length r.drive; inputs = r.inputs.items; outputs = r.outputs.items })
+        × (length r.read ≡ length r.drive) };
+}
+
+// Copies of an image's pins, and the bits of its rows.
+fn prepare(alloc: Global, image: &Image) -> Result<Run, AllocError>
+    ensures { IfOk result (λ run. run ≡ record {
+      pins = pins_of image.now.config.shape;
+      inputs = image.now.inputs;
+      outputs = image.now.outputs;
+    }) }
+{
+    let pins = image.config().shape().pins();
+    let inputs = Vec::from_slice(alloc, image.inputs())?;
+    let outputs = Vec::from_slice(alloc, image.outputs())?;
+    let drive = PinBits::new(alloc, pins)?;
+    let read = PinBits::new(alloc, pins)?;
+    Ok(Run {
+        inputs,
+        outputs,
+        drive,
+        read,
+    })
+}
+
+/// Loads an image, with room for at least `room` rows. The rig's session is then the image's configuration, with no
+/// cycles. After a refusal there is no session, or nothing changed; after `Failed` the rig's count of failures rose.
+pub fn begin(
+    alloc: Global,
+    rig: &mut Box<dyn Rig>,
+    image: &Image,
+    room: u32,
+) -> Result<Run, RigFail>
+    requires { shape_of (rig_state rig.old) ≡ Some image.now.config.shape }
+
+    ensures machine { (rig_state rig.new).machine ≡ (rig_state rig.old).machine }
+    ensures later { (rig_state rig.old).failures ≤ (rig_state rig.new).failures }
+    ensures run { IfOk result (λ run. run ≡ record {
+      pins = pins_of image.now.config.shape;
+      inputs = image.now.inputs;
+      outputs = image.now.outputs;
+    }) }
+    ensures begins { OnOk result (Begins image.now.config room (rig_state rig.new)) }
+    ensures told { OnOk result (HasFaultsOf image.now.config.shape (rig_state rig.new)) }
+    ensures counted { OnOk result ((rig_state rig.new).loads ≡ next_count (rig_state rig.old).loads) }
+    ensures ended { OnErr result (EndsOrKeeps (rig_state rig.old) (rig_state rig.new)) }
+    ensures not_counted { OnErr result ((rig_state rig.new).loads ≡ (rig_state rig.old).loads) }
+    ensures refused { IfErr result (λ e. LoadFails e (rig_state rig.old) (rig_state rig.new)) }
+{
+    let Ok(run) = prepare(alloc, image) else {
+        return Err(RigFail::Memory);
+    };
+    match load(rig, image.config(), room) {
+        Ok(()) => Ok(run),
+        Err(fail) => Err(fail),
+    }
+}
+
+// Drives a vector on these pins.
+fn set_pins(drive: &mut PinBits, pins: &[u32], vector: &[bool])
+    requires same { length vector.now ≡ length pins.now }
+    requires below { All (λ k. k < length drive.old) pins.now }
+    ensures driven { drive.new ≡ driven pins.now vector.now drive.old }
+    ensures length { length drive.new ≡ length drive.old }
+{
+    'places: for (k, pin) in pins.iter().enumerate() {
+        drive.set(*pin, vector[k]);
+    }
+}
+
+// Drives a vector on these pins, and releases all others.
+fn put_vector(drive: &mut PinBits, pins: &[u32], vector: &[bool])
+    requires same { length vector.now ≡ length pins.now }
+    requires below { All (λ k. k < length drive.old) pins.now }
+    requires apart { AllPairs (λ j k. j ≢ k) pins.now }
+    ensures driven { drive.new ≡ drive_on (length drive.old) pins.now vector.now }
+    ensures length { length drive.new ≡ length drive.old }
+{
+    drive.release_all();
+    set_pins(drive, pins, vector);
+}
+
+// What these pins read.
+fn read_pins(read: &PinBits, pins: &[u32], out: &mut [bool])
+    requires same { length out.old ≡ length pins.now }
+    requires below { All (λ k. k < length read.now) pins.now }
+    ensures row { out.new ≡ row_at pins.now read.now }
+    ensures length { length out.new ≡ length out.old }
+{
+    'places: for (k, pin) in pins.iter().enumerate() {
+        out[k] = read.get(*pin);
+    }
+}
+
+impl Run {
+    /// Makes one cycle with the vector on the input pins and all other pins released, and gives its reading at the
+    /// output pins. Takes no memory of its own.
+    ///
+    /// Its refusals are those of the cycle: after `Failed` the rig's count of failures rose and there is no session,
+    /// and `Memory` comes only where the session has no room, and leaves it as it was. After a refusal `out` is as
+    /// it was.
+    pub fn row(
+        &mut self,
+        rig: &mut Box<dyn Rig>,
+        vector: &[bool],
+        out: &mut [bool],
+    ) -> Result<(), RigFail>
+        requires pins { width_of (rig_state rig.old) ≡ Some self.old.pins }
+        requires vector { length vector.now ≡ length self.old.inputs }
+        requires out { length out.old ≡ length self.old.outputs }
+
+        ensures same { self.new ≡ self.old }
+        ensures machine { (rig_state rig.new).machine ≡ (rig_state rig.old).machine }
+        ensures loads { (rig_state rig.new).loads ≡ (rig_state rig.old).loads }
+        ensures later { (rig_state rig.old).failures ≤ (rig_state rig.new).failures }
+        ensures count { (rig_state rig.new).failures < 2 ^ 64 }
+        ensures row { OnOk result (RunsRow self.old (rig_state rig.old) (rig_state rig.new) vector.now out.new) }
+        ensures length { length out.new ≡ length out.old }
+        ensures kept { OnErr result (out.new ≡ out.old) }
+        ensures refused { IfErr result (λ e. CycleFails e (rig_state rig.old) (rig_state rig.new)) }
+    {
+        put_vector(&mut self.drive, &self.inputs, vector);
+        match cycle(rig, &self.drive, &mut self.read) {
+            Ok(()) => {
+                read_pins(&self.read, &self.outputs, out);
+                Ok(())
+            }
+            Err(fail) => Err(fail),
+        }
+    }
+}

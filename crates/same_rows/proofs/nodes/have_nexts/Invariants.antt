@@ -1,6 +1,0 @@
-use Rattle.std.proofs.Common.{◌<◌, ℕ}
-use Rattle.same_rows.specs.Graphs.{graph_latch_at, node_count, node_of}
-use Rattle.same_rows.proofs.nodes.have_nexts.Given as goal
-
-abbrev pub invariant-latches : goal.invariant-latches
-invariant-latches l = (j : ℕ) → j < l.k → node_of (graph_latch_at l.graph j).next < node_count l.graph

@@ -1,7 +1,0 @@
-use Rattle.std.proofs.Common.{◌≡◌, ◌<◌, ℕ, true}
-use Rattle.netlist.specs.Valuations.{bit_at}
-use Rattle.same_rows.specs.Labels.{label_at}
-use Rattle.same_rows.proofs.ports.are_zero.Given as goal
-
-abbrev pub invariant-signals : goal.invariant-signals
-invariant-signals l = (j : ℕ) → j < l.s → (bit_at l.marks j ≡ true → ⊥) → label_at l.labels j ≡ 0

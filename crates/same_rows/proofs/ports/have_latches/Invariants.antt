@@ -1,7 +1,0 @@
-use Rattle.std.proofs.Common.{◌<◌, ℕ}
-use Rattle.netlist.specs.Words.{latch_at}
-use Rattle.same_rows.specs.Labels.{IsLatchOf}
-use Rattle.same_rows.proofs.ports.have_latches.Given as goal
-
-abbrev pub invariant-latches : goal.invariant-latches
-invariant-latches l = (j : ℕ) → j < l.k → IsLatchOf l.graph l.labels (latch_at l.latches j)

@@ -1,6 +1,0 @@
-use Rattle.std.proofs.Common.{◌≡◌, map, take}
-use Rattle.same_rows.specs.Labels.{label_at}
-use Rattle.same_rows.proofs.ports.have_same.Given as goal
-
-abbrev pub invariant-outputs : goal.invariant-outputs
-invariant-outputs l = map (λ p. label_at l.first_labels p.signal) (take l.k l.first) ≡ map (λ p. label_at l.second_labels p.signal) (take l.k l.second)

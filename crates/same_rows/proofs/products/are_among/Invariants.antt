@@ -1,6 +1,0 @@
-use Rattle.std.proofs.Common.{◌≡◌, ℕ, Bool, true, take}
-use Rattle.same_rows.specs.Products.{some_holds}
-use Rattle.same_rows.proofs.products.are_among.Given as goal
-
-abbrev pub invariant-products : goal.invariant-products
-invariant-products l = (bits : ℕ → Bool) → some_holds bits (take l.k l.first) ≡ true → some_holds bits l.second ≡ true

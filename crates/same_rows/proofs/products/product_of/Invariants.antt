@@ -1,6 +1,0 @@
-use Rattle.std.proofs.Common.{◌≡◌, ℕ, Bool, false, take}
-use Rattle.same_rows.specs.Products.{holds}
-use Rattle.same_rows.proofs.products.product_of.Given as goal
-
-abbrev pub invariant-literals : goal.invariant-literals
-invariant-literals l = (bits : ℕ → Bool) → bits 0 ≡ false → holds bits l.product.items ≡ holds bits (take l.k l.list.items)

@@ -1,5 +1,0 @@
-use Rattle.same_rows.proofs.ProductLemmas.{any_order}
-use Rattle.same_rows.proofs.products.sorted.Goals as goal
-
-pub returns : goal.returns
-returns c = λ bits. any_order bits c.args.list.items c.sort_unstable.new.self.items c.sort_unstable.ensures.permutation

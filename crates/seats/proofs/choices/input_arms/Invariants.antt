@@ -1,5 +1,0 @@
-use Rattle.seats.specs.Choices.{AreInputArms}
-use Rattle.seats.proofs.choices.input_arms.Given as goal
-
-abbrev pub invariant-inputs : goal.invariant-inputs
-invariant-inputs l = record { arms : AreInputArms l.proof l.known.steps l.t.0 l.near.0 l.input l.arms.items }

@@ -1,9 +1,0 @@
-use Rattle.std.proofs.Common.{◌<◌, ℕ}
-use Rattle.hierarchy.specs.Shape.{port_at}
-use Rattle.seats.specs.Seating.{IsFarPort}
-use Rattle.seats.proofs.search.find_far.Given as goal
-
-abbrev pub invariant-ports : goal.invariant-ports
-invariant-ports l = record {
-  none : (i : ℕ) → i < l.k → ¬ IsFarPort l.proof l.without.steps l.hextant.0 l.near.0 l.line.0 (port_at l.proof.shape l.hextant.0 i);
-}

@@ -1,6 +1,0 @@
-use Rattle.std.proofs.Common.{◌≡◌, ◌<◌, ℕ, true}
-use Rattle.evidence.specs.Kept.{keeps_cell}
-use Rattle.seats.proofs.tables.is_kept.Given as goal
-
-abbrev pub invariant-cells : goal.invariant-cells
-invariant-cells l = record { kept : (a : ℕ) → a < l.address → keeps_cell l.proof l.t.0 a ≡ true }

@@ -1,6 +1,0 @@
-use Rattle.std.proofs.Common.{sym}
-use Rattle.seats.proofs.Testing.{without_at}
-use Rattle.seats.proofs.tables.renew.Goals as goal
-
-pub returns-clause-stands : goal.returns-clause-stands
-returns-clause-stands c = without_at (sym c.in_ok-without.ensures.hextant) c.in_ok-without.ensures.stands

@@ -1,9 +1,0 @@
-use Rattle.std.proofs.Common.{refl, subst}
-use Rattle.hierarchy.specs.declared.Shape.{Shape}
-use Rattle.known.specs.Field.{IsFieldOf}
-use Rattle.self_test.proofs.Checking.{loads_swept}
-use Rattle.self_test.proofs.check.sweep_around.Goals as goal
-
-pub returns-clause-loads : goal.returns-clause-loads
-returns-clause-loads g c = loads_swept c.args.proof.now c.in-Ok-none.bad c.in-Ok.field c.args.parts.now.used _ _ (c.if-not-is_paid.ensures refl)
-    (c.growth_after_a_sweep_is_paid.ensures.alone c.in-Ok.field c.args.proof.now c.sweep.new.proof c.in-Ok-none.bad c.sweep.new.bad _ _ (subst (λ (m : Shape). IsFieldOf m c.in-Ok.field) c.requires.image c.in-Ok.ensures.field) c.sweep.ensures.pays)

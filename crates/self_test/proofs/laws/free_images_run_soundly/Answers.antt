@@ -1,6 +1,0 @@
-use Rattle.self_test.proofs.laws.free_images_run_soundly.Goals as goal
-
-pub returns : goal.returns
-returns c = λ d f i is free covers. record {
-  alike = λ none empty vectors reads others p q. c.free_images_run_alike.ensures d i f none is free covers (c.every_list_covers_no_faults.ensures i.config.shape d none empty) vectors reads others p q;
-}

@@ -1,6 +1,0 @@
-use Rattle.std.proofs.Common.{◌≡◌, ◌<◌, ℕ, true}
-use Rattle.evidence.specs.Kept.{keeps_cell}
-use Rattle.self_test.proofs.look.keeps_cells.Given as goal
-
-abbrev pub invariant-cells : goal.invariant-cells
-invariant-cells l = (a : ℕ) → a < l.address → keeps_cell l.proof l.table.0 a ≡ true

@@ -1,5 +1,0 @@
-use Rattle.self_test.specs.Marks.{Adds, IsNodeAmong}
-use Rattle.self_test.proofs.marks.mark_nodes.Given as goal
-
-abbrev pub invariant-wires : goal.invariant-wires
-invariant-wires l = Adds (IsNodeAmong l.shape l.used l.w) l.initial.nodes l.nodes

@@ -1,7 +1,0 @@
-use Rattle.std.proofs.Common.{◌≢◌, ℕ, ◌<◌, ◌≡◌, Some}
-use Rattle.std.specs.Prelude.{slice_get}
-use Rattle.hierarchy.specs.declared.Wire.{Wire}
-use Rattle.self_test.proofs.picks.is_among.Given as goal
-
-abbrev pub invariant-wires : goal.invariant-wires
-invariant-wires l = (k : ℕ) (u : Wire) → k < l.j → slice_get l.wires.items k ≡ Some u → u.0 ≢ l.wire.0

@@ -1,5 +1,0 @@
-use Rattle.self_test.proofs.Picking.{IsSought}
-use Rattle.self_test.proofs.picks.next_pick.Given as goal
-
-abbrev pub invariant-positions : goal.invariant-positions
-invariant-positions l = IsSought l.shape l.side l.node.0 l.picked.items l.k l.other

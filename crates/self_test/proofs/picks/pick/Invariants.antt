@@ -1,9 +1,0 @@
-use Rattle.std.proofs.Common.{◌≡◌, length}
-use Rattle.self_test.specs.Picked.{AreOfSide}
-use Rattle.self_test.proofs.picks.pick.Given as goal
-
-abbrev pub invariant-picks : goal.invariant-picks
-invariant-picks l = record {
-  len : length l.picked.items ≡ l.i;
-  are : AreOfSide l.shape l.side l.node.0 l.picked.items;
-}

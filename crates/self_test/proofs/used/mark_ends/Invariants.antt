@@ -1,5 +1,0 @@
-use Rattle.self_test.specs.Marks.{Adds, IsEndAmong}
-use Rattle.self_test.proofs.used.mark_ends.Given as goal
-
-abbrev pub invariant-crosses : goal.invariant-crosses
-invariant-crosses l = Adds (IsEndAmong l.shape l.crosses l.i) l.initial.used l.used

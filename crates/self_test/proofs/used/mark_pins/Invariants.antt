@@ -1,5 +1,0 @@
-use Rattle.self_test.specs.Marks.{Adds, IsPinAmong}
-use Rattle.self_test.proofs.used.mark_pins.Given as goal
-
-abbrev pub invariant-pins : goal.invariant-pins
-invariant-pins l = Adds (IsPinAmong l.shape l.pins l.i) l.initial.used l.used

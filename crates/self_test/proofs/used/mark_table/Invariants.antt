@@ -1,5 +1,0 @@
-use Rattle.self_test.specs.Marks.{Adds, IsPinOfTable}
-use Rattle.self_test.proofs.used.mark_table.Given as goal
-
-abbrev pub invariant-pins : goal.invariant-pins
-invariant-pins l = Adds (IsPinOfTable l.shape l.table.0 l.j) l.initial.used l.used

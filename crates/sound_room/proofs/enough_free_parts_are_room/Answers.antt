@@ -1,6 +1,0 @@
-use Rattle.sound_room.proofs.Enough.{enough-room}
-use Rattle.sound_room.proofs.enough_free_parts_are_room.Goals as goal
-
-pub returns : goal.returns
-returns c = λ m d n s network enough short.
-    enough-room m d n network (c.the_numbering_is_sound.ensures.numbered m) (c.the_numbering_is_sound.ensures.tree m) s enough short

@@ -1,2 +1,0 @@
--- When there is room for certain.
-pub mod Enough

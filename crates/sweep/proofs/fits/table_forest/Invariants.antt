@@ -1,5 +1,0 @@
-use Rattle.evidence.specs.Forests.{KeepsForest}
-use Rattle.sweep.proofs.fits.table_forest.Given as goal
-
-abbrev pub invariant-taps : goal.invariant-taps
-invariant-taps l = KeepsForest l.proof l.forest

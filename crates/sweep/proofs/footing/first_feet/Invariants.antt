@@ -1,6 +1,0 @@
-use Rattle.std.proofs.Common.{◌≡◌, take}
-use Rattle.evidence.specs.Hangs.{overs}
-use Rattle.sweep.proofs.footing.first_feet.Given as goal
-
-abbrev pub invariant-hangs : goal.invariant-hangs
-invariant-hangs l = l.feet.items ≡ overs (take l.k l.hangs)

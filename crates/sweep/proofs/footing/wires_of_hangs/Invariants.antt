@@ -1,7 +1,0 @@
-use Rattle.std.proofs.Common.{◌≡◌, take}
-use Rattle.std.specs.Prelude.{map}
-use Rattle.evidence.specs.declared.hangs.Hang.{Hang}
-use Rattle.sweep.proofs.footing.wires_of_hangs.Given as goal
-
-abbrev pub invariant-hangs : goal.invariant-hangs
-invariant-hangs l = l.wires.items ≡ map (λ (h : Hang). h.wire.0) (take l.k l.hangs)

@@ -1,8 +1,0 @@
-use Rattle.sweep.proofs.Purses.{settled_none, settled_on}
-use Rattle.sweep.proofs.leading.settle_walks.Goals as goal
-
-pub trials-init : goal.trials-init
-trials-init c = settled_none c.requires.purse
-
-pub trials-preserved : goal.trials-preserved
-trials-preserved c = settled_on c.trials.invariant c.settle_walk.ensures

@@ -1,9 +1,0 @@
-use Rattle.known.specs.Field.{GrowsIn}
-use Rattle.known.specs.Known.{IsKnown}
-use Rattle.sweep.proofs.learn.learn_hangs.Given as goal
-
-abbrev pub invariant-hangs : goal.invariant-hangs
-invariant-hangs l = record {
-  known : IsKnown l.proof l.known;
-  grows : GrowsIn l.field l.fn.known.steps l.known.steps;
-}

@@ -1,9 +1,0 @@
-use Rattle.known.specs.Field.{GrowsIn}
-use Rattle.known.specs.Known.{IsKnown}
-use Rattle.sweep.proofs.learn.learn_pins.Given as goal
-
-abbrev pub invariant-pins : goal.invariant-pins
-invariant-pins l = record {
-  known : IsKnown l.proof l.known;
-  grows : GrowsIn l.field l.fn.known.steps l.known.steps;
-}

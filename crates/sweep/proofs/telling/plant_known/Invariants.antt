@@ -1,5 +1,0 @@
-use Rattle.evidence.specs.Forests.{KeepsForest}
-use Rattle.sweep.proofs.telling.plant_known.Given as goal
-
-abbrev pub invariant-pins : goal.invariant-pins
-invariant-pins l = KeepsForest l.proof l.forest

@@ -1,7 +1,0 @@
-use Rattle.std.proofs.Common.{◌≡◌, take}
-use Rattle.std.specs.Prelude.{map}
-use Rattle.evidence.specs.Hangs.{Foot}
-use Rattle.sweep.proofs.telling.wires_of_feet.Given as goal
-
-abbrev pub invariant-feet : goal.invariant-feet
-invariant-feet l = l.wires.items ≡ map (λ (foot : Foot). foot.0.0) (take l.k l.feet.items)

@@ -1,7 +1,0 @@
-use Rattle.std.proofs.Common.{◌≡◌, ◌<◌, ℕ, true}
-use Rattle.evidence.specs.Forests.{is_hung}
-use Rattle.known.specs.Known.{HasWire}
-use Rattle.sweep.proofs.trees.is_known.Given as goal
-
-abbrev pub invariant-wires : goal.invariant-wires
-invariant-wires l = (i : ℕ) → i < l.w → is_hung l.forest i ≡ true → HasWire l.known.steps i

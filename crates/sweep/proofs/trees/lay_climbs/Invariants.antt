@@ -1,5 +1,0 @@
-use Rattle.evidence.specs.Forests.{KeepsForest}
-use Rattle.sweep.proofs.trees.lay_climbs.Given as goal
-
-abbrev pub invariant-climbs : goal.invariant-climbs
-invariant-climbs l = KeepsForest l.proof l.forest

@@ -1,5 +1,0 @@
-use Rattle.sweep.proofs.Going.{goes_on}
-use Rattle.sweep.proofs.turns.first_turns.Goals as goal
-
-pub returns-clause-goes : goal.returns-clause-goes
-returns-clause-goes g c = goes_on c.pins_left.ensures.advances c.pins_left.ensures.goes c.hang_height.ensures.goes

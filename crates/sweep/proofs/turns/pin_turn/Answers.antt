@@ -1,8 +1,0 @@
-use Rattle.sweep.proofs.Going.{goes_learnt, goes_then}
-use Rattle.sweep.proofs.turns.pin_turn.Goals as goal
-
-pub returns-in_default-clause-goes : goal.returns-in_default-clause-goes
-returns-in_default-clause-goes g c = goes_then c.pin_load.ensures.goes (goes_learnt c.pin_load.ensures.goes.hand c.learn_pins.ensures.known c.learn_pins.ensures.grows)
-
-pub returns-clause-goes : goal.returns-clause-goes
-returns-clause-goes g c = goes_then c.pin_load.ensures.goes (goes_learnt c.pin_load.ensures.goes.hand c.learn_pins.ensures.known c.learn_pins.ensures.grows)

@@ -1,5 +1,0 @@
-use Rattle.sweep.proofs.Going.{goes_on}
-use Rattle.sweep.proofs.turns.sweep_chosen.Goals as goal
-
-pub returns-clause-goes : goal.returns-clause-goes
-returns-clause-goes g c = goes_on c.first_turns.ensures.advances c.first_turns.ensures.goes c.sweep_twice.ensures.goes

@@ -1,6 +1,0 @@
-use Rattle.evidence.proofs.Keeping.{advances_then}
-use Rattle.sweep.proofs.Going.{goes_on}
-use Rattle.sweep.proofs.turns.sweep_height.Goals as goal
-
-pub returns-clause-goes : goal.returns-clause-goes
-returns-clause-goes g c = goes_on c.hang_height.ensures.advances c.hang_height.ensures.goes c.lead_paths.ensures.goes

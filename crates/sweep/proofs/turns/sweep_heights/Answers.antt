@@ -1,8 +1,0 @@
-use Rattle.sweep.proofs.Going.{gone_on, goes_on}
-use Rattle.sweep.proofs.turns.sweep_heights.Goals as goal
-
-pub heights-preserved : goal.heights-preserved
-heights-preserved g c = gone_on c.heights.invariant c.sweep_height.ensures.goes c.sweep_height.ensures.advances
-
-pub returns-in_err-sweep_height-clause-goes : goal.returns-in_err-sweep_height-clause-goes
-returns-in_err-sweep_height-clause-goes g c = goes_on c.heights.invariant.advances c.heights.invariant.goes c.sweep_height.ensures.goes

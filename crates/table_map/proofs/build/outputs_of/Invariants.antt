@@ -1,7 +1,0 @@
-use Rattle.std.proofs.Common.{◌≡◌, map, take}
-use Rattle.netlist.specs.declared.draft.PortDef.{PortDef}
-use Rattle.table_map.specs.Drives.{source_in}
-use Rattle.table_map.proofs.build.outputs_of.Given as goal
-
-abbrev pub invariant-outputs : goal.invariant-outputs
-invariant-outputs l = l.given.items ≡ map (λ (p : PortDef). source_in l.sources p.signal) (take l.k l.outputs)

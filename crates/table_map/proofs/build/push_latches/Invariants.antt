@@ -1,7 +1,0 @@
-use Rattle.std.proofs.Common.{◌≡◌, ◌++◌, map, take}
-use Rattle.table_map.specs.Plain.{latch_table}
-use Rattle.table_map.specs.Drives.{source_in}
-use Rattle.table_map.proofs.build.push_latches.Given as goal
-
-abbrev pub invariant-latches : goal.invariant-latches
-invariant-latches l = l.tables.items ≡ l.fn.tables.items ++ map (latch_table (source_in l.sources)) (take l.k l.latches)

@@ -1,8 +1,0 @@
-use Rattle.std.proofs.Common.{ap, ◌∙◌, sym, arith}
-use Rattle.table_map.specs.Plain.{flip}
-use Rattle.table_map.specs.Rows.{cell_at}
-use Rattle.table_map.proofs.CellLemmas.{cell_not}
-use Rattle.table_map.proofs.cells.flipped.Goals as goal
-
-pub returns-then-off : goal.returns-then-off
-returns-then-off c = λ a la. cell_not c.args.cells a (omega arith) la ∙ sym (ap (λ b. flip b (cell_at c.args.cells a)) c.if-off.true)

@@ -1,7 +1,0 @@
-use Rattle.std.proofs.Common.{◌≡◌, ◌<◌, ℕ, take, map, length}
-use Rattle.table_map.specs.Plain.{pin_named, six_bits}
-use Rattle.table_map.specs.Cells.{masks_at}
-use Rattle.table_map.proofs.cells.masks_of.Given as goal
-
-abbrev pub invariant-ins : goal.invariant-ins
-invariant-ins l = record { len : length l.masks.items ≡ l.k; each : (a : ℕ) → a < 64 → masks_at l.masks.items a ≡ map (pin_named l.names (six_bits a)) (take l.k l.ins) }

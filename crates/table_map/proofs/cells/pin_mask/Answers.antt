@@ -1,5 +1,0 @@
-use Rattle.table_map.proofs.CellLemmas.{pin_gives}
-use Rattle.table_map.proofs.cells.pin_mask.Goals as goal
-
-pub returns : goal.returns
-returns c = pin_gives c.args.pin c.lane_word.result c.requires c.lane_word.ensures

@@ -1,7 +1,0 @@
-use Rattle.std.proofs.Common.{ℕ, ◌<◌, ◌≡◌, false}
-use Rattle.table_map.specs.Joining.{in_tables}
-use Rattle.table_map.specs.Compacting.{is_dropped, AreKept}
-use Rattle.table_map.proofs.compact.is_closed.Given as goal
-
-abbrev pub invariant-tables : goal.invariant-tables
-invariant-tables l = (i : ℕ) → i < l.j → is_dropped l.dropped i ≡ false → AreKept l.dropped (in_tables l.network.tables i).ins

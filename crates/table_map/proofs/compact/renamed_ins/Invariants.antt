@@ -1,6 +1,0 @@
-use Rattle.std.proofs.Common.{◌≡◌, map, take}
-use Rattle.table_map.specs.Compacting.{named_by, renamed}
-use Rattle.table_map.proofs.compact.renamed_ins.Given as goal
-
-abbrev pub invariant-ins : goal.invariant-ins
-invariant-ins l = l.sources ≡ map (renamed (named_by l.ranks)) (take l.k l.ins)

@@ -1,6 +1,0 @@
-use Rattle.std.proofs.Common.{◌≡◌, map, take}
-use Rattle.table_map.specs.Compacting.{named_by, renamed}
-use Rattle.table_map.proofs.compact.renamed_outputs.Given as goal
-
-abbrev pub invariant-outputs : goal.invariant-outputs
-invariant-outputs l = l.given.items ≡ map (renamed (named_by l.ranks)) (take l.k l.outputs)

@@ -1,8 +1,0 @@
-use Rattle.std.proofs.Common.{◌≡◌, ◌<◌, ℕ, drop, map}
-use Rattle.table_map.specs.Plain.{pin_named, six_bits}
-use Rattle.table_map.specs.Merging.{number}
-use Rattle.table_map.proofs.composing.pin_word.Given as goal
-
-abbrev pub invariant-ins : goal.invariant-ins
-invariant-ins l = (a : ℕ) → a < 64 →
-    pin_named (drop l.k (map number l.ins)) (drop l.k (six_bits a)) (number l.source) ≡ pin_named (map number l.ins) (six_bits a) (number l.source)

@@ -1,6 +1,0 @@
-use Rattle.std.proofs.Common.{◌≡◌, ◌+◌, ◌<◌, ℕ, slice_index}
-use Rattle.table_map.specs.Rows.{cell_at}
-use Rattle.table_map.proofs.composing.put_cells.Given as goal
-
-abbrev pub invariant-cells : goal.invariant-cells
-invariant-cells l = (i a : ℕ) → i < l.j → a < 64 → cell_at (slice_index l.parts i) a ≡ cell_at l.cells (l.from + i)

@@ -1,5 +1,0 @@
-use Rattle.std.proofs.Common.{◌≡◌, take}
-use Rattle.table_map.proofs.copying.copied_ins.Given as goal
-
-abbrev pub invariant-ins : goal.invariant-ins
-invariant-ins l = l.sources ≡ take l.k l.ins

@@ -1,5 +1,0 @@
-use Rattle.std.proofs.Common.{◌≡◌, take}
-use Rattle.table_map.proofs.copying.copied_sources.Given as goal
-
-abbrev pub invariant-sources : goal.invariant-sources
-invariant-sources l = l.copies.items ≡ take l.k l.sources

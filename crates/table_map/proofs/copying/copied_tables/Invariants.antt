@@ -1,5 +1,0 @@
-use Rattle.std.proofs.Common.{◌≡◌, take}
-use Rattle.table_map.proofs.copying.copied_tables.Given as goal
-
-abbrev pub invariant-tables : goal.invariant-tables
-invariant-tables l = l.copies.items ≡ take l.j l.tables

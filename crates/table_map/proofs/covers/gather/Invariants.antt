@@ -1,7 +1,0 @@
-use Rattle.std.proofs.Common.{◌≡◌, ◌++◌, drop}
-use Rattle.table_map.specs.Plain.{row_wants}
-use Rattle.table_map.specs.Drives.{source_in}
-use Rattle.table_map.proofs.covers.gather.Given as goal
-
-abbrev pub invariant-places : goal.invariant-places
-invariant-places l = l.wants.items ++ row_wants (source_in l.sources) (drop l.k l.row) (drop l.k l.ins) ≡ row_wants (source_in l.sources) l.row l.ins

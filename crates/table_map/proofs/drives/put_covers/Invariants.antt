@@ -1,7 +1,0 @@
-use Rattle.std.proofs.Common.{◌≡◌, drop, take, length, sum_by}
-use Rattle.table_map.specs.Plain.{cover_size}
-use Rattle.table_map.specs.Drives.{written, cover_drives}
-use Rattle.table_map.proofs.drives.put_covers.Given as goal
-
-abbrev pub invariant-covers : goal.invariant-covers
-invariant-covers l = record { len : length l.sources.items ≡ length l.fn.sources.items; sources : written l.sources.items (cover_drives l.first (drop l.k l.covers)) ≡ written l.fn.sources.items (cover_drives 0 l.covers); count : l.first ≡ sum_by cover_size (take l.k l.covers) }

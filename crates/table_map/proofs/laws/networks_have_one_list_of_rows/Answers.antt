@@ -1,5 +1,0 @@
-use Rattle.table_map.proofs.ValuationLemmas.{one_rows}
-use Rattle.table_map.proofs.laws.networks_have_one_list_of_rows.Goals as goal
-
-pub returns : goal.returns
-returns c = λ n vectors is all. one_rows n is vectors all

@@ -1,5 +1,0 @@
-use Rattle.table_map.specs.Levels.{IsMost, source_level}
-use Rattle.table_map.proofs.longest.most.Given as goal
-
-abbrev pub invariant-ins : goal.invariant-ins
-invariant-ins l = IsMost (source_level l.marks l.ins) l.k l.best

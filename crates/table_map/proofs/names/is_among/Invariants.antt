@@ -1,6 +1,0 @@
-use Rattle.std.proofs.Common.{◌≡◌, drop}
-use Rattle.table_map.specs.Cells.{is_among}
-use Rattle.table_map.proofs.names.is_among.Given as goal
-
-abbrev pub invariant-names : goal.invariant-names
-invariant-names l = is_among (drop l.k l.names) l.name ≡ is_among l.names l.name

@@ -1,6 +1,0 @@
-use Rattle.std.proofs.Common.{sym}
-use Rattle.table_map.proofs.NameLemmas.{narrow_few}
-use Rattle.table_map.proofs.names.is_narrow.Goals as goal
-
-pub returns-then-ins-le-TABLE_INPUTS : goal.returns-then-ins-le-TABLE_INPUTS
-returns-then-ins-le-TABLE_INPUTS c = sym (narrow_few c.args.ins.now c.if-ins-le-TABLE_INPUTS.true)

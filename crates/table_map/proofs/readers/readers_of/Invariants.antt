@@ -1,6 +1,0 @@
-use Rattle.std.proofs.Common.{◌≡◌, drop, length, replicate}
-use Rattle.table_map.specs.Joining.{noted_tables, unread}
-use Rattle.table_map.proofs.readers.readers_of.Given as goal
-
-abbrev pub invariant-tables : goal.invariant-tables
-invariant-tables l = (noted_tables l.j (drop l.j l.tables) l.readers.items ≡ noted_tables 0 l.tables (replicate (length l.tables) unread)) × (length l.readers.items ≡ length l.tables)

@@ -1,6 +1,0 @@
-use Rattle.std.proofs.Common.{◌≡◌, take, sum_by}
-use Rattle.table_map.specs.Plain.{cover_size}
-use Rattle.table_map.proofs.size.covers_size.Given as goal
-
-abbrev pub invariant-covers : goal.invariant-covers
-invariant-covers l = l.size ≡ sum_by cover_size (take l.k l.covers)

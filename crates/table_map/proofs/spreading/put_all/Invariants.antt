@@ -1,5 +1,0 @@
-use Rattle.table_map.specs.Spreading.{Spreads}
-use Rattle.table_map.proofs.spreading.put_all.Given as goal
-
-abbrev pub invariant-readers : goal.invariant-readers
-invariant-readers l = Spreads l.fn.tables.items l.tables.items

@@ -1,6 +1,0 @@
-use Rattle.std.proofs.Common.{◌≡◌, ◌++◌, map, false}
-use Rattle.table_map.specs.Plain.{gate_table, groups}
-use Rattle.table_map.proofs.trees.push_groups.Given as goal
-
-abbrev pub invariant-groups : goal.invariant-groups
-invariant-groups l = l.tables.items ≡ l.fn.tables.items ++ map (gate_table l.gate false) (groups l.k l.wants)

@@ -1,5 +1,0 @@
-use Rattle.table_map.specs.Joining.{Puts}
-use Rattle.table_map.proofs.work.run.Given as goal
-
-abbrev pub invariant-turns : goal.invariant-turns
-invariant-turns l = Puts l.fn.work.tables.items l.fn.work.merged.items l.work.tables.items l.work.merged.items

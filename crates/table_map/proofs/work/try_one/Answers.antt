@@ -1,8 +1,0 @@
-use Rattle.table_map.specs.Joining.{none}
-use Rattle.table_map.proofs.work.try_one.Goals as goal
-
-pub returns-then-table-len : goal.returns-then-table-len
-returns-then-table-len c = none
-
-pub returns-then-readers-ne1 : goal.returns-then-readers-ne1
-returns-then-readers-ne1 c = none

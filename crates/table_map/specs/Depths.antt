@@ -1,9 +1,0 @@
--- The depth of a network.
-use Rattle.std.specs.Prelude.{◌≡◌, ◌⊎◌, ℕ}
-use Rattle.table_map.specs.declared.network.Network.{Network}
-use Rattle.table_map.specs.Networks.{IsPath, IsDeepest}
-
--- the greatest number of combinational tables on a path
-pub record IsDepth (n : Network) (depth : ℕ) : Type 0 where
-  pub longest : IsDeepest n depth
-  pub reached : (depth ≡ 0) ⊎ ((j : ℕ) × IsPath n j depth)

@@ -1,3 +1,0 @@
-mod Tying
-mod Seating
-mod Tested

@@ -1,6 +1,0 @@
-use Rattle.std.proofs.Common.{◌≡◌, map, take}
-use Rattle.tenants.specs.JointNetworks.{moved}
-use Rattle.tenants.proofs.joining.moved_ins.Given as goal
-
-abbrev pub invariant-ins : goal.invariant-ins
-invariant-ins l = l.sources ≡ map (moved l.inputs l.tables) (take l.k l.ins)

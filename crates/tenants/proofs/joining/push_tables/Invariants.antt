@@ -1,6 +1,0 @@
-use Rattle.std.proofs.Common.{◌≡◌, ◌++◌, map, take}
-use Rattle.tenants.specs.JointNetworks.{moved_table}
-use Rattle.tenants.proofs.joining.push_tables.Given as goal
-
-abbrev pub invariant-tables : goal.invariant-tables
-invariant-tables l = l.tables.items ≡ l.fn.tables.items ++ map (moved_table l.inputs l.before) (take l.j l.from)

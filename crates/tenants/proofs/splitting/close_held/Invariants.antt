@@ -1,7 +1,0 @@
-use Rattle.std.proofs.Common.{take}
-use Rattle.crossbar_route.specs.Closing.{Closes}
-use Rattle.tenants.specs.Sites.{IsHeldAmong}
-use Rattle.tenants.proofs.splitting.close_held.Given as goal
-
-abbrev pub invariant-loop-cross : goal.invariant-loop-cross
-invariant-loop-cross l = Closes (IsHeldAmong l.fn.config.config.shape l.site l.network l.owners (take l.cross-index l.closed)) l.cross-index l.fn.config.config l.config.config

@@ -1,7 +1,0 @@
--- What is cited above.
-pub mod BenchLaws
-pub mod Headlines
-pub mod Promising
--- For the proofs of this crate alone.
-mod RunLemmas
-mod Following

@@ -1,5 +1,0 @@
--- The command that runs generated work on a generated machine.
-pub mod Summary
-pub mod Bench
-pub mod Headline
-pub mod Promises

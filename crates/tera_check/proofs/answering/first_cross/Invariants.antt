@@ -1,7 +1,0 @@
-use Rattle.std.proofs.Common.{◌≡◌, ◌<◌, ℕ, true}
-use Rattle.hierarchy.specs.Defects.{IsFreeCross}
-use Rattle.config_set.specs.Configuration.{is_closed}
-use Rattle.tera_check.proofs.answering.first_cross.Given as goal
-
-abbrev pub invariant-crosses : goal.invariant-crosses
-invariant-crosses l = (y : ℕ) → y < l.x → is_closed l.config.config y ≡ true → IsFreeCross l.list.shape l.list.list y

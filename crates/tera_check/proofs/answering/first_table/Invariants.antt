@@ -1,7 +1,0 @@
-use Rattle.std.proofs.Common.{◌<◌, ℕ, IsSome}
-use Rattle.hierarchy.specs.Defects.{IsFreeTable}
-use Rattle.config_set.specs.Configuration.{setting_of}
-use Rattle.tera_check.proofs.answering.first_table.Given as goal
-
-abbrev pub invariant-tables : goal.invariant-tables
-invariant-tables l = (u : ℕ) → u < l.t → IsSome (setting_of l.config.config u) → IsFreeTable l.list.shape l.list.list u

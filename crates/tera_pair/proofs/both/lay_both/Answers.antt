@@ -1,5 +1,0 @@
-use Rattle.tera_pair.proofs.BothLemmas.{both-took}
-use Rattle.tera_pair.proofs.both.lay_both.Goals as goal
-
-pub returns : goal.returns
-returns c = let e = c.image_for.ensures in record { took = λ o. both-took c.args.list.now c.args.first.now c.args.second.now c.image_for.result o e.found e.refused }

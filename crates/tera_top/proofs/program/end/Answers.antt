@@ -1,9 +1,0 @@
-use Rattle.std.proofs.Common.{map, string_bytes}
-use Rattle.tera_top.specs.Words.{asked_by}
-use Rattle.steps.proofs.AskedLemmas.{ends-so}
-use Rattle.tera_top.proofs.program.end.Goals as goal
-
-pub returns : goal.returns
-returns g c =
-    let e = c.end_of.ensures in
-    ends-so (asked_by (map string_bytes c.args.words.now)) c.work-done.result _ _ _ _ c.work-done.ensures e.all e.stopped e.later e.kind

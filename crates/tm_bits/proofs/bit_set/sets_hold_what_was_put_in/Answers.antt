@@ -1,5 +1,0 @@
-use Rattle.tm_bits.proofs.NumbersLemmas.{put_in}
-use Rattle.tm_bits.proofs.bit_set.sets_hold_what_was_put_in.Goals as goal
-
-pub returns : goal.returns
-returns c = put_in

@@ -1,5 +1,0 @@
--- What is cited above.
-pub mod WrittenLemmas
-pub mod LinesLemmas
--- For the proofs of this crate alone.
-mod BytesLemmas

@@ -1,5 +1,0 @@
-use Rattle.std.proofs.Common.{◌≡◌, ◌==◌, take, map}
-use Rattle.vector_text.proofs.line.spell.Given as goal
-
-abbrev pub invariant-loop-k : goal.invariant-loop-k
-invariant-loop-k l = take l.k l.row ≡ map (λ b. b == 49) (take l.k l.bytes)
