@@ -85,7 +85,7 @@ fn work<K: Sink>(alloc: Global, n: u32, rig: &mut Box<dyn Rig>, sink: &mut K) ->
 ///
 /// The first step that refuses, in this order: the machine is attached, its defects are listed, there is room for the design,
 /// it is loaded, the vectors are driven, and the summary is written.
-// The condition always holds: see `attach` of `steps`.
+// The condition always holds: see `attach` of `cmd_steps`.
 pub fn bench<K: Sink>(
     alloc: Global,
     n: u32,

@@ -84,7 +84,7 @@ fn judge<K: Sink>(
 ///
 /// The first step that refuses, in this order: the machine is read and attached, the image is read and tested, the machine's defects are
 /// listed where the test didn't find it sound, and the line is written.
-// The condition always holds: see `attach` of `steps`.
+// The condition always holds: see `attach` of `cmd_steps`.
 pub fn check<S: Store, K: Sink>(
     alloc: Global,
     machine: &str,

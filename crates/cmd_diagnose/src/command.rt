@@ -34,7 +34,7 @@ fn work<S: Store, K: Sink>(
 ///
 /// The first step that refuses, in this order: the machine is read and attached, its defects are listed, and the list is
 /// written.
-// The condition always holds: see `attach` of `steps`.
+// The condition always holds: see `attach` of `cmd_steps`.
 pub fn diagnose<S: Store, K: Sink>(
     alloc: Global,
     machine: &str,

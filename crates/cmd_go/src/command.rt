@@ -46,7 +46,7 @@ fn work<S: Store, K: Sink>(
 /// The first step that refuses, in this order: the machine is read and attached, the design is read, the defects are listed
 /// and the list is written; there is room for the design, by the in-order plan of its plain network; its image is loaded, the
 /// file of vectors is started, the line is written, and then each vector is read and driven and its row written.
-// The condition always holds: see `attach` of `steps`.
+// The condition always holds: see `attach` of `cmd_steps`.
 pub fn go<S: Store, K: Sink>(
     alloc: Global,
     machine: &str,

@@ -52,7 +52,7 @@ fn work<S: Store, K: Sink>(
 /// the defects are listed and the list is written; there is room for both designs, by the in-order plan of the joint network of
 /// their plain networks; their image is loaded, the file of vectors is started, the line is written, and then each vector is
 /// read and driven and its row written.
-// The condition always holds: see `attach` of `steps`.
+// The condition always holds: see `attach` of `cmd_steps`.
 pub fn pair<S: Store, K: Sink>(
     alloc: Global,
     machine: &str,

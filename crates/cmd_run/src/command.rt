@@ -16,7 +16,7 @@ use std::alloc::Global;
 ///
 /// The first step that refuses, in this order: the machine is read and attached, the image is read and loaded, the
 /// file of vectors is started, the line is written, and then each vector is read and driven and its row written.
-// The condition always holds: see `attach` of `steps`.
+// The condition always holds: see `attach` of `cmd_steps`.
 pub fn run<S: Store, K: Sink>(
     alloc: Global,
     machine: &str,

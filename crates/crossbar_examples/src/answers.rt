@@ -1,4 +1,4 @@
-//! Questions to a machine that a test of `evidence` answers.
+//! Questions to a machine that a test of `diag_evidence` answers.
 ghost use Rattle.std.specs.Prelude.{◌≡◌, ℕ, true, Some, IsTrue};
 ghost use Rattle.machine_config.specs.Groups.{among};
 ghost use Rattle.rig.specs.Rig.{shape_of};

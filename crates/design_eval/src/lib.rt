@@ -1,4 +1,4 @@
-//! The rows of a netlist. What reads vectors and writes rows is handed on from `vector_text`.
+//! The rows of a netlist. What reads vectors and writes rows is handed on from `design_vectors`.
 //!
 //! Each step gives the outputs in a right valuation and then takes the next state; `step_ahead` does the same whatever the text
 //! that it is given says of the vectors to come. No call takes memory after its constructor.

@@ -8,9 +8,6 @@ mod Searching
 mod Choosing
 mod Testing
 mod Fresh
--- What is cited above.
-pub mod Decided
--- For the proofs of this crate alone.
 mod Parting
 mod Growing
 mod Stages
@@ -22,3 +19,5 @@ mod Listing
 mod Circling
 mod Learning
 mod SoFar
+-- What is cited above.
+pub mod Decided

@@ -7,7 +7,6 @@ pub mod Tables
 -- For this crate's bodies alone.
 pub mod Seating
 pub mod Choices
--- For this crate's bodies alone.
 pub mod Partings
 pub mod Grown
 pub mod Looks

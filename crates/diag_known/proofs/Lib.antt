@@ -9,11 +9,6 @@ pub mod Grounding
 pub mod Stood
 pub mod Counting
 pub mod Taking
--- For the proofs of this crate alone.
-mod Ranking
-mod Once
-mod TwoWays
--- What is cited above.
 pub mod Besides
 pub mod Passing
 pub mod Adding
@@ -24,5 +19,8 @@ pub mod Settling
 pub mod Offering
 pub mod Seconds
 -- For the proofs of this crate alone.
+mod Ranking
+mod Once
+mod TwoWays
 mod Reaching
 mod Touring

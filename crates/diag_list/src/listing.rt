@@ -42,7 +42,7 @@ pub fn list_of(alloc: Global, shape: &Shape, rig: &mut Box<dyn Rig>) -> Result<D
 /// # Errors
 ///
 /// The first step that refuses: the machine is read and attached, and its defects are listed.
-// The condition always holds: see `attach` of `steps`.
+// The condition always holds: see `attach` of `cmd_steps`.
 pub fn list_machine<S: Store>(
     alloc: Global,
     machine: &str,

@@ -1,5 +1,3 @@
--- Plans, and whether there is room.
-
 -- Cited above: room, plans and layouts
 pub mod Lists
 pub mod Strands
