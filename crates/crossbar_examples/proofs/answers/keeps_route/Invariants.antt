@@ -1,7 +1,0 @@
-use Rattle.std.proofs.Common.{◌≡◌, ℕ, true, take}
-use Rattle.machine_config.specs.Groups.{among}
-use Rattle.diag_evidence.specs.Kept.{keeps_cross}
-use Rattle.crossbar_examples.proofs.answers.keeps_route.Given as goal
-
-abbrev pub invariant-steps : goal.invariant-steps
-invariant-steps l = (x : ℕ) → among (take l.k l.route.crosses) x ≡ true → keeps_cross l.proof x ≡ true

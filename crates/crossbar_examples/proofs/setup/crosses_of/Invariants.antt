@@ -1,7 +1,0 @@
-use Rattle.std.proofs.Common.{◌<◌}
-use Rattle.std.specs.Prelude.{All}
-use Rattle.machine_shape.specs.Shape.{crosses_of}
-use Rattle.crossbar_examples.proofs.setup.crosses_of.Given as goal
-
-abbrev pub invariant-numbers : goal.invariant-numbers
-invariant-numbers l = All (λ c. c.0 < crosses_of l.shape) l.crosses.items

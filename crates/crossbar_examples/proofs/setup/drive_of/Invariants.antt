@@ -1,6 +1,0 @@
-use Rattle.std.proofs.Common.{◌≡◌, length}
-use Rattle.machine_shape.specs.Shape.{pins_of}
-use Rattle.crossbar_examples.proofs.setup.drive_of.Given as goal
-
-abbrev pub invariant-pins : goal.invariant-pins
-invariant-pins l = length l.drive ≡ pins_of l.shape

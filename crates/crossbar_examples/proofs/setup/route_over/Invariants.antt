@@ -1,5 +1,0 @@
-use Rattle.diag_tests.specs.Routes.{IsRoute}
-use Rattle.crossbar_examples.proofs.setup.route_over.Given as goal
-
-abbrev pub invariant-crosses : goal.invariant-crosses
-invariant-crosses l = IsRoute l.shape l.route

@@ -1,0 +1,85 @@
+-- Tested crossbars stay as more is kept, and one more is found.
+use Rattle.std.proofs.Common.{All, ◌≡◌, ◌<◌, ◌≤◌, ◌+◌, ℕ, Option, List, [], ◌∷◌, ◌++◌, length, get_or, Some, arith, subst, sym, ap, ◌∙◌}
+use native.Mathlib.Decide.{dec_lt}
+use Rattle.std.specs.Prelude.{slice_get}
+use Rattle.std.proofs.lemmas.List.{get_or_append_left, length-append}
+use Rattle.std.proofs.Math.Seq.{get_or-append_seam}
+use Rattle.machine_shape.specs.declared.Shape.{Shape}
+use Rattle.machine_shape.specs.Shape.{nodes_of, node_of, parent_of}
+use Rattle.machine_shape.specs.Laws.{HasParents}
+use Rattle.machine_shape.specs.Faults.{Faults}
+use Rattle.rig.specs.Rig.{RigState, Machine}
+use Rattle.diag_tests.specs.Routes.{Walk}
+use Rattle.diag_evidence.specs.Kept.{Kept, IsMore, Advances}
+use Rattle.diag_evidence.proofs.Keeping.{holds_earlier, more_then}
+use Rattle.diag_known.specs.Known.{KnownWires, IsKnown}
+use Rattle.diag_known.specs.declared.step.Step.{Step}
+use Rattle.diag_published.specs.Held.{Findings, IsHeld, IsHeldTrunk, FullIf, IsLater}
+use Rattle.diag_published.proofs.Staying.{held_later, full_later}
+use Rattle.example_parts.specs.Found.{IsFoundAt, AreFound}
+
+-- nothing is known and found at first
+pub none_found : (told : Option Faults) (k : Kept) (known : KnownWires) (found : List Findings) → known.shape ≡ k.shape → known.steps ≡ [] → found ≡ [] → AreFound told k known found
+none_found told k known found shape none empty = record {
+  known = record { shape = shape; steps = λ i s here. absurd (at_none i s (subst (λ (ss : List Step). slice_get ss i ≡ Some s) none here)) };
+  each = λ n d below. absurd (let e = ap (λ (ts : List Findings). length ts) empty in let no : ⊥ = omega (arith, below, e) in no);
+}
+  where
+    at_none : (i : ℕ) (s : Step) → slice_get [] i ≡ Some s → ⊥
+    at_none i s e = cc
+
+-- those found stay as more is kept and known
+pub found_later : {told : Option Faults} {k l : Kept} {old new : KnownWires} {found : List Findings} → IsLater k l old new → IsKnown l new → AreFound told k old found → AreFound told l new found
+found_later {told} {k} {l} {old} {new} {found} later is p = record {
+  known = is;
+  each = λ n d below. at n (get_or found n d) (p.each n d below);
+}
+  where
+    at : (n : ℕ) (t : Findings) → IsFoundAt told k old n t → IsFoundAt told l new n t
+    at n t a = record {
+      node = a.node;
+      held = held_later later t a.held;
+      full = record { at = λ f told holds. full_later later.kept (a.full.at f told (holds_earlier later.kept holds)) };
+    }
+
+-- what is full of what was kept before is full of what is kept
+pub full_now : {told : Option Faults} {k l : Kept} {t : Findings} → IsMore k l → FullIf told k l t → FullIf told l l t
+full_now more full = record { at = λ f is holds. full.at f is (holds_earlier more holds) }
+
+-- one step after the other
+pub later_then : {k l n : Kept} {a b c : KnownWires} → IsLater k l a b → IsLater l n b c → IsLater k n a c
+later_then p q = record { kept = more_then p.kept q.kept; known = λ w h. q.known w (p.known w h) }
+
+pub full_since : {a b : RigState} {k l n : Kept} {t : Findings} → Advances a b k l → FullIf b.machine.faults l n t → FullIf a.machine.faults k n t
+full_since adv full = record { at = λ f told holds. full.at f (ap (λ (m : Machine). m.faults) adv.machine ∙ told) (adv.holds f told holds) }
+
+-- a trunk of the node at which it ends
+pub trunk_at : {k : Kept} {known : KnownWires} {n : ℕ} {left right : Walk} (m : Shape) → k.shape ≡ m → node_of m left.end ≡ n → IsHeldTrunk k known n left right → IsHeldTrunk k known (node_of k.shape left.end) left right
+trunk_at {k} {known} {n} {left} {right} m same e held = subst (λ i. IsHeldTrunk k known i left right) (sym (ap (λ s. node_of s left.end) same ∙ e)) held
+
+-- one more is found
+pub found_next : {told : Option Faults} {k l : Kept} {old new : KnownWires} {found : List Findings} (t : Findings) → IsLater k l old new → IsKnown l new → AreFound told k old found → t.node ≡ length found → IsHeld l new t → FullIf told k l t →
+    AreFound told l new (found ++ t ∷ [])
+found_next {told} {k} {l} {old} {new} {found} t later is p node held full = record {
+  known = is;
+  each = λ n d below. at n d below (dec_lt n (length found));
+}
+  where
+    at : (n : ℕ) (d : Findings) → n < length (found ++ t ∷ []) → Dec (n < length found) → IsFoundAt told l new n (get_or (found ++ t ∷ []) n d)
+    at n d below (yes within) = rw (get_or_append_left found (t ∷ []) d n within) ((found_later later is p).each n d within)
+    at n d below (no past) =
+        let last : n ≡ length found = omega (arith, below, past, length-append found (t ∷ [])) in
+        subst (λ i. IsFoundAt told l new i (get_or (found ++ t ∷ []) i d)) (sym last)
+        (rw (get_or-append_seam found t [] d) (record { node = node; held = held; full = full_now later.kept full }))
+
+-- all of them are held
+pub all_held : {told : Option Faults} {k : Kept} {known : KnownWires} {found : List Findings} → AreFound told k known found → All (IsHeld k known) found
+all_held p = λ n d below. (p.each n d below).held
+
+-- below the root each node of the machine has a node above it, with a smaller number
+pub has_one_above : (m : Shape) (n : ℕ) → HasParents m → 0 < n → n < nodes_of m → ((i : ℕ) → parent_of m n ≡ Some i → n ≤ i) → ⊥
+has_one_above m n parents below_root within none =
+    let above = parents.others n below_root within in
+    let before = parents.before n above.0 above.1 in
+    let past = none above.0 above.1 in
+    omega (arith, before, past)

@@ -1,0 +1,4 @@
+mod Within
+mod Keeping
+mod Laying
+mod Finding

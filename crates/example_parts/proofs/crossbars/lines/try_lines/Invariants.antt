@@ -1,0 +1,13 @@
+use Rattle.std.proofs.Common.{◌≡◌}
+use Rattle.example_parts.specs.Found.{AreFound}
+use Rattle.example_parts.proofs.crossbars.lines.try_lines.Given as goal
+
+abbrev pub invariant-lines : goal.invariant-lines
+invariant-lines g l =
+    let rig0 = (goal.Rig-dyn g (l.fn.rig.vtable, l.fn.rig.value)).rig_state l.fn.rig.value in
+    let rig = (goal.Rig-dyn g (l.rig.vtable, l.rig.value)).rig_state l.rig.value in
+    record {
+      machine : rig.machine ≡ rig0.machine;
+      shape : l.proof.shape ≡ l.fn.proof.shape;
+      found : AreFound rig0.machine.faults l.proof l.walk.known l.walk.found.items;
+    }

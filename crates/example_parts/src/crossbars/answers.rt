@@ -1,0 +1,270 @@
+//! Questions to a machine that a test of `diag_evidence` answers.
+ghost use Rattle.std.specs.Prelude.{◌≡◌, ℕ, true, Some, IsTrue};
+ghost use Rattle.machine_config.specs.Groups.{among};
+ghost use Rattle.rig.specs.Rig.{shape_of};
+ghost use Rattle.diag_tests.specs.Routes.{IsRoute};
+ghost use Rattle.diag_evidence.specs.Kept.{Advances, keeps_cross};
+
+use crate::crossbars::setup::{Laid, Setup, lay};
+use diag_evidence::Proof;
+use diag_evidence::laws::tests_add_up;
+use diag_tests::Route;
+use machine_shape::{Cross, Table, Wire};
+use rig::{PinBits, Rig, RigFail};
+use std::alloc::Global;
+
+// Toggles a closed crosspoint, and reads a pin.
+fn toggle_cross(
+    alloc: Global,
+    rig: &mut Box<dyn Rig>,
+    proof: &mut Proof,
+    setup: &Setup,
+    c: u32,
+    at: u32,
+) -> Result<Option<bool>, RigFail>
+    requires attached { shape_of (rig_state rig.old) ≡ Some proof.old.shape }
+    ensures advances { Advances (rig_state rig.old) (rig_state rig.new) proof.old proof.new }
+{
+    tests_add_up();
+    let shape = proof.shape();
+    let Some(laid) = lay(alloc, &shape, setup)? else {
+        return Ok(None);
+    };
+    let Laid {
+        mut config,
+        drive,
+        ..
+    } = laid;
+    if c >= shape.crosses() {
+        return Ok(None);
+    }
+    if at >= shape.pins() {
+        return Ok(None);
+    }
+    if !config.has_cross(Cross(c)) {
+        return Ok(None);
+    }
+    let yes = proof.toggle_cross(rig, &mut config, Cross(c), &drive, at)?;
+    Ok(Some(yes))
+}
+
+// Toggles a cell of a table that is on, and reads a pin.
+fn toggle_cell(
+    alloc: Global,
+    rig: &mut Box<dyn Rig>,
+    proof: &mut Proof,
+    setup: &Setup,
+    t: u32,
+    address: u8,
+    at: u32,
+) -> Result<Option<bool>, RigFail>
+    requires attached { shape_of (rig_state rig.old) ≡ Some proof.old.shape }
+    ensures advances { Advances (rig_state rig.old) (rig_state rig.new) proof.old proof.new }
+{
+    tests_add_up();
+    let shape = proof.shape();
+    let Some(laid) = lay(alloc, &shape, setup)? else {
+        return Ok(None);
+    };
+    let Laid {
+        mut config,
+        drive,
+        ..
+    } = laid;
+    if t >= shape.tables() {
+        return Ok(None);
+    }
+    if at >= shape.pins() {
+        return Ok(None);
+    }
+    if address >= 64 {
+        return Ok(None);
+    }
+    if config.setting(Table(t)).is_none() {
+        return Ok(None);
+    }
+    let yes = proof.toggle_cell(rig, &mut config, Table(t), address, &drive, at)?;
+    Ok(Some(yes))
+}
+
+// Toggles the register of a table that is on and latched, and reads a pin.
+fn toggle_register(
+    alloc: Global,
+    rig: &mut Box<dyn Rig>,
+    proof: &mut Proof,
+    setup: &Setup,
+    t: u32,
+    at: u32,
+) -> Result<Option<bool>, RigFail>
+    requires attached { shape_of (rig_state rig.old) ≡ Some proof.old.shape }
+    ensures advances { Advances (rig_state rig.old) (rig_state rig.new) proof.old proof.new }
+{
+    tests_add_up();
+    let shape = proof.shape();
+    let Some(laid) = lay(alloc, &shape, setup)? else {
+        return Ok(None);
+    };
+    let Laid {
+        mut config,
+        drive,
+        ..
+    } = laid;
+    if t >= shape.tables() {
+        return Ok(None);
+    }
+    if at >= shape.pins() {
+        return Ok(None);
+    }
+    let Some(setting) = config.setting(Table(t)) else {
+        return Ok(None);
+    };
+    if !setting.latched {
+        return Ok(None);
+    }
+    let yes = proof.toggle_register(rig, &mut config, Table(t), &drive, at)?;
+    Ok(Some(yes))
+}
+
+// Whether the crosspoints of a route are kept.
+fn keeps_route(proof: &Proof, route: &Route) -> bool
+    requires { IsRoute proof.now.shape route.now }
+    ensures { IsTrue result → (x : ℕ) → among route.now.crosses x ≡ true → keeps_cross proof.now x ≡ true }
+{
+    'steps: for k in 0..route.len() {
+        if !proof.keeps_cross(route.cross_at(k)) {
+            return false;
+        }
+    }
+    true
+}
+
+// Swings the left route.
+fn swing(
+    alloc: Global,
+    rig: &mut Box<dyn Rig>,
+    proof: &mut Proof,
+    setup: &Setup,
+) -> Result<Option<bool>, RigFail>
+    requires attached { shape_of (rig_state rig.old) ≡ Some proof.old.shape }
+    ensures advances { Advances (rig_state rig.old) (rig_state rig.new) proof.old proof.new }
+{
+    tests_add_up();
+    let shape = proof.shape();
+    let Some(laid) = lay(alloc, &shape, setup)? else {
+        return Ok(None);
+    };
+    let Laid {
+        left,
+        config,
+        drive,
+        ..
+    } = laid;
+    if !keeps_route(proof, &left) {
+        return Ok(None);
+    }
+    let Ok(high) = PinBits::new(alloc, shape.pins()) else {
+        return Err(RigFail::Memory);
+    };
+    let yes = proof.swing(rig, &config, &drive, &high, &left)?;
+    Ok(Some(yes))
+}
+
+// Whether the two routes are apart.
+fn apart(
+    alloc: Global,
+    rig: &mut Box<dyn Rig>,
+    proof: &mut Proof,
+    setup: &Setup,
+) -> Result<Option<bool>, RigFail>
+    requires attached { shape_of (rig_state rig.old) ≡ Some proof.old.shape }
+    ensures advances { Advances (rig_state rig.old) (rig_state rig.new) proof.old proof.new }
+{
+    tests_add_up();
+    let shape = proof.shape();
+    let Some(laid) = lay(alloc, &shape, setup)? else {
+        return Ok(None);
+    };
+    let Laid {
+        left,
+        right,
+        config,
+        drive,
+    } = laid;
+    if !keeps_route(proof, &left) {
+        return Ok(None);
+    }
+    if !keeps_route(proof, &right) {
+        return Ok(None);
+    }
+    if left.meets(&right) {
+        return Ok(None);
+    }
+    let yes = proof.apart(rig, &config, &drive, &left, &right)?;
+    Ok(Some(yes))
+}
+
+/// What a test answers. None where the words ask for none, or for one that isn't to be asked so.
+pub fn answer(
+    alloc: Global,
+    rig: &mut Box<dyn Rig>,
+    proof: &mut Proof,
+    setup: &Setup,
+    key: &str,
+    numbers: &[u32],
+) -> Result<Option<bool>, RigFail>
+    requires attached { shape_of (rig_state rig.old) ≡ Some proof.old.shape }
+    ensures advances { Advances (rig_state rig.old) (rig_state rig.new) proof.old proof.new }
+{
+    tests_add_up();
+    match (key, numbers) {
+        ("toggle", [c, at]) => toggle_cross(alloc, rig, proof, setup, *c, *at),
+        ("cell", [t, address, at]) => match u8::try_from(*address) {
+            Ok(address) => toggle_cell(alloc, rig, proof, setup, *t, address, *at),
+            Err(_) => Ok(None),
+        },
+        ("register", [t, at]) => toggle_register(alloc, rig, proof, setup, *t, *at),
+        ("swing", []) => swing(alloc, rig, proof, setup),
+        ("apart", []) => apart(alloc, rig, proof, setup),
+        _ => Ok(None),
+    }
+}
+
+// Whether a pair of different wires is kept.
+fn keeps_pair(proof: &Proof, a: u32, b: u32) -> Option<bool> {
+    let wires = proof.shape().wires();
+    if a >= wires {
+        return None;
+    }
+    if b >= wires {
+        return None;
+    }
+    if a == b {
+        return None;
+    }
+    Some(proof.keeps_pair(Wire(a), Wire(b)))
+}
+
+// Whether a cell is kept.
+fn keeps_cell(proof: &Proof, t: u32, address: u32) -> Option<bool> {
+    let address = u8::try_from(address).ok()?;
+    if t >= proof.shape().tables() {
+        return None;
+    }
+    if address >= 64 {
+        return None;
+    }
+    Some(proof.keeps_cell(Table(t), address))
+}
+
+/// Whether a fact is kept. None where these numbers are no such fact.
+pub fn keeps(proof: &Proof, what: &str, numbers: &[u32]) -> Option<bool> {
+    let shape = proof.shape();
+    match (what, numbers) {
+        ("cross", [c]) if *c < shape.crosses() => Some(proof.keeps_cross(Cross(*c))),
+        ("wire", [w]) if *w < shape.wires() => Some(proof.keeps_wire(Wire(*w))),
+        ("pair", [a, b]) => keeps_pair(proof, *a, *b),
+        ("cell", [t, address]) => keeps_cell(proof, *t, *address),
+        ("register", [t]) if *t < shape.tables() => Some(proof.keeps_register(Table(*t))),
+        _ => None,
+    }
+}

@@ -1,0 +1,237 @@
+//! The calls of a diagnosis one by one: what each leaves is held against the faults of the machine.
+ghost use Rattle.std.specs.Prelude.{◌≡◌, ◌<◌, All, Some, IfOk};
+ghost use Rattle.rig.specs.Rig.{shape_of};
+ghost use Rattle.machine_shape.specs.Shape.{tables_of};
+ghost use Rattle.diag_known.specs.Field.{IsFieldOf};
+ghost use Rattle.diag_known.specs.Known.{IsKnown};
+ghost use Rattle.diag_sweep.specs.Marks.{AreMarksFor};
+ghost use Rattle.example_parts.specs.Stages.{IsStageOf};
+
+use crate::machines::choices::choose_once;
+use crate::machines::fields::{Task, area_of, draw_part, unmarked, whole};
+use crate::machines::flags::Parts;
+use crate::machines::judge::{Judge, judge_of};
+use crate::machines::picture::{Picture, Stage};
+use crate::machines::purse::{most_of_growth, most_of_sweep, most_of_tables};
+use diag_evidence::Proof;
+use diag_growth::{grow, test_tables};
+use diag_known::Known;
+use diag_sweep::{Bad, sweep, without_bad};
+use machine_bench::Draws;
+use machine_faults::FaultSet;
+use machine_shape::{Shape, Table};
+use rig::Rig;
+use std::alloc::Global;
+
+// What is kept, known and marked, of one machine.
+fn stage_of(shape: &Shape, proof: Proof, known: Known, bad: Bad) -> Stage
+    requires shape { proof.shape ≡ shape.now }
+    requires known { IsKnown proof known }
+    requires marks { AreMarksFor shape.now bad }
+    ensures { IsStageOf shape.now result }
+{
+    let _shape = shape;
+    Stage { proof, known, bad }
+}
+
+// Nothing is kept, known or marked.
+fn first_stage(alloc: Global, shape: &Shape) -> Result<Stage, &'static str>
+    ensures { IfOk result (IsStageOf shape.now) }
+{
+    let Ok(proof) = Proof::new(alloc, *shape) else {
+        return Err("no memory");
+    };
+    let Ok(known) = Known::new(alloc, shape) else {
+        return Err("no memory");
+    };
+    let Ok(bad) = Bad::none(alloc, shape) else {
+        return Err("no memory");
+    };
+    Ok(stage_of(shape, proof, known, bad))
+}
+
+// A sweep of a field and some tables.
+fn sweep_once(
+    rig: &mut Box<dyn Rig>,
+    stage: &mut Stage,
+    judge: &Judge,
+    task: &Task,
+    area: &Parts,
+) -> Result<(), &'static str>
+    requires attached { shape_of (rig_state rig.old) ≡ Some stage.old.proof.shape }
+    requires stage { IsStageOf stage.old.proof.shape stage.old }
+    requires field { IsFieldOf stage.old.proof.shape task.now.field }
+    ensures attached { shape_of (rig_state rig.new) ≡ Some stage.old.proof.shape }
+    ensures stage { IsStageOf stage.old.proof.shape stage.new }
+{
+    let before = judge.picture(stage)?;
+    let loads = rig.loads();
+    let swept = sweep(
+        rig,
+        &mut stage.proof,
+        &mut stage.known,
+        &mut stage.bad,
+        &task.field,
+        &task.tables,
+    );
+    if swept.is_err() {
+        return Err("no sweep");
+    }
+    let after = judge.picture(stage)?;
+    judge.hold_in(area, &before, &after)?;
+    let most = most_of_sweep(&judge.sight, area, &before, &after);
+    if rig.loads().saturating_sub(loads) > most {
+        return Err("a sweep has too many loads");
+    }
+    Ok(())
+}
+
+// A growth in what isn't marked of a field.
+fn grow_once(
+    rig: &mut Box<dyn Rig>,
+    stage: &mut Stage,
+    judge: &Judge,
+    task: &Task,
+    area: &Parts,
+) -> Result<(), &'static str>
+    requires attached { shape_of (rig_state rig.old) ≡ Some stage.old.proof.shape }
+    requires stage { IsStageOf stage.old.proof.shape stage.old }
+    requires field { IsFieldOf stage.old.proof.shape task.now.field }
+    ensures attached { shape_of (rig_state rig.new) ≡ Some stage.old.proof.shape }
+    ensures stage { IsStageOf stage.old.proof.shape stage.new }
+{
+    let Ok(rest) = without_bad(judge.alloc, &stage.bad, &task.field) else {
+        return Err("no memory");
+    };
+    let before = judge.picture(stage)?;
+    let loads = rig.loads();
+    if grow(rig, &mut stage.proof, &mut stage.known, &rest).is_err() {
+        return Err("no growth");
+    }
+    let after = judge.picture(stage)?;
+    judge.hold_in(area, &before, &after)?;
+    let looked_at = unmarked(judge.alloc, area, &before.marks)
+        .ok()
+        .ok_or("no memory")?;
+    let most = most_of_growth(&judge.sight, &looked_at, &before, judge.faults);
+    if rig.loads().saturating_sub(loads) > most {
+        return Err("a growth has too many loads");
+    }
+    judge.closed(area, &after)
+}
+
+// The tests of these tables.
+fn test_once(
+    rig: &mut Box<dyn Rig>,
+    stage: &mut Stage,
+    judge: &Judge,
+    tables: &[Table],
+) -> Result<Picture, &'static str>
+    requires attached { shape_of (rig_state rig.old) ≡ Some stage.old.proof.shape }
+    requires stage { IsStageOf stage.old.proof.shape stage.old }
+    requires tables { All (λ t. t.0 < tables_of stage.old.proof.shape) tables.now }
+{
+    let before = judge.picture(stage)?;
+    let loads = rig.loads();
+    if test_tables(rig, &mut stage.proof, &stage.known, tables).is_err() {
+        return Err("no tests of tables");
+    }
+    let after = judge.picture(stage)?;
+    judge.hold(&before, &after)?;
+    if rig.loads().saturating_sub(loads) > most_of_tables(&before) {
+        return Err("tables have too many loads");
+    }
+    Ok(after)
+}
+
+// A sweep, a choice and a growth behind them.
+fn know_task(
+    rig: &mut Box<dyn Rig>,
+    stage: &mut Stage,
+    judge: &Judge,
+    task: &Task,
+) -> Result<(), &'static str>
+    requires attached { shape_of (rig_state rig.old) ≡ Some stage.old.proof.shape }
+    requires stage { IsStageOf stage.old.proof.shape stage.old }
+    requires field { IsFieldOf stage.old.proof.shape task.now.field }
+    ensures attached { shape_of (rig_state rig.new) ≡ Some stage.old.proof.shape }
+    ensures stage { IsStageOf stage.old.proof.shape stage.new }
+{
+    let area = area_of(judge.alloc, &stage.proof.shape(), task)
+        .ok()
+        .ok_or("no memory")?;
+    sweep_once(rig, stage, judge, task, &area)?;
+    choose_once(rig, stage, judge, task, &area)?;
+    grow_once(rig, stage, judge, task, &area)
+}
+
+// A part of the machine first.
+fn know_part(
+    rig: &mut Box<dyn Rig>,
+    stage: &mut Stage,
+    judge: &Judge,
+    draws: &mut Draws,
+) -> Result<(), &'static str>
+    requires attached { shape_of (rig_state rig.old) ≡ Some stage.old.proof.shape }
+    requires stage { IsStageOf stage.old.proof.shape stage.old }
+    ensures attached { shape_of (rig_state rig.new) ≡ Some stage.old.proof.shape }
+    ensures stage { IsStageOf stage.old.proof.shape stage.new }
+{
+    let Ok(part) = draw_part(judge.alloc, draws, &stage.proof.shape()) else {
+        return Err("no memory");
+    };
+    know_task(rig, stage, judge, &part)
+}
+
+// All of the machine, and then its tables.
+fn know_whole(
+    rig: &mut Box<dyn Rig>,
+    stage: &mut Stage,
+    judge: &Judge,
+    all: &Task,
+) -> Result<Picture, &'static str>
+    requires attached { shape_of (rig_state rig.old) ≡ Some stage.old.proof.shape }
+    requires stage { IsStageOf stage.old.proof.shape stage.old }
+    requires field { IsFieldOf stage.old.proof.shape all.now.field }
+    requires tables { All (λ t. t.0 < tables_of stage.old.proof.shape) all.now.tables.items }
+{
+    know_task(rig, stage, judge, all)?;
+    test_once(rig, stage, judge, &all.tables)
+}
+
+// Both.
+fn know_all(
+    rig: &mut Box<dyn Rig>,
+    stage: &mut Stage,
+    judge: &Judge,
+    draws: &mut Draws,
+) -> Result<Picture, &'static str>
+    requires attached { shape_of (rig_state rig.old) ≡ Some stage.old.proof.shape }
+    requires stage { IsStageOf stage.old.proof.shape stage.old }
+{
+    know_part(rig, stage, judge, draws)?;
+    let Ok(all) = whole(judge.alloc, draws, &stage.proof.shape()) else {
+        return Err("no memory");
+    };
+    know_whole(rig, stage, judge, &all)
+}
+
+/// Sweeps, chooses and grows over a part of a machine and then over all of it, tests its tables, and looks at what each call leaves:
+/// facts and marks are true, loads are within their bounds, and what is known and kept is closed, tables that can be tested among it.
+///
+/// # Errors
+///
+/// What is wrong with them.
+pub fn try_calls(
+    alloc: Global,
+    rig: &mut Box<dyn Rig>,
+    draws: &mut Draws,
+    faults: &FaultSet,
+) -> Result<(), &'static str>
+    requires attached { shape_of (rig_state rig.old) ≡ Some faults.now.shape }
+{
+    let judge = judge_of(alloc, faults)?;
+    let mut stage = first_stage(alloc, &faults.shape())?;
+    let last = know_all(rig, &mut stage, &judge, draws)?;
+    judge.tables_are_closed(faults, &last)
+}

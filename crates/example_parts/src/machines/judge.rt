@@ -1,0 +1,118 @@
+//! What a diagnosis has of a machine, held against the machine.
+
+use crate::machines::closed::{free_by_facts, is_closed};
+use crate::machines::flags::Parts;
+use crate::machines::looks::is_tight;
+use crate::machines::picture::{Picture, Stage, picture_of};
+use crate::machines::sight::{Sight, free_nothing, sight_of};
+use crate::machines::{facts, marks};
+use machine_faults::FaultSet;
+use std::alloc::Global;
+
+/// What is held against what: the machine as it is, and how many faults it has.
+#[derive(Drop)]
+pub struct Judge {
+    pub alloc: Global,
+    pub sight: Sight,
+    pub faults: u32,
+}
+
+impl Judge {
+    /// The picture of now.
+    pub fn picture(&self, stage: &Stage) -> Result<Picture, &'static str> {
+        picture_of(self.alloc, stage).ok().ok_or("no memory")
+    }
+
+    // Facts and marks are true, and what is known is known by them.
+    fn is_true(&self, picture: &Picture) -> Result<(), &'static str> {
+        facts::are_true(&self.sight, &picture.kept)?;
+        marks::are_true(&self.sight, &picture.marks, &picture.known)?;
+        if !facts::are_known(&self.sight, picture) {
+            return Err("a known wire isn't known by what is kept");
+        }
+        Ok(())
+    }
+
+    /// All is true, and what was kept, known and marked still is.
+    pub fn hold(&self, before: &Picture, after: &Picture) -> Result<(), &'static str> {
+        self.is_true(after)?;
+        let facts = facts::still_are(&before.kept, &after.kept);
+        if !facts || !before.known.wires.stays(&after.known.wires) {
+            return Err("something was forgotten");
+        }
+        if !marks::still_are(&before.marks, &after.marks) {
+            return Err("a mark was forgotten");
+        }
+        Ok(())
+    }
+
+    /// All is true, and what was kept and marked still is, but for unfit wires; what is known was.
+    pub fn hold_less(&self, before: &Picture, after: &Picture) -> Result<(), &'static str> {
+        self.is_true(after)?;
+        if !facts::still_are(&before.kept, &after.kept) {
+            return Err("a choice forgot a fact");
+        }
+        if !marks::still_are_but_unfit(&before.marks, &after.marks) {
+            return Err("a choice forgot a mark");
+        }
+        if !after.known.wires.stays(&before.known.wires) {
+            return Err("a choice made a wire known");
+        }
+        Ok(())
+    }
+
+    /// .. and what is new is of the area.
+    pub fn hold_in(
+        &self,
+        area: &Parts,
+        before: &Picture,
+        after: &Picture,
+    ) -> Result<(), &'static str> {
+        self.hold(before, after)?;
+        if !before.known.wires.grows_in(&after.known.wires, &area.wires) {
+            return Err("a wire is known that wasn't looked at");
+        }
+        if !marks::are_within(&before.marks, &after.marks, area) {
+            return Err("something is marked that wasn't looked at");
+        }
+        Ok(())
+    }
+
+    /// What is known is closed in the area.
+    pub fn closed(&self, area: &Parts, picture: &Picture) -> Result<(), &'static str> {
+        match is_closed(self.alloc, &self.sight, area, picture) {
+            Ok(true) => Ok(()),
+            Ok(false) => Err("a growth left something out"),
+            Err(_) => Err("no memory"),
+        }
+    }
+
+    /// Each table that is right and can be tested over what is known has all its cells and its register kept.
+    pub fn tables_are_closed(
+        &self,
+        faults: &FaultSet,
+        picture: &Picture,
+    ) -> Result<(), &'static str> {
+        let free = free_by_facts(self.alloc, &self.sight, picture)
+            .ok()
+            .ok_or("no memory")?;
+        let sight = sight_of(self.alloc, faults, &free).ok().ok_or("no memory")?;
+        match is_tight(self.alloc, &sight) {
+            Ok(true) => Ok(()),
+            Ok(false) => Err("a table was left out"),
+            Err(_) => Err("no memory"),
+        }
+    }
+}
+
+/// What this machine is held against.
+pub fn judge_of(alloc: Global, faults: &FaultSet) -> Result<Judge, &'static str> {
+    let nothing = free_nothing(alloc, &faults.shape())
+        .ok()
+        .ok_or("no memory")?;
+    Ok(Judge {
+        alloc,
+        sight: sight_of(alloc, faults, &nothing).ok().ok_or("no memory")?,
+        faults: faults.count(),
+    })
+}

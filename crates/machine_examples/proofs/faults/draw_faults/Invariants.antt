@@ -1,5 +1,0 @@
-use Rattle.std.proofs.Common.{◌≡◌}
-use Rattle.machine_examples.proofs.faults.draw_faults.Given as goal
-
-abbrev pub invariant-faults : goal.invariant-faults
-invariant-faults l = l.set.shape ≡ l.shape

@@ -1,6 +1,0 @@
-use Rattle.std.proofs.Common.{◌≡◌, length}
-use Rattle.std.specs.Prelude.{IsSome}
-use Rattle.value_examples.proofs.vectors.read_all.Given as goal
-
-abbrev pub invariant-vectors : goal.invariant-vectors
-invariant-vectors l = IsSome l.store.current × (l.text.width ≡ 1) × (l.line ≡ 1) × (length l.row.items ≡ 1)
