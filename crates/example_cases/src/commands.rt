@@ -1,7 +1,6 @@
 //! Worked examples of the commands, as texts: what is said, what is given, and what has to come of it.
 //!
-//! The texts are the files that the command line names; the head of `fixtures.txt` says how they are written.
-#![tactic(auto)]
+//! The head of `fixtures.txt` says how the texts are written.
 
 mod block;
 mod book;
@@ -11,9 +10,6 @@ mod step;
 mod trial;
 
 use book::{Book, Trouble};
-use example_kit::verdict;
-use program_main::texts;
-use std::process::ExitCode;
 use std::{fs, io};
 
 // Tries all cases of a text, and tells whether it is written as it should be.
@@ -32,11 +28,11 @@ fn try_text(rt: &HostRuntime, book: &mut Book, name: &str) -> io::Result<bool> {
     }
 }
 
-// Tries all texts in their order, prints how many cases of each were right, and tells whether all are.
-fn run(rt: &HostRuntime) -> io::Result<bool> {
+/// Tries all texts in their order, prints how many cases of each were right, and tells whether all are.
+pub fn try_texts(rt: &HostRuntime, names: &[String]) -> io::Result<bool> {
     let mut book = Book::new(rt.alloc());
     let mut written = true;
-    for name in texts(rt)?.iter() {
+    for name in names.iter() {
         let (right_before, all_before) = book.counts();
         if !try_text(rt, &mut book, name.as_str())? {
             written = false;
@@ -49,8 +45,4 @@ fn run(rt: &HostRuntime) -> io::Result<bool> {
     let (right, all) = book.counts();
     println!(rt; "{right} of {all} right")?;
     Ok(written && right == all)
-}
-
-fn main(rt: HostRuntime) -> ExitCode {
-    verdict(run(&rt))
 }

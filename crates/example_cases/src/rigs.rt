@@ -1,8 +1,6 @@
 //! Commands over rigs that compare readings, and over a machine behind files.
 //!
-//! The text that the command line names has a case in each line; its head says how they are written. Each is printed, with
-//! what the command wrote and its status.
-#![tactic(auto)]
+//! A text has a case in each line; its head says how they are written. Each is printed, with what the command wrote and its status.
 
 mod lost;
 
@@ -11,17 +9,15 @@ ghost use Rattle.std.specs.Prelude.{◌≡◌, None, IfOk};
 use crate::rigs::lost::load_twice;
 use base_io::{File, FileStore, MemoryStore, StdSink};
 use cmd_top::teramac;
-use example_kit::{TINY, verdict, words_of};
+use example_kit::{TINY, words_of};
 use example_rigs::TurnRig;
 use machine_shape::Shape;
-use program_main::texts;
 use rig::Rig;
 use rig_board::BoardRig;
 use rig_doubled::{RepeatRig, TwinRig};
 use rig_port::{FileBoard, PortBoard, RigPort};
 use rig_simulated::SimRig;
 use std::alloc::Global;
-use std::process::ExitCode;
 use std::{fs, io};
 
 /// The fault texts that simulated rigs find, by name.
@@ -143,10 +139,10 @@ fn try_line(rt: &HostRuntime, line: &str) -> io::Result<bool> {
     }
 }
 
-// Tries all cases of a text.
-fn run(rt: &HostRuntime) -> io::Result<bool> {
+/// Tries all cases of some texts, and tells whether each line says one.
+pub fn try_texts(rt: &HostRuntime, names: &[String]) -> io::Result<bool> {
     let mut right = true;
-    for name in texts(rt)?.iter() {
+    for name in names.iter() {
         let text = fs::read_to_string(rt, name.as_str())?;
         for line in text.lines() {
             if !line.is_empty() && !line.starts_with("#") && !try_line(rt, line)? {
@@ -155,8 +151,4 @@ fn run(rt: &HostRuntime) -> io::Result<bool> {
         }
     }
     Ok(right)
-}
-
-fn main(rt: HostRuntime) -> ExitCode {
-    verdict(run(&rt))
 }

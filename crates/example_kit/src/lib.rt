@@ -38,6 +38,21 @@ pub fn words_of(alloc: Global, line: &str) -> Result<Vec<String>, AllocError> {
     Ok(words)
 }
 
+/// The words behind one of them, up to the next that is the name of a part, or to the last.
+pub fn words_of_part<'a>(words: &'a [String], place: usize, parts: &[&str]) -> &'a [String] {
+    let Some((_, behind)) = words.split_at_checked(place.saturating_add(1)) else {
+        return &[];
+    };
+    let count = behind
+        .iter()
+        .take_while(|word| !parts.iter().any(|part| *part == word.as_str()))
+        .count();
+    match behind.get(..count) {
+        Some(own) => own,
+        None => behind,
+    }
+}
+
 /// The numbers that words spell, where each spells one.
 pub fn numbers_of<N>(alloc: Global, words: &[String]) -> Result<Option<Vec<N>>, AllocError>
 where

@@ -1,7 +1,6 @@
 //! Worked examples of the tests of crossbars, as texts: what is wrong with a machine, what is asked, and what has to come.
 //!
-//! The texts are the files that the command line names; the head of `facts.txt` says how they are written.
-#![tactic(auto)]
+//! The head of `facts.txt` says how the texts are written.
 
 mod answers;
 mod bench;
@@ -14,9 +13,6 @@ mod walk;
 mod words;
 
 use book::Book;
-use example_kit::verdict;
-use program_main::texts;
-use std::process::ExitCode;
 use std::{fs, io};
 
 // Tries all cases of a text, and tells whether each of its lines says something.
@@ -31,18 +27,14 @@ fn try_text(rt: &HostRuntime, book: &mut Book, name: &str) -> io::Result<bool> {
     }
 }
 
-// Tries all texts in their order, and tells whether all cases are right.
-fn run(rt: &HostRuntime) -> io::Result<bool> {
+/// Tries all texts in their order, and tells whether all cases are right.
+pub fn try_texts(rt: &HostRuntime, names: &[String]) -> io::Result<bool> {
     let mut book = Book::new(rt.alloc());
     let mut written = true;
-    'texts: for name in texts(rt)?.iter() {
+    'texts: for name in names.iter() {
         written = try_text(rt, &mut book, name.as_str())? && written;
     }
     let (right, all) = book.counts();
     println!(rt; "{right} of {all} right")?;
     Ok(written && right == all)
-}
-
-fn main(rt: HostRuntime) -> ExitCode {
-    verdict(run(&rt))
 }

@@ -1,38 +1,43 @@
-//! Examples of the libraries, by parts, each of which a word names:
+//! Examples over the libraries, by parts. A word names a part, and up to the next part's name stand the words that it takes:
 //!
-//! - `plans NAME`: the cases of a text about plans; its head says how they are written;
+//! - `values`: values from outside, and public calls that no command shows;
+//! - `plans NAME ..`: the cases of texts about plans;
+//! - `machines N`: small machines with faults, as numbers make them, N of each group;
+//! - `crossbars NAME ..`: the cases of texts about tests of crossbars;
 //! - `show MACHINE DEFECTS DESIGN`: what is to be seen of the plans of a design.
 //!
-//! Several parts may stand behind one another. The status is 0 where all is right.
+//! The status is 0 where all is right.
 #![tactic(auto)]
 
+mod crossbars;
+mod machines;
 mod plans;
+mod values;
 
-use example_kit::verdict;
+use example_kit::{verdict, words_of_part};
 use program_main::texts;
 use std::io;
 use std::process::ExitCode;
 
-// The word at the place. Nothing where there is none.
-fn word(words: &[String], place: usize) -> &str {
-    match words.get(place) {
-        Some(word) => word.as_str(),
-        None => "",
-    }
-}
+/// The names of the parts.
+const PARTS: [&str; 5] = ["values", "plans", "machines", "crossbars", "show"];
 
-// Does the part that begins at the place, and gives how many words it has, and whether all of it is right.
-fn part(rt: &HostRuntime, words: &[String], place: usize) -> io::Result<(usize, bool)> {
-    let name = word(words, place);
-    let first = word(words, place.saturating_add(1));
-    let second = word(words, place.saturating_add(2));
-    let third = word(words, place.saturating_add(3));
-    match name {
-        "plans" => Ok((2, plans::try_text(rt, first)?)),
-        "show" => Ok((4, plans::show(rt, first, second, third)?)),
-        other => {
-            println!(rt; "what is {other}?")?;
-            Ok((1, false))
+// Does the part of a name with these words, and tells whether all of it is right.
+fn part(rt: &HostRuntime, name: &str, words: &[String]) -> io::Result<bool> {
+    match (name, words) {
+        ("values", []) => values::try_all(rt),
+        ("plans", names) => plans::try_texts(rt, names),
+        ("machines", words) => machines::try_groups(rt, words),
+        ("crossbars", names) => crossbars::try_texts(rt, names),
+        ("show", [machine, defects, design]) => plans::show(
+            rt,
+            machine.as_str(),
+            defects.as_str(),
+            design.as_str(),
+        ),
+        _ => {
+            println!(rt; "what is {name}?")?;
+            Ok(false)
         }
     }
 }
@@ -43,12 +48,12 @@ fn run(rt: &HostRuntime) -> io::Result<bool> {
     let mut place = 0usize;
     let mut right = !words.is_empty();
     'parts: for _ in 0..words.len() {
-        if words.len() <= place {
+        let Some(name) = words.get(place) else {
             break;
-        }
-        let (taken, all) = part(rt, &words, place)?;
-        place = place.saturating_add(taken);
-        right = right && all;
+        };
+        let behind = words_of_part(&words, place, &PARTS);
+        right = part(rt, name.as_str(), behind)? && right;
+        place = place.saturating_add(1).saturating_add(behind.len());
     }
     Ok(right)
 }

@@ -10,8 +10,8 @@ use figures::figures_of;
 use std::{fs, io};
 use texts::{Designs, Texts};
 
-/// Tries all cases of a text, prints how many are right, and tells whether all are.
-pub fn try_text(rt: &HostRuntime, name: &str) -> io::Result<bool> {
+// Tries all cases of a text, prints how many are right, and tells whether all are.
+fn try_text(rt: &HostRuntime, name: &str) -> io::Result<bool> {
     let text = fs::read_to_string(rt, name)?;
     let mut book = Book::new(rt.alloc());
     let silent = book.try_all(rt, text.as_str())?;
@@ -21,6 +21,15 @@ pub fn try_text(rt: &HostRuntime, name: &str) -> io::Result<bool> {
     let (right, all) = book.counts();
     println!(rt; "{name}: {right} of {all} right")?;
     Ok(silent.is_none() && right == all)
+}
+
+/// Tries all texts in their order, and tells whether all cases are right.
+pub fn try_texts(rt: &HostRuntime, names: &[String]) -> io::Result<bool> {
+    let mut right = true;
+    'texts: for name in names.iter() {
+        right = try_text(rt, name.as_str())? && right;
+    }
+    Ok(right)
 }
 
 /// Prints what is to be seen of the plans of a design, and tells whether it has any.

@@ -1,7 +1,6 @@
 //! Values from outside, and public calls that no command shows: that they answer with ample memory, and what.
 //!
-//! A line is printed for each that is wrong, and at last how many are right. The status is 0 where all are.
-#![tactic(auto)]
+//! A line is printed for each that is wrong, and at last how many are right.
 
 mod configs;
 mod generated;
@@ -14,10 +13,8 @@ mod shapes;
 mod texts;
 mod vectors;
 
-use example_kit::verdict;
 use std::alloc::Global;
 use std::io;
-use std::process::ExitCode;
 
 // How many there were, and how many were right.
 #[derive(Drop)]
@@ -82,16 +79,12 @@ fn values(rt: &HostRuntime) -> [(&'static str, Option<bool>); 31] {
     ]
 }
 
-// Tries all, and tells whether all are right.
-fn run(rt: &HostRuntime) -> io::Result<bool> {
+/// Tries all, and tells whether all are right.
+pub fn try_all(rt: &HostRuntime) -> io::Result<bool> {
     let mut tally = Tally { right: 0, all: 0 };
     for (name, right) in values(rt) {
         tally.count(rt, name, right)?;
     }
     println!(rt; "{} of {} right", tally.right, tally.all)?;
     Ok(tally.right == tally.all)
-}
-
-fn main(rt: HostRuntime) -> ExitCode {
-    verdict(run(&rt))
 }

@@ -4,7 +4,7 @@ use base_io::{FileStore, Sink, StdSink, Store, StoreFail, read_within};
 use std::fs;
 
 /// Lies in the folder that the program runs in, for as long as it runs.
-const PATH: &str = "value_examples_file_store";
+const PATH: &str = "example_parts_file_store";
 
 // Whether the store reads the file piece by piece, and a folder not at all.
 fn reads(store: &mut FileStore<HostRuntime>) -> Option<bool> {
