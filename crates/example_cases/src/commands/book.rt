@@ -3,7 +3,7 @@
 use crate::commands::block::{Block, blocks};
 use crate::commands::design::ports_of;
 use crate::commands::judge::{Trial, Want, judge};
-use crate::commands::step::{Each, Just, Marks, Step};
+use crate::commands::step::{Call, Each, Just, Marks, Step, call_of};
 use crate::commands::trial::Given;
 use base_io::File;
 use example_kit::{numbers_of, turn_of};
@@ -128,6 +128,7 @@ fn set(alloc: Global, step: &mut Step, key: &str, words: Vec<String>) -> Result<
         "before" => step.before = first.parse::<u8>().ok(),
         "cuts" => step.cuts = true,
         "keep" => step.keep = Some(String::from_str(alloc, first)?),
+        "stay" => step.stay = Some(String::from_str(alloc, first)?),
         "loads" => step.most_loads = first.parse::<u64>().ok(),
         "onward" => step.onward = true,
         "takes" => step.takes = first.parse::<usize>().ok(),
@@ -181,7 +182,7 @@ impl Book {
             faults: Vec::new(alloc),
             files: Vec::new(alloc),
             name: String::new(alloc),
-            step: Step::new(alloc, Vec::new(alloc), false),
+            step: Step::new(alloc, Vec::new(alloc), Call::Commands),
             tried: false,
             wrong: false,
             right: 0,
@@ -229,6 +230,8 @@ impl Book {
         self.wrong = self.wrong || !right;
         if let Some(name) = self.step.keep.take() {
             self.files.push(File { name, bytes })?;
+        } else if let Some(name) = self.step.stay.take() {
+            self.texts.push(File { name, bytes })?;
         }
         Ok(())
     }
@@ -329,8 +332,8 @@ impl Book {
                 self.begin(first)?;
                 Ok(true)
             }
-            "words" | "maps" => {
-                self.step = Step::new(self.alloc, words, key == "maps");
+            "words" | "maps" | "ports" => {
+                self.step = Step::new(self.alloc, words, call_of(key));
                 Ok(true)
             }
             "design" => self.ask_design(&words),

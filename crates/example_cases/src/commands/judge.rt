@@ -137,7 +137,7 @@ fn outcome(
 ) -> Result<Outcome, AllocError> {
     let manner = Manner {
         words: trial.step.words.as_slice(),
-        maps: trial.step.maps,
+        call: trial.step.call,
         fails,
         before: trial.step.before,
         piece,

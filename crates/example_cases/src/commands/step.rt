@@ -4,6 +4,17 @@ use crate::commands::design::Ports;
 use example_kit::{Fails, Turn};
 use std::alloc::Global;
 
+/// Which program is called.
+#[derive(Clone, Copy, Drop)]
+pub enum Call {
+    /// That of the commands, over a simulated rig.
+    Commands,
+    /// The mapper.
+    Mapper,
+    /// That of the commands, over a machine behind a port.
+    Port,
+}
+
 /// What every end has to be where calls fail in turn.
 #[derive(Drop)]
 pub struct Each {
@@ -39,8 +50,7 @@ pub struct Marks {
 #[derive(Drop)]
 pub struct Step {
     pub words: Vec<String>,
-    /// Whether the mapper is called and not the program of the commands.
-    pub maps: bool,
+    pub call: Call,
     pub fails: Fails,
     /// The status with which it ended before, over the same rig, where it was done before.
     pub before: Option<u8>,
@@ -59,6 +69,17 @@ pub struct Step {
     pub marks: Marks,
     /// The name under which what is written is kept for later steps.
     pub keep: Option<String>,
+    /// The name under which it is kept for later cases too.
+    pub stay: Option<String>,
+}
+
+/// What a word says is called.
+pub fn call_of(word: &str) -> Call {
+    match word {
+        "maps" => Call::Mapper,
+        "ports" => Call::Port,
+        _ => Call::Commands,
+    }
 }
 
 impl Marks {
@@ -76,11 +97,11 @@ impl Marks {
 }
 
 impl Step {
-    /// A command of these words, of the mapper or not, and nothing else said.
-    pub fn new(alloc: Global, words: Vec<String>, maps: bool) -> Step {
+    /// A command of these words, and nothing else said.
+    pub fn new(alloc: Global, words: Vec<String>, call: Call) -> Step {
         Step {
             words,
-            maps,
+            call,
             fails: Fails::new(alloc),
             before: None,
             takes: None,
@@ -92,6 +113,7 @@ impl Step {
             most_loads: None,
             marks: Marks::new(alloc),
             keep: None,
+            stay: None,
         }
     }
 }

@@ -1,12 +1,20 @@
 //! A command over files, a rig and a sink in memory.
 
+use crate::commands::step::Call;
 use base_io::{CutSink, File, MemorySink, MemoryStore, Sink};
 use cmd_map::teramac_map;
 use cmd_top::teramac;
-use example_kit::{Fails, Turn};
+use example_kit::{Fails, TINY, Turn};
+use machine_shape::Shape;
 use rig::{FlakyRig, LogRig, Rig};
+use rig_board::BoardRig;
+use rig_doubled::RepeatRig;
+use rig_port::{PortBoard, RigPort};
 use rig_simulated::SimRig;
 use std::alloc::{AllocError, Global};
+
+/// The status where there is no machine, which no command has.
+const NO_MACHINE: u8 = 255;
 
 /// The files that a command finds.
 #[derive(Drop)]
@@ -31,7 +39,7 @@ pub struct Outcome {
 #[derive(Drop)]
 pub struct Manner<'a> {
     pub words: &'a [String],
-    pub maps: bool,
+    pub call: Call,
     pub fails: &'a Fails,
     pub before: Option<u8>,
     pub piece: Option<usize>,
@@ -78,6 +86,27 @@ fn sim_of(
     Ok(FlakyRig::new(alloc, sim, fails.of(alloc, Turn::Rig)?))
 }
 
+// The status of a command over a sink, and how many loads it asked for, where a machine of the counts of `tiny` answers requests.
+fn end_over_port<K: Sink>(
+    alloc: Global,
+    manner: &Manner<'_>,
+    given: &Given<'_>,
+    sink: &mut K,
+) -> Result<(u8, u64), AllocError> {
+    let Ok(shape) = Shape::new(TINY) else {
+        return Ok((NO_MACHINE, 0));
+    };
+    let sim = sim_of(alloc, given.faults, manner.fails)?;
+    let board = BoardRig::new(
+        alloc,
+        PortBoard::new(alloc, RigPort::new(alloc, sim, shape)),
+    );
+    let mut rig: Box<dyn Rig> = Box::new(alloc, RepeatRig::new(alloc, board))?;
+    let mut store = store_of(alloc, given, manner.fails, manner.piece)?;
+    let status = teramac(alloc, manner.words, &mut store, &mut rig, sink);
+    Ok((status, rig.loads()))
+}
+
 // The status of a command over a sink, and by how much the loads rose. Where it doesn't end as it should have before, that
 // is the end.
 fn end_over<K: Sink>(
@@ -86,9 +115,13 @@ fn end_over<K: Sink>(
     given: &Given<'_>,
     sink: &mut K,
 ) -> Result<(u8, u64), AllocError> {
-    if manner.maps {
-        let mut store = store_of(alloc, given, manner.fails, manner.piece)?;
-        return Ok((teramac_map(alloc, manner.words, &mut store, sink), 0));
+    match manner.call {
+        Call::Mapper => {
+            let mut store = store_of(alloc, given, manner.fails, manner.piece)?;
+            return Ok((teramac_map(alloc, manner.words, &mut store, sink), 0));
+        }
+        Call::Port => return end_over_port(alloc, manner, given, sink),
+        Call::Commands => {}
     }
     let sim = sim_of(alloc, given.faults, manner.fails)?;
     let mut rig: Box<dyn Rig> = Box::new(alloc, LogRig::new(sim))?;
