@@ -12,15 +12,16 @@ ghost use Rattle.diag_sweep.specs.Marks.{AreMarksFor, MarksIn, TrueIf, worth};
 ghost use Rattle.diag_sweep.specs.Stages.{IsFunded, in_hand};
 
 use crate::bad::Bad;
-use crate::choosing::{Aim, Chooser};
 use crate::gear::{Gear, Sheet};
+use crate::informing::new_search;
+use crate::losing::give_up;
 use crate::purse::{Purse, loads_of};
-use crate::search::Search;
 use crate::tabling::sweep_again;
 use crate::telling::tell_all;
 use base_bits::BitSet;
 use diag_evidence::Proof;
 use diag_known::{Field, Known, standing};
+use diag_search::{Aim, Chooser};
 use machine_shape::Table;
 use rig::{Rig, RigFail};
 use std::alloc::AllocError;
@@ -56,8 +57,8 @@ impl Choices {
         let shape = proof.shape();
         let gear = Gear {
             purse: Purse::empty(alloc, &shape)?,
-            search: Search::new(alloc, proof, known, bad, field)?,
-            chooser: Chooser::new(alloc, proof)?,
+            search: new_search(alloc, proof, known, bad, field)?,
+            chooser: Chooser::new(alloc, &shape)?,
             aim: Aim::Partners,
             height: 0,
             start: 0,
@@ -123,7 +124,7 @@ impl Choices {
         let left = self.left;
         self.left = 0;
         self.sheet.gear.purse = Purse::of(known.alloc(), rig, proof, bad, field, left)?;
-        self.sheet.gear.search = Search::new(known.alloc(), proof, known, bad, field)?;
+        self.sheet.gear.search = new_search(known.alloc(), proof, known, bad, field)?;
         self.sheet.gear.start = 0;
         Ok(())
     }
@@ -175,7 +176,7 @@ fn give_way(
     ensures right { (told : Option Faults) → TrueIf told proof.now known.old.steps bad.old →
         TrueIf told proof.now known.new.steps bad.new }
 {
-    let Some(wires) = chooser.give_up(proof, known, bad)? else {
+    let Some(wires) = give_up(chooser, proof, bad)? else {
         return Ok(false);
     };
     let stay = known_among(known, &wires)?;

@@ -7,11 +7,11 @@ ghost use Rattle.diag_sweep.specs.Marks.{HasTable};
 ghost use Rattle.diag_sweep.specs.Sheets.{AreOn, InputsOn, OutputOn};
 ghost use Rattle.diag_sweep.specs.Sights.{SeesMore};
 
-use crate::search::Search;
 use crate::seen::{is_new, see_all};
 use crate::trees::{lay, lay_climbs};
 use base_bits::BitSet;
 use diag_evidence::{Forest, Proof};
+use diag_search::Search;
 use machine_shape::Table;
 use std::alloc::{AllocError, Global};
 

@@ -5,11 +5,11 @@ ghost use Rattle.machine_shape.specs.Shape.{Ends, ends_of, crosses_of, wires_of}
 ghost use Rattle.diag_tests.specs.Routes.{other_end};
 ghost use Rattle.diag_evidence.specs.Hangs.{AreHangs, IsFoot, all_feet, overs, pin_at};
 
-use crate::search::Hung;
 use crate::seen::see_all;
 use base_bits::BitSet;
 use diag_evidence::{Forest, Hang};
 use diag_known::Field;
+use diag_search::Hung;
 use machine_shape::{Cross, Shape, Wire};
 use std::alloc::{AllocError, Global};
 

@@ -1,8 +1,7 @@
 //! What a sweep has at hand: the purse, the search and the choice, with where they stand; and for tables those that may be tested.
 
-use crate::choosing::{Aim, Chooser};
 use crate::purse::Purse;
-use crate::search::Search;
+use diag_search::{Aim, Chooser, Search};
 use machine_shape::Table;
 
 /// What a sweep has at hand.

@@ -13,14 +13,14 @@ ghost use Rattle.diag_sweep.specs.Marks.{AreMarksFor};
 ghost use Rattle.diag_sweep.specs.Stages.{Goes, IsHand, Settles, in_hand};
 
 use crate::bad::Bad;
-use crate::climbs::Walk;
 use crate::gear::Gear;
+use crate::informing::note_walks;
 use crate::paths::lead_of;
 use crate::purse::Purse;
-use crate::search::Trial;
 use base_bits::BitSet;
 use diag_evidence::{Lead, Proof};
 use diag_known::{Field, Known};
+use diag_search::{Trial, Walk};
 use diag_tests::Route;
 use machine_config::Config;
 use rig::{PinBits, Rig, RigFail};
@@ -206,7 +206,7 @@ fn lead_turn(
     if rig.loads() == before {
         return Ok(false);
     }
-    let Ok(()) = gear.search.note_walks(proof, &bad.stuck) else {
+    let Ok(()) = note_walks(&mut gear.search, proof, &bad.stuck) else {
         return Err(RigFail::Memory);
     };
     Ok(true)

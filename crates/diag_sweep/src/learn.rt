@@ -5,11 +5,28 @@ ghost use Rattle.machine_shape.specs.Shape.{wires_of, pins_of};
 ghost use Rattle.diag_known.specs.Field.{IsFieldOf, GrowsIn};
 ghost use Rattle.diag_known.specs.Known.{IsKnown, IsFoot, IsGood, HasWire};
 
-use crate::search::Hung;
+use crate::feet::foot_of;
 use diag_evidence::Proof;
 use diag_known::{Field, Foot, Known, Stand, Step};
 use machine_shape::Wire;
 use std::alloc::AllocError;
+
+// A wire that isn't known, and two crosspoints to wires.
+#[derive(Clone, Copy)]
+struct Hung {
+    wire: Wire,
+    first: Foot,
+    second: Foot,
+}
+
+// A wire that hung, as it is learnt.
+fn hung_of(hung: diag_search::Hung) -> Hung {
+    Hung {
+        wire: hung.wire,
+        first: foot_of(hung.first),
+        second: foot_of(hung.second),
+    }
+}
 
 // Whether a wire is kept, and kept apart from each known one.
 fn is_good(proof: &Proof, known: &Known, w: Wire) -> bool
@@ -109,7 +126,7 @@ pub(crate) fn learn_hangs(
     known: &mut Known,
     proof: &Proof,
     field: &Field,
-    hangs: &Vec<Hung>,
+    hangs: &Vec<diag_search::Hung>,
 ) -> Result<(), AllocError>
     requires known { IsKnown proof.now known.old }
     requires field { IsFieldOf proof.now.shape field.now }
@@ -117,7 +134,7 @@ pub(crate) fn learn_hangs(
     ensures grows { GrowsIn field.now known.old.steps known.new.steps }
 {
     'hangs: for k in 0..hangs.len() {
-        learn_hung(known, proof, field, hangs[k])?;
+        learn_hung(known, proof, field, hung_of(hangs[k]))?;
     }
     Ok(())
 }

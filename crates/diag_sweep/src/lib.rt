@@ -1,6 +1,6 @@
 //! Bulk tests before growth: many crosspoints, wires and tables are decided in one load.
 //!
-//! The search owes nothing. Each test is looked at before it is made, so each fact and each mark rests on the test's own condition, and a
+//! The search owes nothing, and stands in a crate of its own (`diag_search`). Each test is looked at before it is made, so each fact and each mark rests on the test's own condition, and a
 //! purse pays for it: a load for each pin of the machine in the field, and two for each crosspoint that was decided. What a sweep misses
 //! growth decides, and takes no load for what is decided.
 //!
@@ -8,37 +8,28 @@
 //! of the field and of the given tables, and where the faults are told stay true (`marks`, `right`); and loads are paid for (`pays`).
 #![tactic(auto)]
 
+mod asking;
 mod bad;
-mod board;
 mod choice;
-mod choosing;
-mod choosing_looks;
-mod choosing_reads;
-mod choosing_tables;
-mod climbs;
-mod draws;
+mod feet;
 mod fits;
 mod footing;
 mod gear;
-mod groups;
 mod hanging;
-mod hangs;
-mod heights;
+mod hearing;
+mod informing;
 mod laws;
 mod leading;
 mod learn;
+mod losing;
 mod paths;
 mod purse;
-mod search;
 mod seen;
-mod tables;
 mod tabling;
 mod telling;
 mod trees;
 mod turns;
-mod walks;
 mod whole;
-mod wire_bits;
 mod without;
 
 pub use bad::Bad;

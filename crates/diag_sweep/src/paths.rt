@@ -6,11 +6,12 @@ ghost use Rattle.diag_known.specs.Field.{IsFieldOf};
 ghost use Rattle.diag_known.specs.Known.{IsKnown};
 ghost use Rattle.diag_sweep.specs.Courses.{EndsAt, GoesOn, IsFair, IsFairLead, MayTry};
 
-use crate::climbs::Walk;
+use crate::feet::foot_of;
 use crate::seen::is_new;
 use base_bits::BitSet;
 use diag_evidence::{Lead, Proof};
 use diag_known::{Field, Foot, Known};
+use diag_search::Walk;
 use diag_tests::{Route, route_at};
 use machine_shape::{Cross, Shape, Wire};
 use std::alloc::{AllocError, Global};
@@ -147,7 +148,14 @@ pub(crate) fn lead_of(
         return Ok(None);
     };
     'steps: for place in 0..walk.crosses.len() {
-        if !step_on(&mut route, seen, proof, known, field, walk.foot(place))? {
+        if !step_on(
+            &mut route,
+            seen,
+            proof,
+            known,
+            field,
+            foot_of(walk.foot(place)),
+        )? {
             return Ok(None);
         }
     }

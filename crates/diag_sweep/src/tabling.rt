@@ -8,6 +8,7 @@ ghost use Rattle.diag_sweep.specs.Stages.{Goes, IsHand, in_hand};
 use crate::bad::Bad;
 use crate::fits::{are_fit, are_given, table_forest};
 use crate::gear::Sheet;
+use crate::informing::choose_tables;
 use crate::trees::is_known;
 use crate::turns::{sweep_all, sweep_chosen};
 use base_bits::BitSet;
@@ -81,7 +82,7 @@ fn table_turn(
     ensures cause { IsErrOf result RigFail.Failed → Rose (rig_state rig.old).failures (rig_state rig.new).failures }
 {
     let search = &mut sheet.gear.search;
-    let Ok(found) = search.choose_tables(proof, &bad.wrong, &sheet.tables) else {
+    let Ok(found) = choose_tables(search, known.alloc(), proof, &bad.wrong, &sheet.tables) else {
         return Err(RigFail::Memory);
     };
     if !found || !sheet.gear.purse.can_pay(rig, 2) {
@@ -141,8 +142,7 @@ fn test_tables(
     ensures cause { IsErrOf result RigFail.Failed → Rose (rig_state rig.old).failures (rig_state rig.new).failures }
 {
     'nodes: for node in 0..proof.shape().nodes() {
-        sheet.gear.search.node = node;
-        sheet.gear.search.fails = 0;
+        sheet.gear.search.go_to(node);
         test_hextant(rig, proof, known, bad, field, sheet)?;
     }
     Ok(())

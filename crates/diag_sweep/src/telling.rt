@@ -10,16 +10,18 @@ ghost use Rattle.diag_known.specs.Known.{IsKnown};
 ghost use Rattle.diag_sweep.specs.Stages.{Goes, IsHand, in_hand};
 ghost use Rattle.diag_sweep.specs.Views.{CanTell};
 
+use crate::asking::knows;
 use crate::bad::Bad;
-use crate::choosing::{Chooser, Link, Told, knows};
 use crate::footing::{foot_at, pins_over};
 use crate::gear::Gear;
-use crate::search::Search;
+use crate::hearing::hear;
+use crate::losing::begin;
 use crate::seen::see_all;
 use crate::trees::{is_known, lay, lay_climbs, plant};
 use base_bits::BitSet;
 use diag_evidence::{Forest, Looks, Proof};
 use diag_known::{Field, Known};
+use diag_search::{Chooser, Link, Search, Told};
 use machine_shape::{Cross, Wire};
 use rig::{Rig, RigFail};
 use std::alloc::{AllocError, Global};
@@ -132,7 +134,7 @@ fn next_view(
     requires known { IsKnown proof.now known.now }
     ensures { IfOk result (λ found. IfSome found (CanTell proof.now known.now.steps field.now)) }
 {
-    let Some(told) = chooser.lay_look(search, proof, known, bad)? else {
+    let Some(told) = chooser.lay_look(search, &bad.unfit)? else {
         return Ok(None);
     };
     let alloc = known.alloc();
@@ -207,7 +209,7 @@ fn tell_turn(
         &mut view.reads,
     )?;
     let chooser = &mut gear.chooser;
-    was_heard(chooser.hear(&view.told, &view.forest, &view.reads, proof, bad))
+    was_heard(hear(chooser, &view.told, &view.forest, &view.reads, proof, bad))
 }
 
 /// Takes looks for what the choice is asked for, until none is wanted, or it can't be paid.
@@ -229,7 +231,7 @@ pub(crate) fn tell_all(
     ensures cause { IsErrOf result RigFail.Failed → Rose (rig_state rig.old).failures (rig_state rig.new).failures }
 {
     let aim = gear.aim;
-    let Ok(()) = gear.chooser.begin(aim, proof, known, bad) else {
+    let Ok(()) = begin(&mut gear.chooser, aim, proof, known, bad) else {
         return Err(RigFail::Memory);
     };
     'looks: for _look in 0..MOST_LOOKS {

@@ -4,11 +4,9 @@ ghost use Rattle.machine_shape.specs.Shape.{pins_of};
 ghost use Rattle.diag_evidence.specs.Forests.{KeepsForest, KnowsForest, is_hung};
 ghost use Rattle.diag_known.specs.Known.{IsKnown, HasWire};
 
-use crate::climbs::Walk;
-use crate::draws::Draws;
-use crate::search::Search;
 use diag_evidence::{Forest, Proof};
 use diag_known::{Known, Stand, Step};
+use diag_search::{Draws, Search, Walk};
 use machine_shape::{Cross, Shape, Wire};
 use std::alloc::{AllocError, Global};
 

@@ -7,17 +7,18 @@ ghost use Rattle.diag_evidence.specs.Kept.{Advances};
 ghost use Rattle.diag_sweep.specs.Marks.{AreMarksFor};
 ghost use Rattle.diag_sweep.specs.Stages.{Goes, IsHand, Settles, in_hand};
 
+use crate::asking::knows;
 use crate::bad::Bad;
-use crate::choosing::{Aim, FIRST_HEIGHT, knows};
 use crate::gear::Gear;
 use crate::hanging::{hang_load, pin_load};
+use crate::informing::{note_hangs, note_known};
 use crate::leading::lead_paths;
 use crate::learn::{learn_hangs, learn_pins};
 use crate::purse::Purse;
-use crate::search::Hung;
 use crate::telling::tell_all;
 use diag_evidence::Proof;
 use diag_known::{Field, Known};
+use diag_search::{Aim, FIRST_HEIGHT, Hung};
 use rig::{Rig, RigFail};
 
 /// More loads than the wires of one height take.
@@ -47,7 +48,7 @@ fn pin_turn(
     let Ok(()) = learn_pins(known, proof, field) else {
         return Err(RigFail::Memory);
     };
-    gear.search.note_pins(known);
+    note_known(&mut gear.search, known);
     Ok(())
 }
 
@@ -92,7 +93,7 @@ fn hang_turn(
     let Ok(()) = learn_hangs(known, proof, field, &gear.search.hangs) else {
         return Err(RigFail::Memory);
     };
-    gear.search.note_hangs(proof, known, &bad.stuck);
+    note_hangs(&mut gear.search, proof, known, &bad.stuck);
     Ok(true)
 }
 

@@ -8,13 +8,13 @@ ghost use Rattle.diag_known.specs.Known.{IsKnown};
 ghost use Rattle.diag_sweep.specs.Marks.{AreMarksFor, MarksIn, Pays, TrueIf};
 
 use crate::bad::Bad;
-use crate::choosing::{Aim, Chooser};
 use crate::gear::{Gear, Sheet};
+use crate::informing::new_search;
 use crate::purse::Purse;
-use crate::search::Search;
 use crate::tabling::sweep_sheet;
 use diag_evidence::Proof;
 use diag_known::{Field, Known};
+use diag_search::{Aim, Chooser};
 use machine_shape::Table;
 use rig::{Rig, RigFail};
 
@@ -50,10 +50,10 @@ pub fn sweep(
     let Ok(purse) = Purse::new(known.alloc(), rig, proof, bad, field) else {
         return Err(RigFail::Memory);
     };
-    let Ok(search) = Search::new(known.alloc(), proof, known, bad, field) else {
+    let Ok(search) = new_search(known.alloc(), proof, known, bad, field) else {
         return Err(RigFail::Memory);
     };
-    let Ok(chooser) = Chooser::new(known.alloc(), proof) else {
+    let Ok(chooser) = Chooser::new(known.alloc(), &proof.shape()) else {
         return Err(RigFail::Memory);
     };
     let Ok(tables) = Vec::from_slice(known.alloc(), tables) else {

@@ -1,12 +1,9 @@
 //! Which known wires give way, so that more tables are free.
 
-use crate::bad::Bad;
-use crate::board::{in_set, keeps};
-use crate::choosing::{Chooser, Lack, flag_at, knows, set_flag, set_wire, wire_of};
+use crate::choosing::{Chooser, Lack, set_wire, wire_of};
+use crate::flags::{flag_at, in_set, set_flag};
 use base_bits::BitSet;
-use diag_evidence::Proof;
-use diag_known::Known;
-use machine_shape::{Meaning, Node, Shape, Table, Wire};
+use machine_shape::{Meaning, Shape, Table, Wire};
 use std::alloc::AllocError;
 
 /// How many pins a table has.
@@ -36,106 +33,24 @@ fn table_of(shape: &Shape, w: Wire) -> Option<Table> {
     }
 }
 
-// Whether a wire is kept.
-fn keeps_wire(proof: &Proof, w: Wire) -> bool {
-    if w.0 < proof.shape().wires() {
-        return proof.keeps_wire(w);
-    }
-    false
-}
-
 // Whether one of these was found unclear, so that it can't come to be known.
-fn has_unclear(bad: &Bad, pins: &Vec<Wire>) -> bool {
+fn has_unclear(unclear: &BitSet, pins: &Vec<Wire>) -> bool {
     'pins: for pin in pins {
-        if in_set(&bad.unclear, pin.0) {
+        if in_set(unclear, pin.0) {
             return true;
         }
     }
     false
 }
 
-// Whether two wires are kept apart.
-fn is_apart(proof: &Proof, a: Wire, b: Wire) -> bool {
-    let wires = proof.shape().wires();
-    if a.0 >= wires || b.0 >= wires || a.0 == b.0 {
-        return false;
-    }
-    proof.keeps_pair(a, b)
-}
-
-// How many wires were known when a wire was tried, as it seems: up to the last one from which it is kept apart.
-fn places_tried(proof: &Proof, known: &Known, w: Wire) -> usize {
-    let mut places = 0;
-    'places: for place in 0..known.len() {
-        if is_apart(proof, w, known.wire_at(place)) {
-            places = place.saturating_add(1);
-        }
-    }
-    places
-}
-
-// Whether a kept crosspoint leads from a pin of a table to a line of its hextant that is known.
-fn is_foot(proof: &Proof, known: &Known, pin: Wire, node: Node, k: u32) -> bool {
-    let shape = proof.shape();
-    if pin.0 >= shape.wires() || node.0 >= shape.nodes() || k >= shape.lines(node) {
-        return false;
-    }
-    let line = shape.line(node, k);
-    if !knows(known, line) {
-        return false;
-    }
-    match shape.cross(pin, line) {
-        Some(cross) => keeps(proof, cross),
-        None => false,
-    }
-}
-
-// Whether kept crosspoints lead from a pin of a table to two lines that are known.
-fn has_feet(proof: &Proof, known: &Known, pin: Wire, node: Node) -> bool {
-    if node.0 >= proof.shape().nodes() {
-        return false;
-    }
-    let mut found = false;
-    'lines: for k in 0..proof.shape().lines(node) {
-        if is_foot(proof, known, pin, node, k) {
-            if found {
-                return true;
-            }
-            found = true;
-        }
-    }
-    false
-}
-
-// Whether a pin of a table isn't known, though it is kept and two kept crosspoints lead from it to lines that are.
-fn is_left_out(proof: &Proof, known: &Known, w: Wire) -> bool {
-    let shape = proof.shape();
-    match table_of(&shape, w) {
-        Some(table) => {
-            table.0 < shape.tables()
-                && keeps_wire(proof, w)
-                && has_feet(proof, known, w, shape.hextant_of(table))
-        }
-        None => false,
-    }
-}
-
-/// Whether a wire is unfit, or was lost in growth.
-pub(crate) fn is_lost(proof: &Proof, known: &Known, bad: &Bad, w: Wire) -> bool {
-    if knows(known, w) {
-        return false;
-    }
-    in_set(&bad.unfit, w.0) || in_set(&bad.unclear, w.0) || is_left_out(proof, known, w)
-}
-
 impl Chooser {
     // The pins of a table that aren't known.
-    fn lack_of(&self, shape: &Shape, known: &Known, table: Table) -> Result<Lack, AllocError> {
+    fn lack_of(&self, table: Table) -> Result<Lack, AllocError> {
         let mut pins = Vec::new(self.alloc);
         'pins: for k in 0..PINS {
-            if table.0 < shape.tables() {
-                let pin = shape.pin_of(table, k);
-                if !knows(known, pin) {
+            if table.0 < self.shape.tables() {
+                let pin = self.shape.pin_of(table, k);
+                if !self.knows(pin) {
                     pins.push(pin)?;
                 }
             }
@@ -154,16 +69,16 @@ impl Chooser {
     }
 
     // A wire that was found to be shorted to a known one earlier is so to that, or to the one for which that gave way.
-    fn recall(&mut self, known: &Known, w: Wire) -> Result<(), AllocError> {
+    fn recall(&mut self, w: Wire) -> Result<(), AllocError> {
         let Some(partner) = wire_of(&self.partner, w) else {
             return Ok(());
         };
-        let partner = if knows(known, partner) {
+        let partner = if self.knows(partner) {
             partner
         } else {
             wire_of(&self.heir, partner).unwrap_or(partner)
         };
-        if knows(known, partner) {
+        if self.knows(partner) {
             let mut wires = Vec::new(self.alloc);
             wires.push(partner)?;
             self.set_suspects(w, wires);
@@ -171,49 +86,27 @@ impl Chooser {
         Ok(())
     }
 
-    // A wire that was tried can be shorted to those alone from which it isn't kept apart, of the wires that were known by then.
-    fn infer(&mut self, proof: &Proof, known: &Known, w: Wire) -> Result<(), AllocError> {
-        if self.suspect_count(w) > 0 {
-            return Ok(());
-        }
-        let mut wires = Vec::new(self.alloc);
-        'places: for place in 0..places_tried(proof, known, w) {
-            if place < known.len() && !is_apart(proof, w, known.wire_at(place)) {
-                wires.push(known.wire_at(place))?;
-            }
-        }
-        self.set_suspects(w, wires);
-        Ok(())
-    }
-
     // Wants the pins of a table.
-    fn want_lack(&mut self, proof: &Proof, known: &Known, lack: Lack) -> Result<(), AllocError> {
+    fn want_lack(&mut self, lack: Lack) -> Result<(), AllocError> {
         'pins: for pin in &lack.pins {
             self.wanted.push(*pin)?;
-            self.recall(known, *pin)?;
-            self.infer(proof, known, *pin)?;
+            self.recall(*pin)?;
         }
         self.lacks.push(lack)?;
         Ok(())
     }
 
     /// Wants the pins of tables that would be free if these were known.
-    pub(crate) fn want_pins(
-        &mut self,
-        proof: &Proof,
-        known: &Known,
-        bad: &Bad,
-    ) -> Result<(), AllocError> {
-        let shape = proof.shape();
+    pub(crate) fn want_pins(&mut self, unclear: &BitSet, wrong: &BitSet) -> Result<(), AllocError> {
         self.lacks.clear();
-        'tables: for t in 0..shape.tables() {
-            let lack = self.lack_of(&shape, known, Table(t))?;
+        'tables: for t in 0..self.shape.tables() {
+            let lack = self.lack_of(Table(t))?;
             let lacks = !lack.pins.is_empty();
             let chosen = lacks && flag_at(&self.favoured, t);
-            let dead = chosen || in_set(&bad.wrong, t) || has_unclear(bad, &lack.pins);
+            let dead = chosen || in_set(wrong, t) || has_unclear(unclear, &lack.pins);
             set_flag(&mut self.dead, t, dead);
             if lacks && !dead && self.are_lost(&lack.pins) {
-                self.want_lack(proof, known, lack)?;
+                self.want_lack(lack)?;
             }
         }
         Ok(())
@@ -239,20 +132,20 @@ impl Chooser {
     }
 
     // Whether a pin of a table can't come to be known, whatever gives way.
-    fn is_hopeless(&self, proof: &Proof, table: Table, pin: Wire) -> bool {
-        let shape = proof.shape();
+    fn is_hopeless(&self, table: Table, pin: Wire) -> bool {
         match wire_of(&self.partner, pin) {
             Some(partner) => {
-                is_machine_pin(&shape, partner) || table_of(&shape, partner) == Some(table)
+                is_machine_pin(&self.shape, partner)
+                    || table_of(&self.shape, partner) == Some(table)
             }
-            None => !keeps_wire(proof, pin),
+            None => !flag_at(&self.kept, pin.0),
         }
     }
 
     // Whether a table lacks a pin that can't come to be known.
-    fn has_hopeless(&self, proof: &Proof, lack: &Lack) -> bool {
+    fn has_hopeless(&self, lack: &Lack) -> bool {
         'pins: for pin in &lack.pins {
-            if self.is_hopeless(proof, lack.table, *pin) {
+            if self.is_hopeless(lack.table, *pin) {
                 return true;
             }
         }
@@ -260,11 +153,11 @@ impl Chooser {
     }
 
     // Marks the tables that can't be used.
-    fn note_dead(&mut self, proof: &Proof) {
+    fn note_dead(&mut self) {
         'lacks: for at in 0..self.lacks.len() {
             if let Some(lack) = self.lacks.get(at) {
                 let table = lack.table;
-                if self.has_hopeless(proof, lack) {
+                if self.has_hopeless(lack) {
                     set_flag(&mut self.dead, table.0, true);
                 }
             }
@@ -365,17 +258,17 @@ impl Chooser {
     }
 
     // The known wires that stay. Pins of tables among them are hung first, if they should be lost with what gives way.
-    fn staying(&mut self, shape: &Shape, known: &Known) -> Result<BitSet, AllocError> {
-        let mut stay = BitSet::new(self.alloc, shape.wires())?;
-        'places: for place in 0..known.len() {
-            let w = known.wire_at(place);
+    fn staying(&mut self) -> Result<BitSet, AllocError> {
+        let mut stay = BitSet::new(self.alloc, self.shape.wires())?;
+        'steps: for step in &self.steps {
+            let w = step.wire;
             if flag_at(&self.given, w.0) {
                 continue;
             }
             if w.0 < stay.len() {
                 stay.insert(w.0);
             }
-            if table_of(shape, w).is_some() {
+            if table_of(&self.shape, w).is_some() {
                 self.first.push(w)?;
             }
         }
@@ -383,11 +276,11 @@ impl Chooser {
     }
 
     // The wires to be marked again: those that gave way, and those that were unfit or lost, but the ones that stay unfit.
-    fn note_again(&mut self, bad: &Bad) -> Result<(), AllocError> {
+    fn note_again(&mut self, unclear: &BitSet) -> Result<(), AllocError> {
         self.again.clear();
         'wires: for at in 0..self.lost.len() {
             let w = u32::try_from(at).unwrap_or(u32::MAX);
-            if (flag_at(&self.lost, w) || flag_at(&self.given, w)) && !in_set(&bad.unclear, w) {
+            if (flag_at(&self.lost, w) || flag_at(&self.given, w)) && !in_set(unclear, w) {
                 self.again.push(Wire(w))?;
             }
         }
@@ -415,25 +308,20 @@ impl Chooser {
         !self.has_chosen || self.again.len() <= self.gains.len().saturating_mul(WIRES_A_TABLE)
     }
 
-    /// The known wires that stay, once others give way for pins of tables. None where none does.
-    pub(crate) fn give_up(
-        &mut self,
-        proof: &Proof,
-        known: &Known,
-        bad: &Bad,
-    ) -> Result<Option<BitSet>, AllocError> {
-        let shape = proof.shape();
+    /// The known wires that stay, once others give way for pins of tables. None where none does. Which wires are kept was told.
+    pub fn give_up(&mut self, unclear: &BitSet) -> Result<Option<BitSet>, AllocError> {
+        let shape = self.shape;
         self.first.clear();
         self.forget_given();
         self.note_partners();
-        self.note_dead(proof);
+        self.note_dead();
         self.gains.clear();
         self.give_all(&shape)?;
-        self.note_again(bad)?;
+        self.note_again(unclear)?;
         if self.first.is_empty() || !self.is_worth_it() {
             return Ok(None);
         }
-        let stay = self.staying(&shape, known)?;
+        let stay = self.staying()?;
         self.note_favoured();
         self.forget_suspects();
         self.has_chosen = true;

@@ -4,19 +4,17 @@
 //! Looks tell for such a pin to which known wires it can be shorted, its suspects. Where one is left for each pin of a table, these give
 //! way. Nothing rests on it: a wire that gives way in vain is known again later, or another one that is shorted to it.
 
-use crate::bad::Bad;
-use crate::board::in_set;
-use crate::choosing_tables::is_lost;
 use crate::climbs::Walk;
+use crate::feet::Step;
+use crate::flags::{flag_at, in_set, set_flag};
 use crate::heights::Level;
 use crate::search::Search;
-use diag_evidence::Proof;
-use diag_known::Known;
-use machine_shape::{Cross, Table, Wire};
+use base_bits::BitSet;
+use machine_shape::{Cross, Shape, Table, Wire};
 use std::alloc::{AllocError, Global};
 
 /// The height of the wires that are hung before all others in a sweep after a choice.
-pub(crate) const FIRST_HEIGHT: u32 = 9;
+pub const FIRST_HEIGHT: u32 = 9;
 
 /// How often a wire is looked at for a choice.
 const PARTNER_LOOKS: u32 = 16;
@@ -29,7 +27,7 @@ const REST_LOOKS: u32 = 4;
 
 /// What looks are for.
 #[derive(Clone, Copy, PartialEq, Eq)]
-pub(crate) enum Aim {
+pub enum Aim {
     /// To find the known wires to which pins of tables are shorted.
     Partners,
     /// To mark wires unfit that were before a choice.
@@ -40,7 +38,7 @@ pub(crate) enum Aim {
 
 /// At which value a pin stayed on which a wire hung.
 #[derive(Clone, Copy, PartialEq, Eq)]
-pub(crate) enum Still {
+pub enum Still {
     No,
     Low,
     High,
@@ -48,7 +46,7 @@ pub(crate) enum Still {
 
 /// Known wires, to one of which a wire seems to be shorted. None where nothing was seen of it.
 #[derive(Drop)]
-pub(crate) struct Suspects {
+pub struct Suspects {
     pub wires: Vec<Wire>,
 }
 
@@ -61,7 +59,7 @@ pub(crate) struct Lack {
 
 /// A crosspoint of a look's forest, and the wires that it leads from and to. A pin of the machine is led to from itself.
 #[derive(Clone, Copy)]
-pub(crate) struct Link {
+pub struct Link {
     pub cross: Cross,
     pub from: Wire,
     pub to: Wire,
@@ -69,7 +67,7 @@ pub(crate) struct Link {
 
 /// A look that is to be taken: climbs, links by which the other known wires hang, in their order, and the feet of wires that aren't known.
 #[derive(Drop)]
-pub(crate) struct Told {
+pub struct Told {
     pub climbs: Vec<Walk>,
     pub links: Vec<Link>,
     pub feet: Vec<(Wire, Cross)>,
@@ -77,43 +75,36 @@ pub(crate) struct Told {
 
 /// What the choice remembers. Where nothing else is said, there is an entry for each wire of the machine.
 #[derive(Drop)]
-pub(crate) struct Chooser {
+pub struct Chooser {
     pub alloc: Global,
+    pub(crate) shape: Shape,
     pub aim: Aim,
+    // The known wires in their order, and of each wire whether it is known, and whether it is kept.
+    pub(crate) steps: Vec<Step>,
+    pub(crate) known: Vec<bool>,
+    pub kept: Vec<bool>,
     // The wires that the next looks are about, and how often each wire was looked at for that.
     pub wanted: Vec<Wire>,
-    pub looks: Vec<u32>,
+    pub(crate) looks: Vec<u32>,
     pub still: Vec<Still>,
     pub suspects: Vec<Suspects>,
     // The known wire to which one was found to be shorted; and of a wire that gave way, for which one.
-    pub partner: Vec<Option<Wire>>,
-    pub heir: Vec<Option<Wire>>,
+    pub(crate) partner: Vec<Option<Wire>>,
+    pub(crate) heir: Vec<Option<Wire>>,
     // Whether a wire is unfit, or was lost in growth; whether it gives way; and of each table whether it can't be used, and whether wires
     // gave way for it before.
     pub lost: Vec<bool>,
-    pub given: Vec<bool>,
-    pub dead: Vec<bool>,
-    pub favoured: Vec<bool>,
+    pub(crate) given: Vec<bool>,
+    pub(crate) dead: Vec<bool>,
+    pub(crate) favoured: Vec<bool>,
     // The tables that would be free if all of their pins were known.
-    pub lacks: Vec<Lack>,
+    pub(crate) lacks: Vec<Lack>,
     // The tables that the choice may free, and whether one was made before.
-    pub gains: Vec<Table>,
-    pub has_chosen: bool,
+    pub(crate) gains: Vec<Table>,
+    pub(crate) has_chosen: bool,
     // The wires that are hung before all others in the next sweep, and those to be marked again then.
-    pub first: Vec<Wire>,
-    pub again: Vec<Wire>,
-}
-
-/// The entry of a wire or a table in a list of yes and no.
-pub(crate) fn flag_at(flags: &Vec<bool>, at: u32) -> bool {
-    flags.get(at as usize).copied().unwrap_or(false)
-}
-
-/// Changes the entry of a wire or a table.
-pub(crate) fn set_flag(flags: &mut Vec<bool>, at: u32, flag: bool) {
-    if (at as usize) < flags.len() {
-        flags[at as usize] = flag;
-    }
+    pub(crate) first: Vec<Wire>,
+    pub(crate) again: Vec<Wire>,
 }
 
 /// The wire that stands at a wire's place.
@@ -128,22 +119,17 @@ pub(crate) fn set_wire(wires: &mut Vec<Option<Wire>>, w: Wire, other: Option<Wir
     }
 }
 
-/// Whether a wire is known.
-pub(crate) fn knows(known: &Known, w: Wire) -> bool {
-    if w.0 < known.shape().wires() {
-        return known.has(w);
-    }
-    false
-}
-
 impl Chooser {
     /// Before the first choice.
-    pub(crate) fn new(alloc: Global, proof: &Proof) -> Result<Chooser, AllocError> {
-        let shape = proof.shape();
+    pub fn new(alloc: Global, shape: &Shape) -> Result<Chooser, AllocError> {
         let wires = shape.wires() as usize;
         let mut chooser = Chooser {
             alloc,
+            shape: *shape,
             aim: Aim::Rest,
+            steps: Vec::new(alloc),
+            known: Vec::new(alloc),
+            kept: Vec::new(alloc),
             wanted: Vec::new(alloc),
             looks: Vec::new(alloc),
             still: Vec::new(alloc),
@@ -160,6 +146,8 @@ impl Chooser {
             first: Vec::new(alloc),
             again: Vec::new(alloc),
         };
+        chooser.known.resize(wires, false)?;
+        chooser.kept.resize(wires, false)?;
         chooser.looks.resize(wires, 0)?;
         chooser.still.resize(wires, Still::No)?;
         chooser.partner.resize(wires, None)?;
@@ -187,7 +175,7 @@ impl Chooser {
     }
 
     /// A wire was looked at so often.
-    pub(crate) fn set_looks(&mut self, w: Wire, looks: u32) {
+    pub fn set_looks(&mut self, w: Wire, looks: u32) {
         let at = w.0 as usize;
         if at < self.looks.len() {
             self.looks[at] = looks;
@@ -204,7 +192,7 @@ impl Chooser {
     }
 
     /// How many known wires one seems to be shorted to.
-    pub(crate) fn suspect_count(&self, w: Wire) -> usize {
+    pub fn suspect_count(&self, w: Wire) -> usize {
         match self.suspects.get(w.0 as usize) {
             Some(suspects) => suspects.wires.len(),
             None => 0,
@@ -212,7 +200,7 @@ impl Chooser {
     }
 
     /// One seems to be shorted to these.
-    pub(crate) fn set_suspects(&mut self, w: Wire, wires: Vec<Wire>) {
+    pub fn set_suspects(&mut self, w: Wire, wires: Vec<Wire>) {
         let at = w.0 as usize;
         if at < self.suspects.len() {
             self.suspects[at] = Suspects { wires };
@@ -248,48 +236,58 @@ impl Chooser {
     }
 
     // All wires that are neither known nor unfit.
-    fn want_rest(&mut self, known: &Known, bad: &Bad) -> Result<(), AllocError> {
-        'wires: for w in 0..known.shape().wires() {
-            if !knows(known, Wire(w)) && !in_set(&bad.unfit, w) && !in_set(&bad.unclear, w) {
+    fn want_rest(&mut self, unfit: &BitSet, unclear: &BitSet) -> Result<(), AllocError> {
+        'wires: for w in 0..self.shape.wires() {
+            if !self.knows(Wire(w)) && !in_set(unfit, w) && !in_set(unclear, w) {
                 self.wanted.push(Wire(w))?;
             }
         }
         Ok(())
     }
 
-    // Which wires are unfit, or were lost in growth.
-    fn note_lost(&mut self, proof: &Proof, known: &Known, bad: &Bad) {
-        'wires: for at in 0..self.lost.len() {
-            let w = Wire(u32::try_from(at).unwrap_or(u32::MAX));
-            if at < self.lost.len() {
-                self.lost[at] = is_lost(proof, known, bad, w);
+    /// No wire is known as yet.
+    pub fn forget_known(&mut self) {
+        self.steps.clear();
+        'wires: for at in 0..self.known.len() {
+            if at < self.known.len() {
+                self.known[at] = false;
             }
         }
     }
 
-    /// What the next looks are for.
-    pub(crate) fn begin(
+    /// A further wire is known.
+    pub fn push_known(&mut self, step: Step) -> Result<(), AllocError> {
+        set_flag(&mut self.known, step.wire.0, true);
+        self.steps.push(step)?;
+        Ok(())
+    }
+
+    /// Whether a wire is known.
+    pub(crate) fn knows(&self, w: Wire) -> bool {
+        flag_at(&self.known, w.0)
+    }
+
+    /// What the next looks are for, with the wires that were found unfit and unclear and the tables that are wrong. Which wires are known
+    /// and which are lost was told.
+    pub fn begin(
         &mut self,
         aim: Aim,
-        proof: &Proof,
-        known: &Known,
-        bad: &Bad,
+        unfit: &BitSet,
+        unclear: &BitSet,
+        wrong: &BitSet,
     ) -> Result<(), AllocError> {
         self.aim = aim;
         self.wanted.clear();
         self.forget_looks();
         match aim {
-            Aim::Partners => {
-                self.note_lost(proof, known, bad);
-                self.want_pins(proof, known, bad)
-            }
+            Aim::Partners => self.want_pins(unclear, wrong),
             Aim::Again => self.want_again(),
-            Aim::Rest => self.want_rest(known, bad),
+            Aim::Rest => self.want_rest(unfit, unclear),
         }
     }
 
     /// Adds the wires that are hung before all others to what a search goes through.
-    pub(crate) fn hint(&self, search: &mut Search) -> Result<(), AllocError> {
+    pub fn hint(&self, search: &mut Search) -> Result<(), AllocError> {
         let mut wires = Vec::new(self.alloc);
         'wires: for w in &self.first {
             wires.push(*w)?;

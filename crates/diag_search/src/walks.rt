@@ -2,10 +2,8 @@
 
 use crate::board::Mark;
 use crate::climbs::Walk;
+use crate::feet::Foot;
 use crate::search::{Group, Search, Source};
-use base_bits::BitSet;
-use diag_evidence::Proof;
-use diag_known::Foot;
 use machine_shape::{Cross, Wire};
 use std::alloc::AllocError;
 
@@ -41,7 +39,7 @@ fn has_left(found: Option<(u32, u32, Wire)>, least: u32) -> bool {
 
 impl Search {
     /// Counts what is left to try, before the first load of walks. There are no groups yet.
-    pub(crate) fn begin_walks(&mut self) {
+    pub fn begin_walks(&mut self) {
         self.groups.clear();
         self.board.count(&self.heights);
     }
@@ -368,7 +366,7 @@ impl Search {
     }
 
     /// Chooses the walks of the next load. False where nothing is left that could be tried.
-    pub(crate) fn choose_walks(&mut self) -> Result<bool, AllocError> {
+    pub fn choose_walks(&mut self) -> Result<bool, AllocError> {
         let most = (self.board.pins() / 2) as usize;
         self.trials.clear();
         self.board.begin();
@@ -377,24 +375,21 @@ impl Search {
         Ok(!self.trials.is_empty() || self.has_groups())
     }
 
-    // Looks what came of the crosspoints of a walk. Whether all are kept.
-    fn note_walk(&mut self, proof: &Proof, stuck: &BitSet, at: usize) -> bool {
-        let mut leads = true;
+    // Whether all crosspoints of a walk are kept.
+    fn leads(&self, at: usize) -> bool {
         let Some(trial) = self.trials.get(at) else {
             return false;
         };
-        let crosses = trial.walk.crosses.len();
-        'crosses: for k in 0..crosses {
-            if let Some(cross) = self.cross_of(at, k) {
-                self.note_cross(proof, stuck, cross);
-                leads = leads && self.board.mark(cross) == Mark::Kept;
+        'crosses: for cross in &trial.walk.crosses {
+            if self.board.mark(*cross) != Mark::Kept {
+                return false;
             }
         }
-        leads
+        true
     }
 
-    // A crosspoint of a walk.
-    fn cross_of(&self, at: usize, k: usize) -> Option<Cross> {
+    /// A crosspoint of a walk of the load.
+    pub fn cross_of(&self, at: usize, k: usize) -> Option<Cross> {
         let trial = self.trials.get(at)?;
         trial.walk.crosses.get(k).copied()
     }
@@ -413,9 +408,9 @@ impl Search {
         Ok(())
     }
 
-    // Looks what came of a walk.
-    fn note_trial(&mut self, proof: &Proof, stuck: &BitSet, at: usize) -> Result<(), AllocError> {
-        let leads = self.note_walk(proof, stuck, at);
+    /// Looks what came of a walk. What was found of its crosspoints was noted.
+    pub fn note_trial(&mut self, at: usize) -> Result<(), AllocError> {
+        let leads = self.leads(at);
         let Some(trial) = self.trials.get(at) else {
             return Ok(());
         };
@@ -430,14 +425,5 @@ impl Search {
                 self.push_group(at, node)
             }
         }
-    }
-
-    /// Looks what came of the walks.
-    pub(crate) fn note_walks(&mut self, proof: &Proof, stuck: &BitSet) -> Result<(), AllocError> {
-        'trials: for at in 0..self.trials.len() {
-            self.note_trial(proof, stuck, at)?;
-        }
-        self.drop_groups();
-        Ok(())
     }
 }

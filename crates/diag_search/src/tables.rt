@@ -1,10 +1,8 @@
 //! Which tables are tested in the next load, and over which lines.
 
 use crate::board::Mark;
+use crate::feet::Foot;
 use crate::search::{Search, Tap};
-use base_bits::BitSet;
-use diag_evidence::Proof;
-use diag_known::Foot;
 use machine_shape::{Table, Wire};
 use std::alloc::AllocError;
 
@@ -22,8 +20,8 @@ const MANY_FAILS: u32 = 3;
 
 impl Search {
     // A pin of a table.
-    fn pin_of(&self, proof: &Proof, t: Table, k: u32) -> Option<Wire> {
-        let shape = proof.shape();
+    fn pin_of(&self, t: Table, k: u32) -> Option<Wire> {
+        let shape = self.shape;
         if t.0 < shape.tables() && k < 7 {
             return Some(shape.pin_of(t, k));
         }
@@ -31,9 +29,9 @@ impl Search {
     }
 
     // Whether all pins of a table are known.
-    fn has_pins(&self, proof: &Proof, t: Table) -> bool {
+    fn has_pins(&self, t: Table) -> bool {
         'pins: for k in 0..=INPUTS {
-            let Some(pin) = self.pin_of(proof, t, k) else {
+            let Some(pin) = self.pin_of(t, k) else {
                 return false;
             };
             if !self.board.has(pin) {
@@ -43,29 +41,11 @@ impl Search {
         true
     }
 
-    // Whether a table of the hextant that the search is at is still to be tested, and can be.
-    fn is_ready(&self, proof: &Proof, wrong: &BitSet, t: Table) -> bool {
-        let shape = proof.shape();
-        if t.0 >= shape.tables()
-            || t.0 >= wrong.len()
-            || wrong.has(t.0)
-            || proof.keeps_register(t)
-        {
-            return false;
-        }
-        shape.hextant_of(t).0 == self.node && self.has_pins(proof, t)
-    }
-
-    // The tables that are still to be tested, in an order that is drawn, and only the first if one is wanted.
-    fn ready_tables(
-        &mut self,
-        proof: &Proof,
-        wrong: &BitSet,
-        tables: &[Table],
-    ) -> Result<Vec<Table>, AllocError> {
+    // Those of some tables all of whose pins are known, in an order that is drawn, and only the first if one is wanted.
+    fn ready_tables(&mut self, tables: &[Table]) -> Result<Vec<Table>, AllocError> {
         let mut ready = Vec::new(self.alloc);
         'tables: for t in tables {
-            if self.is_ready(proof, wrong, *t) {
+            if self.has_pins(*t) {
                 ready.push(*t)?;
             }
         }
@@ -88,16 +68,16 @@ impl Search {
     }
 
     // The same of the pin of a table.
-    fn tap_of(&self, proof: &Proof, t: Table, k: u32, line: Wire) -> Option<Foot> {
-        let pin = self.pin_of(proof, t, k)?;
+    fn tap_of(&self, t: Table, k: u32, line: Wire) -> Option<Foot> {
+        let pin = self.pin_of(t, k)?;
         self.tap_at(pin, line)
     }
 
     // How many of these tables have a kept crosspoint of an input and a line.
-    fn count_taps(&self, proof: &Proof, ready: &Vec<Table>, k: u32, line: Wire) -> u32 {
+    fn count_taps(&self, ready: &Vec<Table>, k: u32, line: Wire) -> u32 {
         let mut count: u32 = 0;
         'tables: for t in ready {
-            if self.tap_of(proof, *t, k, line).is_some() {
+            if self.tap_of(*t, k, line).is_some() {
                 count = count.saturating_add(1);
             }
         }
@@ -114,18 +94,13 @@ impl Search {
     }
 
     // The lines for an input, those that most tables meet first: their places in the last bits of keys.
-    fn line_keys(
-        &mut self,
-        proof: &Proof,
-        ready: &Vec<Table>,
-        k: u32,
-    ) -> Result<Vec<u64>, AllocError> {
+    fn line_keys(&mut self, ready: &Vec<Table>, k: u32) -> Result<Vec<u64>, AllocError> {
         let mut keys = Vec::new(self.alloc);
         'lines: for place in 0..self.heights.bar_lines(self.node) {
             let Some(line) = self.line_at(place) else {
                 continue;
             };
-            let count = self.count_taps(proof, ready, k, line);
+            let count = self.count_taps(ready, k, line);
             if count > 0 {
                 let less = u64::from(u32::MAX.saturating_sub(count));
                 let drawn = self.draws.short();
@@ -137,16 +112,10 @@ impl Search {
     }
 
     // Those of some tables that have a kept crosspoint of an input and a line.
-    fn with_taps(
-        &self,
-        proof: &Proof,
-        ready: &Vec<Table>,
-        k: u32,
-        line: Wire,
-    ) -> Result<Vec<Table>, AllocError> {
+    fn with_taps(&self, ready: &Vec<Table>, k: u32, line: Wire) -> Result<Vec<Table>, AllocError> {
         let mut rest = Vec::new(self.alloc);
         'tables: for t in ready {
-            if self.tap_of(proof, *t, k, line).is_some() {
+            if self.tap_of(*t, k, line).is_some() {
                 rest.push(*t)?;
             }
         }
@@ -154,13 +123,8 @@ impl Search {
     }
 
     // The line over which an input of most tables is driven. It is climbed from.
-    fn input_line(
-        &mut self,
-        proof: &Proof,
-        ready: &Vec<Table>,
-        k: u32,
-    ) -> Result<Option<Wire>, AllocError> {
-        let keys = self.line_keys(proof, ready, k)?;
+    fn input_line(&mut self, ready: &Vec<Table>, k: u32) -> Result<Option<Wire>, AllocError> {
+        let keys = self.line_keys(ready, k)?;
         'lines: for key in keys.iter().take(MOST_LINES) {
             let Some(line) = self.line_at(u32::try_from(*key % 32_768).unwrap_or(0)) else {
                 continue;
@@ -174,26 +138,26 @@ impl Search {
     }
 
     // The lines of all inputs. Those tables are left that meet all of them; none where a line is wanting.
-    fn lay_inputs(&mut self, proof: &Proof, ready: Vec<Table>) -> Result<Vec<Table>, AllocError> {
+    fn lay_inputs(&mut self, ready: Vec<Table>) -> Result<Vec<Table>, AllocError> {
         let mut rest = ready;
         self.lines.clear();
         'inputs: for k in 0..INPUTS {
-            let Some(line) = self.input_line(proof, &rest, k)? else {
+            let Some(line) = self.input_line(&rest, k)? else {
                 return Ok(Vec::new(self.alloc));
             };
-            rest = self.with_taps(proof, &rest, k, line)?;
+            rest = self.with_taps(&rest, k, line)?;
             self.lines.push(line)?;
         }
         Ok(rest)
     }
 
     // The line over which the output of a table is read. It is climbed from.
-    fn output_tap(&mut self, proof: &Proof, t: Table) -> Result<Option<Foot>, AllocError> {
+    fn output_tap(&mut self, t: Table) -> Result<Option<Foot>, AllocError> {
         'lines: for place in 0..self.heights.bar_lines(self.node) {
             let Some(line) = self.line_at(place) else {
                 continue;
             };
-            let Some(tap) = self.tap_of(proof, t, INPUTS, line) else {
+            let Some(tap) = self.tap_of(t, INPUTS, line) else {
                 continue;
             };
             if let Some(walk) = self.climb(line)? {
@@ -205,69 +169,59 @@ impl Search {
     }
 
     // Hangs a pin of a table on a line.
-    fn push_tap(
-        &mut self,
-        proof: &Proof,
-        t: Table,
-        k: u32,
-        tap: Option<Foot>,
-    ) -> Result<(), AllocError> {
-        if let (Some(pin), Some(foot)) = (self.pin_of(proof, t, k), tap) {
+    fn push_tap(&mut self, t: Table, k: u32, tap: Option<Foot>) -> Result<(), AllocError> {
+        if let (Some(pin), Some(foot)) = (self.pin_of(t, k), tap) {
             self.taps.push(Tap { pin, foot })?;
         }
         Ok(())
     }
 
     // Hangs all pins of a table.
-    fn lay_table(&mut self, proof: &Proof, t: Table, output: Foot) -> Result<(), AllocError> {
+    fn lay_table(&mut self, t: Table, output: Foot) -> Result<(), AllocError> {
         'inputs: for k in 0..INPUTS {
             if let Some(line) = self.lines.get(k as usize).copied() {
-                let tap = self.tap_of(proof, t, k, line);
-                self.push_tap(proof, t, k, tap)?;
+                let tap = self.tap_of(t, k, line);
+                self.push_tap(t, k, tap)?;
             }
         }
-        self.push_tap(proof, t, INPUTS, Some(output))?;
+        self.push_tap(t, INPUTS, Some(output))?;
         self.chosen.push(t)?;
         Ok(())
     }
 
     // The pins of a table are used.
-    fn take_table(&mut self, proof: &Proof, t: Table) {
+    fn take_table(&mut self, t: Table) {
         'pins: for k in 0..=INPUTS {
-            if let Some(pin) = self.pin_of(proof, t, k) {
+            if let Some(pin) = self.pin_of(t, k) {
                 self.board.take(pin);
             }
         }
     }
 
-    // Counts that no tables could be laid. False where it was so too often.
-    pub(crate) fn count_fail(&mut self) -> bool {
+    /// Counts that no tables could be laid. False where it was so too often.
+    pub fn count_fail(&mut self) -> bool {
         self.fails = self.fails.saturating_add(1);
         self.fails < MOST_FAILS
     }
 
-    // Chooses the tables of the next load, of the hextant that the search is at. False where none is left to test.
-    pub(crate) fn choose_tables(
-        &mut self,
-        proof: &Proof,
-        wrong: &BitSet,
-        tables: &[Table],
-    ) -> Result<bool, AllocError> {
+    /// Chooses the tables of the next load, of those of the hextant that the search is at which are left to test. False where there are
+    /// none.
+    pub fn choose_tables(&mut self, tables: &[Table]) -> Result<bool, AllocError> {
         self.chosen.clear();
         self.taps.clear();
         self.climbs.clear();
         self.board.begin();
-        let ready = self.ready_tables(proof, wrong, tables)?;
+        let ready = self.ready_tables(tables)?;
         if ready.is_empty() {
             return Ok(false);
         }
         'used: for t in &ready {
-            self.take_table(proof, *t);
+            self.take_table(*t);
         }
-        let rest = self.lay_inputs(proof, ready)?;
+        let rest = self.lay_inputs(ready)?;
         'tables: for t in &rest {
-            if let Some(tap) = self.output_tap(proof, *t)? {
-                self.lay_table(proof, *t, tap)?;
+            if let Some(tap) = self.output_tap(*t)? {
+                self.lay_table(*t, tap)?;
             }
         }
         Ok(true)

@@ -240,7 +240,7 @@ impl Search {
     }
 
     /// Drops the groups of which all is decided.
-    pub(crate) fn drop_groups(&mut self) {
+    pub fn drop_groups(&mut self) {
         self.groups.retain(|group| !group.walk.crosses.is_empty());
     }
 }

@@ -2,7 +2,7 @@
 ghost use Rattle.std.specs.Prelude.{◌<◌};
 ghost use Rattle.machine_shape.specs.Shape.{nodes_of};
 
-use diag_known::Foot;
+use crate::feet::Foot;
 use machine_shape::{Cross, Node, Shape, Wire};
 use std::alloc::{AllocError, Global};
 

@@ -2,8 +2,8 @@
 
 use crate::board::{Board, Mark};
 use crate::draws::Draws;
+use crate::feet::Foot;
 use crate::heights::{HEIGHTS, Heights};
-use diag_known::Foot;
 use machine_shape::{Cross, Wire};
 use std::alloc::{AllocError, Global};
 
@@ -15,7 +15,7 @@ const MOST_TURNS: u32 = 128;
 
 /// Wires, and the crosspoint between each and the next one. Of a climb the last wire is a pin of the machine.
 #[derive(Drop)]
-pub(crate) struct Walk {
+pub struct Walk {
     pub wires: Vec<Wire>,
     pub crosses: Vec<Cross>,
 }
@@ -54,12 +54,12 @@ impl Walk {
     }
 
     /// The wire at a place, or the first wire of the machine behind the end.
-    pub(crate) fn wire(&self, place: usize) -> Wire {
+    pub fn wire(&self, place: usize) -> Wire {
         self.wires.get(place).copied().unwrap_or(Wire(0))
     }
 
     /// The crosspoint at a place, and the wire behind it.
-    pub(crate) fn foot(&self, place: usize) -> Foot {
+    pub fn foot(&self, place: usize) -> Foot {
         Foot {
             cross: self.crosses.get(place).copied().unwrap_or(Cross(0)),
             wire: self.wire(place.saturating_add(1)),

@@ -9,7 +9,7 @@ const STEP: u64 = 1_442_695_040_888_963_407;
 
 /// A generator of numbers.
 #[derive(Drop)]
-pub(crate) struct Draws {
+pub struct Draws {
     state: u64,
 }
 
@@ -47,7 +47,7 @@ impl Draws {
     }
 
     /// One of two, each as often.
-    pub(crate) fn coin(&mut self) -> bool {
+    pub fn coin(&mut self) -> bool {
         (self.next() >> 7) & 1 == 1
     }
 

@@ -1,19 +1,16 @@
 //! The search for what is laid in the next load. Nothing rests on it: what it lays is looked at before it is tested.
 
-use crate::bad::Bad;
-use crate::board::{Board, Mark, in_set, keeps};
+use crate::board::{Board, Mark};
 use crate::climbs::{Walk, climb};
 use crate::draws::Draws;
+use crate::feet::Foot;
 use crate::heights::Heights;
-use base_bits::BitSet;
-use diag_evidence::Proof;
-use diag_known::{Field, Foot, Known};
-use machine_shape::{Cross, Table, Wire};
+use machine_shape::{Cross, Shape, Table, Wire};
 use std::alloc::{AllocError, Global};
 
 /// A wire that isn't known, and two crosspoints to wires that hang on two pins.
 #[derive(Clone, Copy)]
-pub(crate) struct Hung {
+pub struct Hung {
     pub wire: Wire,
     pub first: Foot,
     pub second: Foot,
@@ -21,14 +18,14 @@ pub(crate) struct Hung {
 
 /// A pin of a table, with the crosspoint and the line on which it hangs.
 #[derive(Clone, Copy)]
-pub(crate) struct Tap {
+pub struct Tap {
     pub pin: Wire,
     pub foot: Foot,
 }
 
 /// Where a walk of a load comes from.
 #[derive(Clone, Copy)]
-pub(crate) enum Source {
+pub enum Source {
     /// The beginning of a group.
     Group(usize),
     /// A crossbar.
@@ -37,7 +34,7 @@ pub(crate) enum Source {
 
 /// A walk of a load, from a pin of the machine to another. The crosspoints from one place of it to another are tried.
 #[derive(Drop)]
-pub(crate) struct Trial {
+pub struct Trial {
     pub walk: Walk,
     pub source: Source,
     pub begin: usize,
@@ -47,7 +44,7 @@ pub(crate) struct Trial {
 /// Crosspoints of a crossbar, one of which at least is stuck: a stretch of a walk that didn't lead. Its first and its last crosspoint
 /// aren't decided.
 #[derive(Drop)]
-pub(crate) struct Group {
+pub struct Group {
     pub walk: Walk,
     pub node: u32,
     // How often it couldn't be laid.
@@ -56,52 +53,47 @@ pub(crate) struct Group {
 
 /// What the search remembers.
 #[derive(Drop)]
-pub(crate) struct Search {
-    pub alloc: Global,
-    pub board: Board,
-    pub heights: Heights,
+pub struct Search {
+    pub(crate) alloc: Global,
+    pub(crate) shape: Shape,
+    pub(crate) board: Board,
+    pub(crate) heights: Heights,
     pub draws: Draws,
     // How many crosspoints were decided, and how many of these are stuck.
-    pub decided: u64,
-    pub found: u64,
+    pub(crate) decided: u64,
+    pub(crate) found: u64,
     // How often each wire was hung.
     pub tries: Vec<u32>,
     // The links over which a wire may be hung.
-    pub offers: Vec<Foot>,
+    pub(crate) offers: Vec<Foot>,
     // What hangs in the next load, and the climbs on which it does.
     pub hangs: Vec<Hung>,
     pub climbs: Vec<Walk>,
     // The hextant of the tables that are tested, how often none could be laid there, and the tables of the next load, with the lines of
     // their inputs and all their taps.
     pub node: u32,
-    pub fails: u32,
+    pub(crate) fails: u32,
     pub chosen: Vec<Table>,
-    pub lines: Vec<Wire>,
+    pub(crate) lines: Vec<Wire>,
     pub taps: Vec<Tap>,
     // The walks of the next load, and what didn't lead before.
     pub trials: Vec<Trial>,
-    pub groups: Vec<Group>,
+    pub(crate) groups: Vec<Group>,
     // The stretch of a crossbar that is laid now.
-    pub stretch: Walk,
+    pub(crate) stretch: Walk,
     // The crossbars that are left, those with most to try first, and those of them in which no walk could be laid.
-    pub order: Vec<u64>,
-    pub full: Vec<bool>,
+    pub(crate) order: Vec<u64>,
+    pub(crate) full: Vec<bool>,
 }
 
 impl Search {
-    /// The search before the first load.
-    pub(crate) fn new(
-        alloc: Global,
-        proof: &Proof,
-        known: &Known,
-        bad: &Bad,
-        field: &Field,
-    ) -> Result<Search, AllocError> {
-        let shape = proof.shape();
+    /// The search in a machine of which nothing is told yet: no wire is known or of the field, and no crosspoint may be tried.
+    pub fn new(alloc: Global, shape: &Shape) -> Result<Search, AllocError> {
         let mut search = Search {
             alloc,
-            board: Board::new(alloc, proof, &bad.stuck, field)?,
-            heights: Heights::new(alloc, &shape)?,
+            shape: *shape,
+            board: Board::new(alloc, shape)?,
+            heights: Heights::new(alloc, shape)?,
             draws: Draws::new(),
             decided: 0,
             found: 0,
@@ -122,18 +114,28 @@ impl Search {
         };
         search.tries.resize(shape.wires() as usize, 0)?;
         search.full.resize(shape.nodes() as usize, false)?;
-        search.board.learn_all(known);
-        search.forbid_unclear(bad);
         Ok(search)
     }
 
-    // Wires that are found unclear can't come to be known.
-    fn forbid_unclear(&mut self, bad: &Bad) {
-        'wires: for w in 0..bad.unclear.len() {
-            if bad.unclear.has(w) {
-                self.board.forbid(Wire(w));
-            }
-        }
+    /// What is known of a crosspoint before the first load.
+    pub fn mark(&mut self, c: Cross, mark: Mark) {
+        self.board.set_mark(c, mark);
+    }
+
+    /// A wire is of the field.
+    pub fn allow(&mut self, w: Wire) {
+        self.board.allow(w);
+    }
+
+    /// A wire is known.
+    pub fn learn(&mut self, w: Wire) {
+        self.board.learn(w);
+    }
+
+    /// Goes on to the tables of a hextant.
+    pub fn go_to(&mut self, node: u32) {
+        self.node = node;
+        self.fails = 0;
     }
 
     /// A climb from a wire over wires that aren't used. Its wires are used then.
@@ -147,24 +149,28 @@ impl Search {
         )
     }
 
-    /// Pins have come to be known.
-    pub(crate) fn note_pins(&mut self, known: &Known) {
-        self.board.learn_all(known);
+    // Whether it was told of a crosspoint that it is kept, or may not be tried.
+    fn is_told(&self, c: Cross) -> bool {
+        let mark = self.board.mark(c);
+        mark == Mark::Kept || mark == Mark::Barred
     }
 
-    /// Looks whether a crosspoint was decided.
-    pub(crate) fn note_cross(&mut self, proof: &Proof, stuck: &BitSet, c: Cross) {
-        let mark = self.board.mark(c);
-        if mark == Mark::Kept || mark == Mark::Barred {
+    /// A crosspoint is kept.
+    pub fn note_kept(&mut self, c: Cross) {
+        if self.is_told(c) {
             return;
         }
-        if keeps(proof, c) {
-            self.board.set_mark(c, Mark::Kept);
-            self.decided = self.decided.saturating_add(1);
-        } else if in_set(stuck, c.0) {
-            self.board.set_mark(c, Mark::Barred);
-            self.decided = self.decided.saturating_add(1);
-            self.found = self.found.saturating_add(1);
+        self.board.set_mark(c, Mark::Kept);
+        self.decided = self.decided.saturating_add(1);
+    }
+
+    /// A crosspoint was found stuck.
+    pub fn note_stuck(&mut self, c: Cross) {
+        if self.is_told(c) {
+            return;
         }
+        self.board.set_mark(c, Mark::Barred);
+        self.decided = self.decided.saturating_add(1);
+        self.found = self.found.saturating_add(1);
     }
 }

@@ -1,13 +1,13 @@
 //! What feet in the next look.
 
-use crate::bad::Bad;
-use crate::board::{Mark, in_set};
-use crate::choosing::{Aim, Chooser, Link, Still, Told, flag_at, knows, set_flag};
+use crate::board::Mark;
+use crate::choosing::{Aim, Chooser, Link, Still, Told};
 use crate::climbs::Walk;
+use crate::feet::{Foot, Stand, Step};
+use crate::flags::{flag_at, in_set, set_flag};
 use crate::hangs::PINS_A_HANG;
 use crate::search::Search;
-use diag_evidence::Proof;
-use diag_known::{Foot, Known, Stand, Step};
+use base_bits::BitSet;
 use machine_shape::{Cross, Wire};
 use std::alloc::{AllocError, Global};
 
@@ -146,16 +146,15 @@ impl Spread {
 // The links by which all known wires hang that aren't on a climb, spread over the pins on which no other wire feet.
 fn spread_links(
     alloc: Global,
-    known: &Known,
+    steps: &Vec<Step>,
     search: &mut Search,
 ) -> Result<Vec<Link>, AllocError> {
     let mut spread = Spread::new(alloc, search)?;
     'climbs: for walk in &search.climbs {
         spread.hang_climb(walk);
     }
-    'places: for place in 0..known.len() {
-        let step = known.step_at(place);
-        spread.hang_step(search, &step)?;
+    'steps: for step in steps {
+        spread.hang_step(search, step)?;
     }
     Ok(spread.links)
 }
@@ -214,13 +213,13 @@ impl Search {
 
 impl Chooser {
     // Whether a wire is to be looked at, so often as yet.
-    fn is_due(&self, search: &Search, known: &Known, bad: &Bad, w: Wire) -> bool {
-        if knows(known, w) || !search.board.may_know(w) {
+    fn is_due(&self, search: &Search, unfit: &BitSet, w: Wire) -> bool {
+        if self.knows(w) || !search.board.may_know(w) {
             return false;
         }
         match self.aim {
             Aim::Partners => self.suspect_count(w) != 1 && self.still_of(w) == Still::No,
-            _ => !in_set(&bad.unfit, w.0),
+            _ => !in_set(unfit, w.0),
         }
     }
 
@@ -229,12 +228,11 @@ impl Chooser {
         &self,
         due: &mut Vec<Wire>,
         search: &Search,
-        known: &Known,
-        bad: &Bad,
+        unfit: &BitSet,
         looks: u32,
     ) -> Result<(), AllocError> {
         'wires: for w in &self.wanted {
-            if self.looks_of(*w) == looks && self.is_due(search, known, bad, *w) {
+            if self.looks_of(*w) == looks && self.is_due(search, unfit, *w) {
                 due.push(*w)?;
             }
         }
@@ -242,16 +240,11 @@ impl Chooser {
     }
 
     // The wires that are to be looked at, those first that were seldom.
-    fn due(
-        &mut self,
-        search: &mut Search,
-        known: &Known,
-        bad: &Bad,
-    ) -> Result<Vec<Wire>, AllocError> {
+    fn due(&mut self, search: &mut Search, unfit: &BitSet) -> Result<Vec<Wire>, AllocError> {
         search.draws.shuffle(&mut self.wanted);
         let mut due = Vec::new(self.alloc);
         'looks: for looks in 0..self.most_looks() {
-            self.add_due(&mut due, search, known, bad, looks)?;
+            self.add_due(&mut due, search, unfit, looks)?;
         }
         Ok(due)
     }
@@ -305,11 +298,10 @@ impl Chooser {
     fn next_feet(
         &mut self,
         search: &mut Search,
-        known: &Known,
-        bad: &Bad,
+        unfit: &BitSet,
     ) -> Result<Vec<(Wire, Cross)>, AllocError> {
         'tries: for _try in 0..MOST_TRIES {
-            let due = self.due(search, known, bad)?;
+            let due = self.due(search, unfit)?;
             if due.is_empty() {
                 break;
             }
@@ -321,21 +313,19 @@ impl Chooser {
         Ok(Vec::new(self.alloc))
     }
 
-    /// The next look. None where no wire is to be looked at, none can, or so few hang that it isn't worth its cycles.
-    pub(crate) fn lay_look(
+    /// The next look, with the wires that were found unfit. None where no wire is to be looked at, none can, or so few hang that it isn't worth its cycles.
+    pub fn lay_look(
         &mut self,
         search: &mut Search,
-        _proof: &Proof,
-        known: &Known,
-        bad: &Bad,
+        unfit: &BitSet,
     ) -> Result<Option<Told>, AllocError> {
-        let feet = self.next_feet(search, known, bad)?;
+        let feet = self.next_feet(search, unfit)?;
         let few = feet.len().saturating_mul(PINS_A_HANG) < search.board.pins() as usize;
         if feet.is_empty() || few {
             search.climbs.clear();
             return Ok(None);
         }
-        let links = spread_links(self.alloc, known, search)?;
+        let links = spread_links(self.alloc, &self.steps, search)?;
         let climbs = std::mem::replace(&mut search.climbs, Vec::new(self.alloc));
         Ok(Some(Told {
             climbs,

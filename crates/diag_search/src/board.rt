@@ -2,15 +2,12 @@
 
 use crate::heights::Heights;
 use crate::wire_bits::WireBits;
-use base_bits::BitSet;
-use diag_evidence::Proof;
-use diag_known::{Field, Known};
-use machine_shape::{Cross, Wire};
+use machine_shape::{Cross, Shape, Wire};
 use std::alloc::{AllocError, Global};
 
-/// What the search knows of a crosspoint.
+/// What the search was told of a crosspoint.
 #[derive(Clone, Copy, PartialEq, Eq)]
-pub(crate) enum Mark {
+pub enum Mark {
     /// It is kept.
     Kept,
     /// It is neither kept nor marked.
@@ -37,22 +34,6 @@ pub(crate) struct Board {
     // How many crosspoints of a wire and of a crossbar, between known wires, are undecided and not held.
     left: Vec<u32>,
     todo: Vec<u32>,
-}
-
-// Whether a crosspoint is kept.
-pub(crate) fn keeps(proof: &Proof, c: Cross) -> bool {
-    if c.0 < proof.shape().crosses() {
-        return proof.keeps_cross(c);
-    }
-    false
-}
-
-// Whether a number is in a set.
-pub(crate) fn in_set(set: &BitSet, n: u32) -> bool {
-    if n < set.len() {
-        return set.has(n);
-    }
-    false
 }
 
 // One more.
@@ -92,29 +73,12 @@ fn count_at(counts: &Vec<u32>, at: usize) -> u32 {
     counts.get(at).copied().unwrap_or(0)
 }
 
-// What is known of a crosspoint at the beginning.
-fn first_mark(proof: &Proof, field: &Field, stuck: &BitSet, c: Cross) -> Mark {
-    if keeps(proof, c) {
-        return Mark::Kept;
-    }
-    if in_set(stuck, c.0) || !in_set(&field.crosses, c.0) {
-        return Mark::Barred;
-    }
-    Mark::Undecided
-}
-
 impl Board {
-    /// The board before the first load. No wire is known.
-    pub(crate) fn new(
-        alloc: Global,
-        proof: &Proof,
-        stuck: &BitSet,
-        field: &Field,
-    ) -> Result<Board, AllocError> {
-        let shape = proof.shape();
+    /// The board before the first load. No wire is known or of the field, and no crosspoint may be tried.
+    pub(crate) fn new(alloc: Global, shape: &Shape) -> Result<Board, AllocError> {
         let wires = shape.wires();
         let mut board = Board {
-            marks: Vec::with_capacity(alloc, shape.crosses() as usize)?,
+            marks: Vec::new(alloc),
             known: WireBits::new(alloc, wires)?,
             field: Vec::new(alloc),
             idle: WireBits::new(alloc, wires)?,
@@ -124,14 +88,10 @@ impl Board {
             left: Vec::new(alloc),
             todo: Vec::new(alloc),
         };
+        board.marks.resize(shape.crosses() as usize, Mark::Barred)?;
+        board.field.resize(wires as usize, false)?;
         board.left.resize(wires as usize, 0)?;
         board.todo.resize(shape.nodes() as usize, 0)?;
-        'wires: for w in 0..wires {
-            board.field.push(in_set(&field.wires, w))?;
-        }
-        'crosses: for c in 0..shape.crosses() {
-            board.marks.push(first_mark(proof, field, stuck, Cross(c)))?;
-        }
         Ok(board)
     }
 
@@ -166,11 +126,11 @@ impl Board {
         self.field.get(w.0 as usize).copied().unwrap_or(false)
     }
 
-    /// A wire can't come to be known.
-    pub(crate) fn forbid(&mut self, w: Wire) {
+    /// A wire is of the field.
+    pub(crate) fn allow(&mut self, w: Wire) {
         let at = w.0 as usize;
         if at < self.field.len() {
-            self.field[at] = false;
+            self.field[at] = true;
         }
     }
 
@@ -183,13 +143,6 @@ impl Board {
         self.idle.insert(w);
         if w.0 < self.pins {
             self.known_pins = self.known_pins.saturating_add(1);
-        }
-    }
-
-    /// All wires that are known.
-    pub(crate) fn learn_all(&mut self, known: &Known) {
-        'places: for place in 0..known.len() {
-            self.learn(known.wire_at(place));
         }
     }
 

@@ -1,11 +1,11 @@
 //! Which wires hang in the next load.
 
-use crate::board::{Mark, in_set};
+use crate::board::Mark;
 use crate::climbs::Walk;
+use crate::feet::Foot;
+use crate::flags::in_set;
 use crate::search::{Hung, Search};
 use base_bits::BitSet;
-use diag_evidence::Proof;
-use diag_known::{Foot, Known};
 use machine_shape::Wire;
 use std::alloc::AllocError;
 
@@ -132,7 +132,7 @@ impl Search {
     }
 
     /// Chooses the wires of a height that hang in the next load. There are none where none can.
-    pub(crate) fn choose_hangs(&mut self, unfit: &BitSet, height: u32) -> Result<(), AllocError> {
+    pub fn choose_hangs(&mut self, unfit: &BitSet, height: u32) -> Result<(), AllocError> {
         let height = height as usize;
         self.hangs.clear();
         self.climbs.clear();
@@ -154,30 +154,16 @@ impl Search {
         Ok(())
     }
 
-    // Looks what came of a wire that was hung.
-    fn note_hang(&mut self, proof: &Proof, known: &Known, stuck: &BitSet, hung: Hung) {
-        let at = hung.wire.0 as usize;
+    /// A wire was hung once more.
+    pub fn count_try(&mut self, w: Wire) {
+        let at = w.0 as usize;
         if at < self.tries.len() {
             self.tries[at] = self.tries[at].saturating_add(1);
-        }
-        self.note_cross(proof, stuck, hung.first.cross);
-        self.note_cross(proof, stuck, hung.second.cross);
-        if hung.wire.0 < known.shape().wires() && known.has(hung.wire) {
-            self.board.learn(hung.wire);
-        }
-    }
-
-    /// Looks what came of the wires that were hung.
-    pub(crate) fn note_hangs(&mut self, proof: &Proof, known: &Known, stuck: &BitSet) {
-        'hangs: for at in 0..self.hangs.len() {
-            if let Some(hung) = self.hangs.get(at).copied() {
-                self.note_hang(proof, known, stuck, hung);
-            }
         }
     }
 
     /// Each wire may be hung so often again.
-    pub(crate) fn begin_pass(&mut self) {
+    pub fn begin_pass(&mut self) {
         'wires: for at in 0..self.tries.len() {
             self.tries[at] = 0;
         }

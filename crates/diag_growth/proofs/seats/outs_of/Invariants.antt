@@ -1,0 +1,10 @@
+use Rattle.std.proofs.Common.{◌<◌, ℕ}
+use Rattle.machine_shape.specs.Shape.{line_at, hextant_of}
+use Rattle.diag_growth.specs.Choices.{AreOuts, IsTold}
+use Rattle.diag_growth.proofs.seats.outs_of.Given as goal
+
+abbrev pub invariant-lines : goal.invariant-lines
+invariant-lines l = record {
+  outs : AreOuts l.proof l.known.steps l.without.steps l.t.0 l.outs.items;
+  told : (i : ℕ) → i < l.k → IsTold l.proof l.known.steps l.without.steps l.t.0 l.outs.items (line_at l.proof.shape (hextant_of l.proof.shape l.t.0) i);
+}

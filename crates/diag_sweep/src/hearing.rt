@@ -1,0 +1,174 @@
+//! What a look shows of the wires that hung in it.
+
+use crate::asking::keeps;
+use crate::bad::Bad;
+use diag_evidence::{Forest, Looks, Proof};
+use diag_search::{Aim, Chooser, Still, Told, flag_at, in_set};
+use machine_shape::{Cross, Shape, Wire};
+use std::alloc::{AllocError, Global};
+
+// The other end of a crosspoint of a wire.
+fn far_end(shape: &Shape, w: Wire, cross: Cross) -> Option<Wire> {
+    if cross.0 >= shape.crosses() {
+        return None;
+    }
+    let (tap, line) = shape.ends(cross);
+    if tap.0 == w.0 {
+        return Some(line);
+    }
+    Some(tap)
+}
+
+// The pin on which a wire hangs.
+fn pin_of(forest: &Forest, w: Wire) -> Option<u32> {
+    if w.0 < forest.shape().wires() {
+        return forest.pin_of(w);
+    }
+    None
+}
+
+// Whether two pins, one of which hangs, read the same in each cycle.
+fn is_alike(forest: &Forest, reads: &Looks, pin: u32, other: u32) -> bool {
+    let shape = forest.shape();
+    if other >= shape.pins() || pin >= reads.pins() || other >= reads.pins() || other == pin {
+        return false;
+    }
+    pin_of(forest, shape.pin(other)).is_some() && !reads.parts(other, pin)
+}
+
+// The pins that read in each cycle as the one on which a wire hung; or this one, where none does and the crosspoint is kept.
+fn alike(
+    alloc: Global,
+    forest: &Forest,
+    reads: &Looks,
+    pin: u32,
+    kept: bool,
+) -> Result<Option<Vec<bool>>, AllocError> {
+    let mut found = false;
+    let mut alike = Vec::new(alloc);
+    'pins: for other in 0..reads.pins() {
+        let same = is_alike(forest, reads, pin, other);
+        found = found || same;
+        alike.push(same)?;
+    }
+    if !found && !kept {
+        return Ok(None);
+    }
+    if !found && (pin as usize) < alike.len() {
+        alike[pin as usize] = true;
+    }
+    Ok(Some(alike))
+}
+
+// Those of some wires that are known and hang on one of these pins.
+fn narrowed(
+    chooser: &Chooser,
+    forest: &Forest,
+    alike: &Vec<bool>,
+    w: Wire,
+) -> Result<Vec<Wire>, AllocError> {
+    let mut rest = Vec::new(chooser.alloc);
+    let Some(suspects) = chooser.suspects.get(w.0 as usize) else {
+        return Ok(rest);
+    };
+    'suspects: for u in &suspects.wires {
+        if let Some(pin) = pin_of(forest, *u) {
+            if flag_at(alike, pin) {
+                rest.push(*u)?;
+            }
+        }
+    }
+    Ok(rest)
+}
+
+// The known wires that hang on one of these pins.
+fn all_on(alloc: Global, forest: &Forest, alike: &Vec<bool>) -> Result<Vec<Wire>, AllocError> {
+    let mut wires = Vec::new(alloc);
+    'wires: for u in 0..forest.shape().wires() {
+        if let Some(pin) = pin_of(forest, Wire(u)) {
+            if flag_at(alike, pin) {
+                wires.push(Wire(u))?;
+            }
+        }
+    }
+    Ok(wires)
+}
+
+// A wire is shorted to one that hangs on one of these pins, as it seems.
+fn suspect(
+    chooser: &mut Chooser,
+    forest: &Forest,
+    alike: &Vec<bool>,
+    w: Wire,
+) -> Result<(), AllocError> {
+    let wires = if chooser.suspect_count(w) == 0 {
+        all_on(chooser.alloc, forest, alike)?
+    } else {
+        narrowed(chooser, forest, alike, w)?
+    };
+    chooser.set_suspects(w, wires);
+    Ok(())
+}
+
+// A pin stayed at one value with a wire. No known wire is to blame.
+fn note_still(chooser: &mut Chooser, bad: &Bad, w: Wire, high: bool) {
+    let at = w.0 as usize;
+    if at < chooser.still.len() {
+        chooser.still[at] = if high { Still::High } else { Still::Low };
+    }
+    if at < chooser.suspects.len() {
+        chooser.suspects[at].wires.clear();
+    }
+    if in_set(&bad.unfit, w.0) {
+        chooser.set_looks(w, u32::MAX);
+    }
+}
+
+// Takes in what was read at the pin of a wire.
+fn hear_one(
+    chooser: &mut Chooser,
+    forest: &Forest,
+    reads: &Looks,
+    bad: &Bad,
+    hang: (Wire, bool, u32),
+) -> Result<(), AllocError> {
+    let (w, kept, pin) = hang;
+    if pin >= reads.pins() {
+        return Ok(());
+    }
+    if !reads.swings(pin) {
+        note_still(chooser, bad, w, reads.read_free(pin));
+        return Ok(());
+    }
+    if chooser.aim != Aim::Partners && !in_set(&bad.unfit, w.0) {
+        return Ok(());
+    }
+    match alike(chooser.alloc, forest, reads, pin, kept)? {
+        Some(alike) => suspect(chooser, forest, &alike, w),
+        None => Ok(()),
+    }
+}
+
+/// Takes in what a look has read.
+pub(crate) fn hear(
+    chooser: &mut Chooser,
+    told: &Told,
+    forest: &Forest,
+    reads: &Looks,
+    proof: &Proof,
+    bad: &Bad,
+) -> Result<(), AllocError> {
+    let shape = proof.shape();
+    'feet: for at in 0..told.feet.len() {
+        let Some((w, cross)) = told.feet.get(at).copied() else {
+            continue;
+        };
+        let Some(end) = far_end(&shape, w, cross) else {
+            continue;
+        };
+        if let Some(pin) = pin_of(forest, end) {
+            hear_one(chooser, forest, reads, bad, (w, keeps(proof, cross), pin))?;
+        }
+    }
+    Ok(())
+}

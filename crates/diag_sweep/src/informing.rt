@@ -1,0 +1,152 @@
+//! What the search is told before the first load, and after each.
+
+use crate::asking::{keeps, knows};
+use crate::bad::Bad;
+use base_bits::BitSet;
+use diag_evidence::Proof;
+use diag_known::{Field, Known};
+use diag_search::{Hung, Mark, Search, in_set};
+use machine_shape::{Cross, Table, Wire};
+use std::alloc::{AllocError, Global};
+
+// What is known of a crosspoint at the beginning.
+fn first_mark(proof: &Proof, field: &Field, stuck: &BitSet, c: Cross) -> Mark {
+    if keeps(proof, c) {
+        return Mark::Kept;
+    }
+    if in_set(stuck, c.0) || !in_set(&field.crosses, c.0) {
+        return Mark::Barred;
+    }
+    Mark::Undecided
+}
+
+// Which crosspoints are kept, and which may be tried.
+fn mark_crosses(search: &mut Search, proof: &Proof, field: &Field, stuck: &BitSet) {
+    'crosses: for c in 0..proof.shape().crosses() {
+        search.mark(Cross(c), first_mark(proof, field, stuck, Cross(c)));
+    }
+}
+
+// Which wires may come to be known: those of the field that weren't found unclear.
+fn allow_wires(search: &mut Search, proof: &Proof, field: &Field, unclear: &BitSet) {
+    'wires: for w in 0..proof.shape().wires() {
+        if in_set(&field.wires, w) && !in_set(unclear, w) {
+            search.allow(Wire(w));
+        }
+    }
+}
+
+/// Wires have come to be known.
+pub(crate) fn note_known(search: &mut Search, known: &Known) {
+    'places: for place in 0..known.len() {
+        search.learn(known.wire_at(place));
+    }
+}
+
+/// The search before the first load.
+pub(crate) fn new_search(
+    alloc: Global,
+    proof: &Proof,
+    known: &Known,
+    bad: &Bad,
+    field: &Field,
+) -> Result<Search, AllocError> {
+    let mut search = Search::new(alloc, &proof.shape())?;
+    mark_crosses(&mut search, proof, field, &bad.stuck);
+    allow_wires(&mut search, proof, field, &bad.unclear);
+    note_known(&mut search, known);
+    Ok(search)
+}
+
+// Looks whether a crosspoint was decided.
+fn note_cross(search: &mut Search, proof: &Proof, stuck: &BitSet, c: Cross) {
+    if keeps(proof, c) {
+        search.note_kept(c);
+    } else if in_set(stuck, c.0) {
+        search.note_stuck(c);
+    }
+}
+
+// Looks what came of a wire that was hung.
+fn note_hang(search: &mut Search, proof: &Proof, known: &Known, stuck: &BitSet, hung: Hung) {
+    search.count_try(hung.wire);
+    note_cross(search, proof, stuck, hung.first.cross);
+    note_cross(search, proof, stuck, hung.second.cross);
+    if knows(known, hung.wire) {
+        search.learn(hung.wire);
+    }
+}
+
+/// Looks what came of the wires that were hung.
+pub(crate) fn note_hangs(search: &mut Search, proof: &Proof, known: &Known, stuck: &BitSet) {
+    'hangs: for at in 0..search.hangs.len() {
+        if let Some(hung) = search.hangs.get(at).copied() {
+            note_hang(search, proof, known, stuck, hung);
+        }
+    }
+}
+
+// Looks what came of the crosspoints of a walk.
+fn note_walk(search: &mut Search, proof: &Proof, stuck: &BitSet, at: usize) {
+    let Some(trial) = search.trials.get(at) else {
+        return;
+    };
+    let crosses = trial.walk.crosses.len();
+    'crosses: for k in 0..crosses {
+        if let Some(cross) = search.cross_of(at, k) {
+            note_cross(search, proof, stuck, cross);
+        }
+    }
+}
+
+/// Looks what came of the walks.
+pub(crate) fn note_walks(
+    search: &mut Search,
+    proof: &Proof,
+    stuck: &BitSet,
+) -> Result<(), AllocError> {
+    'trials: for at in 0..search.trials.len() {
+        note_walk(search, proof, stuck, at);
+        search.note_trial(at)?;
+    }
+    search.drop_groups();
+    Ok(())
+}
+
+// Whether a table stands in a hextant and is still to be tested.
+fn is_left(proof: &Proof, wrong: &BitSet, node: u32, t: Table) -> bool {
+    let shape = proof.shape();
+    if t.0 >= shape.tables() || t.0 >= wrong.len() || wrong.has(t.0) || proof.keeps_register(t) {
+        return false;
+    }
+    shape.hextant_of(t).0 == node
+}
+
+// The tables of a hextant that are still to be tested.
+fn tables_left(
+    alloc: Global,
+    proof: &Proof,
+    wrong: &BitSet,
+    tables: &[Table],
+    node: u32,
+) -> Result<Vec<Table>, AllocError> {
+    let mut left = Vec::new(alloc);
+    'tables: for t in tables {
+        if is_left(proof, wrong, node, *t) {
+            left.push(*t)?;
+        }
+    }
+    Ok(left)
+}
+
+/// Has the tables of the next load chosen, of the hextant that the search is at. False where none is left to test.
+pub(crate) fn choose_tables(
+    search: &mut Search,
+    alloc: Global,
+    proof: &Proof,
+    wrong: &BitSet,
+    tables: &[Table],
+) -> Result<bool, AllocError> {
+    let left = tables_left(alloc, proof, wrong, tables, search.node)?;
+    search.choose_tables(&left)
+}

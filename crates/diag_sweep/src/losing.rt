@@ -1,0 +1,166 @@
+//! What the choice is told: which wires are known, kept and lost, and from which known ones a pin isn't kept apart.
+
+use crate::asking::{is_apart, keeps, keeps_wire, knows};
+use crate::bad::Bad;
+use crate::feet::step_of;
+use base_bits::BitSet;
+use diag_evidence::Proof;
+use diag_known::Known;
+use diag_search::{Aim, Chooser, in_set, set_flag};
+use machine_shape::{Meaning, Node, Shape, Table, Wire};
+use std::alloc::AllocError;
+
+// The table of which a wire is a pin.
+fn table_of(shape: &Shape, w: Wire) -> Option<Table> {
+    if w.0 >= shape.wires() {
+        return None;
+    }
+    match shape.meaning(w) {
+        Meaning::TablePin { table, .. } => Some(table),
+        _ => None,
+    }
+}
+
+// How many wires were known when a wire was tried, as it seems: up to the last one from which it is kept apart.
+fn places_tried(proof: &Proof, known: &Known, w: Wire) -> usize {
+    let mut places = 0;
+    'places: for place in 0..known.len() {
+        if is_apart(proof, w, known.wire_at(place)) {
+            places = place.saturating_add(1);
+        }
+    }
+    places
+}
+
+// Whether a kept crosspoint leads from a pin of a table to a line of its hextant that is known.
+fn is_foot(proof: &Proof, known: &Known, pin: Wire, node: Node, k: u32) -> bool {
+    let shape = proof.shape();
+    if pin.0 >= shape.wires() || node.0 >= shape.nodes() || k >= shape.lines(node) {
+        return false;
+    }
+    let line = shape.line(node, k);
+    if !knows(known, line) {
+        return false;
+    }
+    match shape.cross(pin, line) {
+        Some(cross) => keeps(proof, cross),
+        None => false,
+    }
+}
+
+// Whether kept crosspoints lead from a pin of a table to two lines that are known.
+fn has_feet(proof: &Proof, known: &Known, pin: Wire, node: Node) -> bool {
+    if node.0 >= proof.shape().nodes() {
+        return false;
+    }
+    let mut found = false;
+    'lines: for k in 0..proof.shape().lines(node) {
+        if is_foot(proof, known, pin, node, k) {
+            if found {
+                return true;
+            }
+            found = true;
+        }
+    }
+    false
+}
+
+// Whether a pin of a table isn't known, though it is kept and two kept crosspoints lead from it to lines that are.
+fn is_left_out(proof: &Proof, known: &Known, w: Wire) -> bool {
+    let shape = proof.shape();
+    match table_of(&shape, w) {
+        Some(table) => {
+            table.0 < shape.tables()
+                && keeps_wire(proof, w)
+                && has_feet(proof, known, w, shape.hextant_of(table))
+        }
+        None => false,
+    }
+}
+
+// Whether a wire is unfit, or was lost in growth.
+fn is_lost(proof: &Proof, known: &Known, bad: &Bad, w: Wire) -> bool {
+    if knows(known, w) {
+        return false;
+    }
+    in_set(&bad.unfit, w.0) || in_set(&bad.unclear, w.0) || is_left_out(proof, known, w)
+}
+
+// Tells which wires are known.
+fn tell_known(chooser: &mut Chooser, known: &Known) -> Result<(), AllocError> {
+    chooser.forget_known();
+    'places: for place in 0..known.len() {
+        let step = known.step_at(place);
+        chooser.push_known(step_of(&step))?;
+    }
+    Ok(())
+}
+
+// Tells which wires are unfit, or were lost in growth.
+fn tell_lost(chooser: &mut Chooser, proof: &Proof, known: &Known, bad: &Bad) {
+    'wires: for w in 0..proof.shape().wires() {
+        let lost = is_lost(proof, known, bad, Wire(w));
+        set_flag(&mut chooser.lost, w, lost);
+    }
+}
+
+// Tells which wires are kept.
+fn tell_kept(chooser: &mut Chooser, proof: &Proof) {
+    'wires: for w in 0..proof.shape().wires() {
+        set_flag(&mut chooser.kept, w, keeps_wire(proof, Wire(w)));
+    }
+}
+
+// A wire that was tried can be shorted to those alone from which it isn't kept apart, of the wires that were known by then.
+fn infer(chooser: &mut Chooser, proof: &Proof, known: &Known, w: Wire) -> Result<(), AllocError> {
+    if chooser.suspect_count(w) > 0 {
+        return Ok(());
+    }
+    let mut wires = Vec::new(known.alloc());
+    'places: for place in 0..places_tried(proof, known, w) {
+        if place < known.len() && !is_apart(proof, w, known.wire_at(place)) {
+            wires.push(known.wire_at(place))?;
+        }
+    }
+    chooser.set_suspects(w, wires);
+    Ok(())
+}
+
+// The same of all wires that the next looks are about.
+fn infer_all(chooser: &mut Chooser, proof: &Proof, known: &Known) -> Result<(), AllocError> {
+    'wires: for at in 0..chooser.wanted.len() {
+        if let Some(w) = chooser.wanted.get(at).copied() {
+            infer(chooser, proof, known, w)?;
+        }
+    }
+    Ok(())
+}
+
+/// What the next looks are for.
+pub(crate) fn begin(
+    chooser: &mut Chooser,
+    aim: Aim,
+    proof: &Proof,
+    known: &Known,
+    bad: &Bad,
+) -> Result<(), AllocError> {
+    tell_known(chooser, known)?;
+    match aim {
+        Aim::Partners => {
+            tell_lost(chooser, proof, known, bad);
+            chooser.begin(aim, &bad.unfit, &bad.unclear, &bad.wrong)?;
+            infer_all(chooser, proof, known)
+        }
+        _ => chooser.begin(aim, &bad.unfit, &bad.unclear, &bad.wrong),
+    }
+}
+
+/// The known wires that stay, once others give way for pins of tables. None where none does.
+pub(crate) fn give_up(
+    chooser: &mut Chooser,
+    proof: &Proof,
+    bad: &Bad,
+) -> Result<Option<BitSet>, AllocError> {
+    tell_kept(chooser, proof);
+    chooser.give_up(&bad.unclear)
+}

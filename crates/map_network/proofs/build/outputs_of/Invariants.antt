@@ -1,0 +1,7 @@
+use Rattle.std.proofs.Common.{◌≡◌, map, take}
+use Rattle.design_netlist.specs.declared.draft.PortDef.{PortDef}
+use Rattle.map_network.specs.Drives.{source_in}
+use Rattle.map_network.proofs.build.outputs_of.Given as goal
+
+abbrev pub invariant-outputs : goal.invariant-outputs
+invariant-outputs l = l.given.items ≡ map (λ (p : PortDef). source_in l.sources p.signal) (take l.k l.outputs)
