@@ -1,5 +1,5 @@
 #!/usr/bin/env python3
-"""What the plans of `crates/library_examples` have to give, counted by the definitions and not by the program.
+"""What the plans of `crates/example_parts` have to give, counted by the definitions and not by the program.
 
 usage: plans.py CASES          for each case: crossings and closed crosspoints in order, the fewest crossings that any
                                seating of the tables on the free tables has (all are tried), and the numbers of closed
