@@ -91,7 +91,7 @@ def read_specs(path, crate):
             module = []
         base = 2 if module else 0
         if line.startswith('module '):
-            module, current = [line], None
+            module, current, comment = comment + [line], None, []
         elif re.match(r'(pub )?(use|mod) ', line):
             current = None
         elif module and current is None and indent > 2:
@@ -268,7 +268,7 @@ def library(trail):
     missing = sorted(set(modules) - set(meanings))
     if missing:
         sys.exit('docs/headline_words.txt has no line for ' + ' '.join(missing))
-    page = ['## Words of the library\n', 'They stand in the `specs` of the proved standard library that the kit brings (`KIT/rattle/std`, `core`).\n']
+    page = ['## Words of the library\n', 'They stand in the `specs` of the standard library that the kit brings (`KIT/rattle/std`, `core`).\n']
     return page + ['\n'.join(f'- `{word}` (`{modules[word]}`): {meaning}' for word, meaning in meanings.items() if word in modules) + '\n']
 
 
