@@ -5,10 +5,11 @@ use Rattle.base_text.specs.Lines.{LogicalLine, logical_lines}
 use Rattle.design_netlist.specs.declared.draft.Draft.{Draft}
 use Rattle.design_flatten.specs.declared.model.Model.{Model}
 use Rattle.design_flatten.specs.Netlists.{IsNetlistOf}
-use Rattle.design_blif.specs.Grammar.{Statement, statements_of, names_of, inputs_of, outputs_of, clocks_of, parts_of, models_of, model_lines, name_of, spelled_model, is_some_model, kind_of, AreRight}
+use Rattle.design_blif.specs.Grammar.{Statement, ModelText, statements_of, names_of, inputs_of, outputs_of, clocks_of, parts_of, models_of, model_lines, name_of, spelled_model, is_some_model, kind_of, AreRight}
 use Rattle.design_blif.specs.Designs.{IsDesign}
 use Rattle.design_laws.specs.ShortDesigns.{AreOfOneModel, IsShortDesign}
-use Rattle.design_laws.proofs.AscendingLemmas.{lines_ascend, statements_ascend}
+use Rattle.design_laws.proofs.AscendingLemmas.{Ascend, statement_number, lines_ascend, statements_ascend}
+use Rattle.design_laws.proofs.OrderedLemmas.{Each}
 use Rattle.design_laws.proofs.LineLemmas.{IsFine, KeepsTo}
 use Rattle.design_laws.proofs.TextLemmas.{IsFineLine, KeepsLine, each_statement, fine_lines, the_model, one_control}
 use Rattle.design_laws.proofs.ModelLemmas.{spelled_by, is_netlist}
@@ -21,14 +22,19 @@ module _ (bytes : List ℕ) (d : Draft) (single : AreOfOneModel (logical_lines t
   abbrev ss : List Statement
   ss = statements_of ls
 
+  fine : Each (λ s. IsFine (kind_of s.head) s.head.words) ss
   fine = each_statement IsFineLine ls (fine_lines ls [] right single.alone)
 
+  ascends : Ascend statement_number 1 ss
   ascends = statements_ascend 1 ls (lines_ascend bytes)
 
+  abbrev one : List ℕ
   one = (one_control ls right single.one).0
 
+  keeps : Each (λ s. KeepsTo one (kind_of s.head) s.head.words) ss
   keeps = each_statement (KeepsLine one) ls (one_control ls right single.one).1
 
+  abbrev the_text : (m : ModelText) × (models_of ls ≡ m ∷ []) × (statements_of (model_lines m) ≡ ss)
   the_text = the_model ls [] right refl single.one
 
   abbrev name : List ℕ

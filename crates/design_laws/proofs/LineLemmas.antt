@@ -17,8 +17,8 @@ use Rattle.design_flatten.specs.Netlists.{Clocked, control_is, control_on, input
 use Rattle.design_blif.specs.declared.head.Head.{Head}
 use Rattle.design_blif.specs.declared.head.Head.TheVariants as head
 use Rattle.design_blif.specs.Names.{name_number}
-use Rattle.design_blif.specs.Parts.{nth_word, control_of}
-use Rattle.design_blif.specs.Grammar.{Statement, port_of, inputs_on, outputs_on, cover_of, latch_of, part_on, signals}
+use Rattle.design_blif.specs.Parts.{nth_word, control_of, lit_of, pattern}
+use Rattle.design_blif.specs.Grammar.{Statement, port_of, inputs_on, outputs_on, cover_of, lists_off, latch_of, part_on, signals}
 use Rattle.design_laws.specs.ShortDesigns.{latches_on}
 use Rattle.design_laws.proofs.OrderedLemmas.{Each, each-append}
 use Rattle.design_laws.proofs.NumberLemmas.{Has, sig, sig_number}
@@ -187,12 +187,11 @@ module _ (names : List (List ℕ)) where
       let ns = map (name_number names) (drop 1 s.head.words) in
       let ks = kept (drop 1 s.head.words) all in
       let some : 0 < length ns = omega (arith, fine, same_length (drop 1 s.head.words)) in
-      by (cover_of names head.Names s) (last_in IsKept ns some ks) (all_kept (take (length ns - 1) ns) (each_take IsKept (length ns - 1) ns ks))
-    where
-      by : (o : Option Cover) → signal_number sigs (own (slice_index (map (name_number names) (drop 1 s.head.words)) (length (map (name_number names) (drop 1 s.head.words)) - 1))) ≡ slice_index (map (name_number names) (drop 1 s.head.words)) (length (map (name_number names) (drop 1 s.head.words)) - 1)
-          → map (signal_number sigs) (map own (take (length (map (name_number names) (drop 1 s.head.words)) - 1) (map (name_number names) (drop 1 s.head.words)))) ≡ take (length (map (name_number names) (drop 1 s.head.words)) - 1) (map (name_number names) (drop 1 s.head.words))
-          → flat_map (cover_on sigs) (here head.Names s) ≡ option_to_list (cover_of names head.Names s)
-      by o out ins = ap (λ (c : Cover). c ∷ []) (λ i. record { out = out i; ins = ins i; rows = _; off = _; line = s.head.number })
+      let out = last_in IsKept ns some ks in
+      let ins = all_kept (take (length ns - 1) ns) (each_take IsKept (length ns - 1) ns ks) in
+      let rows = map (λ row. map lit_of (pattern (length (take (length ns - 1) ns)) row.words)) s.rows in
+      let off = lists_off (length (take (length ns - 1) ns)) s.rows in
+      λ i. record { out = out i; ins = ins i; rows = rows; off = off; line = s.head.number } ∷ []
   covers_said head.Latch s fine all = refl
   covers_said head.Subckt s fine all = absurd fine
   covers_said _ s fine all = refl

@@ -1,5 +1,5 @@
 -- A model that uses no other is the netlist of its lines.
-use Rattle.std.proofs.Common.{◌≡◌, ℕ, zero, ◌+◌, ◌<◌, ◌≤◌, Bool, true, false, cond, ◌||◌, nat_lt, List, [], ◌∷◌, ◌++◌, Option, Some, None, length, map, refl, sym, ap, ◌∙◌, subst, arith, get_or}
+use Rattle.std.proofs.Common.{◌≡◌, ℕ, zero, suc, add-zero, ◌+◌, ◌<◌, ◌≤◌, Bool, true, false, cond, ◌||◌, nat_lt, List, [], ◌∷◌, ◌++◌, Option, Some, None, length, map, refl, sym, ap, ◌∙◌, subst, arith, get_or}
 use Rattle.std.specs.Prelude.{slice_index_or}
 use Rattle.std.specs.List.{flat_map, list_any, sum_by}
 use Rattle.std.specs.Option.{option_to_list}
@@ -90,20 +90,23 @@ none_left_in : (names : List (List ℕ)) (ls : List (Line ℕ)) → Each (IsNoUs
 none_left_in names [] all = refl
 none_left_in names (l ∷ ls) all = λ i. part_not_left names l.number l.part all.0 i || none_left_in names ls all.1 i
 
-no_uses_on : (names own : List (List ℕ)) (name : List ℕ) (h : Head) (s : Statement) → IsFine h s.head.words → flat_map (use_on name) (option_to_list (part_on names h s)) ≡ []
-no_uses_on names own name head.Subckt s fine = absurd fine
-no_uses_on names own name head.Names s fine = refl
-no_uses_on names own name head.Latch s fine = refl
-no_uses_on names own name _ s fine = refl
+no_uses_on : (names : List (List ℕ)) (name : List ℕ) (h : Head) (s : Statement) → IsFine h s.head.words → flat_map (use_on name) (option_to_list (part_on names h s)) ≡ []
+no_uses_on names name head.Subckt s fine = absurd fine
+no_uses_on names name head.Names s fine = refl
+no_uses_on names name head.Latch s fine = refl
+no_uses_on names name _ s fine = refl
 
 -- ---- the characters of rows
 
 part_size : (signals : List Signal) (n : ℕ) (p : Part Signal) → size_in p ≡ sum_by rows_size (cover_on signals (record { number = n; part = p }))
 part_size signals n (InputPart s) = refl
 part_size signals n (OutputPart s) = refl
-part_size signals n (CoverPart out ins rows off) = omega arith
+part_size signals n (CoverPart out ins rows off) = sym (add-zero (sum_by (λ row. length row + 1) rows))
 part_size signals n (LatchPart from out init control) = refl
 part_size signals n (UsePart m pairs way) = refl
+
+line_size : (signals : List Signal) (l : Line Signal) → size_in l.part ≡ sum_by rows_size (cover_on signals l)
+line_size signals l = part_size signals l.number l.part
 
 sum-append : (xs ys : List Cover) → sum_by rows_size (xs ++ ys) ≡ sum_by rows_size xs + sum_by rows_size ys
 sum-append [] ys = omega arith
@@ -111,7 +114,7 @@ sum-append (x ∷ xs) ys = omega (arith, sum-append xs ys)
 
 lines_size : (signals : List Signal) (ls : List (Line Signal)) → size_of ls ≡ sum_by rows_size (flat_map (cover_on signals) ls)
 lines_size signals [] = refl
-lines_size signals (l ∷ ls) = omega (arith, part_size signals l.number l.part, lines_size signals ls, sum-append (cover_on signals l) (flat_map (cover_on signals) ls))
+lines_size signals (l ∷ ls) = omega (arith, line_size signals l, lines_size signals ls, sum-append (cover_on signals l) (flat_map (cover_on signals) ls))
 
 neither : (a b : Bool) → (a || b) ≡ false → (a ≡ false) × (b ≡ false)
 neither true b h = absurd cc
@@ -178,7 +181,7 @@ module _ (name : List ℕ) (ss : List Statement) (fine : Each (λ s. IsFine (kin
   none_used =
       let one_model : flat_map (use_on name) (parts_of names ss) ≡ [] =
           flat_flat (use_on name) (λ s. option_to_list (part_on names (kind_of s.head) s)) ss
-          ∙ alike (λ s. flat_map (use_on name) (option_to_list (part_on names (kind_of s.head) s))) (λ s. []) ss (one_by_one (λ s. IsFine (kind_of s.head) s.head.words) (λ s. flat_map (use_on name) (option_to_list (part_on names (kind_of s.head) s)) ≡ []) (λ s f. no_uses_on names [] name (kind_of s.head) s f) ss fine)
+          ∙ alike (λ s. flat_map (use_on name) (option_to_list (part_on names (kind_of s.head) s))) (λ s. []) ss (one_by_one (λ s. IsFine (kind_of s.head) s.head.words) (λ s. flat_map (use_on name) (option_to_list (part_on names (kind_of s.head) s)) ≡ []) (λ s f. no_uses_on names name (kind_of s.head) s f) ss fine)
           ∙ empty ss in
       ap (λ x. x ++ []) one_model
     where

@@ -38,9 +38,9 @@ same_number names v w a b = by (bytes_eq v w) refl
     by : (t : Bool) → bytes_eq v w ≡ t → (name_number names v == name_number names w) ≡ t
     by true e = eq-eqb (name_number names v) (name_number names w) (ap (name_number names) ((bytes_eq-Decides v w).0 e))
     by false e = elim (cases_Bool (name_number names v == name_number names w)) [
-      | inr no ↦ no
-      | inl yes-same ↦
-          let alike : bytes_eq v w ≡ true = (bytes_eq-Decides v w).1 (one_name names v w a b (eqb-true (name_number names v) (name_number names w) yes-same)) in
+      | inr differ ↦ differ
+      | inl equal ↦
+          let alike : bytes_eq v w ≡ true = (bytes_eq-Decides v w).1 (one_name names v w a b (eqb-true (name_number names v) (name_number names w) equal)) in
           absurd cc
     ]
 

@@ -100,13 +100,12 @@ first_control (l ∷ lines) = option_or (latch_control_on (kind_of l) l) (first_
 
 control_by_lines : (lines : List LogicalLine) → control_by (statements_of lines) ≡ first_control lines
 control_by_lines [] = refl
-control_by_lines (l ∷ lines) = by (kind_of l) (grouped lines) (control_by_lines lines)
+control_by_lines (l ∷ lines) = by (kind_of l) refl (grouped lines) (control_by_lines lines)
   where
-    by : (k : Head) (g : Grouped) → control_by g.statements ≡ first_control lines → control_by (grouped_behind l k g).statements ≡ option_or (latch_control_on k l) (first_control lines)
-    by head.Passed g rest = rest
-    by head.Row g rest = rest
-    by head.Latch g rest = ap (option_or (control_of l.words)) rest
-    by _ g rest = rest
+    by : (k : Head) → kind_of l ≡ k → (g : Grouped) → control_by g.statements ≡ first_control lines → control_by (grouped_behind l k g).statements ≡ option_or (latch_control_on (kind_of l) l) (first_control lines)
+    by head.Passed is g rest = rest ∙ ap (λ k. option_or (latch_control_on k l) (first_control lines)) (sym is)
+    by head.Row is g rest = rest ∙ ap (λ k. option_or (latch_control_on k l) (first_control lines)) (sym is)
+    by _ is g rest = ap (option_or (latch_control_on (kind_of l) l)) rest
 
 first-append : (xs : List LogicalLine) (l : LogicalLine) → first_control (xs ++ l ∷ []) ≡ option_or (first_control xs) (latch_control_on (kind_of l) l)
 first-append [] l = by (latch_control_on (kind_of l) l)
