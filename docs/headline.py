@@ -24,11 +24,11 @@ LAYERS = ['Commands', 'Rigs: machines under test', 'The machine', 'Laying: from 
 INTRODUCTION = """\
 # The headline on one page
 
-Written by `docs/headline.py`; the gate's `python3 docs/headline.py --check` says when it is old. Don't edit it.
+Written by `docs/headline.py`, and not to be edited; `python3 docs/headline.py --check` says when it is old.
 
 **How to read it.** First stands the clause: what the top call `teramac` promises of the words `go MACHINE NAME DESIGN VECTORS`.
-Then stands every definition that it leads to, each once, the one that cites before the one that is cited, by layers from the
-command down to texts and lists, each under the file that it stands in. So it can be read from the top as far as doubt goes.
+Then stands every definition that it leads to, each once, under the file that it stands in: layer by layer from the commands down to
+texts and lists, and in a file what cites before what is cited. So it can be read from the top as far as doubt goes.
 The checker proves the clause of the program's own call. What it means is what stands here, and what `store_state`, `rig_state` and
 `sink_state` are of the store, the rig and the sink that the program is run with (`docs/RIG.md`).
 
@@ -39,7 +39,7 @@ The checker proves the clause of the program's own call. What it means is what s
   `IfTold` says something of its bytes only where they are told; `rig.machine.faults` is `Some f` where a rig tells its faults `f`.
   The simulated rig tells them; a rig of hardware may not, and then the sentences that begin with `(f : Faults) → .. ≡ Some f →`
   say nothing of it.
-- A `record` is the conjunction of its fields, a `data` a choice of its cases. `A × B` is *and*, `A ⊎ B` *or*, `A → B` *if .. then*,
+- A `record` has all of its fields, a `data` is one of its cases. `A × B` is *and*, `A ⊎ B` *or*, `A → B` *if .. then*,
   `(x : A) → B` *for all*, `(x : A) × B` *there is*, `⊥` what never holds, `a ≡ b` *are equal*. `Type 0` is the type of sentences.
 - A type of the program is shown as it is declared. Contracts see a number as a number, and a `Vec`, `Items` or `String` as a list.
 """
@@ -246,7 +246,7 @@ def section(trail, places):
     layers = LAYERS + [title for title in trail.layers if title not in LAYERS]
     for title in layers:
         here = [place for place in places if place[0] in trail.layers.get(title, [])]
-        page += [f'### {title.split(":")[0]}\n'] if here else []
+        page += [f'### {title}\n'] if here else []
         page += by_files([trail.definitions[place] for place in here])
     return page
 
