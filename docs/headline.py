@@ -18,6 +18,8 @@ LIBRARY_WORDS = ROOT / 'docs' / 'headline_words.txt'
 # the clause, field by field; the last is the headline
 CLAUSE = [('cmd_go', 'Promises', 'GoPromises'), ('cmd_go', 'Promises', 'go_words'), ('cmd_go', 'Headline', 'IsWellGone')]
 HEADLINE = ('cmd_go', 'Headline', 'IsGone')
+# what a design is where its text has one model, and that this is no other sentence
+SHORT = [('design_laws', 'ShortDesigns', 'AreOfOneModel'), ('design_laws', 'ShortDesigns', 'IsShortDesign')]
 # the sections of crates.txt, in the order in which a reader meets them
 LAYERS = ['Commands', 'Rigs: machines under test', 'The machine', 'Laying: from a design to an image', 'Designs', 'Diagnosis', 'Base']
 
@@ -39,6 +41,8 @@ The checker proves the clause of the program's own call. What it means is what s
   `IfTold` says something of its bytes only where they are told; `rig.machine.faults` is `Some f` where a rig tells its faults `f`.
   The simulated rig tells them; a rig of hardware may not, and then the sentences that begin with `(f : Faults) → .. ≡ Some f →`
   say nothing of it.
+- Most of the words on designs speak of models in models. For a text of one model without `.subckt` the *design* (`IsDesign`) is the
+  short definition `IsShortDesign`, which stands right behind the clause: this is proved, in both directions.
 - A `record` has all of its fields, a `data` is one of its cases. `A × B` is *and*, `A ⊎ B` *or*, `A → B` *if .. then*,
   `(x : A) → B` *for all*, `(x : A) × B` *there is*, `⊥` what never holds, `a ≡ b` *are equal*. `Type 0` is the type of sentences.
 - A type of the program is shown as it is declared. Contracts see a number as a number, and a `Vec`, `Items` or `String` as a list.
@@ -226,6 +230,11 @@ def fenced(language, text):
     return f'```{language}\n{text}\n```\n'
 
 
+def by_name(path):
+    name = path.relative_to(ROOT / 'crates')
+    return f'[{name}](../crates/{name})\n'
+
+
 def by_files(definitions):
     """Definitions, each file's under its name."""
     page = []
@@ -235,8 +244,7 @@ def by_files(definitions):
             texts += ['\n'.join(found.module)] if found.module not in ([], module) else []
             texts.append(found.text())
             module = found.module
-        name = path.relative_to(ROOT / 'crates')
-        page += [f'[{name}](../crates/{name})\n', fenced('rust' if path.suffix == '.rt' else 'antt', '\n\n'.join(texts))]
+        page += [by_name(path), fenced('rust' if path.suffix == '.rt' else 'antt', '\n\n'.join(texts))]
     return page
 
 
@@ -251,13 +259,17 @@ def section(trail, places):
     return page
 
 
+def call(path, name):
+    """A public function and its clauses, cut out of its file."""
+    found = re.search(rf'^pub fn {name}\b.*?(?=^\{{)', (ROOT / 'crates' / path).read_text(), re.M | re.S)
+    return f'[{path}](../crates/{path})\n\n' + fenced('rust', found.group(0).rstrip())
+
+
 def clause(trail):
-    """The clause of the top call, cut out of its file, and the field of it that is the promise of `go`."""
-    source = (ROOT / 'crates' / 'cmd_top' / 'src' / 'program.rt').read_text()
-    call = re.search(r'^pub fn teramac.*?(?=^\{)', source, re.M | re.S).group(0).rstrip()
+    """The clause of the top call, the field of it that is the promise of `go`, and what that says."""
     promises = trail.definitions['cmd_top', 'Promises', 'Promises']
     field = '\n'.join(promises.comment + [l for l in promises.lines if 'record' in l or 'of_go' in l])
-    page = ['## The clause\n', fenced('rust', call), fenced('antt', field)]
+    page = ['## The clause\n', call('cmd_top/src/program.rt', 'teramac'), by_name(promises.path), fenced('antt', field)]
     return page + by_files([trail.definitions[place] for place in CLAUSE + [HEADLINE]])
 
 
@@ -268,20 +280,29 @@ def library(trail):
     missing = sorted(set(modules) - set(meanings))
     if missing:
         sys.exit('docs/headline_words.txt has no line for ' + ' '.join(missing))
-    page = ['## Words of the library\n', 'They stand in the `specs` of the standard library that the kit brings (`KIT/rattle/std`, `core`).\n']
-    return page + ['\n'.join(f'- `{word}` (`{modules[word]}`): {meaning}' for word, meaning in meanings.items() if word in modules) + '\n']
+    lines = [f'- `{word}` (`{modules[word]}`): {meaning}' for word, meaning in meanings.items() if word in modules]
+    where = 'They stand in `specs` of the standard library that the kit brings (`KIT/rattle/std` and `core`).\n'
+    return ['## Words of the library\n', where, '\n'.join(lines) + '\n']
+
+
+def counted(trail, title, starts, seen, before=()):
+    """A part of the page: what these definitions lead to, with its size."""
+    places = [start for start in starts if start not in seen] + trail.led_to(starts, seen | set(starts))
+    seen.update(places)
+    lines = sum(len(trail.definitions[place].text().splitlines()) for place in places)
+    files = len({trail.definitions[place].path for place in places})
+    return [f'## {title}\n', f'{len(places)} definitions, {lines} lines, in {files} files.\n', *before] + section(trail, places)
 
 
 def written():
     trail = Trail()
     seen = set(CLAUSE + [HEADLINE])
-    parts = [('The headline', [HEADLINE]), ('What the clause says besides', CLAUSE)]
+    law = ['For a text of one model that uses no other, *design* is no more than what stands in this part. The law:\n',
+           call('design_laws/src/lib.rt', 'one_model_is_short')]
     page = [INTRODUCTION] + clause(trail)
-    for title, starts in parts:
-        places = trail.led_to(starts, seen)
-        lines = sum(len(trail.definitions[place].text().splitlines()) for place in places)
-        files = len({trail.definitions[place].path for place in places})
-        page += [f'## {title}\n', f'{len(places)} definitions, {lines} lines, in {files} files.\n'] + section(trail, places)
+    page += counted(trail, 'A design of one model', SHORT, seen, law)
+    page += counted(trail, 'The headline', [HEADLINE], seen)
+    page += counted(trail, 'What the clause says besides', CLAUSE, seen)
     return '\n'.join(page + library(trail))
 
 

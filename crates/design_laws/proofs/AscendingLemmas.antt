@@ -1,5 +1,5 @@
 -- The numbers of lines ascend.
-use Rattle.std.proofs.Common.{◌≡◌, ℕ, ◌+◌, ◌≤◌, Bool, true, false, cond, nat_lt, List, [], ◌∷◌, ◌++◌, Option, None, length, map, arith, inl, inr}
+use Rattle.std.proofs.Common.{ℕ, ◌+◌, ◌≤◌, Bool, true, false, cond, nat_lt, List, [], ◌∷◌, None, length, map, arith, inl, inr}
 use Rattle.base_text.specs.Bytes.{uncommented, joining_part, words_of, physical_lines}
 use Rattle.base_text.specs.Lines.{Text, LogicalLine, line_of, texts_of, in_front, onto_next, with_words, logical_lines}
 use Rattle.base_text.proofs.LinesLemmas.{cases_part}

@@ -3,7 +3,6 @@ use Rattle.std.proofs.Common.{◌≡◌, ℕ, true, List, [], ◌∷◌, map, re
 use Rattle.std.specs.Prelude.{◌↔◌}
 use Rattle.base_text.specs.Lines.{LogicalLine, logical_lines}
 use Rattle.design_netlist.specs.declared.draft.Draft.{Draft}
-use Rattle.design_flatten.specs.declared.model.Model.{Model}
 use Rattle.design_flatten.specs.Netlists.{IsNetlistOf}
 use Rattle.design_blif.specs.Grammar.{Statement, ModelText, statements_of, names_of, inputs_of, outputs_of, clocks_of, parts_of, models_of, model_lines, name_of, spelled_model, is_some_model, kind_of, AreRight}
 use Rattle.design_blif.specs.Designs.{IsDesign}

@@ -1,17 +1,12 @@
 -- What the lines of one statement say.
-use Rattle.std.proofs.Common.{option_map, ◌≡◌, ℕ, ◌+◌, ◌-◌, ◌<◌, ◌≤◌, Bool, true, false, cond, ◌||◌, List, [], ◌∷◌, ◌++◌, Option, Some, None, length, map, take, drop, refl, sym, ap, ◌∙◌, arith, suc, zero}
+use Rattle.std.proofs.Common.{option_map, ◌≡◌, ℕ, ◌+◌, ◌-◌, ◌<◌, Bool, false, List, [], ◌∷◌, ◌++◌, Option, Some, None, length, map, take, drop, refl, ap, ◌∙◌, arith, suc, zero}
 use Rattle.std.specs.Prelude.{slice_index}
-use Rattle.std.specs.List.{flat_map, list_any}
+use Rattle.std.specs.List.{flat_map}
 use Rattle.std.specs.Option.{option_to_list}
 use Rattle.std.proofs.lemmas.List.{append-nil}
-use Rattle.base_text.specs.Lines.{LogicalLine}
-use Rattle.design_netlist.specs.declared.draft.PortDef.{PortDef}
-use Rattle.design_netlist.specs.declared.draft.Cover.{Cover}
-use Rattle.design_netlist.specs.declared.draft.LatchDef.{LatchDef}
-use Rattle.design_flatten.specs.declared.model.Piece.{Piece}
 use Rattle.design_flatten.specs.declared.model.Signal.{Signal}
-use Rattle.design_flatten.specs.Lines.{Control, NamedControl, Part, InputPart, OutputPart, CoverPart, LatchPart, UsePart, Line, input_line, output_line, piece_line, is_use}
-use Rattle.design_flatten.specs.Substitution.{through, at_first, is_left}
+use Rattle.design_flatten.specs.Lines.{NamedControl, InputPart, OutputPart, LatchPart, Line, input_line, output_line, piece_line, is_use}
+use Rattle.design_flatten.specs.Substitution.{through, at_first}
 use Rattle.design_flatten.specs.Signals.{words_on, signal_number}
 use Rattle.design_flatten.specs.Netlists.{Clocked, control_is, control_on, input_on, output_on, cover_on, latch_on}
 use Rattle.design_blif.specs.declared.head.Head.{Head}
@@ -46,7 +41,7 @@ each_take P zero ns all = tt
 each_take P (suc n) [] all = tt
 each_take P (suc n) (k ∷ ns) all = (all.0, each_take P n ns all.1)
 
-nothing : {X A : Type 0} (xs : List X) → flat_map (λ (x : X). ([] : List A)) xs ≡ []
+nothing : {X A : Type 0} (xs : List X) → flat_map {X = X} {A = A} (λ x. []) xs ≡ []
 nothing [] = refl
 nothing (x ∷ xs) = nothing xs
 

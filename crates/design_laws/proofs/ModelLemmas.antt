@@ -1,30 +1,28 @@
 -- A model that uses no other is the netlist of its lines.
-use Rattle.std.proofs.Common.{◌≡◌, ℕ, zero, suc, add-zero, ◌+◌, ◌<◌, ◌≤◌, Bool, true, false, cond, ◌||◌, nat_lt, List, [], ◌∷◌, ◌++◌, Option, Some, None, length, map, refl, sym, ap, ◌∙◌, subst, arith, get_or}
-use Rattle.std.specs.Prelude.{slice_index_or}
-use Rattle.std.specs.List.{flat_map, list_any, sum_by}
+use Rattle.std.proofs.Common.{◌≡◌, ℕ, zero, suc, zero-add, ◌+◌, ◌<◌, ◌≤◌, Bool, true, false, ◌||◌, nat_lt, List, [], ◌∷◌, ◌++◌, length, map, refl, sym, ap, ◌∙◌, subst, arith}
+use Rattle.std.specs.List.{flat_map, sum_by}
 use Rattle.std.specs.Option.{option_to_list}
 use Rattle.std.proofs.lemmas.Bool.{ltb-false, le-ltb}
 use Rattle.std.proofs.lemmas.Grind.{flat_map-append}
+use Rattle.std.proofs.lemmas.List.Sums.{sum_by-append}
 use Rattle.std.proofs.lemmas.List.{map-append, length-map}
 use Rattle.design_netlist.specs.declared.draft.Draft.{Draft}
 use Rattle.design_netlist.specs.declared.draft.Cover.{Cover}
 use Rattle.design_flatten.specs.declared.model.Model.{Model}
-use Rattle.design_flatten.specs.declared.model.Piece.{Piece}
 use Rattle.design_flatten.specs.declared.model.Signal.{Signal}
 use Rattle.design_flatten.specs.Lines.{Part, InputPart, OutputPart, CoverPart, LatchPart, UsePart, Line, NamedControl, input_line, output_line, piece_line, number_of_line, ordered_lines, with_place, with_places, next_place, lines_of_model, is_use}
 use Rattle.design_flatten.specs.InOrder.{in_order}
-use Rattle.design_flatten.specs.Substitution.{through, at_first, lines_at, after, is_left, IsSubstituted}
+use Rattle.design_flatten.specs.Substitution.{through, at_first, after, is_left, IsSubstituted}
 use Rattle.design_flatten.specs.Signals.{words_on, signals_of, with_signals, size_in, size_of, is_over}
-use Rattle.design_flatten.specs.Uses.{use_on, uses_of, use_at, KeepsRules}
-use Rattle.design_flatten.specs.Netlists.{Clocked, no_control, control_at, control_on, control_is, controls_of, AreOneControl, input_on, output_on, cover_on, latch_on, printed, IsReadFrom, IsWithin, IsRead, IsNetlistOf}
+use Rattle.design_flatten.specs.Uses.{Use, use_on, uses_of, KeepsRules}
+use Rattle.design_flatten.specs.Netlists.{Clocked, control_at, control_on, control_is, controls_of, AreOneControl, input_on, output_on, cover_on, latch_on, printed, IsReadFrom, IsNetlistOf}
 use Rattle.design_flatten.proofs.SubstitutionLemmas.{one_design}
 use Rattle.design_blif.specs.declared.head.Head.{Head}
 use Rattle.design_blif.specs.declared.head.Head.TheVariants as head
-use Rattle.design_blif.specs.Names.{names_after}
 use Rattle.design_blif.specs.Grammar.{Statement, kind_of, statement_signals, names_of, inputs_on, outputs_on, inputs_of, outputs_of, clocks_of, cover_of, part_on, parts_of}
 use Rattle.design_laws.specs.ShortDesigns.{covers_of, latches_on, latches_of, rows_size, IsSpelledBy}
 use Rattle.design_laws.proofs.AscendingLemmas.{Ascend, statement_number}
-use Rattle.design_laws.proofs.OrderedLemmas.{Each, each-append, in_turn}
+use Rattle.design_laws.proofs.OrderedLemmas.{Each, each-append, sum-cons, in_turn}
 use Rattle.design_laws.proofs.NumberLemmas.{Has, has_words, sig, with_sigs, printed_names}
 use Rattle.design_laws.proofs.LineLemmas.{IsFine, KeepsTo, HasControl, IsNoUse, said, in_lines, out_lines, piece_lines, out_through, here, words_said, inputs_said, outputs_said, covers_said, latches_said, no_use, ins_stand, outs_stand, pieces_stand, controls_said}
 
@@ -101,7 +99,7 @@ no_uses_on names name _ s fine = refl
 part_size : (signals : List Signal) (n : ℕ) (p : Part Signal) → size_in p ≡ sum_by rows_size (cover_on signals (record { number = n; part = p }))
 part_size signals n (InputPart s) = refl
 part_size signals n (OutputPart s) = refl
-part_size signals n (CoverPart out ins rows off) = sym (add-zero (sum_by (λ row. length row + 1) rows))
+part_size signals n (CoverPart out ins rows off) = sym (zero-add (sum_by (λ row. length row + 1) rows))
 part_size signals n (LatchPart from out init control) = refl
 part_size signals n (UsePart m pairs way) = refl
 
@@ -109,12 +107,11 @@ line_size : (signals : List Signal) (l : Line Signal) → size_in l.part ≡ sum
 line_size signals l = part_size signals l.number l.part
 
 sum-append : (xs ys : List Cover) → sum_by rows_size (xs ++ ys) ≡ sum_by rows_size xs + sum_by rows_size ys
-sum-append [] ys = omega arith
-sum-append (x ∷ xs) ys = omega (arith, sum-append xs ys)
+sum-append xs ys = sum_by-append rows_size xs ys
 
 lines_size : (signals : List Signal) (ls : List (Line Signal)) → size_of ls ≡ sum_by rows_size (flat_map (cover_on signals) ls)
 lines_size signals [] = refl
-lines_size signals (l ∷ ls) = omega (arith, line_size signals l, lines_size signals ls, sum-append (cover_on signals l) (flat_map (cover_on signals) ls))
+lines_size signals (l ∷ ls) = sum-cons (λ (x : Line Signal). size_in x.part) l ls ∙ (λ i. line_size signals l i + lines_size signals ls i) ∙ sym (sum-append (cover_on signals l) (flat_map (cover_on signals) ls))
 
 neither : (a b : Bool) → (a || b) ≡ false → (a ≡ false) × (b ≡ false)
 neither true b h = absurd cc
@@ -180,12 +177,12 @@ module _ (name : List ℕ) (ss : List Statement) (fine : Each (λ s. IsFine (kin
   none_used : uses_of models ≡ []
   none_used =
       let one_model : flat_map (use_on name) (parts_of names ss) ≡ [] =
-          flat_flat (use_on name) (λ s. option_to_list (part_on names (kind_of s.head) s)) ss
-          ∙ alike (λ s. flat_map (use_on name) (option_to_list (part_on names (kind_of s.head) s))) (λ s. []) ss (one_by_one (λ s. IsFine (kind_of s.head) s.head.words) (λ s. flat_map (use_on name) (option_to_list (part_on names (kind_of s.head) s)) ≡ []) (λ s f. no_uses_on names name (kind_of s.head) s f) ss fine)
-          ∙ empty ss in
+      flat_flat (use_on name) (λ s. option_to_list (part_on names (kind_of s.head) s)) ss
+      ∙ alike (λ s. flat_map (use_on name) (option_to_list (part_on names (kind_of s.head) s))) (λ s. []) ss (one_by_one (λ s. IsFine (kind_of s.head) s.head.words) (λ s. flat_map (use_on name) (option_to_list (part_on names (kind_of s.head) s)) ≡ []) (λ s f. no_uses_on names name (kind_of s.head) s f) ss fine)
+      ∙ empty ss in
       ap (λ x. x ++ []) one_model
     where
-      empty : (xs : List Statement) → flat_map (λ s. []) xs ≡ []
+      empty : (xs : List Statement) → flat_map {X = Statement} {A = Use} (λ s. []) xs ≡ []
       empty [] = refl
       empty (x ∷ xs) = empty xs
 
@@ -250,10 +247,11 @@ module _ (name : List ℕ) (ss : List Statement) (fine : Each (λ s. IsFine (kin
       let within : is_over lines ≡ false = ap is_over (sym same) ∙ h.read.design.within in
       let parts = over_parts lines within in
       let ns : d.names ≡ names = r.names ∙ named in
-      let cs : d.covers ≡ covers_of names ss = r.covers ∙ covers_are in
-      (record { names = ns; inputs = r.inputs ∙ inputs_are; outputs = r.outputs ∙ outputs_are; covers = cs; latches = r.latches ∙ latches_are },
-       omega (arith, parts.0, few_are, ap length ns),
-       omega (arith, parts.1, size_are, ap (sum_by rows_size) cs))
+      let cs : d.covers ≡ covers_of names ss = r.covers ∙ covers_are in (
+        record { names = ns; inputs = r.inputs ∙ inputs_are; outputs = r.outputs ∙ outputs_are; covers = cs; latches = r.latches ∙ latches_are },
+        omega (arith, parts.0, few_are, ap length ns),
+        omega (arith, parts.1, size_are, ap (sum_by rows_size) cs),
+      )
 
   pub is_netlist : (d : Draft) → IsSpelledBy ss d → length d.names ≤ 65535 → sum_by rows_size d.covers ≤ 16777216 → IsNetlistOf models d
   is_netlist d s few small =

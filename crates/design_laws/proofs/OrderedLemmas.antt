@@ -1,6 +1,7 @@
 -- What is put in order by line numbers stands as the statements do.
-use Rattle.std.proofs.Common.{◌≡◌, ℕ, ◌+◌, ◌<◌, ◌≤◌, Bool, true, false, cond, nat_lt, List, [], ◌∷◌, ◌++◌, refl, sym, ap, ◌∙◌, arith, append_assoc}
-use Rattle.std.specs.List.{flat_map}
+use Rattle.std.proofs.Common.{◌≡◌, ℕ, ◌+◌, ◌≤◌, Bool, true, false, cond, nat_lt, List, [], ◌∷◌, ◌++◌, refl, sym, ap, ◌∙◌, arith, append_assoc, zero-add}
+use Rattle.std.specs.List.{flat_map, sum_by}
+use Rattle.std.proofs.lemmas.List.Sums.{sum_by-append}
 use Rattle.std.proofs.lemmas.Bool.{lt-ltb, le-ltb}
 use Rattle.design_flatten.specs.InOrder.{put_in_order, in_order}
 use Rattle.design_laws.proofs.AscendingLemmas.{Ascend}
@@ -17,6 +18,10 @@ each-append P (x ∷ xs) ys a b = (a.0, each-append P xs ys a.1 b)
 pub each-map : {X : Type 0} (P Q : X → Type 0) → ((x : X) → P x → Q x) → (xs : List X) → Each P xs → Each Q xs
 each-map P Q f [] a = tt
 each-map P Q f (x ∷ xs) a = (f x a.0, each-map P Q f xs a.1)
+
+-- the first, and those behind it
+pub sum-cons : {X : Type 0} (f : X → ℕ) (x : X) (xs : List X) → sum_by f (x ∷ xs) ≡ f x + sum_by f xs
+sum-cons f x xs = sum_by-append f (x ∷ []) xs ∙ ap (λ n. n + sum_by f xs) (zero-add (f x))
 
 module _ {X : Type 0} (number : X → ℕ) where
   abbrev pub Is : ℕ → X → Type 0
@@ -41,7 +46,7 @@ module _ {X : Type 0} (number : X → ℕ) where
   put_first : (n : ℕ) (x : X) (ys : List X) → Is n x → Each (IsFrom n) ys → put_in_order number x ys ≡ x ∷ ys
   put_first n x [] is all = refl
   put_first n x (y ∷ ys) is all =
-      let no : nat_lt (number y) (number x) ≡ false = le-ltb (number x) (number y) (omega (arith, is, all.0)) in
+      let no : nat_lt (number y) (number x) ≡ false = le-ltb (number y) (number x) (omega (arith, is, all.0)) in
       rw no refl
 
   -- behind those below its number

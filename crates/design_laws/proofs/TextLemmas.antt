@@ -1,5 +1,5 @@
 -- Right lines of a text of one model.
-use Rattle.std.proofs.Common.{◌≡◌, ℕ, ◌+◌, ◌<◌, ◌≤◌, Bool, true, false, cond, ◌||◌, List, [], ◌∷◌, ◌++◌, Option, Some, None, length, map, drop, refl, sym, ap, ◌∙◌, subst, arith, append_assoc}
+use Rattle.std.proofs.Common.{◌≡◌, ℕ, ◌+◌, Bool, true, false, cond, ◌||◌, List, [], ◌∷◌, ◌++◌, Option, Some, None, refl, sym, ap, ◌∙◌, subst, arith, append_assoc}
 use Rattle.std.specs.List.{list_any, count_by}
 use Rattle.std.specs.Option.{option_or}
 use Rattle.std.proofs.lemmas.List.{length-drop}
@@ -7,16 +7,21 @@ use Rattle.std.proofs.lemmas.List.Sums.{sum_by-append}
 use Rattle.base_text.specs.Lines.{LogicalLine}
 use Rattle.design_blif.specs.declared.head.Head.{Head}
 use Rattle.design_blif.specs.declared.head.Head.TheVariants as head
-use Rattle.design_blif.specs.Seen.{Above}
 use Rattle.design_blif.specs.Right.{IsSame, AreRightWords}
 use Rattle.design_blif.specs.Parts.{control_of}
-use Rattle.design_blif.specs.Grammar.{Statement, Grouped, kind_of, grouped_behind, grouped, statements_of, latch_control_on, control_by, ModelText, Parted, onto, parted, models_of, model_lines, above_by, AreRight}
+use Rattle.design_blif.specs.Grammar.{Grouped, kind_of, grouped_behind, grouped, statements_of, latch_control_on, control_by, ModelText, onto, parted, models_of, model_lines, above_by, AreRight}
 use Rattle.design_laws.specs.ShortDesigns.{is_model, is_subckt}
-use Rattle.design_laws.proofs.OrderedLemmas.{Each}
+use Rattle.design_laws.proofs.OrderedLemmas.{Each, sum-cons}
 use Rattle.design_laws.proofs.LineLemmas.{IsFine, IsThis, KeepsTo}
 
 abbrev pub models_in : List LogicalLine → ℕ
 models_in lines = count_by (λ l. is_model (kind_of l)) lines
+
+abbrev is_one : LogicalLine → ℕ
+is_one l = cond (is_model (kind_of l)) 1 0
+
+models-cons : (l : LogicalLine) (lines : List LogicalLine) → models_in (l ∷ lines) ≡ cond (is_model (kind_of l)) 1 0 + models_in lines
+models-cons l lines = sum-cons is_one l lines
 
 -- ---- of each line and of each statement
 
@@ -50,7 +55,7 @@ fine_lines (l ∷ lines) above h e = (by (kind_of l) h.0.1 e, fine_lines lines (
 
 no_model_in : (lines : List LogicalLine) → models_in lines ≡ 0 → parted lines ≡ record { front = lines; models = [] }
 no_model_in [] e = refl
-no_model_in (l ∷ lines) e = by (kind_of l) e (no_model_in lines)
+no_model_in (l ∷ lines) e = by (kind_of l) (sym (models-cons l lines) ∙ e) (no_model_in lines)
   where
     by : (k : Head) → cond (is_model k) 1 0 + models_in lines ≡ 0 → (models_in lines ≡ 0 → parted lines ≡ record { front = lines; models = [] }) → onto l k (parted lines) ≡ record { front = l ∷ lines; models = [] }
     by head.Model n rest = absurd (let no : ⊥ = omega (arith, n) in no)
@@ -61,8 +66,11 @@ none_begun above e = ap (λ p. (above_by p.models).this.begun) (no_model_in abov
 
 one_more : (above : List LogicalLine) (l : LogicalLine) → models_in above ≡ 0 → is_model (kind_of l) ≡ false → models_in (above ++ l ∷ []) ≡ 0
 one_more above l e n =
-    let last : cond (is_model (kind_of l)) 1 0 ≡ 0 = rw n refl in
-    omega (arith, sum_by-append (λ x. cond (is_model (kind_of x)) 1 0) above (l ∷ []), e, last)
+    let whole : models_in (above ++ l ∷ []) ≡ models_in above + models_in (l ∷ []) = sum_by-append is_one above (l ∷ []) in
+    let single : models_in (l ∷ []) ≡ is_one l + models_in [] = models-cons l [] in
+    let last : is_one l ≡ 0 = rw n refl in
+    let none : models_in [] ≡ 0 = refl in
+    omega (arith, whole, single, last, none, e)
 
 -- what a line in front of the model may be
 abbrev IsFrontLine : Head → Type 0
@@ -78,7 +86,7 @@ front_line above _ words e r = let no : false ≡ true = sym (none_begun above e
 pub the_model : (lines above : List LogicalLine) → AreRight above lines → models_in above ≡ 0 → models_in lines ≡ 1 → (m : ModelText) × (models_of lines ≡ m ∷ []) × (statements_of (model_lines m) ≡ statements_of lines)
 unfolding AreRight
 the_model [] above h e one = absurd (let no : ⊥ = omega (arith, one) in no)
-the_model (l ∷ lines) above h e one = by (kind_of l) refl (front_line above (kind_of l) l.words e h.0.1) one (the_model lines (above ++ l ∷ []) h.1)
+the_model (l ∷ lines) above h e one = by (kind_of l) refl (front_line above (kind_of l) l.words e h.0.1) (sym (models-cons l lines) ∙ one) (the_model lines (above ++ l ∷ []) h.1)
   where
     by : (k : Head) → kind_of l ≡ k → IsFrontLine k → cond (is_model k) 1 0 + models_in lines ≡ 1
         → (models_in (above ++ l ∷ []) ≡ 0 → models_in lines ≡ 1 → (m : ModelText) × (models_of lines ≡ m ∷ []) × (statements_of (model_lines m) ≡ statements_of lines))
@@ -137,7 +145,7 @@ module _ (one : List ℕ) where
     where
       whole : (fs : List LogicalLine) → models_in fs ≡ 0 → parted (fs ++ first ∷ mid) ≡ record { front = fs; models = record { first = first; rest = mid } ∷ [] }
       whole [] n = rw (is, no_model_in mid no-more) refl
-      whole (a ∷ fs) n = by (kind_of a) n (whole fs)
+      whole (a ∷ fs) n = by (kind_of a) (sym (models-cons a fs) ∙ n) (whole fs)
         where
           by : (k : Head) → cond (is_model k) 1 0 + models_in fs ≡ 0 → (models_in fs ≡ 0 → parted (fs ++ first ∷ mid) ≡ record { front = fs; models = record { first = first; rest = mid } ∷ [] }) → onto a k (parted (fs ++ first ∷ mid)) ≡ record { front = a ∷ fs; models = record { first = first; rest = mid } ∷ [] }
           by head.Model n rest = absurd (let no : ⊥ = omega (arith, n) in no)
@@ -153,8 +161,9 @@ module _ (one : List ℕ) where
   unfolding AreRight
   kept_to front mid [] first none is no-more fewer h e = tt
   kept_to front mid (l ∷ lines) first none is no-more fewer h e =
-      let not-model : is_model (kind_of l) ≡ false = no_first (is_model (kind_of l)) (models_in lines) fewer in
-      let less : models_in lines ≡ 0 = omega (arith, fewer) in
+      let parts : cond (is_model (kind_of l)) 1 0 + models_in lines ≡ 0 = sym (models-cons l lines) ∙ fewer in
+      let not-model : is_model (kind_of l) ≡ false = no_first (is_model (kind_of l)) (models_in lines) parts in
+      let less : models_in lines ≡ 0 = omega (arith, parts) in
       let above : AreRight (front ++ first ∷ (mid ++ l ∷ [])) lines = subst (λ x. AreRight x lines) (append_assoc front (first ∷ mid) (l ∷ [])) h.1 in
       let next : option_or (first_control (mid ++ l ∷ [])) (first_control lines) ≡ Some one = ap (λ o. option_or o (first_control lines)) (first-append mid l) ∙ or_assoc (first_control mid) (latch_control_on (kind_of l) l) (first_control lines) ∙ e in
       (by (kind_of l) h.0.1 e, kept_to front (mid ++ l ∷ []) lines first none is (one_more mid l no-more not-model) less above next)
@@ -170,7 +179,7 @@ module _ (one : List ℕ) where
   kept_all : (lines above : List LogicalLine) → AreRight above lines → models_in above ≡ 0 → models_in lines ≡ 1 → first_control lines ≡ Some one → Each KeepsLine lines
   unfolding AreRight
   kept_all [] above h e single some = tt
-  kept_all (l ∷ lines) above h e single some = by (kind_of l) refl (front_line above (kind_of l) l.words e h.0.1) single some (kept_all lines (above ++ l ∷ []) h.1)
+  kept_all (l ∷ lines) above h e single some = by (kind_of l) refl (front_line above (kind_of l) l.words e h.0.1) (sym (models-cons l lines) ∙ single) some (kept_all lines (above ++ l ∷ []) h.1)
     where
       by : (k : Head) → kind_of l ≡ k → IsFrontLine k → cond (is_model k) 1 0 + models_in lines ≡ 1 → option_or (latch_control_on k l) (first_control lines) ≡ Some one
           → (models_in (above ++ l ∷ []) ≡ 0 → models_in lines ≡ 1 → first_control lines ≡ Some one → Each KeepsLine lines) → KeepsLine l × Each KeepsLine lines
