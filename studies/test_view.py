@@ -33,7 +33,7 @@ except ImportError:
     webdriver = None
 
 TURNS = int(os.environ.get("TURNS", "60")) // 3
-SECONDS, FRAME = float(os.environ.get("READY", "1")), float(os.environ.get("FRAME", "100"))  # for the bench machine; milliseconds
+READY, FRAME = 1, 0.1  # the most seconds of the processor for the bench machine's page, and for a frame of it
 SIMULATED = """
 const [data, rows] = [arguments[0], []];
 const machine = new Machine(data.counts), names = { inputs: data.inputs, outputs: data.outputs, split: data.split };
@@ -42,6 +42,32 @@ return data.scenes.map(sent => {
   return [new Run(scene, scene.faults, data.vectors, 0, 9).rows, new Run(scene, new Faults(), data.vectors, 0, 9).rows];
 });
 """
+
+
+def spelled(lines):
+    """The bytes that lines of a worked example spell: texts behind `|`, digits behind `=`."""
+    text = "".join(f"{line[2:]}\n" for line in lines if line.startswith("|"))
+    return bytes.fromhex("".join(line[1:] for line in lines if line.startswith("="))) or text.encode()
+
+
+def worked_readings():
+    """Of the worked examples of what pins read: machine, faults, image, vectors, and the rows that have to come."""
+    data, files, case = Path(HERE, "../crates/worked_examples/data"), {"none": b""}, []
+    lines = "".join(Path(data, f"{name}.txt").read_text(encoding="utf-8") for name in ("fixtures", "readings")).splitlines()
+    heads = [k for k, line in enumerate(lines) if line[:1] not in ("|", "=", "#", "", "+", "*")]
+    for k, last in zip(heads, [*heads[1:], len(lines)]):
+        word, *words = lines[k].split(" ")
+        body = [line for line in lines[k + 1 : last] if line[:1] in ("|", "=")]
+        if word in ("text", "file", "faults"):
+            files[words[0]] = spelled(body)
+        elif word == "flip":
+            at, changed = int(words[1]), bytearray(files[words[0]])
+            changed[at] ^= 1
+            files[words[2]] = bytes(changed)
+        elif word == "words":
+            case = words[1:] if words[:1] == ["run"] else []
+        elif word == "ends" and words == ["0"] and len(case) == 4 and all(name in files for name in case):
+            yield [files[name] for name in case], spelled(body).decode().split()[1:]
 
 
 def browser():
@@ -138,6 +164,19 @@ class Page(unittest.TestCase):
                     [[rows, sound]] = self.browser.execute_script(SIMULATED, json.loads(json.dumps(data)))
                     self.assertEqual(rows, [row.decode() for row in made.rows])
                     self.assertEqual(sound, data["expected"])
+
+    def test_rows_of_worked_examples(self):
+        """What pins read on machines with faults, as the worked examples have it."""
+        count = 0
+        for files, rows in worked_readings():
+            paths = [os.path.join(self.folder, f"worked{k}") for k in range(4)]
+            for path, data in zip(paths, files):
+                Path(path).write_bytes(data)
+            data = viewed(machine=paths[0], faults=[paths[1]], image=[paths[2]], vectors=paths[3])
+            [[found, _]] = self.browser.execute_script(SIMULATED, json.loads(json.dumps(data)))
+            self.assertEqual(found, rows)
+            count += 1
+        self.assertGreater(count, 8)
 
     def test_rows_of_random_machines(self):
         """Likewise on random faults of all kinds that no list keeps the design from."""
@@ -353,18 +392,21 @@ class Page(unittest.TestCase):
         ran = run("view.py", f"{HERE}/bench.machine", "--faults", f"{self.folder}/bench.faults", "-o", f"{self.folder}/bench.html")
         self.assertEqual(ran.returncode, 0, ran.stderr)
         self.assertLess(os.path.getsize(f"{self.folder}/bench.html"), PAGE_LIMIT)
+        self.browser.execute_cdp_cmd("Performance.enable", {"timeDomain": "threadTicks"})
         self.open(f"{self.folder}/bench.html")
-        self.assertLess(self.asked("viewer.readyAfter") / 1000, SECONDS)
-        frames = """const { painter } = viewer, taken = [];
-            for (let scale = 0.1; scale < 30; scale *= 1.3) {
-              painter.view = { x: 100, y: 60, scale };
-              const start = performance.now();
-              painter.paint(viewer.shown, viewer.state);
-              painter.context.getImageData(0, 0, 1, 1);
-              taken.push(performance.now() - start);
-            }
-            return Math.max(...taken);"""
-        self.assertLess(self.browser.execute_script(frames), FRAME)
+        self.assertLess(self.seconds(), READY)
+        for power in range(22):
+            before = self.seconds()
+            frame = f"""viewer.painter.view = {{ x: 100, y: 60, scale: {0.1 * 1.3**power} }};
+                viewer.painter.paint(viewer.shown, viewer.state);
+                viewer.painter.context.getImageData(0, 0, 1, 1);"""
+            self.browser.execute_script(frame)
+            self.assertLess(self.seconds() - before, FRAME, f"at {0.1 * 1.3**power} points a crosspoint")
+
+    def seconds(self):
+        """The time of the processor that the page's thread has taken."""
+        metrics = self.browser.execute_cdp_cmd("Performance.getMetrics", {})["metrics"]
+        return next(metric["value"] for metric in metrics if metric["name"] == "TaskDuration")
 
 
 class Refused(unittest.TestCase):

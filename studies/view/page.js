@@ -3,14 +3,15 @@
 const viewer = new Viewer(JSON.parse(document.getElementById("data").textContent));
 const picture = document.getElementById("picture"), search = document.getElementById("search");
 
-// The way from the machine down to the node that fills the picture.
+// The way from the machine down to the node that takes up most of what is seen of the one above it.
 function crumbs() {
-  const { painter, machine } = viewer, { view } = painter, width = painter.width / viewer.shown.length / view.scale;
-  const x = view.x + width / 2, y = view.y + painter.height / view.scale / 2, path = [machine.root];
+  const { painter, machine } = viewer, { view } = painter, path = [machine.root];
+  const seen = { x: view.x, y: view.y, width: painter.width / viewer.shown.length / view.scale, height: painter.height / view.scale };
+  const shared = (start, size, other, more) => Math.max(0, Math.min(start + size, other + more) - Math.max(start, other));
+  const area = node => shared(node.x, node.width, seen.x, seen.width) * shared(node.y, node.height, seen.y, seen.height);
   for (;;) {
-    const at = path[path.length - 1];
-    const next = at.children.find(node => x >= node.x && x < node.x + node.width && y >= node.y && y < node.y + node.height);
-    if (!next || Math.max(width / next.width, painter.height / view.scale / next.height) > 2.2) break;
+    const last = path[path.length - 1], next = last.children.find(node => area(node) > 0.7 * area(last));
+    if (!next) break;
     path.push(next);
   }
   const words = path.map(node => link("node", node.number, node.level ? node.name.split(".").at(-1) : "machine"));

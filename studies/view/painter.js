@@ -3,7 +3,8 @@
 const NAMES_FROM = 6, SHAPES_FROM = 3, CROSSES_FROM = 1, BITMAPS_FROM = 0.3;
 const BLOCK = 8, FULL_SHARE = 0.25;  // a block of 8 x 8 has a cause's full colour where a quarter of it is bad
 const BITMAP_ROOM = 16e6;            // so many points are kept as bitmaps
-const INK = "#1d2733", FAINT = "#8a94a3", PAPER = "#eef0f4", USED = "#d5e6d8", TABLE_ON = "#4d7ebf", TABLE_OFF = "#dde2ea";
+const INK = "#1d2733", FAINT = "#8a94a3", PAPER = "#eceff3", EDGE = "#cdd3dc",
+  USED = "#d5e6d8", TABLE_ON = "#4d7ebf", TABLE_OFF = "#dde2ea";
 const LEVEL_FILLS = ["#ffffff", "#f4f7fc", "#fbfaf3", "#f6f4fa"];
 
 // Nets are pale and the chosen one is strong; of two designs one has cold hues and the other warm ones.
@@ -111,6 +112,7 @@ class Painter {
     const { scale } = this.view, x = this.across(node.left), y = this.down(node.top);
     const width = node.lines * scale, height = node.taps * scale;
     if (!this.isSeen(x - LABEL * scale, y - HEAD * scale, width + (LABEL + TABLE_WIDTH) * scale, height + HEAD * scale)) return;
+    this.box(x - 0.5, y - 0.5, width + 1, height + 1, EDGE);
     this.box(x, y, width, height, PAPER);
     const used = this.scene.usedIn(node), marks = this.scene.marks.at(node), at = { node, x, y, width, height, scale, used, marks };
     if (this.scene.counted[node.name]) this.paintCounted(at);
@@ -288,7 +290,9 @@ class Painter {
     context.strokeStyle = colour;
     context.lineWidth = Math.max(1.5, scale * 0.5);
     context.strokeRect(x, y, width, height);
-    if (scale > SHAPES_FROM) this.word(letter, x + width * 0.5, y + height * 0.2, scale * 1.7, colour, "700");
+    if (scale <= SHAPES_FROM) return;
+    this.box(x, y, width, height * 0.32, colour);
+    this.word(letter, x + width * 0.5, y + height * 0.17, scale * 1.7, "#ffffff", "700");
   }
 
   tableWords([x, y, width, height], table, { latched }, scale) {
@@ -357,11 +361,12 @@ class Painter {
     context.strokeRect(this.across(x), this.down(y), width * scale, height * scale);
   }
 
+  // Two lines beside a wire, so that its own colour and dashes stay in sight.
   halo({ x1, y1, x2, y2 }) {
-    const { context } = this;
-    context.strokeStyle = "#1d273399";
-    context.lineWidth = Math.max(3, this.view.scale * 0.7);
-    this.line(x1, y1, x2, y2);
+    const { context } = this, beside = Math.max(0.45, 3 / this.view.scale), [across, down] = x1 === x2 ? [beside, 0] : [0, beside];
+    context.strokeStyle = INK;
+    context.lineWidth = 1.5;
+    for (const side of [-1, 1]) this.line(x1 + side * across, y1 + side * down, x2 + side * across, y2 + side * down);
   }
 
   ring({ x, y }) {

@@ -1,5 +1,7 @@
 // What is shown and chosen: scenes, the run in them, the part, the cycle; and what a search means.
 
+const NAV_HEIGHT = 46;  // is kept free above and below what the picture goes to
+
 class Viewer {
   constructor(data) {
     this.data = data;
@@ -124,8 +126,8 @@ class Viewer {
 
   // Brings an area into sight: a node or net whole, a small part from as near as its name can be read.
   goTo(area, kind) {
-    const { painter } = this, width = painter.width / this.shown.length;
-    const fits = Math.min(width / (area.width * 1.04), painter.height / (area.height * 1.04));
+    const { painter } = this, width = painter.width / this.shown.length, height = painter.height - 2 * NAV_HEIGHT;
+    const fits = Math.min(width / (area.width * 1.04), height / area.height);
     const isPart = kind === "wire" || kind === "cross" || kind === "table";
     const scale = Math.min(40, isPart ? Math.max(9, Math.min(fits, 14)) : fits);
     painter.view = { x: area.x + area.width / 2 - width / scale / 2, y: area.y + area.height / 2 - painter.height / scale / 2, scale };
