@@ -243,9 +243,8 @@ class Page(unittest.TestCase):
         """A click chooses the part there, the wheel goes nearer around the pointer, and a drag moves."""
         self.browser.execute_script("viewer.painter.view = { x: 0, y: 0, scale: 10 }; viewer.refresh()")
         picture = self.browser.find_element(By.ID, "picture")
-        cross = self.asked("placeOfCross(viewer.machine, viewer.meaning('r.p2 r.l5')[1])")
-        size = picture.size
-        at = [round(10 * cross[name] - size[side] / 2) for name, side in (("x", "width"), ("y", "height"))]
+        cross = self.asked("(({ x, y }) => [x, y])(placeOfCross(viewer.machine, viewer.meaning('r.p2 r.l5')[1]))")
+        at = [round(10 * place - picture.size[side] / 2) for place, side in zip(cross, ("width", "height"))]
         ActionChains(self.browser).move_to_element_with_offset(picture, *at).click().perform()
         self.assertIn("never conducts", self.text("selected"))
         before = self.asked("viewer.painter.view")

@@ -37,6 +37,7 @@ function goToAddress() {
   state.cycle = Math.max(0, Number(words.get("cycle")) || 0);
   state.showsValues = document.getElementById("values").checked = words.get("values") === "1";
   viewer.show(words.get("show") || "0");
+  viewer.panels();  // now, since they take room from the picture
   const found = words.get("pick") && viewer.meaning(words.get("pick"));
   state.selection = found ? { kind: found[0], at: found[1] } : null;
   const [x, y, scale] = (words.get("at") || "").split(",").map(Number);

@@ -11,7 +11,7 @@ const LEVEL_FILLS = ["#ffffff", "#f4f7fc", "#fbfaf3", "#f6f4fa"];
 function netColour(scene, net, isStrong) {
   const turn = net.number * 137.508;
   const hue = !scene.names.split ? turn % 360 : net.design ? 330 + turn % 100 : 130 + turn % 130;
-  return isStrong ? `hsl(${hue} 90% 33%)` : `hsl(${hue} 45% 68%)`;
+  return isStrong ? `hsl(${hue} 90% 33%)` : `hsl(${hue} 42% 74%)`;
 }
 
 class Painter {
