@@ -1,8 +1,8 @@
 #!/usr/bin/env python3
 """A picture of a machine: its tree of crossbars, each a grid of taps (down) by lines (across), as SVG.
 
-Of faults and a list of defects red is a fault that the list has, black one that it misses, and yellow a sound part that it throws away.
-The nets of an image have colours of their own, and with --design names: of a pin, or of the table that drives them.
+Each cause of a defect has a colour, and a shape or a pattern of dashes; black is a fault that a list misses, yellow a sound part that it
+throws away. The nets of an image are pale, and with --design have names: of a pin, or of the table that drives them.
 """
 
 import argparse
@@ -14,23 +14,36 @@ from xml.sax.saxutils import escape
 import teramac_texts as texts
 from program import add_program, checked_design
 
-CELL, GAP, LABEL, MARGIN = 7, 26, 62, 16
-FOUND, MISSED, THROWN = "#d62728", "#000000", "#f2c80f"
-MARKS = {FOUND: "faulty and on the list", MISSED: "faulty, not on the list", THROWN: "sound, and on the list"}
+CELL, GAP, LABEL, MARGIN, TABLE_ON = 7, 26, 62, 16, "#8fb1dd"
+MISSED, THROWN, LISTED = "missed", "thrown", "listed"
+# For each cause its colour, its words, and the dashes of a wire or the path of a crosspoint in a square of 6 by 6 around its middle.
+MARKS = {
+    "stuck0": ("#0072b2", "stuck at 0", ""),
+    "stuck1": ("#e07b00", "stuck at 1", "6 3"),
+    "short": ("#00855f", "joined to another wire", "2 2"),
+    "open": ("#c4421a", "never conducts", "M-3 -3L3 3M3 -3L-3 3"),
+    "closed": ("#7a2f8f", "always conducts", "M-3 -3L3 -3L3 3L-3 3Z"),
+    "cell": ("#8c4a3c", "wrong cell", ""),
+    "register": ("#5a3b33", "stuck register", ""),
+    MISSED: ("#000000", "faulty, not on the list", "M-3.5 0L3.5 0M0 -3.5L0 3.5"),
+    THROWN: ("#d8ae00", "sound, and on the list", "M-3 3L3 3L0 -3Z"),
+    LISTED: ("#b5294f", "on the list", "M-3 0L0 -3L3 0L0 3Z"),
+}
 
 
 class Picture:
-    """What is to be seen: for each wire, crosspoint and table a colour, or none; and the shapes that show it, with their extent."""
+    """What is to be seen: for each wire, crosspoint and table a cause, or none; and the shapes that show it, with their extent."""
 
     def __init__(self, machine, faults, defects, image, compared):
-        self.machine, self.compared = machine, compared
+        self.machine = machine
         self.wires, self.crosses, self.tables = marks(machine, faults, defects, compared)
         self.net_of, self.names = image.net_of(machine), {}
         self.closed, self.used = set(image.crosses), {table for table, *_ in image.tables}
         self.shapes, self.width, self.height = [], 0, 0
 
-    def colour(self, net):
-        red, green, blue = colorsys.hls_to_rgb(net * 0.381966 % 1, 0.42, 0.62)
+    def colour(self, net, lightness=0.7):
+        """Pale, as a defect never is; darker for names and crosspoints."""
+        red, green, blue = colorsys.hls_to_rgb(net * 0.381966 % 1, lightness, 0.5)
         return f"#{int(red * 255):02x}{int(green * 255):02x}{int(blue * 255):02x}"
 
     def rect(self, x, y, width, height, fill, end="/>"):
@@ -47,20 +60,34 @@ class Picture:
         if wire in self.net_of:
             self.shapes.append(f'{path} stroke="{self.colour(self.net_of[wire])}" stroke-width="1.6"/>')
         if wire in self.wires:
-            self.shapes.append(f'{path} stroke="{self.wires[wire]}" stroke-width="{3 if wire not in self.net_of else 1}"/>')
+            colour, _, dashes = MARKS[self.wires[wire]]
+            self.shapes.append(f'{path} stroke="{colour}" stroke-width="2" stroke-dasharray="{dashes if "M" not in dashes else "1 3"}"/>')
+
+    def cross(self, x, y, cause):
+        colour, _, path = MARKS[cause]
+        fill = colour if cause == "closed" else "none"
+        self.shapes.append(f'<path transform="translate({x} {y})" d="{path}" fill="{fill}" stroke="{colour}" stroke-width="1.2"/>')
 
 
-def marks(machine, faults, defects, compared):
-    """The colour of each part that is faulty or listed. A crosspoint with a listed wire, and a table with a listed pin, count as listed."""
-    bad = faults.parts
-    stuck = bad["wire"]
+def causes(machine, faults, defects):
+    """For each kind of parts what is wrong with those that are faulty."""
+    stuck = {wire: kind for kind in ("stuck0", "stuck1") for wire in faults[kind]}
+    wires = dict(stuck)
     for group in map(set, texts.short_groups(machine, faults)):
         # The one wire that a list may leave free, where nothing in the group is stuck, does no harm.
         free = group - defects["wire"]
-        bad["wire"] = bad["wire"] | (group - free if len(free) == 1 and stuck.isdisjoint(group) else group)
-    for kind in texts.PARTS:
-        found = dict.fromkeys(defects[kind], THROWN if compared else FOUND)
-        yield found | {at: MISSED if compared and defects.is_free(machine, kind, at) else FOUND for at in bad[kind]}
+        kept = free if len(free) == 1 and stuck.keys().isdisjoint(group) else set()
+        wires |= dict.fromkeys(group - kept - stuck.keys(), "short")
+    yield wires
+    yield {cross: kind for kind in ("open", "closed") for cross in faults[kind]}
+    yield dict.fromkeys(faults["register"], "register") | {table: "cell" for table, _ in faults["cell"]}
+
+
+def marks(machine, faults, defects, compared):
+    """The cause of each part that is faulty or listed. A crosspoint with a listed wire, and a table with a listed pin, count as listed."""
+    for kind, bad in zip(texts.PARTS, causes(machine, faults, defects)):
+        found = dict.fromkeys(defects[kind], THROWN if compared else LISTED)
+        yield found | {at: MISSED if compared and defects.is_free(machine, kind, at) else cause for at, cause in bad.items()}
 
 
 def net_names(machine, image, design):
@@ -99,7 +126,7 @@ def draw_node(picture, node, x, y):
         middle = top + CELL * k + CELL / 2
         picture.wire(wire, left, middle, left + width, middle)
         net = picture.net_of.get(wire)
-        named, colour = picture.names.get(net), "#8a8f98" if net is None else picture.colour(net)
+        named, colour = picture.names.get(net), "#8a8f98" if net is None else picture.colour(net, 0.35)
         short = " ".join(machine.names[wire].rsplit(".", 2 if ".t" in machine.names[wire] else 1)[1:])
         words = (named if len(named) < 13 else named[:5] + ".." + named[-5:]) if named else short
         picture.text(left - 3, middle + 2.5, words, f' text-anchor="end" font-size="6.5" fill="{colour}"')
@@ -110,27 +137,29 @@ def draw_node(picture, node, x, y):
         a, b = divmod(cross - node.first, len(node.lines))
         across, down = left + CELL * b + CELL / 2, top + CELL * a + CELL / 2
         if cross in picture.crosses:
-            picture.rect(across - CELL / 2, down - CELL / 2, CELL, CELL, picture.crosses[cross])
+            picture.cross(across, down, picture.crosses[cross])
         if cross in picture.closed:
             net = picture.net_of[node.taps[a]]
             title = escape(f"{machine.name('cross', cross)} {picture.names.get(net, '')}".strip())
-            picture.shapes.append(f'<circle cx="{across}" cy="{down}" r="2.6" fill="{picture.colour(net)}"><title>{title}</title></circle>')
+            fill = picture.colour(net, 0.45)
+            picture.shapes.append(f'<circle cx="{across}" cy="{down}" r="2.4" fill="{fill}"><title>{title}</title></circle>')
     for k, table in enumerate(node.tables):
         first = top + CELL * (len(node.taps) - 7 * (len(node.tables) - k))
-        colour = picture.tables.get(table) or ("#3b6fb6" if table in picture.used else "#dfe3ea")
+        colour = MARKS[picture.tables[table]][0] if table in picture.tables else TABLE_ON if table in picture.used else "#dfe3ea"
         picture.rect(left + width + 3, first + 1, 5, 7 * CELL - 2, colour, f"><title>{machine.table_names[table]}</title></rect>")
 
 
 def svg_text(picture, level, used):
     """The picture of the nodes of a level, or of all, or of those that the image uses, below what the colours say."""
     x, nets = MARGIN, len(set(picture.net_of.values()))
-    for colour, words in MARKS.items():
-        if picture.compared or colour == FOUND:
+    seen = {*picture.wires.values(), *picture.crosses.values(), *picture.tables.values()}
+    for cause, (colour, words, _) in MARKS.items():
+        if cause in seen:
             picture.rect(x, MARGIN - 7, 9, 9, colour)
-            picture.text(x + 13, MARGIN, words if picture.compared else "faulty or listed")
-            x += 150
+            picture.text(x + 13, MARGIN, words)
+            x += 26 + 5 * len(words)
     if nets:
-        picture.text(x, MARGIN, f"{nets} nets in their colours; dots are closed crosspoints, blue bars switched-on tables")
+        picture.text(x, MARGIN, f"{nets} nets, pale; dots are closed crosspoints, blue bars switched-on tables")
     busy = {picture.machine.node_of_cross(cross).name for cross in picture.closed}
     nodes = [node for node in picture.machine.nodes if level in (None, texts.LEVELS[node.level]) and (node.name in busy or not used)]
     if not nodes:

@@ -147,12 +147,12 @@ def sizes_of(counts):
     return m * c * h * t, wires, crosses
 
 
-def are_within_limits(counts):
+def are_within_limits(counts, limits=LIMITS):
     """Whether a machine may have these counts."""
-    return all(count <= most for count, most in zip(sizes_of(counts), LIMITS))
+    return all(count <= most for count, most in zip(sizes_of(counts), limits))
 
 
-def read_machine(data):
+def read_machine(data, limits=LIMITS):
     """The machine of a text."""
     due, counts = list(MACHINE_WORDS), []
 
@@ -167,7 +167,7 @@ def read_machine(data):
             return "number"
         due.pop(0)
         counts.extend(found)
-        return None if due or are_within_limits(counts[1:]) else "limit"
+        return None if due or are_within_limits(counts[1:], limits) else "limit"
 
     read_lines(data, "machine", take)
     if due:

@@ -11,7 +11,7 @@ import unittest
 
 import designs
 import teramac_texts as texts
-from draw import FOUND, MARKS
+from draw import MARKS
 from faults import KINDS, make_faults
 from program import DEFAULT, HERE, PORT, REPORT, call
 from size import compiles, counts_for
@@ -168,7 +168,7 @@ class Studies(unittest.TestCase):
     def test_picture(self):
         given = ["--faults", "tiny.faults", "--defects", "tiny.defects", "--image", "and.image", "--design", "and.blif"]
         drawn = run("draw.py", "tiny.machine", *given).stdout
-        self.assertEqual({colour for colour in MARKS if drawn.count(colour) > 1}, {FOUND})
+        self.assertEqual({cause for cause, (colour, *_) in MARKS.items() if drawn.count(colour) > 1}, {"stuck0", "open", "cell"})
         self.assertIn("</svg>", drawn)
         for image, status in (([], 1), (["--image", "and.image"], 0)):
             self.assertEqual(run("draw.py", "tiny.machine", "--level", "chip", "--used", *image).returncode, status)
