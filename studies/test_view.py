@@ -52,7 +52,7 @@ def spelled(lines):
 
 def worked_readings():
     """Of the worked examples of what pins read: machine, faults, image, vectors, and the rows that have to come."""
-    data, files, case = Path(HERE, "../crates/worked_examples/data"), {"none": b""}, []
+    data, files, case = Path(HERE, "../crates/example_cases/data"), {"none": b""}, []
     lines = "".join(Path(data, f"{name}.txt").read_text(encoding="utf-8") for name in ("fixtures", "readings")).splitlines()
     heads = [k for k, line in enumerate(lines) if line[:1] not in ("|", "=", "#", "", "+", "*")]
     for k, last in zip(heads, [*heads[1:], len(lines)]):
@@ -165,7 +165,7 @@ class Page(unittest.TestCase):
                     self.assertEqual(rows, [row.decode() for row in made.rows])
                     self.assertEqual(sound, data["expected"])
 
-    def test_rows_of_worked_examples(self):
+    def test_rows_of_example_cases(self):
         """What pins read on machines with faults, as the worked examples have it."""
         count = 0
         for files, rows in worked_readings():
