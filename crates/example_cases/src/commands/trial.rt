@@ -8,7 +8,6 @@ use example_kit::{Fails, TINY, Turn};
 use machine_shape::Shape;
 use rig::{FlakyRig, LogRig, Rig};
 use rig_board::BoardRig;
-use rig_doubled::RepeatRig;
 use rig_port::{PortBoard, RigPort};
 use rig_simulated::SimRig;
 use std::alloc::{AllocError, Global};
@@ -73,16 +72,25 @@ fn store_of(
     })
 }
 
-// The rig of a command.
+// A simulated rig over fault texts.
 fn sim_of(
     alloc: Global,
     faults: &[File],
     fails: &Fails,
-) -> Result<FlakyRig<SimRig<MemoryStore>>, AllocError> {
+) -> Result<SimRig<MemoryStore>, AllocError> {
     let mut files = Vec::new(alloc);
     add_copies(alloc, &mut files, faults)?;
     let store = MemoryStore::new(alloc, files, fails.of(alloc, Turn::Faults)?);
-    let sim = SimRig::new(alloc, store);
+    Ok(SimRig::new(alloc, store))
+}
+
+// The rig of a command.
+fn flaky_of(
+    alloc: Global,
+    faults: &[File],
+    fails: &Fails,
+) -> Result<FlakyRig<SimRig<MemoryStore>>, AllocError> {
+    let sim = sim_of(alloc, faults, fails)?;
     Ok(FlakyRig::new(alloc, sim, fails.of(alloc, Turn::Rig)?))
 }
 
@@ -97,11 +105,8 @@ fn end_over_port<K: Sink>(
         return Ok((NO_MACHINE, 0));
     };
     let sim = sim_of(alloc, given.faults, manner.fails)?;
-    let board = BoardRig::new(
-        alloc,
-        PortBoard::new(alloc, RigPort::new(alloc, sim, shape)),
-    );
-    let mut rig: Box<dyn Rig> = Box::new(alloc, RepeatRig::new(alloc, board))?;
+    let board = PortBoard::new(alloc, RigPort::new(alloc, sim, shape));
+    let mut rig: Box<dyn Rig> = Box::new(alloc, BoardRig::new(alloc, board))?;
     let mut store = store_of(alloc, given, manner.fails, manner.piece)?;
     let status = teramac(alloc, manner.words, &mut store, &mut rig, sink);
     Ok((status, rig.loads()))
@@ -123,7 +128,7 @@ fn end_over<K: Sink>(
         Call::Port => return end_over_port(alloc, manner, given, sink),
         Call::Commands => {}
     }
-    let sim = sim_of(alloc, given.faults, manner.fails)?;
+    let sim = flaky_of(alloc, given.faults, manner.fails)?;
     let mut rig: Box<dyn Rig> = Box::new(alloc, LogRig::new(sim))?;
     if let Some(before) = manner.before {
         let mut store = store_of(alloc, given, manner.fails, manner.piece)?;
