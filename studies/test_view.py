@@ -89,7 +89,7 @@ class Made:
 
     def __init__(self, folder, machine, design, faults=None, listed=True):
         self.machine, self.faults = f"{EXAMPLES}/{machine}.machine", f"{EXAMPLES}/{faults or machine}.faults"
-        self.design, self.vectors, self.name = f"{EXAMPLES}/{design}.blif", f"{EXAMPLES}/{design}.vec", f"{folder}/{machine}-{design}"
+        self.design, self.vectors, self.name = f"{EXAMPLES}/{design}.blif", f"{EXAMPLES}/{design}.vec", f"{folder}/{machine}-{design}-{listed}"
         found = call(DEFAULT, "diagnose", self.machine, self.faults if listed else b"").defects
         image = call(DEFAULT, "compile", self.machine, found, self.design)
         assert image.status == 0, image.refusal
@@ -397,8 +397,7 @@ class Page(unittest.TestCase):
         for power in range(22):
             before = self.seconds()
             frame = f"""viewer.painter.view = {{ x: 100, y: 60, scale: {0.1 * 1.3**power} }};
-                viewer.painter.paint(viewer.shown, viewer.state);
-                viewer.painter.context.getImageData(0, 0, 1, 1);"""
+                viewer.painter.paint(viewer.shown, viewer.state);"""
             self.browser.execute_script(frame)
             self.assertLess(self.seconds() - before, FRAME, f"at {0.1 * 1.3**power} points a crosspoint")
 

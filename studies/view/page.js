@@ -21,8 +21,8 @@ function crumbs() {
 
 // The address says what is in sight, so that it can be sent to someone.
 function address() {
-  const { state, painter: { view } } = viewer, { selection } = state, words = new URLSearchParams();
-  if (selection) words.set("pick", selection.kind === "net" ? viewer.scene.nets[selection.at].name : viewer.machine.partName(selection.kind, selection.at));
+  const { state, painter: { view } } = viewer, words = new URLSearchParams();
+  if (state.selection) words.set("pick", viewer.chosenName());
   words.set("at", [view.x.toFixed(1), view.y.toFixed(1), view.scale.toFixed(3)].join());
   if (state.cycle) words.set("cycle", state.cycle);
   if (state.hidden.size) words.set("hide", [...state.hidden].join());

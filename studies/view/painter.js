@@ -342,6 +342,7 @@ class Painter {
     const { selection } = this.state, { machine, scene } = this;
     if (!selection) return;
     if (this.chosen >= 0) return this.paintNet(scene.nets[this.chosen]);
+    if (selection.kind === "wanting") this.paintWanting(this.state.wanting[selection.at]);
     if (selection.kind === "wire") for (const spot of placesOf(machine, selection.at)) this.halo(spot);
     if (selection.kind === "cross") this.ring(placeOfCross(machine, selection.at));
     if (selection.kind === "table") {
@@ -352,6 +353,17 @@ class Painter {
       const node = machine.nodes[selection.at];
       this.frame(node.x, node.y, node.width, node.height);
     }
+  }
+
+  // A net that has no line: its taps strong, and each line that would serve with a ring at each of its crosspoints there.
+  paintWanting({ taps, serving }) {
+    const { context, machine } = this, node = machine.nodeOfWire(serving[0] ?? taps[0]);
+    context.strokeStyle = "#1d5f3f";
+    for (const wire of [...taps, ...serving]) {
+      context.lineWidth = taps.includes(wire) ? Math.max(2, this.view.scale * 0.34) : 1;
+      for (const { x1, y1, x2, y2 } of placesOf(machine, wire).filter(spot => spot.node === node || !serving.length)) this.line(x1, y1, x2, y2);
+    }
+    for (const tap of taps) for (const line of serving) this.ring(placeOfCross(machine, machine.cross(tap, line)));
   }
 
   frame(x, y, width, height) {

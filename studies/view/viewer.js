@@ -11,7 +11,8 @@ class Viewer {
     this.names = { inputs: data.inputs, outputs: data.outputs, split: data.split };
     this.scenes = data.scenes.map(sent => new Scene(this.machine, sent, this.names));
     this.runScenes = new Map();
-    this.state = { selection: null, hidden: new Set(), showsValues: false, cycle: 0, tick: -1, show: "0", values: null };
+    this.state = { selection: null, hidden: new Set(), showsValues: false, cycle: 0, tick: -1, show: "0", values: null,
+      wanting: data.refusal?.nets ?? [] };
     this.vectors = [...data.vectors];
     this.off = [];
     this.isChanged = false;
@@ -115,8 +116,18 @@ class Viewer {
 
   select(kind, at, goesThere) {
     this.state.selection = { kind, at };
-    if (goesThere) this.goTo(areaOf(this.machine, this.scene, kind, at), kind);
+    // A net that wants a line is seen in the crossbar that has none.
+    const place = kind === "wanting" ? ["crossbar", this.machine.byName.get(this.data.refusal.node).number] : [kind, at];
+    if (goesThere) this.goTo(areaOf(this.machine, this.scene, ...place), kind);
     this.refresh();
+  }
+
+  // The chosen part or net, as a search finds it.
+  chosenName() {
+    const { selection } = this.state;
+    if (!selection) return "";
+    if (selection.kind === "wanting") return this.data.refusal.node;
+    return selection.kind === "net" ? this.scene.nets[selection.at].name : this.machine.partName(selection.kind, selection.at);
   }
 
   unselect() {

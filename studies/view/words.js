@@ -48,8 +48,10 @@ class Words {
     const parts = [many(machine.nodes.length, "crossbar"), many(machine.wires, "wire"), many(machine.crosses, "crosspoint"),
       many(machine.tables, "table")];
     if (image) parts.push(many(scene.nets.length, "net"), `${image.closed.length.toLocaleString("en")} closed`, `${image.tables.size} tables on`);
+    const { refusal } = viewer.data, short = refusal ? `<p class="left">No room: ${escaped(refusal.words)} `
+      + `${link("node", machine.byName.get(refusal.node).number, "Show it")}</p>` : "";
     const left = viewer.data.left.map(words => `<p class="left">${escaped(words)}</p>`).join("");
-    return `<p class="small">${parts.join(", ")}</p>${left}${paragraph(scene.words)}`;
+    return `<p class="small">${parts.join(", ")}</p>${short}${left}${paragraph(scene.words)}`;
   }
 
   causes() {
@@ -237,13 +239,21 @@ class Words {
     return `<p><mark>doubt ${found[0]} ${link(...found, machine.partName(...found))}</mark></p>`;
   }
 
-  // Nets that want lines of a node where too few serve.
+  // Nets that want lines of a node where too few serve; of the one that was clicked the picture shows taps and lines.
   refusal() {
-    const { refusal } = this.viewer.data;
-    const lines = refusal.nets.map(({ number, name, taps, serving }) =>
-      `<tr><td>${number}</td><td>${escaped(name)}</td><td>${taps.map(wire => this.wire(wire)).join(" ")}</td><td>${serving.length}</td></tr>`);
-    return `${paragraph(escaped(refusal.words))}<table class="refusal"><tr><th>net</th><th>of</th><th>taps</th><th>lines that serve</th></tr>`
-      + `${lines.join("")}</table>`;
+    const { refusal, machine } = { refusal: this.viewer.data.refusal, machine: this.machine }, node = machine.byName.get(refusal.node);
+    const lines = refusal.nets.map(({ number, name, taps, serving }, k) => `<tr><td>${link("wanting", k, number)}</td><td>${escaped(name)}</td>`
+      + `<td>${taps.map(wire => this.wire(wire)).join(" ")}</td><td>${serving.length}</td></tr>`);
+    const all = new Set(refusal.nets.flatMap(net => net.serving)).size;
+    const words = lines.length ? `Of the ${node.lines} lines ${all} serve one of these nets or more.` : "";
+    return `${paragraph(escaped(refusal.words))}${paragraph(words)}<table class="refusal"><tr><th>net</th><th>of</th><th>taps</th>`
+      + `<th>lines that serve</th></tr>${lines.join("")}</table>`;
+  }
+
+  wantingWords(place) {
+    const { refusal } = this.viewer.data, net = refusal.nets[place];
+    return `<h4>net ${net.number} <small>${escaped(net.name)}</small></h4><p>wants a line that joins ${net.taps.map(wire => this.wire(wire)).join(", ")}; `
+      + `these serve: ${net.serving.map(wire => this.wire(wire)).join(" ") || "none"}</p>${this.refusal()}`;
   }
 
   // The runs of a study, failed ones first.
