@@ -160,7 +160,8 @@ class Painter {
 
   paintBitmap({ node, x, y, width, height, used }, kind, draw) {
     if (!used.length) return;
-    const kept = this.bitmap(`${this.scene.key} ${kind} ${node.number}`, node.lines, node.taps, context => draw(context, this.scene, node, used));
+    const key = `${this.scene.key} ${kind} ${node.number}`;
+    const kept = this.bitmap(key, node.lines, node.taps, context => draw(context, this.scene, node, used));
     this.context.imageSmoothingEnabled = true;
     this.context.drawImage(kept, x, y, width, height);
   }
@@ -361,7 +362,8 @@ class Painter {
     context.strokeStyle = "#1d5f3f";
     for (const wire of [...taps, ...serving]) {
       context.lineWidth = taps.includes(wire) ? Math.max(2, this.view.scale * 0.34) : 1;
-      for (const { x1, y1, x2, y2 } of placesOf(machine, wire).filter(spot => spot.node === node || !serving.length)) this.line(x1, y1, x2, y2);
+      const places = placesOf(machine, wire).filter(spot => spot.node === node || !serving.length);
+      for (const { x1, y1, x2, y2 } of places) this.line(x1, y1, x2, y2);
     }
     for (const tap of taps) for (const line of serving) this.ring(placeOfCross(machine, machine.cross(tap, line)));
   }

@@ -1,5 +1,7 @@
 // What is shown and chosen: scenes, the run in them, the part, the cycle; and what a search means.
 
+// Words that stand before names in faults, lists and refusals.
+const LEADING = /^(refused|noroom|doubt|wire|cross|table|open|closed|stuck[01]|cell|register|bridge)$/;
 const NAV_HEIGHT = 46;  // is kept free above and below what the picture goes to
 
 class Viewer {
@@ -29,7 +31,7 @@ class Viewer {
     const run = /^run ([0-9]+)$/.exec(word), { scenes } = this;
     if (word === "both") this.shown = scenes.slice(0, 2);
     else if (word === "difference") this.shown = [this.difference ??= new Difference(scenes[0], scenes[1])];
-    else if (word === "overlay") this.shown = [this.overlay ??= new Overlay(this.machine, this.data.study.runs.map((_, k) => this.runScene(k)), this.names)];
+    else if (word === "overlay" && this.data.study) this.shown = [this.overlay ??= this.overlaid()];
     else if (run && this.data.study?.runs[run[1]]) this.shown = [this.runScene(Number(run[1]))];
     else this.shown = [scenes[word] ?? scenes[0]];
     this.state.show = word;
@@ -39,6 +41,8 @@ class Viewer {
     this.off = [];
     this.simulate(0);
   }
+
+  overlaid() { return new Overlay(this.machine, this.data.study.runs.map((_, k) => this.runScene(k)), this.names); }
 
   // The machine of a run of a study, made when it is looked at.
   runScene(number) {
@@ -83,6 +87,13 @@ class Viewer {
     const [now, sound] = [faults, new Faults()].map(those => runToTick(scene, those, vectors, state.cycle, tick));
     state.values = { run: now, sound, cycle: state.cycle };
     this.refresh();
+  }
+
+  stepTick(step) {
+    const { state, scene, run } = this;
+    if (!run) return;
+    const { ticks } = scene.image, next = state.tick < 0 ? (step > 0 ? 0 : ticks - 1) : Math.max(0, state.tick + step);
+    this.setTick(next > ticks ? -1 : next);
   }
 
   turnInput(input, cycle) {
@@ -165,7 +176,8 @@ class Viewer {
       ? ["wire", node.firstLine + line] : ["node", node.number];
     if (line < 0) return ["wire", machine.tapWire(node, tap)];
     if (line < node.lines) return this.partInCrossbar(node, tap, line);
-    const table = Math.floor((tap - node.ports) / PINS_OF_TABLE), isTable = line < node.lines + TABLE_WIDTH && node.tables && tap >= node.ports;
+    const table = Math.floor((tap - node.ports) / PINS_OF_TABLE);
+    const isTable = line < node.lines + TABLE_WIDTH && node.tables && tap >= node.ports;
     return isTable ? ["table", node.firstTable + table] : ["node", node.number];
   }
 
@@ -183,7 +195,7 @@ class Viewer {
     const text = words.trim(), { machine, scene } = this;
     const net = scene.nets.find(({ name, also }) => name === text || also.includes(text));
     if (net) return ["net", net.number];
-    const rest = text.split(/\s+/).filter(word => !/^(refused|noroom|doubt|wire|cross|table|open|closed|stuck[01]|cell|register|bridge)$/.test(word));
+    const rest = text.split(/\s+/).filter(word => !LEADING.test(word));
     if (/^refused/.test(text)) return machine.part(rest[1] ?? "");
     const [first, second] = rest.slice(0, 2).map(name => machine.part(name));
     if (first?.[0] === "wire" && second?.[0] === "wire") {

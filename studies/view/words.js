@@ -47,7 +47,9 @@ class Words {
     const { machine, scene, viewer } = this, { image } = scene;
     const parts = [many(machine.nodes.length, "crossbar"), many(machine.wires, "wire"), many(machine.crosses, "crosspoint"),
       many(machine.tables, "table")];
-    if (image) parts.push(many(scene.nets.length, "net"), `${image.closed.length.toLocaleString("en")} closed`, `${image.tables.size} tables on`);
+    if (image) {
+      parts.push(many(scene.nets.length, "net"), `${many(image.closed.length, "crosspoint")} closed`, `${many(image.tables.size, "table")} on`);
+    }
     const { refusal } = viewer.data, short = refusal ? `<p class="left">No room: ${escaped(refusal.words)} `
       + `${link("node", machine.byName.get(refusal.node).number, "Show it")}</p>` : "";
     const left = viewer.data.left.map(words => `<p class="left">${escaped(words)}</p>`).join("");
@@ -91,7 +93,8 @@ class Words {
     const why = list && list.wires.has(wire) && scene.hasFaults ? paragraph(escaped(scene.whyListed(wire))) : "";
     const value = viewer.run?.wire(wire, cycle), sound = viewer.sound?.wire(wire, cycle);
     const read = value === undefined ? "" : `value ${value} in cycle ${cycle}${value === sound ? "" : `, on a sound machine ${sound}`}`;
-    return `<h4>wire ${machine.wireName(wire)} <small>${wire}</small></h4>${this.standing("wire", wire)}${why}${paragraph(read)}${this.joined(wire)}`;
+    const head = `<h4>wire ${machine.wireName(wire)} <small>${wire}</small></h4>${this.standing("wire", wire)}`;
+    return head + why + paragraph(read) + this.joined(wire);
   }
 
   // The nets that faults join with the one of a wire.
@@ -107,8 +110,9 @@ class Words {
   crossWords(cross) {
     const { scene, machine } = this, [tap, line] = machine.ends(cross);
     const net = scene.closedIn(machine.nodeOfCross(cross)).includes(cross) ? scene.netOf[line] : -1;
-    const closed = net >= 0 ? paragraph(`closed by the image for net ${this.net(net)}`) : scene.image ? paragraph("left open by the image") : "";
-    return `<h4>crosspoint <small>${cross}</small></h4><p>${this.wire(tap)} ${this.wire(line)}</p>${this.standing("cross", cross)}${closed}`;
+    const closed = net >= 0 ? `closed by the image for net ${this.net(net)}` : scene.image ? "left open by the image" : "";
+    const head = `<h4>crosspoint <small>${cross}</small></h4><p>${this.wire(tap)} ${this.wire(line)}</p>`;
+    return head + this.standing("cross", cross) + paragraph(closed);
   }
 
   tableWords(table) {
@@ -122,8 +126,8 @@ class Words {
     const { scene, machine, viewer } = this, cycle = viewer.state.cycle;
     const lines = PINS.map((pin, k) => {
       const wire = machine.pinOf(table, k), number = scene.netOf[wire], value = viewer.run?.wire(wire, cycle);
-      return number < 0 ? "" : `<tr><th>${k < OUTPUT_PIN ? "reads" : "gives"}</th><td>${this.wire(wire).replace(/>.*<\/a>/, `>${pin}</a>`)}</td>`
-        + `<td>${this.net(number)}</td><td>${value ?? ""}</td></tr>`;
+      const head = `<tr><th>${k < OUTPUT_PIN ? "reads" : "gives"}</th><td>${link("wire", wire, pin)}</td>`;
+      return number < 0 ? "" : `${head}<td>${this.net(number)}</td><td>${value ?? ""}</td></tr>`;
     });
     return `<table class="pins">${lines.join("")}</table>`;
   }
@@ -210,8 +214,8 @@ class Words {
   nets() {
     const { scene, viewer } = this;
     if (!scene.nets.length) return "";
-    const spot = net => `<a href="#" data-pick="net ${net.number}" style="border-color:${netColour(scene, net, false)};color:${netColour(scene, net, true)}">`
-      + `${escaped(net.name)}</a>`;
+    const style = net => `border-color:${netColour(scene, net, false)};color:${netColour(scene, net, true)}`;
+    const spot = net => `<a href="#" data-pick="net ${net.number}" style="${style(net)}">${escaped(net.name)}</a>`;
     const shown = scene.nets.slice(0, 600), of = design => shown.filter(net => net.design === design).map(spot).join(" ");
     const lists = scene.names.split ? `<p class="small">the first design</p>${of(0)}<p class="small">the second design</p>${of(1)}` : of(0);
     const more = scene.nets.length > 600 ? paragraph(`and ${scene.nets.length - 600} more: search for them by name`) : "";
@@ -222,7 +226,8 @@ class Words {
     const { differs } = this.viewer;
     if (!this.scene.hasFaults) return "";
     if (!differs.since.size) return paragraph("All nets read as on a sound machine.");
-    return `<p><mark>${many(differs.since.size, "net")} read${differs.since.size === 1 ? "s" : ""} other than on a sound machine, the first `
+    const read = differs.since.size === 1 ? "reads" : "read";
+    return `<p><mark>${many(differs.since.size, "net")} ${read} other than on a sound machine, the first `
       + `${this.net(differs.origin)} in <a href="#" data-cycle="${differs.cycle}">cycle ${differs.cycle}</a></mark></p>`;
   }
 
@@ -234,7 +239,7 @@ class Words {
     const wires = [...image.inputs, ...image.outputs, ...scene.nets.flatMap(net => net.wires), ...pins].sort((one, other) => one - other);
     const wire = wires.find(at => !list.isFree("wire", at)), cross = image.closed.find(at => !list.isFree("cross", at));
     const table = [...image.tables.keys()].find(at => !list.isFree("table", at));
-    const found = wire !== undefined ? ["wire", wire] : cross !== undefined ? ["cross", cross] : table !== undefined ? ["table", table] : null;
+    const found = [["wire", wire], ["cross", cross], ["table", table]].find(([, at]) => at !== undefined);
     if (!found) return paragraph("The image uses nothing that is listed.");
     return `<p><mark>doubt ${found[0]} ${link(...found, machine.partName(...found))}</mark></p>`;
   }
@@ -242,7 +247,8 @@ class Words {
   // Nets that want lines of a node where too few serve; of the one that was clicked the picture shows taps and lines.
   refusal() {
     const { refusal, machine } = { refusal: this.viewer.data.refusal, machine: this.machine }, node = machine.byName.get(refusal.node);
-    const lines = refusal.nets.map(({ number, name, taps, serving }, k) => `<tr><td>${link("wanting", k, number)}</td><td>${escaped(name)}</td>`
+    const lines = refusal.nets.map(({ number, name, taps, serving }, k) =>
+      `<tr><td>${link("wanting", k, number)}</td><td>${escaped(name)}</td>`
       + `<td>${taps.map(wire => this.wire(wire)).join(" ")}</td><td>${serving.length}</td></tr>`);
     const all = new Set(refusal.nets.flatMap(net => net.serving)).size;
     const words = lines.length ? `Of the ${node.lines} lines ${all} serve one of these nets or more.` : "";
@@ -252,8 +258,9 @@ class Words {
 
   wantingWords(place) {
     const { refusal } = this.viewer.data, net = refusal.nets[place];
-    return `<h4>net ${net.number} <small>${escaped(net.name)}</small></h4><p>wants a line that joins ${net.taps.map(wire => this.wire(wire)).join(", ")}; `
-      + `these serve: ${net.serving.map(wire => this.wire(wire)).join(" ") || "none"}</p>${this.refusal()}`;
+    const taps = net.taps.map(wire => this.wire(wire)).join(", "), serving = net.serving.map(wire => this.wire(wire)).join(" ") || "none";
+    return `<h4>net ${net.number} <small>${escaped(net.name)}</small></h4><p>wants a line that joins ${taps}; these serve: ${serving}</p>`
+      + this.refusal();
   }
 
   // The runs of a study, failed ones first.
