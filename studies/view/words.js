@@ -48,7 +48,8 @@ class Words {
     const parts = [many(machine.nodes.length, "crossbar"), many(machine.wires, "wire"), many(machine.crosses, "crosspoint"),
       many(machine.tables, "table")];
     if (image) {
-      parts.push(many(scene.nets.length, "net"), `${many(image.closed.length, "crosspoint")} closed`, `${many(image.tables.size, "table")} on`);
+      const { closed, tables } = image;
+      parts.push(many(scene.nets.length, "net"), `${many(closed.length, "crosspoint")} closed`, `${many(tables.size, "table")} on`);
     }
     const { refusal } = viewer.data, short = refusal ? `<p class="left">No room: ${escaped(refusal.words)} `
       + `${link("node", machine.byName.get(refusal.node).number, "Show it")}</p>` : "";
