@@ -6,8 +6,6 @@ Its simulator is compared with `run` on the examples and on random machines, des
 import json
 import os
 import random
-import subprocess
-import sys
 import tempfile
 import time
 import unittest
@@ -471,7 +469,3 @@ class Words(unittest.TestCase):
             ran = run("view.py", *words)
             self.assertIn(said, ran.stderr)
             self.assertEqual(("Traceback" in ran.stderr, ran.returncode > 0), (False, True))
-
-
-if __name__ == "__main__":
-    sys.exit(subprocess.call([sys.executable, "-m", "unittest", "test_view"], cwd=HERE))

@@ -57,11 +57,15 @@ class Words {
     return `<p class="small">${parts.join(", ")}</p>${short}${left}${paragraph(scene.words)}`;
   }
 
+  // How many parts have each cause; of crosspoints that were left out the number alone is known.
   causes() {
-    const { hidden } = this.viewer.state, counts = this.scene.marks.counts();
-    const lines = Object.keys(CAUSES).filter(name => counts[name]).map(name =>
+    const { scene } = this, { hidden } = this.viewer.state, here = scene.marks.counts(), all = { ...here };
+    for (const counts of Object.values(scene.counted)) for (const cause in counts) all[cause] = (all[cause] || 0) + counts[cause];
+    const count = name => `<b>${all[name].toLocaleString("en")}</b>`
+      + (all[name] === (here[name] || 0) ? "" : ` <small>${(here[name] || 0).toLocaleString("en")} here</small>`);
+    const lines = Object.keys(CAUSES).filter(name => all[name]).map(name =>
       `<button class="cause" data-cause="${name}" aria-pressed="${!hidden.has(name)}"><img src="${iconOf(name)}" alt="">`
-      + `<span>${CAUSES[name].words}</span><b>${counts[name].toLocaleString("en")}</b></button>`);
+      + `<span>${CAUSES[name].words}</span>${count(name)}</button>`);
     return lines.join("") || paragraph("none");
   }
 
@@ -149,7 +153,8 @@ class Words {
 
   nodeWords(number) {
     const node = this.machine.nodes[number], { scene } = this, used = scene.usedIn(node).filter(([, isLine]) => isLine).length;
-    const counts = Object.entries(this.countsAt(node)).map(([cause, count]) => `<tr><td>${CAUSES[cause].words}</td><td>${count}</td></tr>`);
+    const counts = Object.entries(this.countsAt(node)).map(([cause, count]) =>
+      `<tr><td>${CAUSES[cause].words}</td><td>${count.toLocaleString("en")}</td></tr>`);
     const name = node.level ? `${LEVELS[node.level]} ${node.name}` : "the machine's root r";
     const lines = scene.image ? `, ${used} of them used` : "";
     return `<h4>${name}</h4><p>${many(node.taps, "tap")}, ${many(node.lines, "line")}${lines}</p><table>${counts.join("")}</table>`
