@@ -10,6 +10,7 @@ import base64
 import csv
 import json
 import os
+import re
 import sys
 from functools import partial
 from pathlib import Path
@@ -25,7 +26,7 @@ PAGE_LIMIT = 400_000  # bytes of a page
 LIMITS = 65_536, 1_310_720, 268_435_456  # tables, wires, crosspoints that a page can show: more than the program takes
 VECTORS_LIMIT, VECTORS_BYTES = 4_096, 100_000  # most vectors, and most characters of vectors and rows
 STUDY_SHARE = 0.6  # of a page for the faults of a study's runs
-CODE = ("machine", "scene", "marks", "circuit", "layout", "painter", "words", "waves", "viewer", "page")
+CODE = [f"{name}.js" for name in "machine scene marks circuit layout painter words waves viewer page".split()]
 
 
 def packed(numbers):
@@ -297,15 +298,21 @@ class View:
         return found
 
 
+def on_one_line(text):
+    """A script, style or frame without comments and breaks: what is read is in the folder `view`, and a page is shorter."""
+    lines = (re.sub("  // .*", "", line).strip() for line in text.splitlines())
+    return " ".join(line for line in lines if line and not line.startswith("//"))
+
+
 def page_of(data):
     """The page of some data: the frame with style, data and code put in."""
-    folder = Path(HERE, "view")
-    code = "\n".join((folder / f"{name}.js").read_text(encoding="utf-8") for name in CODE)
+    read = {name: Path(HERE, "view", name).read_text(encoding="utf-8") for name in ("page.html", "page.css", *CODE)}
+    code = "\n".join(on_one_line(read[name]) for name in CODE)
     told = json.dumps(data, separators=(",", ":")).replace("</", "<\\/")
-    page = (folder / "page.html").read_text(encoding="utf-8")
-    for mark, text in (("style", (folder / "page.css").read_text(encoding="utf-8")), ("code", code), ("data", told)):
+    page = on_one_line(read["page.html"])
+    for mark, text in (("style", on_one_line(read["page.css"])), ("code", f"\n{code}\n"), ("data", told)):
         page = page.replace("{{" + mark + "}}", text)
-    return page
+    return page + "\n"
 
 
 def main():
