@@ -16,6 +16,7 @@ from program import add_program, checked_design
 
 CELL, GAP, LABEL, MARGIN, TABLE_ON = 7, 26, 62, 16, "#8fb1dd"
 MISSED, THROWN, LISTED = "missed", "thrown", "listed"
+WIRES = ("stuck0", "stuck1", "short")
 # For each cause its colour, its words, and the dashes of a wire or the path of a crosspoint in a square of 6 by 6 around its middle.
 MARKS = {
     "stuck0": ("#0072b2", "stuck at 0", ""),
@@ -153,11 +154,17 @@ def svg_text(picture, level, used):
     """The picture of the nodes of a level, or of all, or of those that the image uses, below what the colours say."""
     x, nets = MARGIN, len(set(picture.net_of.values()))
     seen = {*picture.wires.values(), *picture.crosses.values(), *picture.tables.values()}
-    for cause, (colour, words, _) in MARKS.items():
+    for cause, (colour, words, shape) in MARKS.items():
         if cause in seen:
-            picture.rect(x, MARGIN - 7, 9, 9, colour)
-            picture.text(x + 13, MARGIN, words)
-            x += 26 + 5 * len(words)
+            if "M" in shape:
+                picture.cross(x + 5, MARGIN - 3, cause)
+            elif cause in WIRES:
+                dashed = f'stroke="{colour}" stroke-width="2" stroke-dasharray="{shape}"'
+                picture.shapes.append(f'<path d="M{x} {MARGIN - 3}h11" {dashed}/>')
+            else:
+                picture.rect(x, MARGIN - 7, 9, 9, colour)
+            picture.text(x + 15, MARGIN, words)
+            x += 28 + 5 * len(words)
     if nets:
         picture.text(x, MARGIN, f"{nets} nets, pale; dots are closed crosspoints, blue bars switched-on tables")
     busy = {picture.machine.node_of_cross(cross).name for cross in picture.closed}

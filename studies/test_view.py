@@ -6,21 +6,21 @@ Its simulator is compared with `run` on the examples and on random machines, des
 import json
 import os
 import random
-import subprocess
-import sys
 import tempfile
 import time
 import unittest
 from argparse import Namespace
 from pathlib import Path
+from unittest import mock
 
 import designs
 import teramac_texts as texts
 from faults import make_faults
+from plan import shortage
 from program import DEFAULT, HERE, call
 from size import compiles
 from test_studies import EXAMPLES, random_blif, run
-from view import PAGE_LIMIT, View
+from view import PAGE_LIMIT, View, packed, page_of
 
 try:
     from selenium import webdriver
@@ -89,7 +89,8 @@ class Made:
 
     def __init__(self, folder, machine, design, faults=None, listed=True):
         self.machine, self.faults = f"{EXAMPLES}/{machine}.machine", f"{EXAMPLES}/{faults or machine}.faults"
-        self.design, self.vectors, self.name = f"{EXAMPLES}/{design}.blif", f"{EXAMPLES}/{design}.vec", f"{folder}/{machine}-{design}"
+        self.design, self.vectors = f"{EXAMPLES}/{design}.blif", f"{EXAMPLES}/{design}.vec"
+        self.name = f"{folder}/{machine}-{design}-{listed}"
         found = call(DEFAULT, "diagnose", self.machine, self.faults if listed else b"").defects
         image = call(DEFAULT, "compile", self.machine, found, self.design)
         assert image.status == 0, image.refusal
@@ -105,11 +106,11 @@ class Made:
         return f"{self.name}.html"
 
 
-def viewed(**words):
-    """The data of a page of these files."""
+def view_of(**words):
+    """What a page has to show of these files."""
     given = {"faults": [], "defects": [], "image": [], "design": [], "part": [], "vectors": None, "rows": None, "refusal": None}
     given |= {"study": None, "settings": None, "program": DEFAULT}
-    return View(Namespace(**(given | words))).data()
+    return View(Namespace(**(given | words)))
 
 
 class Page(unittest.TestCase):
@@ -160,7 +161,8 @@ class Page(unittest.TestCase):
                         made = Made(self.folder, machine, design, listed=listed)
                     except AssertionError as error:
                         self.skipTest(f"{machine}, {design}: {error}")
-                    data = viewed(machine=made.machine, faults=[made.faults], image=[f"{made.name}.image"], design=[made.design], vectors=made.vectors)
+                    files = {"faults": [made.faults], "image": [f"{made.name}.image"], "design": [made.design]}
+                    data = view_of(machine=made.machine, vectors=made.vectors, **files).data()
                     [[rows, sound]] = self.browser.execute_script(SIMULATED, json.loads(json.dumps(data)))
                     self.assertEqual(rows, [row.decode() for row in made.rows])
                     self.assertEqual(sound, data["expected"])
@@ -172,7 +174,7 @@ class Page(unittest.TestCase):
             paths = [os.path.join(self.folder, f"worked{k}") for k in range(4)]
             for path, data in zip(paths, files):
                 Path(path).write_bytes(data)
-            data = viewed(machine=paths[0], faults=[paths[1]], image=[paths[2]], vectors=paths[3])
+            data = view_of(machine=paths[0], faults=[paths[1]], image=[paths[2]], vectors=paths[3]).data()
             [[found, _]] = self.browser.execute_script(SIMULATED, json.loads(json.dumps(data)))
             self.assertEqual(found, rows)
             count += 1
@@ -194,8 +196,8 @@ class Page(unittest.TestCase):
             for name, data in named.items():
                 Path(self.folder, name).write_bytes(data if isinstance(data, bytes) else data.encode())
             paths = {name: os.path.join(self.folder, name) for name in named}
-            right = [row.decode() for row in call(DEFAULT, "run", *(paths[name] for name in ("machine", "faults", "image", "vectors"))).rows]
-            data = viewed(machine=paths["machine"], faults=[paths["faults"]], image=[paths["image"]], vectors=paths["vectors"])
+            right = [row.decode() for row in call(DEFAULT, "run", *paths.values()).rows]
+            data = view_of(machine=paths["machine"], faults=[paths["faults"]], image=[paths["image"]], vectors=paths["vectors"]).data()
             [[rows, sound]] = self.browser.execute_script(SIMULATED, json.loads(json.dumps(data)))
             self.assertEqual(rows, right)
             seen, differ = seen + 1, differ + (rows != sound)
@@ -205,10 +207,11 @@ class Page(unittest.TestCase):
     def test_names(self):
         """Every number has the name that the texts have, and back; crosspoints have the same ends."""
         machine = texts.Machine((2, 1, 2, 3, 2, 3, 4, 2, 1, 3, 2, 5))
-        names = self.asked("Array.from({ length: arguments[1] }, (_, k) => new Machine(arguments[0]).wireName(k))", machine.counts, machine.sizes["wire"])
+        all_names = "(machine => Array.from({ length: machine.wires }, (_, k) => machine.wireName(k)))(new Machine(arguments[0]))"
+        names = self.asked(all_names, machine.counts)
         self.assertEqual(names, machine.names)
-        ends = "const machine = new Machine(arguments[0]); return Array.from({ length: machine.crosses }, (_, k) => [...machine.ends(k), k])"
-        found = self.browser.execute_script(ends, machine.counts)
+        ends = "(machine => Array.from({ length: machine.crosses }, (_, k) => [...machine.ends(k), k]))(new Machine(arguments[0]))"
+        found = self.asked(ends, machine.counts)
         self.assertEqual(found, [[*machine.ends(cross), cross] for cross in range(machine.sizes["cross"])])
         back = "const machine = new Machine(arguments[0]); return arguments[1].map(name => machine.part(name)?.[1] ?? -1)"
         wrong = ["r.o0", "m0.p0", "m0.c0.h0.t3", "m2", "m0.l01", "r.l2", "m0.c0.t0"]
@@ -322,7 +325,8 @@ class Page(unittest.TestCase):
     def test_ticks(self):
         """After all ticks of a cycle the state is the settled one."""
         self.press("..")
-        same = """const { scene, vectors, state, run } = viewer, end = runToTick(scene, scene.faults, vectors, state.cycle, scene.image.ticks);
+        same = """const { scene, vectors, state, run } = viewer;
+            const end = runToTick(scene, scene.faults, vectors, state.cycle, scene.image.ticks);
             return run.wires.every(wire => end.wire(wire, state.cycle) === run.wire(wire, state.cycle));"""
         self.assertTrue(self.browser.execute_script(same))
         self.press(">")
@@ -357,12 +361,14 @@ class Page(unittest.TestCase):
         for name, body in parts.items():
             parts[name] = f".model {name}\n.inputs x y\n.outputs z\n{body}.end\n"
             Path(self.folder, f"{name}.blif").write_text(parts[name], encoding="utf-8")
-        image = compiles(DEFAULT, texts.read_text(texts.read_machine, self.small.machine), texts.Defects(), (blif + "".join(parts.values())).encode())
+        machine = texts.read_text(texts.read_machine, self.small.machine)
+        image = compiles(DEFAULT, machine, texts.Defects(), (blif + "".join(parts.values())).encode())
         self.assertEqual(image.status, 0)
         Path(self.folder, "pair.image").write_bytes(image.written)
         Path(self.folder, "pair.vec").write_text("0011\n1110\n1010\n1111\n", encoding="utf-8")
-        words = [self.small.machine, "--image", f"{self.folder}/pair.image", "--design", f"{self.folder}/one.blif", f"{self.folder}/two.blif"]
-        ran = run("view.py", *words, "--vectors", f"{self.folder}/pair.vec", "-o", f"{self.folder}/pair.html")
+        words = [self.small.machine, "--image", f"{self.folder}/pair.image", "--vectors", f"{self.folder}/pair.vec"]
+        words += ["--design", f"{self.folder}/one.blif", f"{self.folder}/two.blif"]
+        ran = run("view.py", *words, "-o", f"{self.folder}/pair.html")
         self.assertEqual(ran.returncode, 0, ran.stderr)
         self.open(f"{self.folder}/pair.html")
         found = self.asked("viewer.scene.nets.map(net => [net.name, net.design])")
@@ -397,8 +403,7 @@ class Page(unittest.TestCase):
         for power in range(22):
             before = self.seconds()
             frame = f"""viewer.painter.view = {{ x: 100, y: 60, scale: {0.1 * 1.3**power} }};
-                viewer.painter.paint(viewer.shown, viewer.state);
-                viewer.painter.context.getImageData(0, 0, 1, 1);"""
+                viewer.painter.paint(viewer.shown, viewer.state);"""
             self.browser.execute_script(frame)
             self.assertLess(self.seconds() - before, FRAME, f"at {0.1 * 1.3**power} points a crosspoint")
 
@@ -408,8 +413,53 @@ class Page(unittest.TestCase):
         return next(metric["value"] for metric in metrics if metric["name"] == "TaskDuration")
 
 
-class Refused(unittest.TestCase):
-    def test_in_one_line(self):
+class Words(unittest.TestCase):
+    """What needs no browser."""
+
+    def test_shortage(self):
+        """The nets that a refusal names are as many as it says are wanted, and as many lines serve one of them as it says are there."""
+        chance, seen = random.Random(2), 0
+        for turn in range(10 * TURNS):
+            counts = [1, 2, 2, 3, *(chance.randint(5, 9) for _ in range(3)), *(chance.randint(3, 7) for _ in range(4)), 10]
+            machine, design = texts.Machine(counts), random_blif(chance).encode()
+            faults = make_faults(machine, {"open": 0.08, "wires": 2}, turn)
+            defects = texts.exact_list(machine, faults)
+            refusal = compiles(DEFAULT, machine, defects, design).refusal
+            if refusal[1:3] != ["noroom", "lines"]:
+                continue
+            read = texts.read_design(design)
+            found = shortage(machine, defects, read, designs.plain_network(read), refusal)
+            serving = {line for net in found["nets"] for line in net["serving"]}
+            self.assertEqual([len(found["nets"]), len(serving)], [int(word) for word in refusal[4:6]])
+            seen += 1
+        self.assertGreater(seen, TURNS)
+
+    def test_large(self):
+        """A page that would be too long has the crosspoints of named parts, counts of all others, and says so."""
+        machine = texts.Machine((2, 2, 4, 8, 24, 24, 24, 32, 32, 32, 32, 28))
+        faults = make_faults(machine, {"open": 0.3}, 1)
+        with tempfile.TemporaryDirectory() as folder:
+            for name, text in (("machine", machine.text), ("faults", texts.faults_text(machine, faults))):
+                Path(folder, name).write_text(text, encoding="utf-8")
+            given = {"machine": f"{folder}/machine", "faults": [f"{folder}/faults"], "part": ["m0.c1"]}
+            with mock.patch("view.PAGE_LIMIT", 100):
+                page = view_of(**given).page()
+            data = json.loads(page.split('id="data">')[1].split("</script>")[0])
+        inside = [cross for cross in faults["open"] if machine.node_of_cross(cross).name.startswith("m0.c1")]
+        [scene] = data["scenes"]
+        self.assertEqual(scene["faults"]["open"], packed(sorted(inside)))
+        self.assertEqual(sum(of["open"] for of in scene["counted"].values()), len(faults["open"]) - len(inside))
+        self.assertIn("m0.c1, and of all others how many are bad", " ".join(data["left"]))
+
+    def test_pages(self):
+        """The pages that are ready to open have the scripts of today, and are within the limit."""
+        code = page_of({}).split("<script>")[1]
+        for page in Path(HERE, "../docs/pages").glob("*.html"):
+            text = page.read_text(encoding="utf-8")
+            self.assertLess(len(text), PAGE_LIMIT)
+            self.assertEqual(text.split("<script>")[1], code, f"{page}: make it anew by make.sh there")
+
+    def test_refuses_in_one_line(self):
         for words, said in (
             (("and.blif",), "refused machine 1 word"),
             (("tiny.machine", "--defects", "tiny.faults"), "refused defects 1 word"),
@@ -419,7 +469,3 @@ class Refused(unittest.TestCase):
             ran = run("view.py", *words)
             self.assertIn(said, ran.stderr)
             self.assertEqual(("Traceback" in ran.stderr, ran.returncode > 0), (False, True))
-
-
-if __name__ == "__main__":
-    sys.exit(subprocess.call([sys.executable, "-m", "unittest", "test_view"], cwd=HERE))

@@ -10,6 +10,7 @@ import base64
 import csv
 import json
 import os
+import re
 import sys
 from functools import partial
 from pathlib import Path
@@ -23,9 +24,9 @@ from trial import mix
 
 PAGE_LIMIT = 400_000  # bytes of a page
 LIMITS = 65_536, 1_310_720, 268_435_456  # tables, wires, crosspoints that a page can show: more than the program takes
-VECTORS_LIMIT, VECTORS_BYTES = 4_096, 60_000
+VECTORS_LIMIT, VECTORS_BYTES = 4_096, 100_000  # most vectors, and most characters of vectors and rows
 STUDY_SHARE = 0.6  # of a page for the faults of a study's runs
-CODE = ("machine", "scene", "marks", "circuit", "layout", "painter", "words", "waves", "viewer", "page")
+CODE = [f"{name}.js" for name in "machine scene marks circuit layout painter words waves viewer page".split()]
 
 
 def packed(numbers):
@@ -90,27 +91,28 @@ def sent_list(machine, faults, defects, parts, counted):
     return {name: packed(numbers) for name, numbers in found.items()}
 
 
-def sent_image(image, parts):
+def sent_image(machine, image, parts):
     """An image: its pins, and of a table a byte of flags and eight of cells."""
-    settings = b"".join(bytes([latched | initial << 1]) + cells.to_bytes(8, "big") for _, latched, initial, cells in image.tables)
+    tables = [setting for setting in image.tables if parts.all or parts.has_node(machine.table_names[setting[0]].rsplit(".", 1)[0])]
+    settings = b"".join(bytes([latched | initial << 1]) + cells.to_bytes(8, "big") for _, latched, initial, cells in tables)
     return {
         "ticks": image.ticks,
         "inputs": image.inputs,
         "outputs": image.outputs,
-        "tables": packed(table for table, *_ in image.tables),
+        "tables": packed(table for table, *_ in tables),
         "settings": base64.b64encode(settings).decode(),
         "closed": packed(cross for cross in image.crosses if parts.has(cross)),
     }
 
 
-def vectors_of(path):
-    """The vectors of a file, or those of its beginning that a page has; and what is left out."""
+def vectors_of(path, outputs):
+    """The vectors of a file, or those of its beginning for which a page has room with their rows; and what is left out."""
     try:
         with open(path, encoding="utf-8", errors="surrogateescape") as file:
             found, size = [], 0
             for line in file:
                 vector = line.split("#")[0].translate(texts.BLANK).replace(" ", "").strip()
-                size += len(vector)
+                size += len(vector) + 2 * outputs
                 if vector and (len(found) == VECTORS_LIMIT or size > VECTORS_BYTES):
                     return found, [f"Of the vectors the page has the first {len(found):,}."]
                 found += [vector] * bool(vector)
@@ -259,7 +261,7 @@ class View:
         if defects is not None:
             found["list"] = sent_list(self.machine, faults or texts.Faults(), defects, self.parts, counted)
         if image is not None:
-            found["image"] = sent_image(image, self.parts)
+            found["image"] = sent_image(self.machine, image, self.parts)
         return found
 
     def data(self):
@@ -268,7 +270,7 @@ class View:
         found = {"title": os.path.basename(self.args.machine), "counts": self.machine.counts, "split": split, "refusal": self.refusal}
         found |= {"inputs": self.names("inputs"), "outputs": self.names("outputs"), "vectors": [], "expected": [], "rows": [], "left": []}
         if self.args.vectors:
-            found["vectors"], found["left"] = vectors_of(self.args.vectors)
+            found["vectors"], found["left"] = vectors_of(self.args.vectors, len(self.names("outputs")))
             if self.designs:
                 found["expected"] = expected_rows(self.args.program, self.args.design, self.designs, found["vectors"])
         if self.args.rows:
@@ -289,19 +291,28 @@ class View:
         data["left"].append(f"This machine is large: the page has the single crosspoints of {named}, and of all others how many are bad.")
         data["isPartial"] = bool(self.read["image"])
         if data["isPartial"]:
-            data["left"].append("Of the image it has what is closed there, so cycles can't be simulated.")
-        return page_of(data)
+            data["left"].append("Of the image it has what is closed and switched on there, so cycles can't be simulated.")
+        found = page_of(data)
+        if len(found) > PAGE_LIMIT:
+            print(f"the page has {len(found):,} characters: name fewer parts by --part", file=sys.stderr)
+        return found
+
+
+def on_one_line(text):
+    """A script, style or frame without comments and breaks: what is read is in the folder `view`, and a page is shorter."""
+    lines = (re.sub("  // .*", "", line).strip() for line in text.splitlines())
+    return " ".join(line for line in lines if line and not line.startswith("//"))
 
 
 def page_of(data):
     """The page of some data: the frame with style, data and code put in."""
-    folder = Path(HERE, "view")
-    code = "\n".join((folder / f"{name}.js").read_text(encoding="utf-8") for name in CODE)
+    read = {name: Path(HERE, "view", name).read_text(encoding="utf-8") for name in ("page.html", "page.css", *CODE)}
+    code = "\n".join(on_one_line(read[name]) for name in CODE)
     told = json.dumps(data, separators=(",", ":")).replace("</", "<\\/")
-    page = (folder / "page.html").read_text(encoding="utf-8")
-    for mark, text in (("style", (folder / "page.css").read_text(encoding="utf-8")), ("code", code), ("data", told)):
+    page = on_one_line(read["page.html"])
+    for mark, text in (("style", on_one_line(read["page.css"])), ("code", f"\n{code}\n"), ("data", told)):
         page = page.replace("{{" + mark + "}}", text)
-    return page
+    return page + "\n"
 
 
 def main():

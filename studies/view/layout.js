@@ -60,6 +60,10 @@ function nodeAt(node, x, y) {
 // The rectangle around a part, for the picture to go to.
 function areaOf(machine, scene, kind, at) {
   if (kind === "node") return machine.nodes[at];
+  if (kind === "crossbar") {
+    const { x, y, lines, taps } = machine.nodes[at];
+    return { x, y, width: LABEL + lines + GAP, height: HEAD + taps + GAP };
+  }
   const places = kind === "wire" ? placesOf(machine, at) : kind === "cross" ? [placeOfCross(machine, at)]
     : kind === "table" ? placesOf(machine, machine.pinOf(at, 3)) : scene.nets[at].crosses.map(cross => placeOfCross(machine, cross));
   const across = places.flatMap(spot => spot.x === undefined ? [spot.x1, spot.x2] : [spot.x]);

@@ -21,8 +21,8 @@ function crumbs() {
 
 // The address says what is in sight, so that it can be sent to someone.
 function address() {
-  const { state, painter: { view } } = viewer, { selection } = state, words = new URLSearchParams();
-  if (selection) words.set("pick", selection.kind === "net" ? viewer.scene.nets[selection.at].name : viewer.machine.partName(selection.kind, selection.at));
+  const { state, painter: { view } } = viewer, words = new URLSearchParams();
+  if (state.selection) words.set("pick", viewer.chosenName());
   words.set("at", [view.x.toFixed(1), view.y.toFixed(1), view.scale.toFixed(3)].join());
   if (state.cycle) words.set("cycle", state.cycle);
   if (state.hidden.size) words.set("hide", [...state.hidden].join());
@@ -68,10 +68,14 @@ function clicked(event) {
 
 // Goes to the node above the one in sight, or above the selected one.
 function goUp() {
-  const { selection } = viewer.state, { machine } = viewer;
-  const node = selection?.kind === "node" ? machine.nodes[selection.at] : selection?.kind === "wire" ? machine.nodeOfWire(selection.at)
-    : selection?.kind === "cross" ? machine.nodeOfCross(selection.at) : selection?.kind === "table" ? machine.nodeOfTable(selection.at) : machine.root;
-  viewer.select("node", (selection?.kind === "node" ? node.parent ?? node : node).number, true);
+  const { kind, at } = viewer.state.selection ?? {}, { machine } = viewer;
+  const above = {
+    node: () => machine.nodes[at].parent ?? machine.root,
+    wire: () => machine.nodeOfWire(at),
+    cross: () => machine.nodeOfCross(at),
+    table: () => machine.nodeOfTable(at),
+  };
+  viewer.select("node", (above[kind]?.() ?? machine.root).number, true);
 }
 
 function nextNet(step) {
@@ -89,8 +93,8 @@ const DEEDS = {
   up: goUp,
   earlier: () => viewer.setCycle(viewer.state.cycle - 1),
   later: () => viewer.setCycle(viewer.state.cycle + 1),
-  "tick-back": () => viewer.setTick(viewer.state.tick < 0 ? viewer.scene.image.ticks - 1 : Math.max(0, viewer.state.tick - 1)),
-  "tick-on": () => viewer.setTick(viewer.state.tick < 0 ? 0 : viewer.state.tick + 1 > viewer.scene.image.ticks ? -1 : viewer.state.tick + 1),
+  "tick-back": () => viewer.stepTick(-1),
+  "tick-on": () => viewer.stepTick(1),
   values: () => {
     viewer.state.showsValues = !viewer.state.showsValues;
     document.getElementById("values").checked = viewer.state.showsValues;
@@ -108,8 +112,9 @@ const DEEDS = {
 };
 
 const KEYS = {
-  0: "whole", "+": "nearer", "=": "nearer", "-": "farther", u: "up", ",": "earlier", ".": "later", "<": "tick-back", ">": "tick-on", v: "values",
-  "?": "help", ArrowLeft: "left", ArrowRight: "right", ArrowUp: "above", ArrowDown: "below", n: "next", p: "last", "/": "search", Escape: "none",
+  0: "whole", "+": "nearer", "=": "nearer", "-": "farther", u: "up", ArrowLeft: "left", ArrowRight: "right", ArrowUp: "above",
+  ArrowDown: "below", ",": "earlier", ".": "later", "<": "tick-back", ">": "tick-on", v: "values", n: "next", p: "last", "/": "search",
+  "?": "help", Escape: "none",
 };
 
 function pressed(event) {
@@ -172,11 +177,12 @@ function listen() {
 }
 
 function begin() {
-  const { data } = viewer, isPair = viewer.scenes.length === 2;
+  const { data, scenes } = viewer, own = scenes.map(({ name }, k) => [String(k), name]);
+  const shown = scenes.length === 2 ? [...own, ["both", "side by side"], ["difference", "difference"]] : [];
   document.title = `${data.title} - teramac`;
   document.getElementById("title").textContent = data.title;
-  document.getElementById("scenes").innerHTML = isPair ? [...viewer.scenes.map(({ name }, k) => [String(k), name]), ["both", "side by side"],
-    ["difference", "difference"]].map(([word, name]) => `<button data-show="${word}">${escaped(name)}</button>`).join("") : "";
+  const buttons = shown.map(([word, name]) => `<button data-show="${word}">${escaped(name)}</button>`);
+  document.getElementById("scenes").innerHTML = buttons.join("");
   listen();
   goToAddress();
   viewer.paintNow();

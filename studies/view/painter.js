@@ -160,7 +160,8 @@ class Painter {
 
   paintBitmap({ node, x, y, width, height, used }, kind, draw) {
     if (!used.length) return;
-    const kept = this.bitmap(`${this.scene.key} ${kind} ${node.number}`, node.lines, node.taps, context => draw(context, this.scene, node, used));
+    const key = `${this.scene.key} ${kind} ${node.number}`;
+    const kept = this.bitmap(key, node.lines, node.taps, context => draw(context, this.scene, node, used));
     this.context.imageSmoothingEnabled = true;
     this.context.drawImage(kept, x, y, width, height);
   }
@@ -272,16 +273,36 @@ class Painter {
     context.globalAlpha = 1;
   }
 
-  paintTables({ node, x, y, width, scale, marks }) {
-    const bad = new Map(marks.tables.map(([table, causes]) => [table, causes.find(cause => !this.state.hidden.has(cause))]));
-    for (let k = 0; k < node.tables; k++) {
-      const table = node.firstTable + k, setting = this.scene.image?.tables.get(table), cause = bad.get(table);
-      const spot = [x + width + scale * 0.7, y + (node.ports + PINS_OF_TABLE * k + 0.3) * scale, scale * (TABLE_WIDTH - 1), 6.4 * scale];
-      if (!this.isSeen(...spot)) continue;
-      this.box(...spot, setting ? TABLE_ON : TABLE_OFF);
-      if (cause) this.frameTable(spot, CAUSES[cause], scale);
-      if (scale > SHAPES_FROM && setting) this.tableWords(spot, table, setting, scale);
+  // From afar the tables of a hextant are one bar, as strong as the share of them that is on.
+  paintTableShare({ node, x, y, width, height, scale }) {
+    const { context, scene } = this, first = node.ports * scale, on = scene.tablesOnIn(node) / node.tables;
+    const spot = [x + width + scale * 0.7, y + first, scale * (TABLE_WIDTH - 1), height - first];
+    this.box(...spot, TABLE_OFF);
+    context.globalAlpha = on;
+    if (on) this.box(...spot, TABLE_ON);
+    context.globalAlpha = 1;
+  }
+
+  paintTables(at) {
+    const { node, scale, marks } = at, isFar = scale < BITMAPS_FROM;
+    if (isFar) this.paintTableShare(at);
+    else for (let k = 0; k < node.tables; k++) this.paintTable(at, node.firstTable + k);
+    for (const [table, causes] of marks.tables) {
+      const cause = causes.find(name => !this.state.hidden.has(name)), spot = this.tableSpot(at, table);
+      if (cause && this.isSeen(...spot)) this.frameTable(spot, CAUSES[cause], scale);
     }
+  }
+
+  tableSpot({ node, x, y, width, scale }, table) {
+    const top = node.ports + PINS_OF_TABLE * (table - node.firstTable) + 0.3;
+    return [x + width + scale * 0.7, y + top * scale, scale * (TABLE_WIDTH - 1), 6.4 * scale];
+  }
+
+  paintTable(at, table) {
+    const setting = this.scene.image?.tables.get(table), spot = this.tableSpot(at, table);
+    if (!this.isSeen(...spot)) return;
+    this.box(...spot, setting ? TABLE_ON : TABLE_OFF);
+    if (at.scale > SHAPES_FROM && setting) this.tableWords(spot, table, setting, at.scale);
   }
 
   frameTable([x, y, width, height], { colour, letter }, scale) {
@@ -342,6 +363,7 @@ class Painter {
     const { selection } = this.state, { machine, scene } = this;
     if (!selection) return;
     if (this.chosen >= 0) return this.paintNet(scene.nets[this.chosen]);
+    if (selection.kind === "wanting") this.paintWanting(this.state.wanting[selection.at]);
     if (selection.kind === "wire") for (const spot of placesOf(machine, selection.at)) this.halo(spot);
     if (selection.kind === "cross") this.ring(placeOfCross(machine, selection.at));
     if (selection.kind === "table") {
@@ -352,6 +374,18 @@ class Painter {
       const node = machine.nodes[selection.at];
       this.frame(node.x, node.y, node.width, node.height);
     }
+  }
+
+  // A net that has no line: its taps strong, and each line that would serve with a ring at each of its crosspoints there.
+  paintWanting({ taps, serving }) {
+    const { context, machine } = this, node = machine.nodeOfWire(serving[0] ?? taps[0]);
+    context.strokeStyle = "#1d5f3f";
+    for (const wire of [...taps, ...serving]) {
+      context.lineWidth = taps.includes(wire) ? Math.max(2, this.view.scale * 0.34) : 1;
+      const places = placesOf(machine, wire).filter(spot => spot.node === node || !serving.length);
+      for (const { x1, y1, x2, y2 } of places) this.line(x1, y1, x2, y2);
+    }
+    for (const tap of taps) for (const line of serving) this.ring(placeOfCross(machine, machine.cross(tap, line)));
   }
 
   frame(x, y, width, height) {

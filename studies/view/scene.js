@@ -154,8 +154,14 @@ class Scene {
     return this.used[node.number].crosses;
   }
 
+  tablesOnIn(node) {
+    this.used ??= this.sortedByNode();
+    return this.used[node.number].tables;
+  }
+
   sortedByNode() {
-    const { machine } = this, byNode = machine.nodes.map(() => ({ wires: [], crosses: [] }));
+    const { machine } = this, byNode = machine.nodes.map(() => ({ wires: [], crosses: [], tables: 0 }));
+    for (const table of this.image?.tables.keys() ?? []) byNode[machine.nodeOfTable(table).number].tables++;
     for (const net of this.nets) {
       for (const wire of net.wires) {
         for (const node of machine.nodesWith(wire)) {

@@ -1,5 +1,7 @@
 // What is shown and chosen: scenes, the run in them, the part, the cycle; and what a search means.
 
+// Words that stand before names in faults, lists and refusals.
+const LEADING = /^(refused|noroom|doubt|wire|cross|table|open|closed|stuck[01]|cell|register|bridge)$/;
 const NAV_HEIGHT = 46;  // is kept free above and below what the picture goes to
 
 class Viewer {
@@ -11,7 +13,8 @@ class Viewer {
     this.names = { inputs: data.inputs, outputs: data.outputs, split: data.split };
     this.scenes = data.scenes.map(sent => new Scene(this.machine, sent, this.names));
     this.runScenes = new Map();
-    this.state = { selection: null, hidden: new Set(), showsValues: false, cycle: 0, tick: -1, show: "0", values: null };
+    this.state = { selection: null, hidden: new Set(), showsValues: false, cycle: 0, tick: -1, show: "0", values: null,
+      wanting: data.refusal?.nets ?? [] };
     this.vectors = [...data.vectors];
     this.off = [];
     this.isChanged = false;
@@ -28,7 +31,7 @@ class Viewer {
     const run = /^run ([0-9]+)$/.exec(word), { scenes } = this;
     if (word === "both") this.shown = scenes.slice(0, 2);
     else if (word === "difference") this.shown = [this.difference ??= new Difference(scenes[0], scenes[1])];
-    else if (word === "overlay") this.shown = [this.overlay ??= new Overlay(this.machine, this.data.study.runs.map((_, k) => this.runScene(k)), this.names)];
+    else if (word === "overlay" && this.data.study) this.shown = [this.overlay ??= this.overlaid()];
     else if (run && this.data.study?.runs[run[1]]) this.shown = [this.runScene(Number(run[1]))];
     else this.shown = [scenes[word] ?? scenes[0]];
     this.state.show = word;
@@ -38,6 +41,8 @@ class Viewer {
     this.off = [];
     this.simulate(0);
   }
+
+  overlaid() { return new Overlay(this.machine, this.data.study.runs.map((_, k) => this.runScene(k)), this.names); }
 
   // The machine of a run of a study, made when it is looked at.
   runScene(number) {
@@ -84,6 +89,13 @@ class Viewer {
     this.refresh();
   }
 
+  stepTick(step) {
+    const { state, scene, run } = this;
+    if (!run) return;
+    const { ticks } = scene.image, next = state.tick < 0 ? (step > 0 ? 0 : ticks - 1) : Math.max(0, state.tick + step);
+    this.setTick(next > ticks ? -1 : next);
+  }
+
   turnInput(input, cycle) {
     const bits = [...this.vectors[cycle]];
     bits[input] = bits[input] === "1" ? "0" : "1";
@@ -115,8 +127,18 @@ class Viewer {
 
   select(kind, at, goesThere) {
     this.state.selection = { kind, at };
-    if (goesThere) this.goTo(areaOf(this.machine, this.scene, kind, at), kind);
+    // A net that wants a line is seen in the crossbar that has none.
+    const place = kind === "wanting" ? ["crossbar", this.machine.byName.get(this.data.refusal.node).number] : [kind, at];
+    if (goesThere) this.goTo(areaOf(this.machine, this.scene, ...place), kind);
     this.refresh();
+  }
+
+  // The chosen part or net, as a search finds it.
+  chosenName() {
+    const { selection } = this.state;
+    if (!selection) return "";
+    if (selection.kind === "wanting") return this.data.refusal.node;
+    return selection.kind === "net" ? this.scene.nets[selection.at].name : this.machine.partName(selection.kind, selection.at);
   }
 
   unselect() {
@@ -154,7 +176,8 @@ class Viewer {
       ? ["wire", node.firstLine + line] : ["node", node.number];
     if (line < 0) return ["wire", machine.tapWire(node, tap)];
     if (line < node.lines) return this.partInCrossbar(node, tap, line);
-    const table = Math.floor((tap - node.ports) / PINS_OF_TABLE), isTable = line < node.lines + TABLE_WIDTH && node.tables && tap >= node.ports;
+    const table = Math.floor((tap - node.ports) / PINS_OF_TABLE);
+    const isTable = line < node.lines + TABLE_WIDTH && node.tables && tap >= node.ports;
     return isTable ? ["table", node.firstTable + table] : ["node", node.number];
   }
 
@@ -172,7 +195,7 @@ class Viewer {
     const text = words.trim(), { machine, scene } = this;
     const net = scene.nets.find(({ name, also }) => name === text || also.includes(text));
     if (net) return ["net", net.number];
-    const rest = text.split(/\s+/).filter(word => !/^(refused|noroom|doubt|wire|cross|table|open|closed|stuck[01]|cell|register|bridge)$/.test(word));
+    const rest = text.split(/\s+/).filter(word => !LEADING.test(word));
     if (/^refused/.test(text)) return machine.part(rest[1] ?? "");
     const [first, second] = rest.slice(0, 2).map(name => machine.part(name));
     if (first?.[0] === "wire" && second?.[0] === "wire") {

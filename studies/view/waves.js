@@ -26,11 +26,13 @@ class Waves {
   // Each with a name, its value in a cycle, and what it should be there.
   signals() {
     const { viewer } = this, { scene, run, sound, vectors, data } = viewer, { inputs, outputs } = scene.names;
-    const found = scene.image.inputs.map((_, k) => ({ name: inputs[k] ?? `input ${k}`, input: k, value: cycle => Number(vectors[cycle][k]) }));
+    const found = scene.image.inputs.map((_, k) =>
+      ({ name: inputs[k] ?? `input ${k}`, input: k, value: cycle => Number(vectors[cycle][k]) }));
+    const wanted = viewer.isChanged || !data.expected.length ? sound.rows : data.expected;
     scene.image.outputs.forEach((_, k) => found.push({
       name: outputs[k] ?? `output ${k}`,
       value: cycle => Number(run.rows[cycle][k]),
-      right: cycle => Number((viewer.isChanged ? sound.rows : data.expected.length ? data.expected : sound.rows)[cycle]?.[k] ?? run.rows[cycle][k]),
+      right: cycle => Number(wanted[cycle]?.[k] ?? run.rows[cycle][k]),
     }));
     const chosen = viewer.chosenNet();
     if (chosen >= 0) {
@@ -117,7 +119,8 @@ class Waves {
     for (const [rows, of] of [[data.expected, "eval"], [viewer.off.length ? [] : data.rows, "run"]]) {
       if (!rows.length) continue;
       const first = count(rows), bad = run.rows.filter((row, k) => rows[k] !== undefined && rows[k] !== row).length;
-      words.push(bad ? `<mark><a href="#" data-cycle="${first}">${many(bad, "row")} differ from ${of}, the first in cycle ${first}</a></mark>`
+      const differ = `${many(bad, "row")} differ from ${of}, the first in cycle ${first}`;
+      words.push(bad ? `<mark><a href="#" data-cycle="${first}">${differ}</a></mark>`
         : `all rows are those of <i>${of}</i>`);
     }
     return words.join("; ");

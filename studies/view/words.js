@@ -47,16 +47,25 @@ class Words {
     const { machine, scene, viewer } = this, { image } = scene;
     const parts = [many(machine.nodes.length, "crossbar"), many(machine.wires, "wire"), many(machine.crosses, "crosspoint"),
       many(machine.tables, "table")];
-    if (image) parts.push(many(scene.nets.length, "net"), `${image.closed.length.toLocaleString("en")} closed`, `${image.tables.size} tables on`);
+    if (image) {
+      const { closed, tables } = image;
+      parts.push(many(scene.nets.length, "net"), `${many(closed.length, "crosspoint")} closed`, `${many(tables.size, "table")} on`);
+    }
+    const { refusal } = viewer.data, short = refusal ? `<p class="left">No room: ${escaped(refusal.words)} `
+      + `${link("node", machine.byName.get(refusal.node).number, "Show it")}</p>` : "";
     const left = viewer.data.left.map(words => `<p class="left">${escaped(words)}</p>`).join("");
-    return `<p class="small">${parts.join(", ")}</p>${left}${paragraph(scene.words)}`;
+    return `<p class="small">${parts.join(", ")}</p>${short}${left}${paragraph(scene.words)}`;
   }
 
+  // How many parts have each cause; of crosspoints that were left out the number alone is known.
   causes() {
-    const { hidden } = this.viewer.state, counts = this.scene.marks.counts();
-    const lines = Object.keys(CAUSES).filter(name => counts[name]).map(name =>
+    const { scene } = this, { hidden } = this.viewer.state, here = scene.marks.counts(), all = { ...here };
+    for (const counts of Object.values(scene.counted)) for (const cause in counts) all[cause] = (all[cause] || 0) + counts[cause];
+    const count = name => `<b>${all[name].toLocaleString("en")}</b>`
+      + (all[name] === (here[name] || 0) ? "" : ` <small>${(here[name] || 0).toLocaleString("en")} here</small>`);
+    const lines = Object.keys(CAUSES).filter(name => all[name]).map(name =>
       `<button class="cause" data-cause="${name}" aria-pressed="${!hidden.has(name)}"><img src="${iconOf(name)}" alt="">`
-      + `<span>${CAUSES[name].words}</span><b>${counts[name].toLocaleString("en")}</b></button>`);
+      + `<span>${CAUSES[name].words}</span>${count(name)}</button>`);
     return lines.join("") || paragraph("none");
   }
 
@@ -89,7 +98,8 @@ class Words {
     const why = list && list.wires.has(wire) && scene.hasFaults ? paragraph(escaped(scene.whyListed(wire))) : "";
     const value = viewer.run?.wire(wire, cycle), sound = viewer.sound?.wire(wire, cycle);
     const read = value === undefined ? "" : `value ${value} in cycle ${cycle}${value === sound ? "" : `, on a sound machine ${sound}`}`;
-    return `<h4>wire ${machine.wireName(wire)} <small>${wire}</small></h4>${this.standing("wire", wire)}${why}${paragraph(read)}${this.joined(wire)}`;
+    const head = `<h4>wire ${machine.wireName(wire)} <small>${wire}</small></h4>${this.standing("wire", wire)}`;
+    return head + why + paragraph(read) + this.joined(wire);
   }
 
   // The nets that faults join with the one of a wire.
@@ -105,8 +115,9 @@ class Words {
   crossWords(cross) {
     const { scene, machine } = this, [tap, line] = machine.ends(cross);
     const net = scene.closedIn(machine.nodeOfCross(cross)).includes(cross) ? scene.netOf[line] : -1;
-    const closed = net >= 0 ? paragraph(`closed by the image for net ${this.net(net)}`) : scene.image ? paragraph("left open by the image") : "";
-    return `<h4>crosspoint <small>${cross}</small></h4><p>${this.wire(tap)} ${this.wire(line)}</p>${this.standing("cross", cross)}${closed}`;
+    const closed = net >= 0 ? `closed by the image for net ${this.net(net)}` : scene.image ? "left open by the image" : "";
+    const head = `<h4>crosspoint <small>${cross}</small></h4><p>${this.wire(tap)} ${this.wire(line)}</p>`;
+    return head + this.standing("cross", cross) + paragraph(closed);
   }
 
   tableWords(table) {
@@ -120,8 +131,8 @@ class Words {
     const { scene, machine, viewer } = this, cycle = viewer.state.cycle;
     const lines = PINS.map((pin, k) => {
       const wire = machine.pinOf(table, k), number = scene.netOf[wire], value = viewer.run?.wire(wire, cycle);
-      return number < 0 ? "" : `<tr><th>${k < OUTPUT_PIN ? "reads" : "gives"}</th><td>${this.wire(wire).replace(/>.*<\/a>/, `>${pin}</a>`)}</td>`
-        + `<td>${this.net(number)}</td><td>${value ?? ""}</td></tr>`;
+      const head = `<tr><th>${k < OUTPUT_PIN ? "reads" : "gives"}</th><td>${link("wire", wire, pin)}</td>`;
+      return number < 0 ? "" : `${head}<td>${this.net(number)}</td><td>${value ?? ""}</td></tr>`;
     });
     return `<table class="pins">${lines.join("")}</table>`;
   }
@@ -142,7 +153,8 @@ class Words {
 
   nodeWords(number) {
     const node = this.machine.nodes[number], { scene } = this, used = scene.usedIn(node).filter(([, isLine]) => isLine).length;
-    const counts = Object.entries(this.countsAt(node)).map(([cause, count]) => `<tr><td>${CAUSES[cause].words}</td><td>${count}</td></tr>`);
+    const counts = Object.entries(this.countsAt(node)).map(([cause, count]) =>
+      `<tr><td>${CAUSES[cause].words}</td><td>${count.toLocaleString("en")}</td></tr>`);
     const name = node.level ? `${LEVELS[node.level]} ${node.name}` : "the machine's root r";
     const lines = scene.image ? `, ${used} of them used` : "";
     return `<h4>${name}</h4><p>${many(node.taps, "tap")}, ${many(node.lines, "line")}${lines}</p><table>${counts.join("")}</table>`
@@ -208,8 +220,8 @@ class Words {
   nets() {
     const { scene, viewer } = this;
     if (!scene.nets.length) return "";
-    const spot = net => `<a href="#" data-pick="net ${net.number}" style="border-color:${netColour(scene, net, false)};color:${netColour(scene, net, true)}">`
-      + `${escaped(net.name)}</a>`;
+    const style = net => `border-color:${netColour(scene, net, false)};color:${netColour(scene, net, true)}`;
+    const spot = net => `<a href="#" data-pick="net ${net.number}" style="${style(net)}">${escaped(net.name)}</a>`;
     const shown = scene.nets.slice(0, 600), of = design => shown.filter(net => net.design === design).map(spot).join(" ");
     const lists = scene.names.split ? `<p class="small">the first design</p>${of(0)}<p class="small">the second design</p>${of(1)}` : of(0);
     const more = scene.nets.length > 600 ? paragraph(`and ${scene.nets.length - 600} more: search for them by name`) : "";
@@ -220,7 +232,8 @@ class Words {
     const { differs } = this.viewer;
     if (!this.scene.hasFaults) return "";
     if (!differs.since.size) return paragraph("All nets read as on a sound machine.");
-    return `<p><mark>${many(differs.since.size, "net")} read${differs.since.size === 1 ? "s" : ""} other than on a sound machine, the first `
+    const read = differs.since.size === 1 ? "reads" : "read";
+    return `<p><mark>${many(differs.since.size, "net")} ${read} other than on a sound machine, the first `
       + `${this.net(differs.origin)} in <a href="#" data-cycle="${differs.cycle}">cycle ${differs.cycle}</a></mark></p>`;
   }
 
@@ -232,18 +245,28 @@ class Words {
     const wires = [...image.inputs, ...image.outputs, ...scene.nets.flatMap(net => net.wires), ...pins].sort((one, other) => one - other);
     const wire = wires.find(at => !list.isFree("wire", at)), cross = image.closed.find(at => !list.isFree("cross", at));
     const table = [...image.tables.keys()].find(at => !list.isFree("table", at));
-    const found = wire !== undefined ? ["wire", wire] : cross !== undefined ? ["cross", cross] : table !== undefined ? ["table", table] : null;
+    const found = [["wire", wire], ["cross", cross], ["table", table]].find(([, at]) => at !== undefined);
     if (!found) return paragraph("The image uses nothing that is listed.");
     return `<p><mark>doubt ${found[0]} ${link(...found, machine.partName(...found))}</mark></p>`;
   }
 
-  // Nets that want lines of a node where too few serve.
+  // Nets that want lines of a node where too few serve; of the one that was clicked the picture shows taps and lines.
   refusal() {
-    const { refusal } = this.viewer.data;
-    const lines = refusal.nets.map(({ number, name, taps, serving }) =>
-      `<tr><td>${number}</td><td>${escaped(name)}</td><td>${taps.map(wire => this.wire(wire)).join(" ")}</td><td>${serving.length}</td></tr>`);
-    return `${paragraph(escaped(refusal.words))}<table class="refusal"><tr><th>net</th><th>of</th><th>taps</th><th>lines that serve</th></tr>`
-      + `${lines.join("")}</table>`;
+    const { refusal, machine } = { refusal: this.viewer.data.refusal, machine: this.machine }, node = machine.byName.get(refusal.node);
+    const lines = refusal.nets.map(({ number, name, taps, serving }, k) =>
+      `<tr><td>${link("wanting", k, number)}</td><td>${escaped(name)}</td>`
+      + `<td>${taps.map(wire => this.wire(wire)).join(" ")}</td><td>${serving.length}</td></tr>`);
+    const all = new Set(refusal.nets.flatMap(net => net.serving)).size;
+    const words = lines.length ? `Of the ${node.lines} lines ${all} serve one of these nets or more.` : "";
+    return `${paragraph(escaped(refusal.words))}${paragraph(words)}<table class="refusal"><tr><th>net</th><th>of</th><th>taps</th>`
+      + `<th>lines that serve</th></tr>${lines.join("")}</table>`;
+  }
+
+  wantingWords(place) {
+    const { refusal } = this.viewer.data, net = refusal.nets[place];
+    const taps = net.taps.map(wire => this.wire(wire)).join(", "), serving = net.serving.map(wire => this.wire(wire)).join(" ") || "none";
+    return `<h4>net ${net.number} <small>${escaped(net.name)}</small></h4><p>wants a line that joins ${taps}; these serve: ${serving}</p>`
+      + this.refusal();
   }
 
   // The runs of a study, failed ones first.
