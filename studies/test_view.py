@@ -390,6 +390,22 @@ class Page(unittest.TestCase):
         self.text("study")
         self.assertEqual(self.asked("viewer.state.show"), "overlay")
 
+    def test_sets_of_faults(self):
+        """Several sets of faults: how many parts are lost in one of them, and in half or more."""
+        machine, lost = texts.read_text(texts.read_machine, self.small.machine), []
+        for seed in range(5):
+            faults = make_faults(machine, {"open": 0.1}, seed)
+            Path(self.folder, f"set{seed}").write_text(texts.faults_text(machine, faults), encoding="utf-8")
+            lost += faults["open"]
+        ran = run("view.py", self.small.machine, "--faults", *(f"{self.folder}/set{k}" for k in range(5)), "-o", f"{self.folder}/sets.html")
+        self.assertEqual(ran.returncode, 0, ran.stderr)
+        self.open(f"{self.folder}/sets.html")
+        self.browser.find_element(By.CSS_SELECTOR, "[data-show=overlay]").click()
+        self.text("summary")
+        times = [lost.count(cross) for cross in set(lost)]
+        right = {"seldom": times.count(1), "often": times.count(2), "mostly": sum(count > 2 for count in times)}
+        self.assertEqual(self.asked("viewer.scene.marks.counts()"), {name: count for name, count in right.items() if count})
+
     def test_speed(self):
         """The bench machine with 3 % of its crosspoints open is ready in time, and no frame from afar to near takes too long."""
         machine = texts.read_text(texts.read_machine, f"{HERE}/bench.machine")

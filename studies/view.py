@@ -1,8 +1,8 @@
 #!/usr/bin/env python3
 """One HTML file to look at a machine, for any browser and without a server: its crossbars, defects by cause, nets, and cycles.
 
-Two lists or two images are shown side by side or as their difference; two designs are those of a `pair`. Without a part that is named
-by --part the page of a large machine has densities alone where it would be too long, and says so.
+Two lists or two images are shown side by side or as their difference, several sets of faults together; two designs are those of a
+`pair`. Without a part that is named by --part the page of a large machine has counts alone where it would be too long, and says so.
 """
 
 import argparse
@@ -319,7 +319,7 @@ def main():
     parser = argparse.ArgumentParser(description=__doc__, formatter_class=argparse.RawDescriptionHelpFormatter)
     parser.add_argument("machine", help="the machine's file")
     several = {"nargs": "+", "default": []}
-    parser.add_argument("--faults", **several, metavar="FILE", help="the file of its faults, or two")
+    parser.add_argument("--faults", **several, metavar="FILE", help="the file of its faults, or several to see what is lost how often")
     parser.add_argument("--defects", **several, metavar="FILE", help="a list of defects, or two to compare")
     parser.add_argument("--image", **several, metavar="FILE", help="an image, or two to compare")
     parser.add_argument("--design", **several, metavar="FILE", help="the BLIF file of the image's design; two of a pair")

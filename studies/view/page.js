@@ -178,7 +178,9 @@ function listen() {
 
 function begin() {
   const { data, scenes } = viewer, own = scenes.map(({ name }, k) => [String(k), name]);
-  const shown = scenes.length === 2 ? [...own, ["both", "side by side"], ["difference", "difference"]] : [];
+  const isCompared = scenes.length === 2 && scenes.every(({ image, list }) => image || list);
+  const more = isCompared ? [["both", "side by side"], ["difference", "difference"]] : [["overlay", "all together"]];
+  const shown = scenes.length > 1 ? [...own, ...more] : [];
   document.title = `${data.title} - teramac`;
   document.getElementById("title").textContent = data.title;
   const buttons = shown.map(([word, name]) => `<button data-show="${word}">${escaped(name)}</button>`);

@@ -31,7 +31,7 @@ class Viewer {
     const run = /^run ([0-9]+)$/.exec(word), { scenes } = this;
     if (word === "both") this.shown = scenes.slice(0, 2);
     else if (word === "difference") this.shown = [this.difference ??= new Difference(scenes[0], scenes[1])];
-    else if (word === "overlay" && this.data.study) this.shown = [this.overlay ??= this.overlaid()];
+    else if (word === "overlay") this.shown = [this.overlay ??= this.overlaid()];
     else if (run && this.data.study?.runs[run[1]]) this.shown = [this.runScene(Number(run[1]))];
     else this.shown = [scenes[word] ?? scenes[0]];
     this.state.show = word;
@@ -42,7 +42,11 @@ class Viewer {
     this.simulate(0);
   }
 
-  overlaid() { return new Overlay(this.machine, this.data.study.runs.map((_, k) => this.runScene(k)), this.names); }
+  // All sets of faults together: those of a study's runs, or of the files that were given.
+  overlaid() {
+    const { study } = this.data, scenes = study ? study.runs.map((_, k) => this.runScene(k)) : this.scenes;
+    return new Overlay(this.machine, scenes, this.names);
+  }
 
   // The machine of a run of a study, made when it is looked at.
   runScene(number) {
