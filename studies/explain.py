@@ -101,7 +101,8 @@ def text_wrong(call, file, number, kind, names):
     """What is wrong with a line of a text, or a byte of an image."""
     role = {"faults": "rig"}.get(file, file)
     if role not in call.roles:
-        return f"give the {file} file after the line, to hear more of its line {number}"
+        wanted = "words of pair" if file in ("first", "second") else f"{file} file"
+        return f"give the {wanted} after the line, to hear more of line {number}"
     size = os.path.getsize(call.roles[role])
     if kind == "limit" and not number and role != "vectors" and size > texts.FILE_LIMIT:
         return f"the file has {size:,} bytes, and at most {texts.FILE_LIMIT:,} are read"
@@ -187,7 +188,9 @@ def main():
         return
     words = sys.argv[1:]
     try:
-        if words and (" " in words[0] or words[0] == "sound"):
+        if words[:1] in (["refused"], ["doubt"]):
+            sys.exit("the line is one word of this command: put it in quotes")
+        if words and (words[0] == "sound" or " " in words[0] and not os.path.exists(words[0])):
             print(said_of(words[0], words[1:]))
         elif program_of(words):
             run(words)

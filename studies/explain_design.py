@@ -33,7 +33,7 @@ def row_wrong(cover, rows, kind, words):
     if not inputs:
         return f"{where}, so its row is 0 or 1 alone, and here stands `{shown(' '.join(words))}`"
     if len(words) != 2:
-        return f"{where}, so a row is two words, one for the inputs and 0 or 1, and {len(words)} stand here"
+        return f"{where}, so a row is two words, the inputs' and the output's, and here {'is' if len(words) == 1 else 'are'} {len(words)}"
     if len(words[0]) != inputs:
         return f"{where}, and the row's first word has {counted(len(words[0]), 'character')}"
     bad = next((mark for mark in words[0] if mark not in "01-"), "")
@@ -71,14 +71,31 @@ def latch_wrong(kind, words, before):
     return f"a second control{earlier}; a design has one clock (docs/BLIF.md says what helps)"
 
 
-def blif_limit(words, before):
+def blif_limit(words):
     """Which limit a line passes."""
     if long := next((word for word in words if len(word.encode("utf-8", "surrogateescape")) > 255), ""):
         return f"the name {long[:40]}.. has more than 255 bytes"
     if words[0] == ".names" and len(words) > 258:
         return f"this cover has {len(words) - 2} inputs, and at most 256 may be"
-    rows = not words[0].startswith(".") and sum(1 for _ in before)
-    return "this is the 4,097th row of its cover, and 4,096 may be" if rows else "a model has at most 65,535 signals"
+    is_row = not words[0].startswith(".")
+    return "this is the 4,097th row of its cover, and 4,096 may be" if is_row else "a model has at most 65,535 signals"
+
+
+def formals_of(lines, model):
+    """The names of a model's inputs, outputs and clocks."""
+    found, inside = [], False
+    for _, words in lines:
+        inside = words[1:] == [model] if words[0] == ".model" else inside
+        found += words[1:] if inside and words[0] in (".inputs", ".outputs", ".clock") else []
+    return found
+
+
+def within(name):
+    """Of a signal inside an instance, what stands before its own name."""
+    place, _, own = name.rpartition("/")
+    if not re.fullmatch("[0-9]+(/[0-9]+)*", place):
+        return ""
+    return f"; {place}/ before {own} is the way there, of .subckt lines counted from 0 in their models"
 
 
 def drivers(lines):
@@ -112,20 +129,21 @@ def named_wrong(call, role, number, kind, name):
     models, of = [words[1] for _, words in lines if words[0] == ".model" and len(words) > 1], dict(lines).get(number, ["", ""])
     match kind:
         case "nosuchmodel":
-            cell = "; it is a cell of yosys: synth and dfflegalize (docs/BLIF.md)" if name.startswith("$") else alike(name, models)
+            cell = "; it is a cell of yosys: synth, dfflegalize (docs/BLIF.md)" if name.startswith("$") else alike(name, models)
             return f"no model of the file is called `{name}`; they are {listed(models)}{cell}"
         case "formal":
             given = [word.split("=", 1)[0] for word in of[2:]]
-            wrong = {0: "isn't given, and each input has to be", 1: "is no input, output or .clock of it"}.get(given.count(name), "stands twice")
-            return f"of the model {of[1]} `{name}` {wrong}"
+            formals = formals_of(lines, of[1])
+            wrong = "is no input, output or .clock of it" if name not in formals else "stands twice here"
+            return f"of the model {of[1]} `{name}` {wrong if name in given else 'is not given, and each input has to be'}"
         case "recursive":
-            return f"through this line the model that it stands in uses itself: {name}; flatten can't help, take the instance out"
+            return f"through this line, which uses {name}, its own model is used again: a model may not use itself"
         case "doubled":
             others = [f"line {at}" for at, signal in drivers(lines) if signal == name and at != number]
-            return f"`{name}` is driven a second time here" + (f", first in {others[0]}" if others else "") + "; one line may drive a signal"
+            return f"`{name}` is driven a second time here" + (f", first in {others[0]}" if others else "") + within(name)
         case "undriven":
-            hint = alike(name, [signal for _, signal in drivers(lines)])
-            return f"no .inputs, .names or .latch gives a value to `{name}`{hint or '; in yosys setundef -undriven -zero'}"
+            hint = within(name) or alike(name, [signal for _, signal in drivers(lines)]) or "; in yosys setundef -undriven -zero"
+            return f"no .inputs, .names or .latch gives a value to `{name}`{hint}"
         case "cyclic":
             cycle = circle(texts.read_design(call.data(role)), name)
             return f"covers read each other in a circle without a latch: {listed(cycle[:1] + [f'reads {each}' for each in cycle[1:]], 20)}"
@@ -144,7 +162,8 @@ def design_wrong(call, role, number, kind, names):
     is_row = bool(covers) and covers[-1][1][0] == ".names" and not words[0].startswith(".")
     match kind:
         case "nomodel":
-            return "the first line isn't .model: is this a BLIF file?" + (f" It is: {shown(' '.join(words))}" if words[0] else " It is empty")
+            first = f"the first line here is `{shown(' '.join(words))}`" if words[0] else "this file is empty"
+            return f"a BLIF file begins with .model, and {first}"
         case "row" | "rowmixed" | "word" if is_row:
             return row_wrong(covers[-1], [line for line in before if line[0] > covers[-1][0]], kind, words)
         case "word":
@@ -159,6 +178,6 @@ def design_wrong(call, role, number, kind, names):
         case "latchtype" | "latchinit" | "control":
             return latch_wrong(kind, words, before)
         case "limit":
-            many = "in all more than 65,535 signals, 65,535 instances or 16,777,216 characters of rows"
-            return blif_limit(words, before) if number else many
+            whole = "flattened, the design has more than 65,535 signals, 65,535 instances or 16,777,216 characters of rows"
+            return blif_limit(words) if number else whole
     return None

@@ -38,6 +38,25 @@ def joined(found):
     return joint, names + more
 
 
+def give_line(net, served, held):
+    """Gives a net a line of its own if it can be had, where nets that hold one may change to another that serves them."""
+    reached, left, waiting = {}, {}, deque([net])
+    while waiting:
+        at = waiting.popleft()
+        for line in served[at]:
+            if line in reached:
+                continue
+            reached[line] = at
+            if line in held:
+                left[held[line]] = line
+                waiting.append(held[line])
+                continue
+            while line is not None:
+                held[line] = reached[line]
+                line = left.get(reached[line])
+            return
+
+
 class Plan:
     """The plan in order: of each node the nets that cross it, and of those that visit it the taps at its crossbar."""
 
@@ -93,25 +112,14 @@ class Plan:
                 self.visiting[node][net] = taps.get(node, [])
 
     def lines_short(self, node):
-        """How many of a node's nets get no line of their own, at best: by paths that make a matching larger."""
-        crossbar, held, served = self.machine.nodes[node], {}, {}
-        lines = self.free(crossbar.lines)
+        """How many of a node's nets get no line of their own, at best."""
+        served, held = {}, {}
+        lines = self.free(self.machine.nodes[node].lines)
         for net, taps in self.visiting[node].items():
             crosses = [(line, [self.machine.cross(tap, line) for tap in taps]) for line in lines]
             served[net] = [line for line, found in crosses if self.defects["cross"].isdisjoint(found)]
         for net in served:
-            came, waiting = {}, deque([net])
-            while waiting:
-                at = waiting.popleft()
-                fresh = [line for line in served[at] if line not in came]
-                came.update(dict.fromkeys(fresh, at))
-                if end := next(([line] for line in fresh if line not in held), None):
-                    line = end[0]
-                    while line is not None:
-                        at = came[line]
-                        line, held[line] = next((other for other, holder in held.items() if holder == at), None), at
-                    break
-                waiting.extend(held[line] for line in fresh)
+            give_line(net, served, held)
         return len(served) - len(held)
 
     def counts_that_do(self):
@@ -143,7 +151,8 @@ def least_tables(design):
         return 0
     chance, full = random.Random(1), (1 << 64) - 1
     covers = {output: (names, rows, off) for names, output, rows, off in design.covers}
-    order = list(TopologicalSorter({output: [name for name in names if name in covers] for output, (names, _, _) in covers.items()}).static_order())
+    reads = {output: [name for name in names if name in covers] for output, (names, _, _) in covers.items()}
+    order = list(TopologicalSorter(reads).static_order())
     values = {output: full * initial for _, output, initial in design.latches}
     columns = [[] for _ in design.inputs + design.outputs]
     for _ in range(32):
@@ -179,17 +188,19 @@ def plan_room(call, resource, node, need, have, nets):
     inputs, outputs = (sum(len(design[part]) for design in known) for part in (0, 1))
     match resource:
         case "pins":
-            said += f", the plan in order wants {need}" + (f": {counted(inputs, 'input')} and {counted(outputs, 'output')}" if known else "")
-            return f"{said}. teramac_map keeps inputs and outputs, so no other text helps: a machine with {need} good pins does"
+            said += f", the plan in order wants {need}"
+            said += f": {counted(inputs, 'input')} and {counted(outputs, 'output')}" if known else ""
+            return f"{said}. teramac_map keeps inputs and outputs, so no other text helps; {need} good pins would be enough"
         case "tables":
             said += f", the plan in order wants {need}"
             least = sum(map(least_tables, known))
             if have < least:
-                return f"{said}. {least} outputs that differ want a table each in any text, so teramac_map can't help: a machine with {need} good tables does"
+                said += f". {least} outputs that differ want a table each in any text, so teramac_map can't help"
+                return f"{said}; {need} good tables would be enough"
             return f"{said}: {mapper_helps(call, 'wants fewer')}"
     names = joined(known)[1] if known else []
     if resource == "ports":
-        said += f", the plan in order has {counted(need, 'net')} that cross it"
+        said += f", the plan in order wants {need} for the nets that cross it"
         if call.defects and known:
             plan = Plan(call.machine, call.defects, joined(known)[0])
             at = next(number for number, each in enumerate(call.machine.nodes) if each.name == node)
@@ -218,8 +229,8 @@ def repair_room(call, resource, node, need, have, nets):
     """What a repair is short of: it has a plan of its own, and no other text helps."""
     where, noun = "the machine" if node == "r" else f"node {node}", resource.removesuffix("s")
     left = {"tables": "to which they can go", "pins": "to which they can go"}.get(resource, "left to them")
-    whose = {"tables": "tables of the image have", "pins": "pins of the image have"}.get(resource, "nets of the image have")
-    said = f"{need} {whose} to move" if need != 1 else f"1 {whose.replace('s of the', ' of the', 1).replace('have', 'has')} to move"
+    parts = counted(need, noun if resource in ("tables", "pins") else "net")
+    said = f"{parts} of the image {'has' if need == 1 else 'have'} to move"
     said += f", and {where} has {counted(have, 'free ' + noun)} {left}"
     if nets and "image" in call.roles:
         known = image_nets(call)
@@ -230,7 +241,7 @@ def repair_room(call, resource, node, need, have, nets):
 def noroom(call, words):
     """What is short, in a command's own plan."""
     resource, node, need, have, *nets = words
-    plan = repair_room if call.command == "repair" or call.program == "" and "image" in call.roles else plan_room
+    plan = repair_room if "image" in call.roles else plan_room
     return plan(call, resource, node, int(need), int(have), list(map(int, nets)))
 
 

@@ -76,7 +76,7 @@ def parts_wrong(machine, kind, words):
     """What is wrong with the names of a wire, a crosspoint or a table."""
     known, other = (machine.table_numbers, machine.numbers) if kind == "table" else (machine.numbers, machine.table_numbers)
     if word := next((word for word in words if word in other), ""):
-        return f"`{word}` is a wire and no table" if kind == "table" else f"`{word}` is a table; its wires are {word}.i0 to .i5 and {word}.q"
+        return f"`{word}` is a " + ("wire and no table" if kind == "table" else f"table; its wires are {word}.i0 to .i5 and {word}.q")
     if wrong := name_wrong(known, words):
         return wrong
     exchanged = len(words) == 2 and machine.number("cross", words[::-1]) is not None
@@ -142,7 +142,8 @@ def defects_word(data, number, line):
     if number == len(lines):
         return f"the last line, `{shown(line)}`, ends without LF" if line else "the list ends without the line `end`"
     if number < 3:
-        return f"the {'first line is `defects 1`' if number == 1 else 'second line is `shape` and the twelve counts'}, and not `{shown(line)}`"
+        wanted = "first line is `defects 1`" if number == 1 else "second line is `shape` and the twelve counts, with single blanks"
+        return f"the {wanted}, and not `{shown(line)}`"
     words = line.split()
     if "#" in line or not words or " ".join(words) != line:
         return f"`{shown(line)}` isn't spelled as in a list of defects: single blanks, no comments, no empty lines"
@@ -238,9 +239,14 @@ def image_range(machine, name, value):
     """Which values a field may have, as words."""
     tables, crosses = machine.sizes["table"], machine.sizes["cross"]
     for start, least, most in (
-        ("ticks", 1, 4_096), ("the pin", 0, len(machine.pins) - 1), ("the number of tables", 0, tables), ("the number of table", 0, tables - 1),
-        ("the flags", 0, 3), ("the number of crosspoints", 0, min(texts.CLOSED_LIMIT, crosses)), ("crosspoint", 0, crosses - 1),
-    ):  # fmt: skip
+        ("ticks", 1, 4_096),
+        ("the pin", 0, len(machine.pins) - 1),
+        ("the number of tables", 0, tables),
+        ("the number of table", 0, tables - 1),
+        ("the flags", 0, 3),
+        ("the number of crosspoints", 0, min(texts.CLOSED_LIMIT, crosses)),
+        ("crosspoint", 0, crosses - 1),
+    ):
         if name.startswith(start):
             return f"{name} is {value:,}, and on this machine it may be {least} to {most:,}"
     return None
