@@ -32,14 +32,15 @@ TAIL = 4_194_304  # a last line is at most so long
 def words_wrong(call):
     """What is wrong with the words of a command."""
     if call.program == "teramac_map":
-        return f"teramac_map takes a DESIGN alone, or MACHINE DEFECTS DESIGN, and {counted(len(call.words), 'word')} were given"
+        return f"teramac_map takes a DESIGN alone, or MACHINE DEFECTS DESIGN, and not {counted(len(call.words), 'word')}"
     if not call.command:
         first = call.words[0] if call.words else ""
         return f"`{first}` is no command; commands are {', '.join(COMMANDS)}{alike(first, COMMANDS)}"
     wanted = COMMANDS[call.command].split()
     given = len(call.words) - 1
     if given != len(wanted):
-        return f"`{call.command}` takes {counted(len(wanted), 'word')} ({' '.join(wanted).upper()}), and {given} were given"
+        verb = "was" if given == 1 else "were"
+        return f"`{call.command}` takes {counted(len(wanted), 'word')} ({' '.join(wanted).upper()}), and {given} {verb} given"
     if word := next((word for word in call.words if word.startswith("-")), ""):
         return f"`{word}` begins with -, and there are no options; of a file with this name write ./{word}"
     number = call.words[1]
@@ -145,6 +146,8 @@ def said_of(line, words, written=b""):
         return explain(line, words, written)
     except (OSError, texts.Refused, ValueError) as error:
         return f"{line}: no more can be said, since a file that tells it can't be read ({error})"
+    except (LookupError, StopIteration, TypeError):
+        return f"{line}: no more can be said, since these aren't the files of which the line was written"
 
 
 def passed_on(source):

@@ -76,6 +76,11 @@ def counted(count, noun):
     return f"{count:,} {noun}" + "s" * (count != 1)
 
 
+def stand(count):
+    """So many stand here."""
+    return f"{count} stand{'s' if count == 1 else ''} here"
+
+
 def listed(names, most=60):
     """Names with blanks between them; of very many the first."""
     return " ".join(names[:most]) + (f" and {len(names) - most} more" if len(names) > most else "")

@@ -4,7 +4,7 @@ import re
 from collections import deque
 
 import teramac_texts as texts
-from explain_call import alike, counted, listed, printed, shown, words_of
+from explain_call import alike, counted, listed, printed, shown, stand, words_of
 
 BLIF_WORDS = (".model", ".inputs", ".outputs", ".clock", ".names", ".latch", ".subckt", ".end", ".param", ".attr", ".cname")
 
@@ -46,9 +46,9 @@ def blif_word(words, before):
         return f"behind .end (line {before[-1][0]}) only a further .model may stand, and here stands `{shown(words[0])}`"
     match words[0]:
         case ".latch":
-            return f".latch takes 2 to 5 words (INPUT OUTPUT re CONTROL INIT), and {len(words) - 1} stand here"
+            return f".latch takes 2 to 5 words (INPUT OUTPUT re CONTROL INIT), and {stand(len(words) - 1)}"
         case ".model":
-            return f"a model has one name, and {len(words) - 1} stand here"
+            return f"a model has one name, and {stand(len(words) - 1)}"
         case ".names":
             return ".names has no name behind it; the last one is the output"
         case ".subckt":

@@ -228,10 +228,9 @@ def image_nets(call):
 def repair_room(call, resource, node, need, have, nets):
     """What a repair is short of: it has a plan of its own, and no other text helps."""
     where, noun = "the machine" if node == "r" else f"node {node}", resource.removesuffix("s")
-    left = {"tables": "to which they can go", "pins": "to which they can go"}.get(resource, "left to them")
     parts = counted(need, noun if resource in ("tables", "pins") else "net")
     said = f"{parts} of the image {'has' if need == 1 else 'have'} to move"
-    said += f", and {where} has {counted(have, 'free ' + noun)} {left}"
+    said += f", and {where} has {counted(have, 'free ' + noun)} for that"
     if nets and "image" in call.roles:
         known = image_nets(call)
         said += f": {', '.join(known[net][1] for net in nets[:20])}"

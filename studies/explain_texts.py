@@ -4,7 +4,7 @@ import re
 from itertools import islice
 
 import teramac_texts as texts
-from explain_call import alike, counted, listed, numbered_words, printed, shown
+from explain_call import alike, counted, listed, numbered_words, printed, shown, stand
 
 FAULT_FORMS = {
     "stuck0": "WIRE", "stuck1": "WIRE", "open": "TAP LINE", "closed": "TAP LINE", "cell": "TABLE ADDRESS VALUE",
@@ -47,7 +47,7 @@ def machine_wrong(call, number, kind):
             return f"`teramac {shown(words[1])}` isn't known; the first line is `teramac 1`"
         case "word":
             takes = counted(texts.MACHINE_WORDS[words[0]] - 1, "number")
-            return f"`{words[0]}` takes {takes}{PLACES.get(words[0], '')}, and {len(words) - 1} stand here"
+            return f"`{words[0]}` takes {takes}{PLACES.get(words[0], '')}, and {stand(len(words) - 1)}"
         case "number":
             bad = next((word for word in words[1:] if not texts.numeral(word, 65_535)), "")
             return f"`{shown(bad)}` is no number from 1 to 65,535 without leading zeros"
@@ -99,7 +99,7 @@ def faults_word(words):
     if words[0] not in FAULT_FORMS:
         return f"`{shown(words[0])}` is no kind of fault; kinds are {', '.join(FAULT_FORMS)}{alike(words[0], FAULT_FORMS)}"
     form = FAULT_FORMS[words[0]]
-    return f"`{words[0]}` takes {counted(len(form.split()), 'word')} ({form}), and {len(words) - 1} stand here"
+    return f"`{words[0]}` takes {counted(len(form.split()), 'word')} ({form}), and {stand(len(words) - 1)}"
 
 
 def faults_wrong(call, number, kind):
@@ -150,7 +150,7 @@ def defects_word(data, number, line):
     if words[0] not in ENTRIES:
         entries = "entries are wire WIRE, cross TAP LINE and table TABLE"
         return f"`{shown(words[0])}` is no word of a list of defects; {entries}{alike(words[0], [*ENTRIES, 'end'])}"
-    return f"`{words[0]}` takes {counted(ENTRIES[words[0]], 'name')}, and {len(words) - 1} stand here"
+    return f"`{words[0]}` takes {counted(ENTRIES[words[0]], 'name')}, and {stand(len(words) - 1)}"
 
 
 def defects_doubled(machine, data, number):
@@ -224,7 +224,7 @@ def image_fields(data):
         values[name] = int.from_bytes(data[start:at], "big") if at <= len(data) else 0
         return start, name, size, values[name]
 
-    names = ["the word TERAIMG1", *COUNTS, "ticks", "the number of inputs", "the number of outputs"]
+    names = ["the word TERAIMG1", *COUNTS, "the number of ticks", "the number of inputs", "the number of outputs"]
     yield from (field(name, 8 if name == names[0] else 2) for name in names)
     for whose in ("input", "output"):
         yield from (field(f"the pin of {whose} {k}", 2) for k in range(values[f"the number of {whose}s"]))
@@ -239,7 +239,7 @@ def image_range(machine, name, value):
     """Which values a field may have, as words."""
     tables, crosses = machine.sizes["table"], machine.sizes["cross"]
     for start, least, most in (
-        ("ticks", 1, 4_096),
+        ("the number of ticks", 1, 4_096),
         ("the pin", 0, len(machine.pins) - 1),
         ("the number of tables", 0, tables),
         ("the number of table", 0, tables - 1),
@@ -248,7 +248,7 @@ def image_range(machine, name, value):
         ("crosspoint", 0, crosses - 1),
     ):
         if name.startswith(start):
-            return f"{name} is {value:,}, and on this machine it may be {least} to {most:,}"
+            return f"{name}: {value:,} stands there, and {least} to {most:,} may on this machine"
     return None
 
 
@@ -273,9 +273,9 @@ def image_wrong(call, place, kind):
         case "range":
             return image_range(call.machine, name, value)
         case "order" if name.startswith("the pin"):
-            return f"{name} is {value}, a pin that an input or output before it has"
+            return f"{name}: {value} stands there, and an input or output before it has this pin"
         case "order":
-            return f"{name} is {value}, and isn't above the one before it: they ascend"
+            return f"{name}: {value} stands there, and isn't above the one before it"
         case "short" if not data:
             return "the file is empty"
         case "short":

@@ -10,7 +10,7 @@ from pathlib import Path
 
 import designs
 import teramac_texts as texts
-from explain import explain
+from explain import explain, said_of
 from explain_room import Plan, joined, least_tables
 from faults import make_faults
 from program import DEFAULT, HERE, MAPPER, call
@@ -33,7 +33,7 @@ class Explained(unittest.TestCase):
         self.folder = Path(self.enterContext(tempfile.TemporaryDirectory()))
 
     def words(self, words):
-        """Examples by their names, and files of bytes: file 2 is that of the word after the command and one file."""
+        """Examples by their paths; bytes become a file that is named by the place of its word."""
         found = []
         for k, word in enumerate(words):
             path = Path(EXAMPLES, word) if isinstance(word, str) else self.folder / str(k)
@@ -51,7 +51,7 @@ class Explained(unittest.TestCase):
         self.assertEqual(explain(refusal, words, answer.written).replace(f"{self.folder}/", ""), said)
 
     def test_words_and_files(self):
-        self.says("refused words", "`eval` takes 2 words (DESIGN VECTORS), and 1 were given", "eval", "and.blif")
+        self.says("refused words", "`eval` takes 2 words (DESIGN VECTORS), and 1 was given", "eval", "and.blif")
         commands = "eval, compile, diagnose, run, go, bench, check, repair, pair"
         self.says("refused words", f"`diagnos` is no command; commands are {commands}; did you mean `diagnose`?", "diagnos", TINY, "@1")
         self.says("refused words", "`007` is no number from 0 to 4,294,967,295 without leading zeros", "bench", "007")
@@ -149,7 +149,7 @@ class Explained(unittest.TestCase):
             ("3 word",
              "`wires` is no word of a list of defects; entries are wire WIRE, cross TAP LINE and table TABLE; did you mean `wire`?",
              LIST % b"wires r.l0\n"),
-            ("3 word", "`cross` takes 2 names, and 1 stand here", LIST % b"cross r.l0\n"),
+            ("3 word", "`cross` takes 2 names, and 1 stands here", LIST % b"cross r.l0\n"),
             ("2 machine", "the list is for 1 1 1 2 4 4 4 4 4 4 4 5, the machine 1 1 1 2 4 4 4 4 4 4 4 4", NONE.replace(b"4\nend",
              b"5\nend")),
             ("3 name", "the tap comes first and then the line: r.p0 r.l0", LIST % b"cross r.l0 r.p0\n"),
@@ -178,13 +178,13 @@ class Explained(unittest.TestCase):
             ("0 short", "the file is empty", b""),
             ("100 short", "the file ends within crosspoint entry 9: 100 bytes are there, and by its own counts it has 157; was it cut off?",
              IMAGE[:100]),
-            ("40 short", "the file ends within the pin of input 1: 40 bytes are there; was it cut off?", IMAGE[:41][:40]),
+            ("40 short", "the file ends within the pin of input 1: 40 bytes are there; was it cut off?", IMAGE[:40]),
             ("157 after", "by its own counts the image has 157 bytes, and the file has 159", IMAGE + b"\n\n"),
-            ("32 range", "ticks is 0, and on this machine it may be 1 to 4,096", with_bytes(32, b"\0\0")),
-            ("38 range", "the pin of input 0 is 4, and on this machine it may be 0 to 3", with_bytes(38, b"\0\4")),
-            ("40 order", "the pin of input 1 is 0, a pin that an input or output before it has", with_bytes(40, b"\0\0")),
-            ("46 range", "the number of table entry 0 is 2, and on this machine it may be 0 to 1", with_bytes(46, b"\0\2")),
-            ("65 order", "crosspoint entry 1 is 1, and isn't above the one before it: they ascend", with_bytes(65, b"\0\0\0\1")),
+            ("32 range", "the number of ticks: 0 stands there, and 1 to 4,096 may on this machine", with_bytes(32, b"\0\0")),
+            ("38 range", "the pin of input 0: 4 stands there, and 0 to 3 may on this machine", with_bytes(38, b"\0\4")),
+            ("40 order", "the pin of input 1: 0 stands there, and an input or output before it has this pin", with_bytes(40, b"\0\0")),
+            ("46 range", "the number of table entry 0: 2 stands there, and 0 to 1 may on this machine", with_bytes(46, b"\0\2")),
+            ("65 order", "crosspoint entry 1: 1 stands there, and isn't above the one before it", with_bytes(65, b"\0\0\0\1")),
         ):  # fmt: skip
             self.says(f"refused image {refusal}", said, "run", TINY, b"", data, "and.vec")
 
@@ -196,7 +196,15 @@ class Explained(unittest.TestCase):
             ("5 word", "the cover of line 4, `f`, has 2 inputs, so a row is two words, the inputs' and the output's, and here is 1",
              b".names a b f\n11\n"),
             ("4 word", "a row may stand only below .names, and above stands `.outputs f` (line 3)", b"11 1\n"),
-            ("4 word", ".latch takes 2 to 5 words (INPUT OUTPUT re CONTROL INIT), and 1 stand here", b".latch a\n"),
+            ("4 word", ".latch takes 2 to 5 words (INPUT OUTPUT re CONTROL INIT), and 1 stands here", b".latch a\n"),
+        ):
+            self.says(f"refused design {refusal}", said, "eval", BLIF % text, "and.vec")
+        begins = "a BLIF file begins with .model, and"
+        self.says("refused design 0 nomodel", f"{begins} this file is empty", "eval", b"# nothing\n", "and.vec")
+        self.says("refused design 1 nomodel", f"{begins} the first line here is `module top;`", "eval", b"module top;\n", "and.vec")
+
+    def test_models_and_signals(self):
+        for refusal, said, text in (
             ("4 nosuchmodel nand", "no model of the file is called `nand`; they are top", b".subckt nand x=a y=f\n"),
             ("4 nosuchmodel $_DFF_P_",
              "no model of the file is called `$_DFF_P_`; they are top; it is a cell of yosys: synth, dfflegalize (docs/BLIF.md)",
@@ -226,9 +234,6 @@ class Explained(unittest.TestCase):
              b".names g f\n1 1\n.names f a g\n11 1\n"),
         ):  # fmt: skip
             self.says(f"refused design {refusal}", said, "eval", BLIF % text, "and.vec")
-        begins = "a BLIF file begins with .model, and"
-        self.says("refused design 0 nomodel", f"{begins} this file is empty", "eval", b"# nothing\n", "and.vec")
-        self.says("refused design 1 nomodel", f"{begins} the first line here is `module top;`", "eval", b"module top;\n", "and.vec")
 
     def test_vectors(self):
         for refusal, said, design, text in (
@@ -303,11 +308,11 @@ class Explained(unittest.TestCase):
     def test_repairs(self):
         anew = "What stays keeps its place in a repair, so compile the design anew on this list: it may still have room"
         for refusal, said, entries in (
-            ("lines r 1 0 0", "1 net of the image has to move, and the machine has 0 free lines left to them: net 0 (from input 0 at r.p0)",
+            ("lines r 1 0 0", "1 net of the image has to move, and the machine has 0 free lines for that: net 0 (from input 0 at r.p0)",
              b"wire r.l0\nwire r.l2\n"),
-            ("pins r 2 1", "2 pins of the image have to move, and the machine has 1 free pin to which they can go",
+            ("pins r 2 1", "2 pins of the image have to move, and the machine has 1 free pin for that",
              b"wire r.p0\nwire r.p1\n"),
-            ("tables r 1 0", "1 table of the image has to move, and the machine has 0 free tables to which they can go",
+            ("tables r 1 0", "1 table of the image has to move, and the machine has 0 free tables for that",
              b"table m0.c0.h0.t0\ntable m0.c0.h0.t1\n"),
         ):  # fmt: skip
             self.says(f"refused noroom {refusal}", f"{said}. {anew}", "repair", TINY, LIST % entries, IMAGE)
@@ -328,6 +333,22 @@ class Explained(unittest.TestCase):
         ):  # fmt: skip
             self.says(f"doubt {line}", f"{said}. {rest}. {helps}", "check", TINY, faults, IMAGE)
         self.says("sound", "the image reads the same as on a machine without faults", "check", TINY, b"", IMAGE)
+
+    def test_lines_of_other_files(self):
+        """A line that the files don't give is answered all the same."""
+        kinds = "byte after word order number limit missing wire cross cell register same doubled against machine name char width magic"
+        kinds += " shape range short nomodel leftout unknown samemodel row rowmixed latchtype latchinit control nosuchmodel formal"
+        kinds += " recursive undriven cyclic"
+        words = self.words(["go", "tiny.machine", "tiny.faults", "and.blif", "and.vec", "tiny.defects", "and.image"])
+        commands = words[:5], ["run", *words[1:3], words[6], words[4]], ["compile", words[1], words[5], words[3]], words[1:]
+        for file in ("machine", "faults", "defects", "image", "design", "vectors", "first"):
+            for line in [f"refused {file} {number} {kind} z" for number in (0, 1, 3, 99) for kind in kinds.split()]:
+                for command in commands:
+                    self.assertRegex(said_of(line, command), ".")
+        short = "refused noroom lines r 3 2 0 1 99", "refused noroom ports m7 3 2", "refused noroom"
+        for line in (*short, "doubt wire r.l77", "doubt cross r.l0"):
+            for command in commands:
+                self.assertRegex(said_of(line, command), ".")
 
     def test_least_tables(self):
         """Outputs that are inputs want none, outputs that are always alike one together, a latch and what it takes two."""
