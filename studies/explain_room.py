@@ -63,6 +63,9 @@ class Plan:
     def __init__(self, machine, defects, network):
         self.machine, self.defects = machine, defects
         self.crossing, self.visiting = [[] for _ in machine.nodes], [{} for _ in machine.nodes]
+        self.cut = {}  # of a line the taps to which its crosspoints are listed
+        for tap, line in map(machine.ends, defects["cross"]):
+            self.cut.setdefault(line, set()).add(tap)
         self.parents, last = [], {}
         for number, node in enumerate(machine.nodes):
             last[node.level] = number
@@ -116,8 +119,7 @@ class Plan:
         served, held = {}, {}
         lines = self.free(self.machine.nodes[node].lines)
         for net, taps in self.visiting[node].items():
-            crosses = [(line, [self.machine.cross(tap, line) for tap in taps]) for line in lines]
-            served[net] = [line for line, found in crosses if self.defects["cross"].isdisjoint(found)]
+            served[net] = [line for line in lines if self.cut.get(line, set()).isdisjoint(taps)]
         for net in served:
             give_line(net, served, held)
         return len(served) - len(held)
@@ -142,7 +144,7 @@ def spare_that_does(call):
     counts = Plan(call.machine, call.defects, joined(call.designs)[0]).counts_that_do()
     pairs = zip(call.machine.text.split("\n"), texts.Machine(counts).text.split("\n")) if texts.are_within_limits(counts) else []
     changed = " and ".join(f"`{new}`" for old, new in pairs if new != old)
-    return f". With {changed} in the machine, and all that is added good, the plan in order fits" if changed else ""
+    return f". With {changed} in the machine, and nothing more on the list, the plan in order fits" if changed else ""
 
 
 def least_tables(design):
@@ -176,7 +178,7 @@ def least_tables(design):
 def mapper_helps(call, what="fits"):
     """What is to be said of teramac_map."""
     if call.program == "teramac_map":
-        return f"nothing that teramac_map tried {what}"
+        return "nothing that teramac_map tried fits"
     return f"teramac_map may find a text that {what}" + (", of each design by itself" if call.command == "pair" else "")
 
 

@@ -192,23 +192,31 @@ def defects_wrong(call, number, kind):
 # Vectors.
 
 
+def inputs_of(call):
+    """Whose inputs the columns of vectors are, and their names: of an image its pins'."""
+    if "image" in call.roles:
+        return "image", [call.machine.names[pin] for pin in texts.read_image(call.machine, call.data("image")).inputs]
+    found = call.designs
+    names = [printed(name) for design in found for name in design.inputs]
+    return "designs together" if len(found) > 1 else "design" if found else "", names
+
+
 def vectors_wrong(call, number, kind):
     """What is wrong with a line of vectors."""
     line = call.line("vectors", number).split("#", 1)[0]
-    names = [printed(name) for design in call.designs for name in design.inputs]
-    if kind == "width":
-        whose = "design" if len(call.designs) < 2 else "designs together"
-        columns = counted(len(re.sub(r"[ \t\r]", "", line)), "column")
-        return f"this line has {columns}, and the {whose} {counted(len(names), 'input')}: {listed(names)}"
-    if kind != "char":
-        return "more than 1,099,511,627,776 bytes" if kind == "limit" else None
+    if kind not in ("width", "char"):
+        return "the file has more than 1,099,511,627,776 bytes" if kind == "limit" else None
+    whose, names = inputs_of(call)
     places = [place for place, mark in enumerate(line) if mark not in " \t\r"]
-    right = "01" if names else "."
-    column, place = next(((column, place) for column, place in enumerate(places) if line[place] not in right), (0, 0))
-    if not names:
-        return f"the design has no inputs, so a vector is a lone `.`, and here stands `{shown(line[place])}`"
-    whose = f" (of the input {names[column]})" if column < len(names) else ""
-    return f"column {column + 1}{whose}, byte {place + 1} of the line, is `{shown(line[place])}`, and only 0 and 1 may stand there"
+    if kind == "width":
+        due = f"and the {whose} {counted(len(names), 'input')}: {listed(names)}" if whose else "give the design to hear how many are due"
+        return f"this line has {counted(len(places), 'column')}, {due}"
+    right = "01" if names or not whose else "."
+    column, place = next((column, place) for column, place in enumerate(places) if line[place] not in right)
+    if right == ".":
+        return f"the {whose} has no inputs, so a vector is a lone `.`, and here stands `{shown(line[place])}`"
+    where = f" (of the input {names[column]})" if column < len(names) else ""
+    return f"column {column + 1}{where}, byte {place + 1} of the line, is `{shown(line[place])}`, and only 0 and 1 may stand there"
 
 
 # Images.

@@ -14,7 +14,7 @@ from explain import explain, said_of
 from explain_room import Plan, joined, least_tables
 from faults import make_faults
 from program import DEFAULT, HERE, MAPPER, call
-from test_studies import EXAMPLES, TURNS, random_blif, random_machine
+from test_studies import EXAMPLES, TURNS, image_bytes, random_blif, random_machine
 
 TINY, SMALL, TIGHT = (Path(EXAMPLES, f"{name}.machine").read_bytes() for name in ("tiny", "small", "tight"))
 AND, LFSR, IMAGE = (Path(EXAMPLES, name).read_bytes() for name in ("and.blif", "lfsr.blif", "and.image"))
@@ -244,8 +244,31 @@ class Explained(unittest.TestCase):
             ("1 width", "this line has 1 column, and the design 2 inputs: a b", AND, b"1\n"),
         ):
             self.says(f"refused vectors {refusal}", said, "eval", design, text)
+        said = "this line has 3 columns, and the image 2 inputs: r.p0 r.p1"
+        self.says("refused vectors 1 width", said, "run", TINY, b"", IMAGE, b"101\n")
+        self.says("refused vectors 1 char", "column 1 (of the input r.p0), byte 1 of the line, is `.`, and only 0 and 1 may stand there",
+                  "run", TINY, b"", IMAGE, b".\n")  # fmt: skip
         said = "this line has 3 columns, and the designs together 4 inputs: a b a b"
         self.says("refused vectors 1 width", said, "pair", SMALL, b"", AND, AND, b"101\n")
+
+    def test_limits(self):
+        long = "the file has 16,777,217 bytes, and at most 16,777,216 are read"
+        self.says("refused machine 0 limit", long, "diagnose", b"#" * 16_777_217, "@1")
+        self.says("refused design 0 limit", long, "eval", b"#" * 16_777_217, "and.vec")
+        name = f"the name {40 * 'n'}.. has more than 255 bytes"
+        self.says("refused design 4 limit", name, "eval", BLIF % (b".names " + 256 * b"n" + b"\n"), "and.vec")
+        inputs = "this cover has 257 inputs, and at most 256 may be"
+        self.says("refused design 4 limit", inputs, "eval", BLIF % (b".names" + 258 * b" a" + b"\n"), "and.vec")
+        rows = "this is the 4,097th row of its cover, and 4,096 may be"
+        self.says("refused design 4101 limit", rows, "eval", BLIF % (b".names a b f\n" + 4_097 * b"11 1\n"), "and.vec")
+        counts = (1, 1, 1, 1, 1, 1, 1, 1100, 1, 1, 1, 1000)
+        wide = texts.Machine(counts)
+        entries = "".join(f"open {wide.name('cross', cross)}\n" for cross in range(65_537)).encode()
+        said = "65,536 entries stand before this line, and no more may be"
+        self.says("refused faults 65537 limit", said, "diagnose", wide.text.encode(), entries)
+        image = image_bytes(wide, texts.Image(1, [], [], [], range(1_000_001)))
+        said = "the image closes 1,000,001 crosspoints, and repair takes at most 1,000,000"
+        self.says("refused image 0 limit", said, "repair", wide.text.encode(), texts.defects_text(wide, texts.Defects()).encode(), image)
 
     def test_room(self):
         tiny = "refused noroom tables r 10 1"
@@ -263,7 +286,7 @@ class Explained(unittest.TestCase):
     def test_ports_and_lines(self):
         one = TINY.replace(b"ports 4 4 4", b"ports 2 4 4")
         said = "node m0 has 2 ports that serve, the plan in order wants 3 for the nets that cross it: a b y"
-        fits = "in the machine, and all that is added good, the plan in order fits; teramac_map may find a text that fits"
+        fits = "in the machine, and nothing more on the list, the plan in order fits; teramac_map may find a text that fits"
         self.says("refused noroom ports m0 3 2", f"{said}. With `ports 3 4 4` {fits}", "go", one, b"", AND, "and.vec")
         one = TINY.replace(b"lines 4", b"lines 2")
         said = "the machine has 2 lines that serve any of 3 nets that the plan in order leads there: a b y"
@@ -301,7 +324,7 @@ class Explained(unittest.TestCase):
         """The nets of both designs by one numbering: inputs of the first and the second, tables of the first and the second."""
         one = SMALL.replace(b"lines 24", b"lines 2")
         said = "the machine has 2 lines that serve any of 3 nets that the plan in order leads there: first:a first:b second:a"
-        does = "With `lines 6 24 24 24` in the machine, and all that is added good, the plan in order fits"
+        does = "With `lines 6 24 24 24` in the machine, and nothing more on the list, the plan in order fits"
         helps = "teramac_map may find a text that fits, of each design by itself"
         self.says("refused noroom lines r 3 2 0 1 2", f"{said}. {does}; {helps}", "pair", one, b"", AND, AND, "both.vec")
 
@@ -380,6 +403,8 @@ class Explained(unittest.TestCase):
         Path(self.folder, "wide.vec").write_text("101\n")
         self.assertEqual(self.script("refused vectors 1 width", "and.blif", f"{self.folder}/wide.vec"), (said, b"", 0))
         self.assertEqual(self.script("refused vectors 1 width")[0], b"give the vectors file after the line, to hear more of line 1\n")
+        said = b"this line has 3 columns, give the design to hear how many are due\n"
+        self.assertEqual(self.script("refused vectors 1 width", f"{self.folder}/wide.vec")[0], said)
         self.assertEqual(self.script("refuse 1")[0], b"no line of a refusal; these begin with `refused`, or of check with `doubt`\n")
 
     def test_a_command_that_is_run(self):
