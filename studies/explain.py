@@ -157,8 +157,9 @@ def passed_on(source):
         sys.stdout.buffer.write(block)
         sys.stdout.buffer.flush()
         head += block[: texts.FILE_LIMIT - len(head)]
-        tail = (tail + block)[-TAIL:]
-    return bytes(head), tail.removesuffix(b"\n").rpartition(b"\n")[2].decode("utf-8", "surrogateescape")
+        tail += block
+        tail = tail[tail.rfind(b"\n", 0, -1) + 1 :][-TAIL:]
+    return bytes(head), tail.removesuffix(b"\n").decode("utf-8", "surrogateescape")
 
 
 def say_last(line, words, written):
@@ -169,7 +170,7 @@ def say_last(line, words, written):
 
 def run(words):
     """Runs a command, passes its output and its status on, and says what its last line means."""
-    built = BUILT[program_of(words)]
+    built = BUILT.get(words[0], "")
     path = words[0] if "/" in words[0] else built if os.path.exists(built) else shutil.which(words[0])
     if not path:
         sys.exit(f"{words[0]}: it stands neither built here nor on the path")
@@ -197,6 +198,8 @@ def main():
             print(said_of(words[0], words[1:]))
         elif program_of(words):
             run(words)
+        elif sys.stdin.isatty():
+            sys.exit("nothing comes by a pipe; give the last line before these words, or teramac to run them")
         else:
             written, line = passed_on(sys.stdin.buffer)
             say_last(line, words, written)

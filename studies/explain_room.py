@@ -8,7 +8,7 @@ import designs
 import teramac_texts as texts
 from explain_call import counted, listed, printed
 
-FULL = 1_000_000  # so many characters of rows are run to see outputs differ
+FULL = 200_000  # designs of more characters of rows are not run
 NEXT = "diagnose the machine anew, and let repair or compile write another image for the new list"
 
 
@@ -76,6 +76,7 @@ class Plan:
             self.lay(net, ends)
 
     def free(self, wires):
+        """Those of some wires that aren't listed."""
         return [wire for wire in wires if wire not in self.defects["wire"]]
 
     def terminals(self, network):
