@@ -6,6 +6,7 @@ machines, `yield.smk` does the same as this script by Snakemake; each takes the 
 """
 
 import argparse
+import csv
 import hashlib
 import os
 import re
@@ -14,6 +15,7 @@ import subprocess
 import sys
 from concurrent.futures import ThreadPoolExecutor
 from functools import lru_cache
+from importlib.util import find_spec
 from itertools import count, product
 from pathlib import Path
 
@@ -21,11 +23,11 @@ import yaml
 
 import designs
 import teramac_texts as texts
-from program import DEFAULT, HERE, MAPPER, PORT, REPORT, add_program, checked_design
+from program import DEFAULT, HERE, MAPPER, PORT, REPORT, UNDECIDED, add_program, checked_design, wilson
 from size import TREES, best_machine, counts_for
 
 KNOWN = set("folder machines designs fill spares tree kinds rates seeds first_seed lists clustered shape seconds".split())
-KNOWN |= {"program", "figures", "loads_per_second"}
+KNOWN |= {"program", "figures", "loads_per_second", "width", "most_seeds", "pdf"}
 # What decides about the rows of a trial, beside its words and files; and where cycles are counted, about these.
 SCRIPTS = [os.path.join(HERE, name + ".py") for name in ("trial", "faults", "teramac_texts", "program", "designs")]
 COST = [os.path.join(HERE, "../ends", name) for name in ("cost.py", "make.py", "c_end.py", "machine.py", "c/port.c", "c/host.h")]
@@ -90,6 +92,7 @@ class Study:
         self.machines = names_of([beside[name] for name in get("machines", [])])
         vectors = {beside[name]: beside[file] for name, file in get("designs", {}).items()}
         self.designs = {name: (blif, vectors[blif]) for name, blif in names_of(vectors).items()}
+        self.places = list(self.on_machines())
         self.trials = dict(self.made_trials())
 
     def complain(self, path):
@@ -97,6 +100,8 @@ class Study:
         settings = self.settings
         if not isinstance(settings, dict) or not {"folder", "kinds", "rates", "seeds"} <= settings.keys() <= KNOWN:
             sys.exit(f"{path}: settings are folder, kinds, rates, seeds, and some of {', '.join(sorted(KNOWN))}")
+        if "most_seeds" in settings and "width" not in settings:
+            sys.exit(f"{path}: most_seeds is how many sets of faults are tried for an interval of at most this width, and no width is given")
         if "spares" in settings and ("machines" in settings or "fill" in settings):
             sys.exit(f"{path}: with spares each design has machines of its own, so machines and fill are left out")
 
@@ -137,34 +142,61 @@ class Study:
         for name, machine in self.machines.items():
             yield name, machine, None, {**self.designs, **dict(self.filled(machine, name))}
 
-    def made_trials(self):
-        get, first = self.settings.get, self.settings.get("first_seed", 1)
+    def words_of(self):
+        """What gives the words of a trial by how files are named, its place and what is drawn; and the scripts that decide about its rows."""
+        get = self.settings.get
         lists = [name for name in get("lists", ["exact", "diagnosed"]) if name != "mapped" or MAPPER]
         others = {"mapper": MAPPER if "mapped" in lists else "", "report": REPORT, "port": PORT if "loads" in self.figures else ""}
-        others = {name: path and from_here(path) for name, path in others.items()}
+        called = {"program": self.program, **{name: path and from_here(path) for name, path in others.items()}}
         more = ["--lists", ",".join(lists), "--seconds", str(get("seconds", 600))]
         more += ["--clustered", str(get("clustered", 0)), "--shape", get("shape", "spots")]
-        scripts = [*SCRIPTS, *(COST if others["port"] else [])]
 
-        def words_by(of, place, drawn):
+        def words_by(of, place, kind, rate, seed):
             name, machine, spare, listed = place
             pairs = [f"{design}={of(blif)}:{of(vectors)}" for design, (blif, vectors) in listed.items()]
-            called = [word for option, path in {"program": self.program, **others}.items() for word in (f"--{option}", of(path))]
             spared = [] if spare is None else ["--spare", str(spare)]
-            kind, rate, seed = drawn
-            return [of(machine), *pairs, "--name", name, *spared, "--kind", kind, "--rate", rate, "--seed", seed, *more, *called]
+            programs = [word for option, path in called.items() for word in (f"--{option}", of(path))]
+            return [of(machine), *pairs, "--name", name, *spared, "--kind", kind, "--rate", rate, "--seed", str(seed), *more, *programs]
 
-        places = list(self.on_machines())
-        # Seed by seed, so that one can see early how a study comes out.
-        for seed in range(first, first + self.settings["seeds"]):
-            for place, kind, rate in product(places, self.settings["kinds"], self.settings["rates"]):
-                name = f"{place[0]}-{re.sub('[^a-z0-9.]+', '_', kind)}-{rate}-{seed}"
-                drawn = (kind, str(rate), str(seed))
-                yield name, Trial(name, lambda of, place=place, drawn=drawn: words_by(of, place, drawn), scripts)
+        return words_by, [*SCRIPTS, *(COST if called["port"] else [])]
+
+    def made_trials(self):
+        """For each place, kind and rate `seeds` trials, and as many more at a time while those are done and an interval is too wide."""
+        seeds, begin = self.settings["seeds"], self.settings.get("first_seed", 1)
+        end = begin + (self.settings.get("most_seeds", 20 * seeds) if "width" in self.settings else seeds)
+        points, made, (words_by, scripts) = [], [], self.words_of()
+        for place, kind, rate in product(self.places, self.settings["kinds"], self.settings["rates"]):
+            points.append(((place, kind, str(rate)), []))
+        while points and begin < end:
+            # Seed by seed, so that one can see early how a study comes out. Without faults a machine is as the other.
+            for seed in range(begin, min(begin + seeds, end)):
+                for (place, kind, rate), trials in points:
+                    if float(rate) or not trials:
+                        name = f"{place[0]}-{re.sub('[^a-z0-9.]+', '_', kind)}-{rate}-{seed}"
+                        drawn = (place, kind, rate, seed)
+                        trials.append(Trial(name, lambda of, drawn=drawn: words_by(of, *drawn), scripts))
+                        made.append((name, trials[-1]))
+            points, begin = [point for point in points if float(point[0][2]) and self.is_wide(point[1])], begin + seeds
+        return made
+
+    def is_wide(self, trials):
+        """Whether these are all done and the interval of a share, of some design on some list, is wider than the settings ask."""
+        paths, found = [self.file_of(trial) for trial in trials], {}
+        if "width" not in self.settings or not all(map(os.path.exists, paths)):
+            return False
+        for path in paths:
+            for row in csv.DictReader(Path(path).read_text(encoding="utf-8").splitlines()):
+                found.setdefault((row["design"], row["list"]), []).append(row["status"])
+        decided = [[status == "0" for status in those if status not in UNDECIDED] for those in found.values()]
+        bounds = [wilson(sum(those), len(those)) for those in decided]
+        return any(high - low > self.settings["width"] for low, high in bounds)
+
+    def file_of(self, trial):
+        """Where the rows of a trial go. They are written at once and whole, so what stands there is done."""
+        return os.path.join(self.folder, "trials", trial.file + ".csv")
 
     def path(self, name):
-        """Where the rows of a trial go. They are written at once and whole, so what stands there is done."""
-        return os.path.join(self.folder, "trials", self.trials[name].file + ".csv")
+        return self.file_of(self.trials[name])
 
     def due(self):
         return [name for name in self.trials if not os.path.exists(self.path(name))]
@@ -174,9 +206,17 @@ class Study:
         return [from_here(SCRIPTS[0]), *self.trials[name].words, "--result", self.path(name)]
 
     def run(self, jobs):
-        """Runs what isn't done, several at a time; the first that fails ends the study."""
-        due = self.due()
-        print(f"{len(self.trials)} trials, {len(due)} to run", file=sys.stderr)
+        """Runs what isn't done, until no interval is too wide."""
+        while True:
+            due = self.due()
+            print(f"{len(self.trials)} trials, {len(due)} to run", file=sys.stderr)
+            self.run_these(due, jobs)
+            self.trials = dict(self.made_trials())
+            if not self.due():
+                return
+
+    def run_these(self, due, jobs):
+        """Several at a time; the first that fails ends the study."""
         with ThreadPoolExecutor(jobs) as pool:
             for k, (name, ran) in enumerate(zip(due, pool.map(self.run_trial, due)), 1):
                 if ran.returncode:
@@ -198,7 +238,8 @@ class Study:
     def figure_words(self):
         """The words of figures.py after the table's path."""
         rate = self.settings.get("loads_per_second", 1000)
-        return ["--figures", ",".join(self.figures), "--folder", self.folder, "--loads-per-second", str(rate), "--force"]
+        pdf = ["--pdf"] if self.settings.get("pdf") else []
+        return ["--figures", ",".join(self.figures), "--folder", self.folder, "--loads-per-second", str(rate), *pdf, "--force"]
 
 
 def main():
@@ -210,6 +251,8 @@ def main():
     add_program(parser)
     parser.set_defaults(program=None)
     args = parser.parse_args()
+    if not args.print and find_spec("matplotlib") is None:
+        sys.exit("figures want matplotlib, which this python3 hasn't (studies/setup --lean installs it); nothing was run")
     study = Study(args.settings, args.program, args.folder)
     if args.print:
         print("".join(shlex.join(["python3", *study.command(name)]) + "\n" for name in study.due()), end="")

@@ -33,8 +33,8 @@ class Several(unittest.TestCase):
         folder.mkdir(exist_ok=True)
         for name in ("and.blif", "and.vec", "tiny.machine"):
             (folder / name).write_bytes(Path(EXAMPLES, name).read_bytes())
-        lines = [f"machines: [{folder}/tiny.machine]", f'designs: {{"{folder}/and.blif": "{folder}/and.vec"}}', "lists: [exact]", "seeds: 1"]
-        lines += ["folder: out", "kinds: [open]", 'rates: ["0.0", "0.02"]', "figures: [fits]"]
+        lines = [f"machines: [{folder}/tiny.machine]", f'designs: {{"{folder}/and.blif": "{folder}/and.vec"}}', "lists: [exact]"]
+        lines += ["seeds: 1", "folder: out", "kinds: [open]", 'rates: ["0.0", "0.02"]', "figures: [fits]"]
         (folder / "s.yaml").write_text("\n".join(lines), encoding="utf-8")
 
     def study(self, *words, folder=None):

@@ -21,7 +21,7 @@ localrules: figures, table
 
 rule figures:
     input: f"{OUT}/rows.csv", from_here(f"{HERE}/figures.py")
-    output: [f"{OUT}/{name}.svg" for name in STUDY.figures]
+    output: [f"{OUT}/{name}.{end}" for name in STUDY.figures for end in ("svg", "pdf")[: 1 + ("--pdf" in STUDY.figure_words())]]
     params: shlex.join(STUDY.figure_words())
     shell: "{sys.executable} {input[1]} {input[0]} {params}"
 
