@@ -301,7 +301,8 @@ def compare(rows, _):
             curve(axes, range(len(shares)), shares, 0.04 * (at - 2), STYLES[kind], label=STYLES[kind][2])
         axes.set_xticks(range(len(by_rate)), [f"{rate:g}" for (rate,) in by_rate])
         of_shares(axes, part, f"rate of faults; machines of {max(by_size):,.0f} crosspoints", range(len(by_rate)))
-    return picture, ["design", "kind", "list", "rate", "crosspoints", *SHARE, "enough", "whole", "at_least", "tables", "closed", "model"], table
+    columns = ["design", "kind", "list", "rate", "crosspoints", *SHARE, "enough", "whole", "at_least", "tables", "closed", "model"]
+    return picture, columns, table
 
 
 def shown(row):
@@ -326,7 +327,7 @@ def compare_text(columns, table):
 
 
 def paired(rows, one, other):
-    """Of the sets of faults that were tried on both lists how many runs are right on both, on one alone, on the other alone, and on none."""
+    """Of the sets of faults that were tried on both lists how many runs are right on both, on one alone, on the other alone, on none."""
     right = {}
     for row in rows:
         if row["list"] in (one, other) and row["status"] not in UNDECIDED:
@@ -352,6 +353,7 @@ def pairs(rows, _):
             axes.bar(places, [-line[8] for line in lines], wide, color=f"C{k}")
             for place, line in zip(places, lines):
                 axes.annotate(f"p={line[-1]:.2g}", (place, line[7]), ha="center", va="bottom", fontsize=7)
+        axes.yaxis.set_major_formatter(lambda count, _: f"{abs(count):g}")
         axes.axhline(0, color="black", linewidth=0.8)
         axes.set_xticks(range(len(by_rate)), [f"{rate:g}" for (rate,) in by_rate])
         axes.set(xlabel="rate of faults", ylabel="sets of faults")

@@ -101,7 +101,7 @@ class Study:
         if not isinstance(settings, dict) or not {"folder", "kinds", "rates", "seeds"} <= settings.keys() <= KNOWN:
             sys.exit(f"{path}: settings are folder, kinds, rates, seeds, and some of {', '.join(sorted(KNOWN))}")
         if "most_seeds" in settings and "width" not in settings:
-            sys.exit(f"{path}: most_seeds is how many sets of faults are tried for an interval of at most this width, and no width is given")
+            sys.exit(f"{path}: most_seeds says how many sets of faults an interval of some width is worth, and no width is given")
         if "spares" in settings and ("machines" in settings or "fill" in settings):
             sys.exit(f"{path}: with spares each design has machines of its own, so machines and fill are left out")
 
@@ -143,7 +143,7 @@ class Study:
             yield name, machine, None, {**self.designs, **dict(self.filled(machine, name))}
 
     def words_of(self):
-        """What gives the words of a trial by how files are named, its place and what is drawn; and the scripts that decide about its rows."""
+        """What gives a trial's words by how files are named, its place and what is drawn; and the scripts that decide about its rows."""
         get = self.settings.get
         lists = [name for name in get("lists", ["exact", "diagnosed"]) if name != "mapped" or MAPPER]
         others = {"mapper": MAPPER if "mapped" in lists else "", "report": REPORT, "port": PORT if "loads" in self.figures else ""}

@@ -167,7 +167,8 @@ class Kinds(unittest.TestCase):
         crosses, most = SMALL.sizes["cross"], max(len(list(SMALL.along(wire))) for wire in range(SMALL.sizes["wire"]))
         for rate in (0.02, 0.1, 0.3, 0.5):
             shares = [len(make_faults(SMALL, {"broken": rate}, seed)["open"]) / crosses for seed in range(10)]
-            self.assertLess(abs(sum(shares) / 10 - rate - most / 4 / crosses), 3 * (rate * (1 - rate) / crosses / 10) ** 0.5 + most / 4 / crosses)
+            over, three = most / 4 / crosses, 3 * (rate * (1 - rate) / crosses / 10) ** 0.5
+            self.assertLess(abs(sum(shares) / 10 - rate - over), three + over)
 
     def test_shapes(self):
         for shape in ("rows", "columns", "hextants"):
@@ -234,8 +235,8 @@ class Runs(unittest.TestCase):
         self.write(rates='["0.0", "1"]', seeds="10", width="0.12", most_seeds="35", pdf="true")
         (self.folder / "tiny.machine").write_bytes(Path(EXAMPLES, "small.machine").read_bytes())
         ran = self.study()
-        self.assertEqual([line for line in ran.stderr.splitlines() if "trials" in line][:2], ["11 trials, 11 to run", "21 trials, 10 to run"])
-        self.assertEqual([line for line in ran.stderr.splitlines() if "trials" in line][2:], ["31 trials, 10 to run"])
+        said = [line for line in ran.stderr.splitlines() if "trials" in line]
+        self.assertEqual(said, ["11 trials, 11 to run", "21 trials, 10 to run", "31 trials, 10 to run"])
         self.assertTrue((self.folder / "out/fits.pdf").read_bytes().startswith(b"%PDF"))
         self.write(rates='["1"]', seeds="10", width="0.01", most_seeds="12")
         (self.folder / "out/trials").rename(self.folder / "kept")

@@ -5,8 +5,10 @@ import shutil
 import subprocess
 import tempfile
 import unittest
+import unittest.mock
 from pathlib import Path
 
+import study
 from program import DEFAULT, HERE
 from test_studies import EXAMPLES, run
 
@@ -59,6 +61,28 @@ class Several(unittest.TestCase):
         self.assertIn(f" --result out/trials/{made[0]}", self.study("--print", folder=other))
         shutil.copytree(self.folder / "out", other / "out")
         self.assertEqual(len(self.study("--print", folder=other).splitlines()), 1)
+
+    def test_what_decides_is_in_the_name(self):
+        """Words, what is in the files, and the scripts; where cycles are counted, also those that count them."""
+        path = self.folder / "and.vec"
+
+        def name(word="1", scripts=()):
+            study.sum_of.cache_clear()
+            return study.Trial("t", lambda of: ["--rate", word, of(str(path))], scripts).file
+
+        first = name()
+        self.assertEqual((first, first[:2]), (name(), "t."))
+        self.assertEqual(len({first, name("2"), name(scripts=[HERE + "/trial.py"]), path.write_text("# other\n") and name()}), 4)
+        with unittest.mock.patch.object(study, "PORT", DEFAULT):
+            for figures, counted in (("[fits]", False), ("[loads]", True)):
+                settings = (self.folder / "s.yaml").read_text(encoding="utf-8").replace("[fits]", figures)
+                (self.folder / "l.yaml").write_text(settings.replace("folder: out", f"folder: {self.folder}/out"), encoding="utf-8")
+                found = study.Study(str(self.folder / "l.yaml"), DEFAULT)
+                words = next(iter(found.trials.values())).words
+                self.assertEqual((found.words_of()[1][5:] == study.COST, words[words.index("--port") + 1] != ""), (counted, counted))
+        run("../ends/make.py", "c", "tiny.machine", "-o", str(self.folder / "end"), "--sources")
+        copied = {file.name for file in (self.folder / "end").iterdir()} - {"board.h", "build"}
+        self.assertEqual(({"port.c", "host.h"}, set()), (copied, copied - {os.path.basename(file) for file in study.COST}))
 
     @unittest.skipUnless(SNAKEMAKE, "snakemake isn't there")
     def test_snakemake(self):
