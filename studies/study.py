@@ -100,6 +100,8 @@ class Study:
         settings = self.settings
         if not isinstance(settings, dict) or not {"folder", "kinds", "rates", "seeds"} <= settings.keys() <= KNOWN:
             sys.exit(f"{path}: settings are folder, kinds, rates, seeds, and some of {', '.join(sorted(KNOWN))}")
+        if not (isinstance(settings.get("width", 1), (int, float)) and 0 < settings.get("width", 1) <= 1):
+            sys.exit(f"{path}: a width is above 0 and at most 1")
         if "most_seeds" in settings and "width" not in settings:
             sys.exit(f"{path}: most_seeds says how many sets of faults an interval of some width is worth, and no width is given")
         if "spares" in settings and ("machines" in settings or "fill" in settings):

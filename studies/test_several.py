@@ -62,6 +62,12 @@ class Several(unittest.TestCase):
         shutil.copytree(self.folder / "out", other / "out")
         self.assertEqual(len(self.study("--print", folder=other).splitlines()), 1)
 
+    @unittest.skipUnless(shutil.which("parallel"), "parallel isn't there")
+    def test_gnu_parallel(self):
+        lines = self.study("--print")
+        subprocess.run(["parallel", "-j1", "--workdir", "."], input=lines, cwd=self.folder, text=True, capture_output=True, check=True)
+        self.assertEqual((len(list((self.folder / "out/trials").iterdir())), self.study("--print")), (2, ""))
+
     def test_what_decides_is_in_the_name(self):
         """Words, what is in the files, and the scripts; where cycles are counted, also those that count them."""
         path = self.folder / "and.vec"
