@@ -307,9 +307,11 @@ def compare(rows, _):
 
 def shown(row):
     """The least machine for which the interval shows that 95 of 100 runs are right; else the least with all right, and what that shows."""
-    if row["enough"]:
-        return f"{row['enough']:,.0f}"
-    return f"{row['whole']:,.0f} (shown: {row['at_least'] or 0:.2f})" if row["whole"] else "none tried"
+    if not row["whole"] and not row["enough"]:
+        return "none tried"
+    if row["enough"] or not row["rate"]:  # without faults one run says all
+        return f"{row['enough'] or row['whole']:,.0f}"
+    return f"{row['whole']:,.0f} " + ("(one run)" if row["at_least"] is None else f"(shown: {row['at_least']:.2f})")
 
 
 def compare_text(columns, table):
@@ -352,7 +354,9 @@ def pairs(rows, _):
             axes.bar(places, [line[7] for line in lines], wide, color=f"C{k}", label=f"{STYLES[lists[0]][2]} / {STYLES[other][2]}")
             axes.bar(places, [-line[8] for line in lines], wide, color=f"C{k}")
             for place, line in zip(places, lines):
-                axes.annotate(f"p={line[-1]:.2g}", (place, line[7]), ha="center", va="bottom", fontsize=7)
+                if line[7] + line[8]:
+                    axes.annotate(f" p={line[-1]:.2g}", (place, line[7]), ha="center", va="bottom", fontsize=7, rotation=90)
+        axes.margins(y=0.25)
         axes.yaxis.set_major_formatter(lambda count, _: f"{abs(count):g}")
         axes.axhline(0, color="black", linewidth=0.8)
         axes.set_xticks(range(len(by_rate)), [f"{rate:g}" for (rate,) in by_rate])
