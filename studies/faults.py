@@ -11,7 +11,7 @@ import teramac_texts as texts
 KINDS = {
     "open": ("cross", "crosspoints that never conduct"),
     "closed": ("cross", "crosspoints that always conduct"),
-    "broken": ("cross", "wires that break, by their length (in crosspoints): those of the shorter piece never conduct"),
+    "broken": ("cross", "wires that break, by their length: crosspoints of the shorter piece never conduct; a rate is the share of these"),
     "wires": ("wire", "stuck wires, half of them at 0 and half at 1"),
     "stuck0": ("wire", "wires stuck at 0"),
     "stuck1": ("wire", "wires stuck at 1"),
@@ -20,7 +20,7 @@ KINDS = {
     "bridges": ("wire", "pairs of wires joined for good, by the wires of the machine"),
     "neighbours": ("wire", "likewise, of neighbours: two lines, or two taps, side by side in a crossbar"),
 }
-PLACES = {"cells": 64, "broken": 2}  # of each part that a fault of the kind may have
+PLACES = {"cells": 64}  # of each part that a fault of the kind may have
 SHAPES = {"spots": "near a place", "rows": "on one tap, else spots", "columns": "on one line, else spots", "hextants": "in one hextant"}
 TRIES = 12_800
 
@@ -131,6 +131,16 @@ class Places:
         return [({"wires": self.chance.choice(("stuck0", "stuck1"))}.get(kind, kind), at, 1)]
 
 
+def add_one(places, kind, count, faults):
+    """One more fault of a kind, of so many. What stands there already or against another is drawn anew."""
+    for tried in range(TRIES):
+        if [faults.add(*fault) is None for fault in places.faults(kind, count)].count(True):
+            return
+        if places.clustered and tried % 100 == 99:  # clusters seem to be full: one more is begun
+            places.middles[KINDS[kind][0]].append(places.middle(KINDS[kind][0]))
+    raise ValueError(f"{kind}: {count} are too many for this machine")
+
+
 def make_faults(machine, amounts, seed, clustered=0, shape="spots"):
     """Faults of the kinds that `amounts` names; the same seed gives the same faults."""
     chance, faults = random.Random(seed), texts.Faults()
@@ -141,15 +151,12 @@ def make_faults(machine, amounts, seed, clustered=0, shape="spots"):
         if count > room:
             rate = f"; of {kind} {largest_rate(room, parts):.4f} is the largest rate that fits" if isinstance(wanted, float) else ""
             raise ValueError(f"{kind}: {count} faults, and a fault file holds at most {texts.FAULT_LIMIT:,} in all{rate}")
+        opened = len(faults["open"])
         for _ in range(count):
-            # What stands there already or against another is drawn anew; where clusters seem to be full, one more is begun.
-            for tried in range(TRIES):
-                if [faults.add(*fault) is None for fault in places.faults(kind, count)].count(True):
-                    break
-                if clustered and tried % 100 == 99:
-                    places.middles[KINDS[kind][0]].append(places.middle(KINDS[kind][0]))
-            else:
-                raise ValueError(f"{kind}: {count} are too many for this machine")
+            # Of breaks a rate says how many crosspoints are open, not how many wires break.
+            if kind == "broken" and isinstance(wanted, float) and len(faults["open"]) >= opened + count:
+                break
+            add_one(places, kind, count, faults)
             if faults.count > texts.FAULT_LIMIT:
                 raise ValueError(f"{kind}: so many wires open more crosspoints than the {texts.FAULT_LIMIT:,} faults of a file")
     return faults

@@ -8,20 +8,31 @@ import os
 import sys
 import textwrap
 from collections import Counter
-from itertools import cycle
+from itertools import combinations, cycle
 
 import matplotlib.pyplot as plt
 
-from program import wilson
+from program import UNDECIDED, mcnemar, wilson
 
 plt.switch_backend("svg")
 plt.rcParams.update({"svg.hashsalt": "teramac", "legend.fontsize": 8, "legend.handlelength": 3.6, "axes.grid": True, "grid.alpha": 0.3})
 PARTS = {"": "", " of growth": "_growth", " of the sweep": "_sweep", " of tests of tables": "_tables"}
 COSTS = {cost + words: cost + name for cost in ("loads", "cycles") for words, name in PARTS.items()}
 NUMBERS = [*"crosspoints rate seed faults thrown_wires thrown_crosses thrown_tables tables closed spare".split(), *COSTS.values()]
-UNDECIDED = ("cut off", "6")  # or no memory, which says nothing of room; counted apart
 DECIDED = ("0", "3", "wrong")
 LEVELS = ("root", "module", "chip", "hextant")
+FAULTS = {  # each kind in the words of a title
+    "open": "crosspoints that are open",
+    "closed": "crosspoints that are closed",
+    "broken": "broken wires",
+    "wires": "stuck wires",
+    "stuck0": "wires stuck at 0",
+    "stuck1": "wires stuck at 1",
+    "cells": "wrong cells of tables",
+    "registers": "tables with a stuck register",
+    "bridges": "bridges of any wires",
+    "neighbours": "bridges of neighbours",
+}
 SHARE = ["share", "low", "high", "runs", "undecided"]
 STUDENT = (12.71, 4.303, 3.182, 2.776, 2.571, 2.447, 2.365, 2.306)  # quantiles for 1 to 8 degrees of freedom
 STYLES = {  # how each list is drawn, named, and modelled
@@ -49,7 +60,14 @@ def read_rows(path):
     for number, row in enumerate(rows, 2):
         if row["status"] not in DECIDED + UNDECIDED:
             sys.exit(f"{path}: line {number}: a run that ended with status {row['status']} is no run; mend what it was given")
-    return rows
+    return once(rows)
+
+
+def once(rows):
+    """The rows, of runs at rate 0 one of each: without faults each further run is the same and says nothing new."""
+    names = [name for name in ("machine", "kind", "design", "list", "spare") if name in rows[0]]
+    first = {tuple(row[name] for name in names): row for row in reversed(rows) if not row["rate"]}
+    return [row for row in rows if row["rate"] or first[tuple(row[name] for name in names)] is row]
 
 
 def split(rows, *columns):
@@ -61,18 +79,33 @@ def split(rows, *columns):
 
 
 def share(rows, holds=lambda row: row["status"] == "0"):
-    """Of the decided runs the share for which something holds, with Wilson's interval; then how many were decided, and how many not."""
+    """Of the decided runs the share for which something holds, with Wilson's interval; then how many were decided, and how many not.
+
+    Of a single run there is no interval.
+    """
     decided = [row for row in rows if row["status"] not in UNDECIDED]
     hits = sum(map(holds, decided))
-    return [hits / len(decided) if decided else math.nan, *wilson(hits, len(decided)), len(decided), len(rows) - len(decided)]
+    bounds = (None, None) if len(decided) == 1 else wilson(hits, len(decided))
+    return [hits / len(decided) if decided else math.nan, *bounds, len(decided), len(rows) - len(decided)]
 
 
 def mean(values):
-    """The mean with its interval of 95 % by Student's law, and how many there are."""
-    middle, free = sum(values) / len(values), max(1, len(values) - 1)
+    """The mean with its interval of 95 % by Student's law, of which a single value has none, and how many there are."""
+    middle, free = sum(values) / len(values), len(values) - 1
+    if not free:
+        return [middle, None, None, 1]
     quantile = STUDENT[free - 1] if free <= len(STUDENT) else 1.96 + 2.6 / free
     half = quantile * math.sqrt(sum((value - middle) ** 2 for value in values) / free / len(values))
     return [middle, max(0.0, middle - half), middle + half, len(values)]
+
+
+def sets_of(rows):
+    """How many sets of faults there are at each rate, in words."""
+    parts = [{row["seed"] for row in part} for (_, _, rate), part in split(rows, "machine", "kind", "rate").items() if rate]
+    least, most = min(map(len, parts), default=0), max(map(len, parts), default=0)
+    if not most:
+        return "without faults"
+    return f"{least} to {most} sets of faults at each rate" if least < most else f"{most} set{'s' * (most > 1)} of faults at each rate"
 
 
 def facets(rows, columns=("machine", "kind")):
@@ -84,17 +117,21 @@ def facets(rows, columns=("machine", "kind")):
     for spare in axes.flat[len(parts) :]:
         spare.remove()
     for here, names in zip(axes.flat, parts):
-        named = {"kind": lambda name: f"{name} faults", "list": lambda name: STYLES[name][2]}
-        here.set_title(", ".join(named.get(column, str)(name) for column, name in zip(columns, names)), fontsize=10)
+        named = {"kind": lambda name: FAULTS.get(name, f"faults: {name}"), "list": lambda name: STYLES[name][2]}
+        title = ", ".join(named.get(column, str)(name) for column, name in zip(columns, names))
+        here.set_title(f"{title}\n{sets_of(parts[names])}", fontsize=10)
     return picture, list(zip(axes.flat, parts, parts.values()))
 
 
 def curve(axes, across, points, off, style, **more):
-    """A curve of shares or means with the bars of their intervals, a little to the side of others."""
-    values, low, high = zip(*(point[:3] for point in points))
-    bars = [[abs(value - bound) for value, bound in zip(values, bounds)] for bounds in (low, high)]
-    line, marker = style[:2]
-    axes.errorbar([x + off for x in across], values, bars, linestyle=line, marker=marker, markersize=4, capsize=2, linewidth=1.4, **more)
+    """A curve of shares or means with the bars of those that have intervals, a little to the side of others."""
+    (line, marker), places = style[:2], [x + off for x in across]
+    drawn = axes.plot(places, [point[0] for point in points], linestyle=line, marker=marker, markersize=4, linewidth=1.4, **more)
+    known = [(x, point[:3]) for x, point in zip(places, points) if None not in point[:3]]
+    bars = [[abs(point[0] - point[bound]) for _, point in known] for bound in (1, 2)]
+    if known:
+        at, heights = [x for x, _ in known], [point[0] for _, point in known]
+        axes.errorbar(at, heights, bars, linestyle="none", color=drawn[0].get_color(), capsize=2, linewidth=1.4)
 
 
 def undecided_marks(axes, rows, places, column="rate"):
@@ -193,7 +230,7 @@ def thrown(rows, _):
             points = {rate: mean([row[f"thrown_{kind}"] for row in runs]) for (rate,), runs in by_rate.items()}
             table += [[*names, rate, named, *point] for rate, point in points.items()]
             curve(axes, points, points.values(), 0, ("-", marker), label=named)
-        axis_of_counts(axes, max(line[-2] for line in table if line[:2] == [*names]), "sound parts on the list")
+        axis_of_counts(axes, max(line[-2] or line[-4] for line in table if line[:2] == [*names]), "sound parts on the list")
         axes.set_xlabel("rate of faults")
         axes.legend(loc="upper left")
     return picture, columns, table
@@ -255,15 +292,26 @@ def compare(rows, _):
             by_rate = split([row for row in part if row["list"] == kind], "rate")
             for (rate,), runs in by_rate.items():
                 by_size = {size: share(of) for (size,), of in split(runs, "crosspoints").items()}
-                enough = next((size for size, point in by_size.items() if point[0] >= 0.95), "")
+                enough = next((size for size, point in by_size.items() if (point[1] or 0) >= 0.95), "")
+                whole = next(([size, point[1]] for size, point in by_size.items() if point[0] == 1), ["", ""])
                 laid = [row for row in runs if row["closed"] and row["spare"] == largest]
                 used = [sum(row[name] for row in laid) / len(laid) if laid else "" for name in ("tables", "closed")]
-                table.append([*names, kind, rate, max(by_size), *by_size[max(by_size)], enough, *used, STYLES[kind][3]])
+                table.append([*names, kind, rate, max(by_size), *by_size[max(by_size)], enough, *whole, *used, STYLES[kind][3]])
             shares = [line[5:8] for line in table[-len(by_rate) :]]
             curve(axes, range(len(shares)), shares, 0.04 * (at - 2), STYLES[kind], label=STYLES[kind][2])
         axes.set_xticks(range(len(by_rate)), [f"{rate:g}" for (rate,) in by_rate])
         of_shares(axes, part, f"rate of faults; machines of {max(by_size):,.0f} crosspoints", range(len(by_rate)))
-    return picture, ["design", "kind", "list", "rate", "crosspoints", *SHARE, "enough", "tables", "closed", "model"], table
+    columns = ["design", "kind", "list", "rate", "crosspoints", *SHARE, "enough", "whole", "at_least", "tables", "closed", "model"]
+    return picture, columns, table
+
+
+def shown(row):
+    """The least machine for which the interval shows that 95 of 100 runs are right; else the least with all right, and what that shows."""
+    if not row["whole"] and not row["enough"]:
+        return "none tried"
+    if row["enough"] or not row["rate"]:  # without faults one run says all
+        return f"{row['enough'] or row['whole']:,.0f}"
+    return f"{row['whole']:,.0f} " + ("(one run)" if row["at_least"] is None else f"(shown: {row['at_least']:.2f})")
 
 
 def compare_text(columns, table):
@@ -273,14 +321,51 @@ def compare_text(columns, table):
     heads = [f"Yield at {rate:g}" for rate in rates] + [f"Crosspoints for 95 % at {rate:g}" for rate in rates]
     lines = ["| Design, scheme | " + " | ".join(heads) + " | Tables, closed crosspoints | Modelled as |", "|---" * (len(heads) + 3) + "|"]
     for (design, kind), part in sorted(split(rows, "design", "list").items(), key=lambda item: (item[0][0], [*STYLES].index(item[0][1]))):
-        cells = ["{share:.2f} ({low:.2f}-{high:.2f})".format(**row) for row in part]
-        cells += [f"{row['enough']:,.0f}" if row["enough"] else "none tried" for row in part]
+        cells = [("{share:.2f}" if row["low"] is None else "{share:.2f} ({low:.2f}-{high:.2f})").format(**row) for row in part]
+        cells += map(shown, part)
         cells.append(next((f"{row['tables']:.0f}, {row['closed']:.0f}" for row in part if row["tables"]), "-"))
         lines.append(f"| {design}, {STYLES[kind][2]} | " + " | ".join([*cells, STYLES[kind][3]]) + " |")
     return "\n".join([*lines, ""])
 
 
-FIGURES = {draw.__name__: draw for draw in (fits, why, thrown, loads, redundancy, compare)}
+def paired(rows, one, other):
+    """Of the sets of faults that were tried on both lists how many runs are right on both, on one alone, on the other alone, on none."""
+    right = {}
+    for row in rows:
+        if row["list"] in (one, other) and row["status"] not in UNDECIDED:
+            right.setdefault((row["machine"], row["seed"]), {})[row["list"]] = row["status"] == "0"
+    found = Counter((those[one], those[other]) for those in right.values() if len(those) == 2)
+    return [found[True, True], found[True, False], found[False, True], found[False, False]]
+
+
+def pairs(rows, _):
+    """Sets of faults by which only one of two lists gives right runs: up the first of the legend, down the other (p: McNemar, exact)"""
+    picture, parts = facets(rows, ("machine", "design", "kind"))
+    columns, table = ["both", "first_alone", "other_alone", "neither", "p"], []
+    for axes, names, part in parts:
+        lists, by_rate = [kind for kind in STYLES if any(row["list"] == kind for row in part)], split(part, "rate")
+        for (one, other), ((rate,), runs) in ((pair, at) for pair in combinations(lists, 2) for at in by_rate.items()):
+            counts = paired(runs, one, other)
+            table.append([*names, rate, one, other, *counts, mcnemar(*counts[1:3])])
+        first = [line for line in table if line[:4] == [*names, line[3]] and line[4] == lists[0]]
+        for k, other in enumerate(lists[1:]):
+            lines, wide = [line for line in first if line[5] == other], 0.8 / len(lists[1:])
+            places = [place + wide * (k - (len(lists) - 2) / 2) for place in range(len(lines))]
+            axes.bar(places, [line[7] for line in lines], wide, color=f"C{k}", label=f"{STYLES[lists[0]][2]} / {STYLES[other][2]}")
+            axes.bar(places, [-line[8] for line in lines], wide, color=f"C{k}")
+            for place, line in zip(places, lines):
+                if line[7] + line[8]:
+                    axes.annotate(f" p={line[-1]:.2g}", (place, line[7]), ha="center", va="bottom", fontsize=7, rotation=90)
+        axes.margins(y=0.25)
+        axes.yaxis.set_major_formatter(lambda count, _: f"{abs(count):g}")
+        axes.axhline(0, color="black", linewidth=0.8)
+        axes.set_xticks(range(len(by_rate)), [f"{rate:g}" for (rate,) in by_rate])
+        axes.set(xlabel="rate of faults", ylabel="sets of faults")
+        axes.legend(loc="upper center", bbox_to_anchor=(0.5, -0.15), ncol=2)
+    return picture, ["machine", "design", "kind", "rate", "list", "other", *columns], table
+
+
+FIGURES = {draw.__name__: draw for draw in (fits, why, thrown, loads, redundancy, compare, pairs)}
 
 
 def main():
@@ -289,6 +374,7 @@ def main():
     parser.add_argument("--figures", default="fits,thrown,loads", help=f"of {','.join(FIGURES)} (default: %(default)s)")
     parser.add_argument("--folder", default=".", help="where fits.svg, fits.csv and the others are written (default: here)")
     parser.add_argument("--loads-per-second", type=float, default=1000, help="of a machine, for the time of a diagnosis (default: 1000)")
+    parser.add_argument("--pdf", action="store_true", help="write fits.pdf and the others too")
     parser.add_argument("--force", action="store_true", help="write over figures that stand there")
     args = parser.parse_args()
     rows, names = read_rows(args.rows), args.figures.split(",")
@@ -297,12 +383,14 @@ def main():
     if {"redundancy", "compare"} & set(names) and any(row["spare"] is None for row in rows):
         sys.exit(f"{args.rows}: no rows of a study with spares, which redundancy and compare show")
     paths = {name: os.path.join(args.folder, name) for name in names}
-    if not args.force and any(os.path.exists(path + end) for path in paths.values() for end in (".svg", ".csv")):
+    if not args.force and any(os.path.exists(path + end) for path in paths.values() for end in (".svg", ".csv", ".pdf")):
         sys.exit(f"{args.folder}: figures stand there already; nothing was written (--force writes over them)")
     for name, path in paths.items():
         picture, columns, table = FIGURES[name](rows, args.loads_per_second)
         picture.suptitle(textwrap.fill(FIGURES[name].__doc__, round(13 * picture.get_figwidth())), fontsize=10)
         picture.savefig(path + ".svg", metadata={"Date": None})
+        if args.pdf:
+            picture.savefig(path + ".pdf", metadata={"CreationDate": None})
         plt.close(picture)
         with open(path + ".csv", "w", encoding="utf-8", newline="") as file:
             csv.writer(file, lineterminator="\n").writerows([columns, *table])

@@ -18,6 +18,8 @@ NAMES = ("teramac_report", "teramac_port", "teramac_map")
 OTHERS = {name: os.environ.get(name.upper(), f"{HERE}/../crates/{name}/out/{name}") for name in NAMES}
 REPORT, PORT, MAPPER = (path if os.path.exists(path) else shutil.which(name) or "" for name, path in OTHERS.items())
 
+UNDECIDED = ("cut off", "6")  # or no memory, which says nothing of room; counted apart
+
 
 class Answer:
     """What a call wrote, its status (-1: cut off), and the seconds that it took."""
@@ -72,6 +74,12 @@ def checked_design(program, path):
 
 def add_program(parser):
     parser.add_argument("--program", default=DEFAULT, help="the built teramac (default: %(default)s, or $TERAMAC)")
+
+
+def mcnemar(one, other):
+    """The chance that of so many sets of faults on which two schemes differ, they being alike, at most the lesser number is for one."""
+    both = one + other
+    return min(1.0, 2 * sum(math.comb(both, k) for k in range(min(one, other) + 1)) / 2**both)
 
 
 def wilson(hits, tries, z=1.959964):

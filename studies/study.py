@@ -1,18 +1,21 @@
 #!/usr/bin/env python3
 """A study from its settings: makes its machines and designs, runs the trials that are missing or out of date, then the figures.
 
-SETTINGS is a file, or the name of one beside this script (redundancy, compare, ..). `yield.smk` does the same by Snakemake.
+SETTINGS is a file, or the name of one beside this script (redundancy, compare, ..). `--print` writes the trials as commands for several
+machines, `yield.smk` does the same as this script by Snakemake; each takes the results that the others have made.
 """
 
 import argparse
+import csv
 import hashlib
 import os
 import re
+import shlex
 import subprocess
 import sys
-from collections import namedtuple
 from concurrent.futures import ThreadPoolExecutor
 from functools import lru_cache
+from importlib.util import find_spec
 from itertools import count, product
 from pathlib import Path
 
@@ -20,32 +23,49 @@ import yaml
 
 import designs
 import teramac_texts as texts
-from program import DEFAULT, HERE, MAPPER, PORT, REPORT, add_program, checked_design
+from program import DEFAULT, HERE, MAPPER, PORT, REPORT, UNDECIDED, add_program, checked_design, wilson
 from size import TREES, best_machine, counts_for
 
 KNOWN = set("folder machines designs fill spares tree kinds rates seeds first_seed lists clustered shape seconds".split())
-KNOWN |= {"program", "figures", "loads_per_second"}
-# What decides about the rows of a trial, beside its words and files.
+KNOWN |= {"program", "figures", "loads_per_second", "width", "most_seeds", "pdf"}
+# What decides about the rows of a trial, beside its words and files; and where cycles are counted, about these.
 SCRIPTS = [os.path.join(HERE, name + ".py") for name in ("trial", "faults", "teramac_texts", "program", "designs")]
+COST = [os.path.join(HERE, "../ends", name) for name in ("cost.py", "make.py", "c_end.py", "machine.py", "c/port.c", "c/host.h")]
 
 
 @lru_cache(None)
 def sum_of(path):
-    """A sum of a file as it was when the study began."""
-    return hashlib.sha256(Path(path).read_bytes()).hexdigest()
+    """A sum of a file as it was when the study began; of no path nothing."""
+    return path and hashlib.sha256(Path(path).read_bytes()).hexdigest()
 
 
-class Trial(namedtuple("Trial", "words inputs")):
-    """The words of one call of trial.py, and the files that it reads."""
+def from_here(path):
+    """A path by which other machines find the file too: from the working folder, if it lies there or in the repository."""
+    whole = os.path.abspath(path)
+    if not any(Path(whole).is_relative_to(folder) for folder in (os.getcwd(), os.path.dirname(HERE))):
+        return whole
+    found = os.path.relpath(whole)
+    return found if os.sep in found else os.path.join(os.curdir, found)
 
-    def key(self):
-        """A sum of all that decides about its rows."""
-        return hashlib.sha256("\n".join([*self.words, *map(sum_of, self.inputs), *map(sum_of, SCRIPTS)]).encode()).hexdigest()
+
+class Trial:
+    """One call of trial.py. `words_by` gives its words by what stands for each file that it reads: its path, or a sum of it.
+
+    The file of its rows has a sum of all that decides about them in its name, and no path decides: what stands there is right, whoever
+    made it and wherever the disk is mounted.
+    """
+
+    def __init__(self, name, words_by, scripts):
+        self.inputs = []
+        words_by(lambda path: self.inputs.append(path) or path)
+        self.inputs, self.words = [*filter(None, dict.fromkeys(self.inputs))], words_by(str)
+        key = hashlib.sha256("\n".join([*words_by(sum_of), *map(sum_of, scripts)]).encode()).hexdigest()
+        self.file = f"{name}.{key[:16]}"
 
 
 def names_of(paths):
     """A name for each path: that of its file, or with its folders as far as files of one name want it."""
-    paths, parts = list(dict.fromkeys(paths)), {path: Path(path).absolute().with_suffix("").parts[::-1] for path in paths}
+    paths, parts = list(dict.fromkeys(paths)), {path: Path(os.path.abspath(path)).with_suffix("").parts[::-1] for path in paths}
     depth = next(depth for depth in count(1) if len({parts[path][:depth] for path in paths}) == len(paths))
     return {"-".join(parts[path][depth - 1 :: -1]).strip("/"): path for path in paths}
 
@@ -62,15 +82,17 @@ class Study:
         self.complain(path)
         get = self.settings.get
         self.folder = folder or self.settings["folder"]
-        self.program = os.path.abspath(program or get("program", DEFAULT))
+        self.program = from_here(program or get("program", DEFAULT))
         self.figures = get("figures", ["fits", "thrown", "loads"])
-        beside = {name: os.path.join(HERE, name) for name in [*get("machines", []), *(n for p in get("designs", {}).items() for n in p)]}
+        named = [*get("machines", []), *(name for pair in get("designs", {}).items() for name in pair)]
+        beside = {name: from_here(os.path.join(HERE, name)) for name in named}
         for name in [self.program, *beside.values()]:
             if not os.path.isfile(name):
                 sys.exit(f"{name}: isn't there, or is no file")
         self.machines = names_of([beside[name] for name in get("machines", [])])
         vectors = {beside[name]: beside[file] for name, file in get("designs", {}).items()}
         self.designs = {name: (blif, vectors[blif]) for name, blif in names_of(vectors).items()}
+        self.places = list(self.on_machines())
         self.trials = dict(self.made_trials())
 
     def complain(self, path):
@@ -78,16 +100,20 @@ class Study:
         settings = self.settings
         if not isinstance(settings, dict) or not {"folder", "kinds", "rates", "seeds"} <= settings.keys() <= KNOWN:
             sys.exit(f"{path}: settings are folder, kinds, rates, seeds, and some of {', '.join(sorted(KNOWN))}")
+        if not (isinstance(settings.get("width", 1), (int, float)) and 0 < settings.get("width", 1) <= 1):
+            sys.exit(f"{path}: a width is above 0 and at most 1")
+        if "most_seeds" in settings and "width" not in settings:
+            sys.exit(f"{path}: most_seeds says how many sets of faults an interval of some width is worth, and no width is given")
         if "spares" in settings and ("machines" in settings or "fill" in settings):
             sys.exit(f"{path}: with spares each design has machines of its own, so machines and fill are left out")
 
     def made_file(self, name, text):
-        """The path of a file with this text, which is written only where it is another."""
+        """The path of a file with this text, which is written, at once and whole, only where it is another."""
         path = Path(self.folder, "made", name)
         path.parent.mkdir(parents=True, exist_ok=True)
         if not path.exists() or path.read_text(encoding="utf-8") != text:
-            path.write_text(text, encoding="utf-8")
-        return str(path)
+            texts.replace(path, text)
+        return from_here(path)
 
     def sized(self, blif, name):
         """For each share of spare parts (`three`: three copies with voters, and a quarter) a machine, on one tree, given or the best."""
@@ -118,31 +144,81 @@ class Study:
         for name, machine in self.machines.items():
             yield name, machine, None, {**self.designs, **dict(self.filled(machine, name))}
 
-    def made_trials(self):
-        get, first = self.settings.get, self.settings.get("first_seed", 1)
+    def words_of(self):
+        """What gives a trial's words by how files are named, its place and what is drawn; and the scripts that decide about its rows."""
+        get = self.settings.get
         lists = [name for name in get("lists", ["exact", "diagnosed"]) if name != "mapped" or MAPPER]
-        more = ["--lists", ",".join(lists), "--mapper", MAPPER, "--seconds", str(get("seconds", 600))]
-        more += ["--clustered", str(get("clustered", 0)), "--shape", get("shape", "spots"), "--program", self.program, "--report", REPORT]
-        more += ["--port", PORT if "loads" in self.figures else ""]
-        places = list(self.on_machines())
-        # Seed by seed, so that one can see early how a study comes out.
-        for seed in range(first, first + self.settings["seeds"]):
-            for (name, machine, spare, listed), kind, rate in product(places, self.settings["kinds"], self.settings["rates"]):
-                pairs = [f"{design}={blif}:{vectors}" for design, (blif, vectors) in listed.items()]
-                others = filter(None, (REPORT, "mapped" in lists and MAPPER, "loads" in self.figures and PORT))
-                inputs = [self.program, machine, *(file for pair in listed.values() for file in pair), *others]
-                spared = [] if spare is None else ["--spare", str(spare)]
-                words = [machine, *pairs, "--name", name, *spared, "--kind", kind, "--rate", str(rate), "--seed", str(seed), *more]
-                yield f"{name}-{re.sub('[^a-z0-9.]+', '_', kind)}-{rate}-{seed}", Trial(words, inputs)
+        others = {"mapper": MAPPER if "mapped" in lists else "", "report": REPORT, "port": PORT if "loads" in self.figures else ""}
+        called = {"program": self.program, **{name: path and from_here(path) for name, path in others.items()}}
+        more = ["--lists", ",".join(lists), "--seconds", str(get("seconds", 600))]
+        more += ["--clustered", str(get("clustered", 0)), "--shape", get("shape", "spots")]
+
+        def words_by(of, place, kind, rate, seed):
+            name, machine, spare, listed = place
+            pairs = [f"{design}={of(blif)}:{of(vectors)}" for design, (blif, vectors) in listed.items()]
+            spared = [] if spare is None else ["--spare", str(spare)]
+            programs = [word for option, path in called.items() for word in (f"--{option}", of(path))]
+            return [of(machine), *pairs, "--name", name, *spared, "--kind", kind, "--rate", rate, "--seed", str(seed), *more, *programs]
+
+        return words_by, [*SCRIPTS, *(COST if called["port"] else [])]
+
+    def made_trials(self):
+        """For each place, kind and rate `seeds` trials, and as many more at a time while those are done and an interval is too wide."""
+        seeds, begin = self.settings["seeds"], self.settings.get("first_seed", 1)
+        end = begin + (self.settings.get("most_seeds", 20 * seeds) if "width" in self.settings else seeds)
+        points, made, (words_by, scripts) = [], [], self.words_of()
+        for place, kind, rate in product(self.places, self.settings["kinds"], self.settings["rates"]):
+            points.append(((place, kind, str(rate)), []))
+        while points and begin < end:
+            # Seed by seed, so that one can see early how a study comes out. Without faults a machine is as the other.
+            for seed in range(begin, min(begin + seeds, end)):
+                for (place, kind, rate), trials in points:
+                    if float(rate) or not trials:
+                        name = f"{place[0]}-{re.sub('[^a-z0-9.]+', '_', kind)}-{rate}-{seed}"
+                        drawn = (place, kind, rate, seed)
+                        trials.append(Trial(name, lambda of, drawn=drawn: words_by(of, *drawn), scripts))
+                        made.append((name, trials[-1]))
+            points, begin = [point for point in points if float(point[0][2]) and self.is_wide(point[1])], begin + seeds
+        return made
+
+    def is_wide(self, trials):
+        """Whether these are all done and the interval of a share, of some design on some list, is wider than the settings ask."""
+        paths, found = [self.file_of(trial) for trial in trials], {}
+        if "width" not in self.settings or not all(map(os.path.exists, paths)):
+            return False
+        for path in paths:
+            for row in csv.DictReader(Path(path).read_text(encoding="utf-8").splitlines()):
+                found.setdefault((row["design"], row["list"]), []).append(row["status"])
+        decided = [[status == "0" for status in those if status not in UNDECIDED] for those in found.values()]
+        bounds = [wilson(sum(those), len(those)) for those in decided]
+        return any(high - low > self.settings["width"] for low, high in bounds)
+
+    def file_of(self, trial):
+        """Where the rows of a trial go. They are written at once and whole, so what stands there is done."""
+        return os.path.join(self.folder, "trials", trial.file + ".csv")
 
     def path(self, name):
-        return os.path.join(self.folder, "trials", name + ".csv")
+        return self.file_of(self.trials[name])
+
+    def due(self):
+        return [name for name in self.trials if not os.path.exists(self.path(name))]
+
+    def command(self, name):
+        """The words that run a trial, from the working folder."""
+        return [from_here(SCRIPTS[0]), *self.trials[name].words, "--result", self.path(name)]
 
     def run(self, jobs):
-        """Runs what isn't up to date, several at a time; the first that fails ends the study."""
-        os.makedirs(os.path.join(self.folder, "trials"), exist_ok=True)
-        due = [name for name, trial in self.trials.items() if not self.is_done(name, trial)]
-        print(f"{len(self.trials)} trials, {len(due)} to run", file=sys.stderr)
+        """Runs what isn't done, until no interval is too wide."""
+        while True:
+            due = self.due()
+            print(f"{len(self.trials)} trials, {len(due)} to run", file=sys.stderr)
+            self.run_these(due, jobs)
+            self.trials = dict(self.made_trials())
+            if not self.due():
+                return
+
+    def run_these(self, due, jobs):
+        """Several at a time; the first that fails ends the study."""
         with ThreadPoolExecutor(jobs) as pool:
             for k, (name, ran) in enumerate(zip(due, pool.map(self.run_trial, due)), 1):
                 if ran.returncode:
@@ -151,17 +227,8 @@ class Study:
                 if k % 20 == 0 or k == len(due):
                     print(f"{k} of {len(due)}", file=sys.stderr)
 
-    def is_done(self, name, trial):
-        key = Path(self.path(name) + ".key")
-        return os.path.exists(self.path(name)) and key.exists() and key.read_text(encoding="utf-8") == trial.key()
-
     def run_trial(self, name):
-        trial, path = self.trials[name], Path(self.path(name))
-        path.unlink(missing_ok=True)
-        ran = subprocess.run([sys.executable, SCRIPTS[0], *trial.words, "-o", str(path)], capture_output=True, text=True, check=False)
-        if ran.returncode == 0:
-            Path(f"{path}.key").write_text(trial.key(), encoding="utf-8")
-        return ran
+        return subprocess.run([sys.executable, *self.command(name)], capture_output=True, text=True, check=False)
 
     def table(self):
         """Writes the rows of all trials into one table; gives its path."""
@@ -173,7 +240,8 @@ class Study:
     def figure_words(self):
         """The words of figures.py after the table's path."""
         rate = self.settings.get("loads_per_second", 1000)
-        return ["--figures", ",".join(self.figures), "--folder", self.folder, "--loads-per-second", str(rate), "--force"]
+        pdf = ["--pdf"] if self.settings.get("pdf") else []
+        return ["--figures", ",".join(self.figures), "--folder", self.folder, "--loads-per-second", str(rate), *pdf, "--force"]
 
 
 def main():
@@ -181,10 +249,16 @@ def main():
     parser.add_argument("settings", help="a file of settings, or " + ", ".join(sorted(path.stem for path in Path(HERE).glob("*.yaml"))))
     parser.add_argument("--folder", help="where the results go (default: as the settings say, from here)")
     parser.add_argument("--jobs", type=int, default=os.cpu_count(), help="how many trials at a time (default: %(default)s)")
+    parser.add_argument("--print", action="store_true", help="run nothing; write a command for each trial to run, as for GNU parallel")
     add_program(parser)
     parser.set_defaults(program=None)
     args = parser.parse_args()
+    if not args.print and find_spec("matplotlib") is None:
+        sys.exit("figures want matplotlib, which this python3 hasn't (studies/setup --lean installs it); nothing was run")
     study = Study(args.settings, args.program, args.folder)
+    if args.print:
+        print("".join(shlex.join(["python3", *study.command(name)]) + "\n" for name in study.due()), end="")
+        return
     study.run(args.jobs)
     words = [sys.executable, os.path.join(HERE, "figures.py"), study.table(), *study.figure_words()]
     sys.exit(subprocess.run(words, check=False).returncode)

@@ -4,7 +4,9 @@ Every reader takes bytes and raises `Refused` with the file, the line and the ki
 the program has taken. Every writer gives the one spelling that the program writes. What designs say is in `designs.py`.
 """
 
+import os
 import re
+import socket
 import sys
 from bisect import bisect
 from collections import namedtuple
@@ -415,6 +417,15 @@ def read_text(reader, path, *before):
         sys.exit(f"{path}: {error.strerror}")
     except Refused as refusal:
         sys.exit(f"{path}: {refusal}")
+
+
+def replace(path, text):
+    """Writes a file at once and whole, over one that stands there, in a folder that is made if it isn't there."""
+    os.makedirs(os.path.dirname(path), exist_ok=True)
+    own = f"{path}.{socket.gethostname()}.{os.getpid()}"
+    with open(own, "w", encoding="utf-8") as file:
+        file.write(text)
+    os.replace(own, path)
 
 
 def write_new(path, data):

@@ -11,8 +11,8 @@ import designs
 import teramac_texts as texts
 import trial
 from explain import explain
-from faults import Places, largest_rate, make_faults
-from program import DEFAULT, HERE, MAPPER, call
+from faults import KINDS, Places, largest_rate, make_faults
+from program import DEFAULT, HERE, MAPPER, call, mcnemar
 from study import KNOWN, Study, names_of
 from test_studies import EXAMPLES, run
 
@@ -79,6 +79,37 @@ class Figures(unittest.TestCase):
         self.assertEqual(figures.mean([5.0, 5.0, 5.0]), [5, 5, 5, 3])
         self.assertAlmostEqual(figures.mean([1.0, 2.0, 3.0])[2], 2 + 4.303 / 3**0.5, 3)
 
+    def test_one_run_has_no_interval(self):
+        self.assertEqual(figures.mean([1234.0]), [1234.0, None, None, 1])
+        self.assertEqual(figures.share(rows_of(status=["0"])), [1, None, None, 1, 0])
+        rows = figures.once(rows_of(rate=[0.0, 0.1], seed=[1, 2, 3], list=["exact", "diagnosed"]))
+        self.assertEqual(Counter((row["rate"], row["list"]) for row in rows)[0.0, "exact"], 1)
+        picture, columns, table = figures.fits(rows, 0)
+        found = {line[columns.index("rate")]: line[columns.index("low")] for line in table}
+        self.assertEqual((found[0.0], round(found[0.1], 2)), (None, 0.44))
+        ends = [path.vertices[:, 1] for axes in picture.axes for bars in axes.collections for path in bars.get_paths()]
+        self.assertEqual(len([end for end in ends if len(end) and not figures.math.isnan(end[0])]), 2)
+        for rate, said in ((0.0, "| 1.00 | 1 |"), (0.1, "| 1.00 | 1 (one run) |")):
+            self.assertIn(said, figures.compare_text(*figures.compare(rows_of(rate=[rate], spare=[1.0], seed=[1]), 0)[1:]))
+
+    def test_titles_say_how_many(self):
+        rows = rows_of(kind=["registers"], rate=[0.0, 0.1], seed=[1, 2, 3]) + rows_of(kind=["registers"], rate=[0.2], seed=range(8))
+        picture, _, _ = figures.fits(figures.once(rows), 0)
+        self.assertEqual(picture.axes[0].get_title(), "m, tables with a stuck register\n3 to 8 sets of faults at each rate")
+        self.assertTrue(set(figures.FAULTS) == set(KINDS))
+
+    def test_pairs(self):
+        """88 against 75 of 100, of which 20 and 7 are those that differ."""
+        rows = rows_of(list=["none", "triplicated"], seed=range(100))
+        for row in rows:
+            right = row["seed"] < 75 if row["list"] == "none" else row["seed"] < 68 or row["seed"] >= 80
+            row["status"] = "0" if right else "wrong"
+        picture, columns, table = figures.pairs(rows, 0)
+        self.assertEqual(table[0][columns.index("both") : -1], [68, 7, 20, 5])
+        self.assertAlmostEqual(table[0][-1], 0.0192, 4)
+        self.assertEqual(picture.axes[0].texts[0].get_text().strip(), "p=0.019")
+        self.assertEqual([mcnemar(0, 0), mcnemar(5, 5), mcnemar(0, 6)], [1, 1, 0.03125])
+
     def test_why(self):
         rows = rows_of(status=["3"], refusal=["noroom lines m0.c1", "noroom lines m1.c0", "noroom tables r", "noroom ports m0"])
         _, columns, table = figures.why(rows, 0)
@@ -95,8 +126,11 @@ class Figures(unittest.TestCase):
         self.assertEqual([(row["crosspoints"], row["share"]) for row in found if row["list"] == "none"], [(100, 0), (200, 1)])
         _, columns, table = figures.compare(rows, 0)
         enough = {line[2]: line[columns.index("enough")] for line in table}
-        self.assertEqual(enough, {"exact": 100, "none": 200})
-        self.assertIn("| d, no list | 1.00 (0.72-1.00) | 200 |", figures.compare_text(columns, table))
+        self.assertEqual(enough, {"exact": "", "none": ""})
+        self.assertIn("| d, no list | 1.00 (0.72-1.00) | 200 (shown: 0.72) |", figures.compare_text(columns, table))
+        _, columns, table = figures.compare([{**row, "seed": row["seed"] + 10 * k} for k in range(8) for row in rows], 0)
+        self.assertEqual({line[2]: line[columns.index("enough")] for line in table}, {"exact": 100, "none": 200})
+        self.assertIn("| d, no list | 1.00 (0.95-1.00) | 200 |", figures.compare_text(columns, table))
 
 
 class Kinds(unittest.TestCase):
@@ -129,6 +163,13 @@ class Kinds(unittest.TestCase):
             opened = set(make_faults(SMALL, {"broken": 1}, seed)["open"])
             along = [list(SMALL.along(wire)) for wire in range(SMALL.sizes["wire"])]
             self.assertTrue(any(opened in (set(path[: len(opened)]), set(path[-len(opened) :])) for path in along))
+
+    def test_a_rate_of_breaks_is_that_of_open_crosspoints(self):
+        crosses, most = SMALL.sizes["cross"], max(len(list(SMALL.along(wire))) for wire in range(SMALL.sizes["wire"]))
+        for rate in (0.02, 0.1, 0.3, 0.5):
+            shares = [len(make_faults(SMALL, {"broken": rate}, seed)["open"]) / crosses for seed in range(10)]
+            over, three = most / 4 / crosses, 3 * (rate * (1 - rate) / crosses / 10) ** 0.5
+            self.assertLess(abs(sum(shares) / 10 - rate - over), three + over)
 
     def test_shapes(self):
         for shape in ("rows", "columns", "hextants"):
@@ -188,6 +229,29 @@ class Runs(unittest.TestCase):
         ran = self.study()
         self.assertIn("refused design 2 undriven y; no run", ran.stderr)
         self.assertNotEqual(ran.returncode, 0)
+
+    @unittest.skipIf(figures is None, "matplotlib isn't there")
+    def test_seeds_until_an_interval_is_narrow(self):
+        """Without faults one run is enough; of what always fits ten runs leave 0.28, and thirty 0.11."""
+        self.write(rates='["0.0", "1"]', seeds="10", width="0.12", most_seeds="35", pdf="true")
+        (self.folder / "tiny.machine").write_bytes(Path(EXAMPLES, "small.machine").read_bytes())
+        ran = self.study()
+        said = [line for line in ran.stderr.splitlines() if "trials" in line]
+        self.assertEqual(said, ["11 trials, 11 to run", "21 trials, 10 to run", "31 trials, 10 to run"])
+        self.assertTrue((self.folder / "out/fits.pdf").read_bytes().startswith(b"%PDF"))
+        self.write(rates='["1"]', seeds="10", width="0.01", most_seeds="12")
+        (self.folder / "out/trials").rename(self.folder / "kept")
+        self.assertEqual(len(Study(str(self.settings), DEFAULT).trials), 10)
+        (self.folder / "kept").rename(self.folder / "out/trials")
+        self.assertEqual(len(Study(str(self.settings), DEFAULT).trials), 12)
+
+    def test_without_matplotlib_nothing_is_run(self):
+        (self.folder / "sitecustomize.py").write_text("import sys\nsys.modules['matplotlib'] = None\n")
+        words, env = (str(self.settings), "--program", DEFAULT), {**os.environ, "PYTHONPATH": str(self.folder)}
+        ran = run("__main__.py", *words, env=env)
+        self.assertEqual((ran.returncode, "figures want matplotlib" in ran.stderr), (1, True))
+        self.assertFalse((self.folder / "out").exists())
+        self.assertEqual(len(run("__main__.py", *words, "--print", env=env).stdout.splitlines()), 2)
 
     @unittest.skipUnless(MAPPER, "teramac_map isn't there")
     def test_a_smaller_machine_holds_a_remapped_text(self):

@@ -190,9 +190,12 @@ def main():
     parser.add_argument("--name", help="the machine's name in the table (default: its file's)")
     parser.add_argument("--spare", type=float, help="what the machine has to spare, for the table")
     parser.add_argument("-o", "--output", default="-", help="a new file (default: standard output)")
+    parser.add_argument("--result", metavar="FILE", help="of a study: FILE is written whole or not at all; where it stands nothing is run")
     parser.add_argument("--mapper", default=MAPPER, help="the built teramac_map, for mapped (default: %(default)s)")
     add_program(parser)
     args = parser.parse_args()
+    if args.result and Path(args.result).exists():
+        return
     args.lists = args.lists.split(",")
     if not set(args.lists) <= set(LISTS if args.mapper else LISTS[:2] + LISTS[3:]):
         sys.exit(f"--lists: some of {', '.join(LISTS)}; mapped wants teramac_map, built or named by --mapper")
@@ -204,7 +207,10 @@ def main():
     writer = csv.DictWriter(table, COLUMNS, lineterminator="\n", restval="")
     writer.writeheader()
     writer.writerows(rows)
-    texts.write_new(args.output, table.getvalue())
+    if args.result:
+        texts.replace(args.result, table.getvalue())
+    else:
+        texts.write_new(args.output, table.getvalue())
 
 
 if __name__ == "__main__":
