@@ -271,7 +271,7 @@ class Runs(unittest.TestCase):
         self.write(machines=f"[{self.folder}/tiny.machine, {other}/tiny.machine]", rates='["0.0"]')
         trials = Study(str(self.settings), DEFAULT).trials
         self.assertEqual(len(trials), 2)
-        self.assertTrue(all(os.path.abspath(DEFAULT) in found.inputs for found in trials.values()))
+        self.assertTrue(all(os.path.abspath(DEFAULT) in map(os.path.abspath, found.inputs) for found in trials.values()))
 
     def test_settings_are_documented(self):
         text = Path(HERE, "README.md").read_text(encoding="utf-8")
