@@ -1,8 +1,8 @@
 -- What the command `bench` comes to.
 use Rattle.std.proofs.Common.{◌≡◌, ℕ, [], refl, sym, subst}
 use Rattle.machine_shape.specs.declared.Shape.{Shape}
-use Rattle.machine_shape.specs.Faults.{Faults}
-use Rattle.machine_shape.specs.Defects.{Defects, IsFair}
+use Rattle.machine_meaning.specs.Faults.{Faults}
+use Rattle.machine_meaning.specs.Defects.{Defects, IsFair}
 use Rattle.design_netlist.specs.declared.draft.Draft.{Draft}
 use Rattle.design_netlist.specs.Checks.{IsChecked}
 use Rattle.map_network.specs.declared.network.Network.{Network}

@@ -8,8 +8,8 @@ use Rattle.machine_shape.specs.Counts.{levels_from}
 use Rattle.machine_shape.specs.Walk.{Levels, size, place_in, rest, nodes_in, tables_in, lines_in, ports_in}
 use Rattle.machine_shape.specs.Shape.{levels_of, nodes_of, tables_of, pins_of, lines_of, ports_of, own_ports_of, way_to, line_at, port_at}
 use Rattle.machine_shape.specs.Sites.{HasSites}
-use Rattle.machine_shape.specs.Faults.{Faults}
-use Rattle.machine_shape.specs.Sound.{IsServed}
+use Rattle.machine_meaning.specs.Faults.{Faults}
+use Rattle.machine_meaning.specs.Sound.{IsServed}
 use Rattle.map_network.specs.Plain.{plain_network, covers_tables, cover_tables}
 use Rattle.place_plan.specs.Plans.{nets_in}
 use Rattle.place_plan.specs.Enough.{AtLeast, HasSoundParts, IsSoundTableOf, IsSoundPinOf, IsWholeLineOf, IsSoundPort}

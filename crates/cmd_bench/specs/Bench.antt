@@ -4,7 +4,7 @@ use Rattle.std.specs.List.{range_with_len}
 use Rattle.std.specs.Fmt.{decimal}
 use Rattle.base_io.specs.Counts.{next_count}
 use Rattle.machine_shape.specs.declared.Shape.{Shape}
-use Rattle.machine_shape.specs.Faults.{Faults}
+use Rattle.machine_meaning.specs.Faults.{Faults}
 use Rattle.design_netlist.specs.declared.draft.Draft.{Draft}
 use Rattle.design_blif.specs.Designs.{IsDesign}
 use Rattle.map_network.specs.Plain.{plain_network}

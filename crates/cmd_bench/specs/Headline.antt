@@ -3,7 +3,7 @@ use Rattle.std.specs.Prelude.{◌≡◌, ℕ, ◌-◌, map, length, Some}
 use Rattle.base_io.specs.Counts.{next_count}
 use Rattle.base_io.specs.Sink.{Wrote}
 use Rattle.machine_shape.specs.declared.Shape.{Shape}
-use Rattle.machine_shape.specs.Faults.{Faults}
+use Rattle.machine_meaning.specs.Faults.{Faults}
 use Rattle.design_netlist.specs.declared.draft.Draft.{Draft}
 use Rattle.design_netlist.specs.Rows.{AreRows}
 use Rattle.design_blif.specs.Designs.{IsDesign}

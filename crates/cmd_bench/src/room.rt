@@ -2,7 +2,7 @@
 
 ghost use Rattle.std.specs.Prelude.{◌≡◌, ℕ, length};
 ghost use Rattle.machine_shape.specs.declared.Shape.{Shape};
-ghost use Rattle.machine_shape.specs.Faults.{Faults};
+ghost use Rattle.machine_meaning.specs.Faults.{Faults};
 ghost use Rattle.map_network.specs.Plain.{plain_network};
 ghost use Rattle.place_plan.specs.Plans.{nets_in};
 ghost use Rattle.place_plan.specs.Enough.{HasSoundParts};

@@ -3,11 +3,11 @@ use Rattle.std.specs.Prelude.{◌≡◌, ℕ, ◌<◌, true, List, ◌++◌, IsS
 use Rattle.machine_shape.specs.declared.Shape.{Shape}
 use Rattle.machine_shape.specs.Shape.{wires_of, crosses_of, tables_of, ends_of, node_of, node_of_cross, hextant_of}
 use Rattle.machine_shape.specs.Names.{wire_name, table_name}
-use Rattle.machine_shape.specs.Faults.{Faults}
-use Rattle.machine_shape.specs.Sound.{IsSoundWire, IsSoundCross, IsSoundTable, IsServed}
-use Rattle.machine_shape.specs.Defects.{Defects, IsFreeWire, IsFreeCross, IsFreeTable, Covers, IsOfUse}
-use Rattle.machine_shape.specs.Standing.{IsSeated, IsSoundCrossOf, IsStanding}
-use Rattle.machine_shape.specs.Tight.{IsTight}
+use Rattle.machine_meaning.specs.Faults.{Faults}
+use Rattle.machine_meaning.specs.Sound.{IsSoundWire, IsSoundCross, IsSoundTable, IsServed}
+use Rattle.machine_meaning.specs.Defects.{Defects, IsFreeWire, IsFreeCross, IsFreeTable, Covers, IsOfUse}
+use Rattle.machine_meaning.specs.Standing.{IsSeated, IsSoundCrossOf, IsStanding}
+use Rattle.machine_meaning.specs.Tight.{IsTight}
 use Rattle.machine_defects.specs.Lists.{DefectList}
 use Rattle.machine_config.specs.Configuration.{is_closed, setting_of}
 use Rattle.machine_image.specs.Images.{ImageValue}

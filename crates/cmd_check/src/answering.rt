@@ -2,7 +2,7 @@
 ghost use Rattle.std.specs.Prelude.{◌≡◌, ◌<◌, ℕ, false, true, IsSome, IsTrue, IfOk, IfSome, IfNone, length};
 ghost use Rattle.base_bits.specs.Numbers.{has_number};
 ghost use Rattle.machine_shape.specs.Shape.{wires_of, crosses_of, tables_of};
-ghost use Rattle.machine_shape.specs.Defects.{IsFreeWire, IsFreeCross, IsFreeTable};
+ghost use Rattle.machine_meaning.specs.Defects.{IsFreeWire, IsFreeCross, IsFreeTable};
 ghost use Rattle.machine_config.specs.Configuration.{is_closed, setting_of};
 ghost use Rattle.cmd_check.specs.Answers.{IsAnswer, IsFirstOf, IsOfMachine};
 
@@ -12,7 +12,8 @@ use diag_check::{free_images_run_soundly, used_wires};
 use machine_config::Config;
 use machine_defects::Defects;
 use machine_image::Image;
-use machine_shape::{Cross, Table, Wire, tight_lists_are_fair};
+use machine_meaning::tight_lists_are_fair;
+use machine_shape::{Cross, Table, Wire};
 use std::alloc::{AllocError, Global};
 
 // Whether a wire is marked, but isn't free.

@@ -1,9 +1,9 @@
 -- What the command `go` does with its words, and what it comes to.
 use Rattle.std.proofs.Common.{◌⊎◌, ◌∙◌, ◌≡◌, ℕ, List, sym, subst, inl, inr}
 use Rattle.machine_shape.specs.declared.Shape.{Shape}
-use Rattle.machine_shape.specs.Faults.{Faults}
-use Rattle.machine_shape.specs.Defects.{Defects}
-use Rattle.machine_shape.specs.Tight.{IsTight}
+use Rattle.machine_meaning.specs.Faults.{Faults}
+use Rattle.machine_meaning.specs.Defects.{Defects}
+use Rattle.machine_meaning.specs.Tight.{IsTight}
 use Rattle.machine_defects.specs.Text.{text_of}
 use Rattle.design_netlist.specs.declared.draft.Draft.{Draft}
 use Rattle.design_netlist.specs.Checks.{IsChecked}

@@ -4,9 +4,9 @@ use Rattle.base_io.specs.Counts.{next_count}
 use Rattle.base_io.specs.Told.{IfTold}
 use Rattle.base_io.specs.Sink.{Wrote}
 use Rattle.machine_shape.specs.declared.Shape.{Shape}
-use Rattle.machine_shape.specs.Faults.{Faults}
-use Rattle.machine_shape.specs.Defects.{Covers, IsFair}
-use Rattle.machine_shape.specs.Tight.{IsTight}
+use Rattle.machine_meaning.specs.Faults.{Faults}
+use Rattle.machine_meaning.specs.Defects.{Covers, IsFair}
+use Rattle.machine_meaning.specs.Tight.{IsTight}
 use Rattle.machine_defects.specs.Lists.{DefectList, IsDefectList}
 use Rattle.machine_defects.specs.Text.{text_of}
 use Rattle.design_netlist.specs.declared.draft.Draft.{Draft}

@@ -3,8 +3,8 @@ use Rattle.std.specs.Prelude.{◌≡◌, ℕ, List}
 use Rattle.base_io.specs.Told.{holds}
 use Rattle.base_io.specs.Store.{StoreState}
 use Rattle.base_io.specs.Sink.{Wrote}
-use Rattle.machine_shape.specs.Defects.{Covers}
-use Rattle.machine_shape.specs.Faults.{Faults}
+use Rattle.machine_meaning.specs.Defects.{Covers}
+use Rattle.machine_meaning.specs.Faults.{Faults}
 use Rattle.machine_defects.specs.Lists.{DefectList}
 use Rattle.design_netlist.specs.declared.draft.Draft.{Draft}
 use Rattle.machine_image.specs.Images.{ImageValue, image_bytes}

@@ -2,8 +2,8 @@
 use Rattle.std.proofs.Common.{◌≡◌, ◌⊎◌, ◌+◌, ℕ, [], map, length, subst, refl, inl, inr, length-append}
 use Rattle.std.specs.Prelude.{Result, Ok, Err, IfOk, IfErr}
 use Rattle.std.specs.List.{All}
-use Rattle.machine_shape.specs.Defects.{Covers}
-use Rattle.machine_shape.specs.Faults.{Faults}
+use Rattle.machine_meaning.specs.Defects.{Covers}
+use Rattle.machine_meaning.specs.Faults.{Faults}
 use Rattle.machine_defects.specs.Lists.{DefectList}
 use Rattle.design_netlist.specs.declared.draft.Draft.{Draft}
 use Rattle.map_network.specs.declared.network.Network.{Network}

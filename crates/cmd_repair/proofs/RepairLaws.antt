@@ -1,6 +1,6 @@
 -- What the command `repair` comes to.
 use Rattle.std.proofs.Common.{ℕ, List, [], ◌∷◌, refl, inl, inr, arith}
-use Rattle.machine_shape.specs.Defects.{Defects}
+use Rattle.machine_meaning.specs.Defects.{Defects}
 use Rattle.machine_image.specs.Images.{ImageValue}
 use Rattle.place_plan.specs.declared.short.Short.{Short}
 use Rattle.place_repair.specs.Plans.{AreSeats, AreNets, HasRoom, IsShortPlan, Nets}

@@ -1,8 +1,8 @@
 -- An image is repaired on what a list of defects leaves free, as a step.
 use Rattle.std.specs.Prelude.{◌≡◌, ℕ, ◌<◌, ◌≤◌}
 use Rattle.std.specs.FinSet as set
-use Rattle.machine_shape.specs.Defects.{Covers}
-use Rattle.machine_shape.specs.Faults.{Faults, IsFaultless}
+use Rattle.machine_meaning.specs.Defects.{Covers}
+use Rattle.machine_meaning.specs.Faults.{Faults, IsFaultless}
 use Rattle.machine_defects.specs.Lists.{DefectList}
 use Rattle.design_netlist.specs.declared.draft.Draft.{Draft}
 use Rattle.place_plan.specs.declared.short.Short.{Short}

@@ -1,6 +1,6 @@
 -- A `run` of what a `compile` wrote.
 use Rattle.std.proofs.Common.{◌≡◌, ◌∙◌, ℕ, List, Option, Some, IfSome, sym, subst}
-use Rattle.machine_shape.specs.Faults.{Faults}
+use Rattle.machine_meaning.specs.Faults.{Faults}
 use Rattle.design_netlist.specs.Rows.{AreRows}
 use Rattle.machine_image.specs.Images.{ImageValue, Reads, image_bytes}
 use Rattle.place_route.specs.RightImages.{IsRightImage}

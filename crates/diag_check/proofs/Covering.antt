@@ -15,9 +15,9 @@ use Rattle.std.proofs.lemmas.Map.Views.{any-filter_same}
 use Rattle.base_bits.specs.Numbers.{has_number}
 use Rattle.machine_shape.specs.declared.Shape.{Shape}
 use Rattle.machine_shape.specs.Shape.{wires_of, crosses_of, tables_of}
-use Rattle.machine_shape.specs.Faults.{Faults, stuck_register}
-use Rattle.machine_shape.specs.Joined.{Shorted}
-use Rattle.machine_shape.specs.Defects.{Defects, Covers, IsClear, IsFreeWire, IsFreeCross, IsFreeTable}
+use Rattle.machine_meaning.specs.Faults.{Faults, stuck_register}
+use Rattle.machine_meaning.specs.Joined.{Shorted}
+use Rattle.machine_meaning.specs.Defects.{Defects, Covers, IsClear, IsFreeWire, IsFreeCross, IsFreeTable}
 use Rattle.machine_config.specs.declared.Setting.{Setting}
 use Rattle.machine_config.specs.Configuration.{is_closed, setting_of}
 use Rattle.machine_image.specs.Images.{ImageValue, IsImage}

@@ -8,12 +8,12 @@ use Rattle.base_bits.specs.Numbers.{has_number}
 use Rattle.machine_shape.specs.declared.Shape.{Shape}
 use Rattle.machine_shape.specs.Laws.{IsNumbered, IsTree, HasMeetings, HasParents}
 use Rattle.machine_shape.specs.Shape.{wires_of, crosses_of, nodes_of, pins_of, tables_of, pin_wire, table_wire, ends_of, node_of, parent_of, hextant_of, IsLine, IsPort, IsTap, tap_table, IsAbove, itself, below, Ends, in_order, turned}
-use Rattle.machine_shape.specs.Faults.{Faults, IsFaultless, stuck_cross, stuck_wire, pair_cmp}
-use Rattle.machine_shape.specs.Sound.{IsSoundWire, IsSoundTable, IsServed}
-use Rattle.machine_shape.specs.Served.{HasHomes}
-use Rattle.machine_shape.specs.Defects.{IsClear}
-use Rattle.machine_shape.specs.Standing.{StandsBy, pin_stands, on_two, IsOutside, Meets, IsSeated, HasStandingParts}
-use Rattle.machine_shape.specs.Tight.{IsAlone, HasFeet, two}
+use Rattle.machine_meaning.specs.Faults.{Faults, IsFaultless, stuck_cross, stuck_wire, pair_cmp}
+use Rattle.machine_meaning.specs.Sound.{IsSoundWire, IsSoundTable, IsServed}
+use Rattle.machine_shape.specs.Laws.{HasHomes}
+use Rattle.machine_meaning.specs.Defects.{IsClear}
+use Rattle.machine_meaning.specs.Standing.{StandsBy, pin_stands, on_two, IsOutside, Meets, IsSeated, HasStandingParts}
+use Rattle.machine_meaning.specs.Tight.{IsAlone, HasFeet, two}
 use Rattle.machine_config.specs.Configuration.{setting_of}
 use Rattle.machine_image.specs.Images.{ImageValue}
 use Rattle.machine_image.specs.Parts.{Uses, at_tap, at_line, at_table, IsInvolved, by_wire, by_cross, IsSurroundingWire, used_wire, node_line, node_port, root_pin}

@@ -1,7 +1,7 @@
 //! What later crates rest on, of images that run soundly.
 ghost use Rattle.std.specs.Prelude.{◌≡◌, Bool, List};
-ghost use Rattle.machine_shape.specs.Defects.{Covers, Defects};
-ghost use Rattle.machine_shape.specs.Faults.{Faults, IsFaultless};
+ghost use Rattle.machine_meaning.specs.Defects.{Covers, Defects};
+ghost use Rattle.machine_meaning.specs.Faults.{Faults, IsFaultless};
 ghost use Rattle.machine_image.specs.Images.{ImageValue, IsImage};
 ghost use Rattle.machine_image.specs.Parts.{IsFreeImage, IsWideEnough};
 ghost use Rattle.diag_evidence.specs.Kept.{HoldsFor, Kept};
@@ -10,7 +10,7 @@ ghost use Rattle.diag_check.specs.Used.{AreUsed};
 
 use machine_config::laws::stuck_registers_hold;
 use machine_image::free_images_run_alike;
-use machine_shape::{every_list_covers_no_faults, without_faults_all_is_sound};
+use machine_meaning::{every_list_covers_no_faults, without_faults_all_is_sound};
 
 /// An image that touches only what is free runs soundly under all faults that the list covers.
 pub fn free_images_run_soundly()

@@ -10,10 +10,10 @@ use Rattle.std.proofs.lemmas.List.Elements.{All-map, All-filter, All-append}
 use native.Mathlib.Decide.{ℕ_discrete}
 use Rattle.machine_shape.specs.declared.Shape.{Shape}
 use Rattle.machine_shape.specs.Shape.{Ends, ends_of, pin_wire, pins_of, crosses_of}
-use Rattle.machine_shape.specs.Circuit.{Pins}
-use Rattle.machine_shape.specs.Faults.{Faults, stuck_cross}
-use Rattle.machine_shape.specs.Joined.{Joined, Shorted, net_of}
-use Rattle.machine_shape.proofs.JoinedLemmas.{Joined-sym, Joined-trans}
+use Rattle.machine_meaning.specs.Circuit.{Pins}
+use Rattle.machine_meaning.specs.Faults.{Faults, stuck_cross}
+use Rattle.machine_meaning.specs.Joined.{Joined, Shorted, net_of}
+use Rattle.machine_meaning.proofs.JoinedLemmas.{Joined-sym, Joined-trans}
 use Rattle.machine_config.specs.Configuration.{Configuration, is_closed}
 use Rattle.machine_config.specs.Distance.{OpensFarFrom}
 use Rattle.machine_config.specs.Groups.{among}

@@ -11,9 +11,9 @@ use Rattle.base_bits.specs.Numbers.{has_number}
 use Rattle.base_bits.specs.Pairs.{Pairs, has_pair, is_same_pair, is_with}
 use Rattle.machine_shape.specs.declared.Shape.{Shape}
 use Rattle.machine_shape.specs.Shape.{tables_of}
-use Rattle.machine_shape.specs.Faults.{Faults, stuck_cross, wrong_cell, stuck_register}
-use Rattle.machine_shape.specs.Joined.{Shorted}
-use Rattle.machine_shape.specs.Defects.{IsClear}
+use Rattle.machine_meaning.specs.Faults.{Faults, stuck_cross, wrong_cell, stuck_register}
+use Rattle.machine_meaning.specs.Joined.{Shorted}
+use Rattle.machine_meaning.specs.Defects.{IsClear}
 use Rattle.machine_config.specs.Groups.{among}
 use Rattle.diag_evidence.specs.Kept.{Kept, keeps_cross, keeps_wire, keeps_pair, keeps_cell, keeps_register, HoldsFor, IsMore, KeepsNothing, Gain, one_cross, these_wires, these_pairs, one_cell, one_register, is_between, is_across, Gains}
 

@@ -8,11 +8,11 @@ use Rattle.std.proofs.lemmas.List.Folds.{list_any-append}
 use native.Mathlib.Decide.{ℕ_discrete, dec_lt}
 use Rattle.machine_shape.specs.declared.Shape.{Shape}
 use Rattle.machine_shape.specs.Shape.{Ends, ends_of, pin_wire, pins_of, crosses_of}
-use Rattle.machine_shape.specs.Circuit.{Pins, Outputs}
-use Rattle.machine_shape.specs.Faults.{Faults, stuck_cross, stuck_wire}
-use Rattle.machine_shape.specs.Joined.{Joined, Shorted, net_of}
-use Rattle.machine_shape.specs.Defects.{IsClear}
-use Rattle.machine_shape.proofs.JoinedLemmas.{Joined-sym}
+use Rattle.machine_meaning.specs.Circuit.{Pins, Outputs}
+use Rattle.machine_meaning.specs.Faults.{Faults, stuck_cross, stuck_wire}
+use Rattle.machine_meaning.specs.Joined.{Joined, Shorted, net_of}
+use Rattle.machine_meaning.specs.Defects.{IsClear}
+use Rattle.machine_meaning.proofs.JoinedLemmas.{Joined-sym}
 use Rattle.machine_config.specs.Configuration.{Configuration, is_closed, with_open, with_closed}
 use Rattle.machine_config.specs.Faulty.{circuit_of, IsRun}
 use Rattle.machine_config.specs.Groups.{among, IsWithin, AreGroups}

@@ -4,10 +4,10 @@ use Rattle.std.specs.Prelude.{◌==◌, slice_set}
 use Rattle.std.proofs.lemmas.Bool.{false≢true, and_parts, or_cases}
 use Rattle.std.proofs.lemmas.List.Folds.{list_any_more}
 use Rattle.base_bits.specs.Numbers.{has_number}
-use Rattle.machine_shape.specs.Circuit.{Pins}
-use Rattle.machine_shape.specs.Faults.{Faults, stuck_cross}
-use Rattle.machine_shape.specs.Defects.{IsClear}
-use Rattle.machine_shape.specs.Joined.{Shorted}
+use Rattle.machine_meaning.specs.Circuit.{Pins}
+use Rattle.machine_meaning.specs.Faults.{Faults, stuck_cross}
+use Rattle.machine_meaning.specs.Defects.{IsClear}
+use Rattle.machine_meaning.specs.Joined.{Shorted}
 use Rattle.machine_config.specs.Configuration.{Configuration}
 use Rattle.machine_config.specs.Groups.{among}
 use Rattle.diag_evidence.specs.declared.leads.Lead.{Lead}

@@ -4,11 +4,11 @@ use Rattle.std.specs.Prelude.{◌==◌, map}
 use Rattle.std.specs.List.{IsDistinct, list_any}
 use Rattle.std.proofs.lemmas.Bool.{false≢true, and_parts, or_cases, or_right}
 use Rattle.std.proofs.lemmas.Bool.Decides.{nat_tests}
-use Rattle.machine_shape.specs.Circuit.{Pins}
-use Rattle.machine_shape.specs.Faults.{Faults}
-use Rattle.machine_shape.specs.Joined.{Shorted}
-use Rattle.machine_shape.specs.Defects.{IsClear}
-use Rattle.machine_shape.specs.Tight.{IsAlone}
+use Rattle.machine_meaning.specs.Circuit.{Pins}
+use Rattle.machine_meaning.specs.Faults.{Faults}
+use Rattle.machine_meaning.specs.Joined.{Shorted}
+use Rattle.machine_meaning.specs.Defects.{IsClear}
+use Rattle.machine_meaning.specs.Tight.{IsAlone}
 use Rattle.base_bits.specs.Numbers.{has_number}
 use Rattle.diag_evidence.specs.Kept.{Kept, HoldsFor, IsMore}
 use Rattle.diag_evidence.specs.Forests.{Trees, IsForest, KnowsForest, is_hung}

@@ -6,13 +6,13 @@ use Rattle.std.proofs.lemmas.Bool.{false≢true}
 use Rattle.std.proofs.lemmas.Bool.Decides.{nat_tests}
 use native.Mathlib.Decide.{ℕ_discrete}
 use Rattle.machine_shape.specs.Shape.{ends_of, pin_wire, table_wire, pins_of}
-use Rattle.machine_shape.specs.Faults.{Faults, stuck_wire, stuck_register, wrong_cell}
-use Rattle.machine_shape.specs.Joined.{Joined, Shorted, net_of}
-use Rattle.machine_shape.specs.Defects.{IsClear}
-use Rattle.machine_shape.specs.Circuit.{Circuit, Table, Outputs, Pins}
-use Rattle.machine_shape.specs.Value.{Pulls, by_pin, by_table, IsValue, IsPulled, AreValues}
-use Rattle.machine_shape.proofs.JoinedLemmas.{Joined-sym}
-use Rattle.machine_shape.proofs.Values.{IsValue-unique}
+use Rattle.machine_meaning.specs.Faults.{Faults, stuck_wire, stuck_register, wrong_cell}
+use Rattle.machine_meaning.specs.Joined.{Joined, Shorted, net_of}
+use Rattle.machine_meaning.specs.Defects.{IsClear}
+use Rattle.machine_meaning.specs.Circuit.{Circuit, Table, Outputs, Pins}
+use Rattle.machine_meaning.specs.Value.{Pulls, by_pin, by_table, IsValue, IsPulled, AreValues}
+use Rattle.machine_meaning.proofs.JoinedLemmas.{Joined-sym}
+use Rattle.machine_meaning.proofs.Values.{IsValue-unique}
 use Rattle.machine_config.specs.declared.Setting.{Setting}
 use Rattle.machine_config.specs.Configuration.{Configuration, is_closed, setting_of, cell_of}
 use Rattle.machine_config.specs.Faulty.{circuit_of, table_of, table_or_off, held_by, IsRun}

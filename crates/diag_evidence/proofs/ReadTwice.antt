@@ -2,7 +2,7 @@
 use Rattle.std.proofs.Common.{◌≡◌, ℕ, Bool, true, not, ◌&&◌, ◌||◌, Some, Option, List, sym, ap, ◌∙◌, subst}
 use Rattle.base_bits.specs.Numbers.{has_number}
 use Rattle.machine_shape.specs.declared.Table.{Table}
-use Rattle.machine_shape.specs.Faults.{Faults}
+use Rattle.machine_meaning.specs.Faults.{Faults}
 use Rattle.machine_config.specs.declared.Setting.{Setting}
 use Rattle.rig.specs.Rig.{RigState}
 use Rattle.diag_evidence.specs.declared.sheets.Sheet.{Sheet}

@@ -5,7 +5,7 @@ use Rattle.std.proofs.lemmas.Bool.Decides.{nat_tests}
 use native.Mathlib.Decide.{ℕ_discrete}
 use Rattle.base_bits.specs.Numbers.{has_number}
 use Rattle.machine_shape.specs.declared.Table.{Table}
-use Rattle.machine_shape.specs.Circuit.{Pins}
+use Rattle.machine_meaning.specs.Circuit.{Pins}
 use Rattle.machine_config.specs.declared.Setting.{Setting}
 use Rattle.diag_evidence.specs.Forests.{Trees}
 use Rattle.diag_evidence.specs.Kept.{Kept, Gain, Gains, nothing, one_register, keeps_cross, keeps_wire, keeps_pair, keeps_cell, keeps_register}

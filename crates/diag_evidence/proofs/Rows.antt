@@ -10,7 +10,7 @@ use Rattle.std.proofs.lemmas.List.{append-nil, take_all, length-map, length-repl
 use Rattle.std.proofs.lemmas.List.FromFn.{length-range_with_len, length-map-range_with_len, map-range_with_len_more, get_or-range_with_len}
 use Rattle.std.proofs.lemmas.List.Elements.{All-map}
 use Rattle.std.proofs.Math.ListN.{drop_of_length-le}
-use Rattle.machine_shape.specs.Circuit.{Pins}
+use Rattle.machine_meaning.specs.Circuit.{Pins}
 use Rattle.diag_evidence.specs.Looks.{differ, look_drives, none_driven, one_driven, parts}
 
 -- what a bit of a row is

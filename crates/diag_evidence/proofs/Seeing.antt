@@ -9,13 +9,13 @@ use Rattle.std.proofs.lemmas.List.FromFn.{get_or-map-range_with_len}
 use Rattle.std.proofs.lemmas.Option.{slice_get-get_or}
 use Rattle.machine_shape.specs.declared.Shape.{Shape}
 use Rattle.machine_shape.specs.Shape.{Ends, ends_of, pin_wire, pins_of}
-use Rattle.machine_shape.specs.Circuit.{Circuit, Pins, Outputs}
-use Rattle.machine_shape.specs.Value.{IsValue, IsHeld}
-use Rattle.machine_shape.specs.Faults.{Faults, stuck_cross, stuck_wire}
-use Rattle.machine_shape.specs.Joined.{Net, Joined, here, then, crossed, Shorted, net_of}
-use Rattle.machine_shape.specs.Defects.{IsClear}
-use Rattle.machine_shape.proofs.JoinedLemmas.{Joined-sym, Joined-trans, Joined-Shorted, Ends-swap}
-use Rattle.machine_shape.proofs.Values.{swings as two_values}
+use Rattle.machine_meaning.specs.Circuit.{Circuit, Pins, Outputs}
+use Rattle.machine_meaning.specs.Value.{IsValue, IsHeld}
+use Rattle.machine_meaning.specs.Faults.{Faults, stuck_cross, stuck_wire}
+use Rattle.machine_meaning.specs.Joined.{Net, Joined, here, then, crossed, Shorted, net_of}
+use Rattle.machine_meaning.specs.Defects.{IsClear}
+use Rattle.machine_meaning.proofs.JoinedLemmas.{Joined-sym, Joined-trans, Joined-Shorted, Ends-swap}
+use Rattle.machine_meaning.proofs.Values.{swings as two_values}
 use Rattle.machine_config.specs.Configuration.{Configuration, is_closed}
 use Rattle.machine_config.specs.Faulty.{circuit_of, IsRun}
 use Rattle.machine_config.specs.Groups.{among}

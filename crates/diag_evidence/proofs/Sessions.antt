@@ -2,8 +2,8 @@
 use Rattle.std.proofs.Common.{◌≡◌, ℕ, Bool, true, Some, None, Option, List, [], ◌∷◌, ◌++◌, get_or, ap, ◌∙◌, subst, arith, Result, Ok, Err, OnOk}
 use Rattle.std.specs.Prelude.{IfSome, unwrap_or, slice_get}
 use Rattle.std.proofs.lemmas.Option.{gets}
-use Rattle.machine_shape.specs.Circuit.{Pins}
-use Rattle.machine_shape.specs.Faults.{Faults}
+use Rattle.machine_meaning.specs.Circuit.{Pins}
+use Rattle.machine_meaning.specs.Faults.{Faults}
 use Rattle.machine_config.specs.Configuration.{Configuration}
 use Rattle.machine_config.specs.Faulty.{IsRun}
 use Rattle.diag_evidence.specs.Readings.{HasCycled}

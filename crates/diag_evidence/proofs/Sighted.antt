@@ -6,7 +6,7 @@ use Rattle.std.proofs.lemmas.Bool.{false≢true}
 use Rattle.base_bits.specs.Numbers.{has_number}
 use Rattle.base_bits.specs.Pairs.{Pairs, has_pair}
 use Rattle.machine_config.specs.Groups.{among}
-use Rattle.machine_shape.specs.Circuit.{Pins}
+use Rattle.machine_meaning.specs.Circuit.{Pins}
 use Rattle.machine_shape.specs.Shape.{wires_of}
 use Rattle.diag_evidence.specs.Forests.{Trees, HangsOn, pin_of, IsForest}
 use Rattle.diag_evidence.specs.Kept.{Kept, Gains, keeps_cross, keeps_wire, keeps_pair, keeps_cell, keeps_register}

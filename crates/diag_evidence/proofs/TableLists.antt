@@ -2,10 +2,10 @@
 use Rattle.std.proofs.Common.{◌≡◌, ◌⊎◌, ℕ, Bool, true, false, Some, None, Option, List, refl, sym, ◌∙◌, subst, inl, inr}
 use Rattle.machine_shape.specs.declared.Shape.{Shape}
 use Rattle.machine_shape.specs.Shape.{pin_wire, table_wire}
-use Rattle.machine_shape.specs.Circuit.{Pins}
-use Rattle.machine_shape.specs.Faults.{Faults, stuck_cross, stuck_register}
-use Rattle.machine_shape.specs.Joined.{Joined, here, net_of}
-use Rattle.machine_shape.proofs.JoinedLemmas.{Joined-sym}
+use Rattle.machine_meaning.specs.Circuit.{Pins}
+use Rattle.machine_meaning.specs.Faults.{Faults, stuck_cross, stuck_register}
+use Rattle.machine_meaning.specs.Joined.{Joined, here, net_of}
+use Rattle.machine_meaning.proofs.JoinedLemmas.{Joined-sym}
 use Rattle.machine_config.specs.Groups.{among, IsWithin, AreGroups}
 use Rattle.machine_config.specs.declared.Setting.{Setting}
 use Rattle.machine_config.specs.Configuration.{Configuration, is_closed, with_setting}

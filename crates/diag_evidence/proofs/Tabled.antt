@@ -10,8 +10,8 @@ use native.Mathlib.Decide.{ℕ_discrete}
 use Rattle.base_bits.specs.Numbers.{has_number}
 use Rattle.machine_shape.specs.declared.Table.{Table}
 use Rattle.machine_shape.specs.Shape.{table_wire}
-use Rattle.machine_shape.specs.Circuit.{Pins}
-use Rattle.machine_shape.specs.Faults.{Faults, stuck_register, wrong_cell}
+use Rattle.machine_meaning.specs.Circuit.{Pins}
+use Rattle.machine_meaning.specs.Faults.{Faults, stuck_register, wrong_cell}
 use Rattle.machine_config.specs.declared.Setting.{Setting}
 use Rattle.machine_config.specs.Configuration.{Configuration, cell_of}
 use Rattle.machine_config.specs.Faulty.{IsRun}
@@ -19,7 +19,7 @@ use Rattle.machine_config.specs.Run.{number_of}
 use Rattle.diag_evidence.specs.Forests.{Trees, IsForest, KnowsForest, pin_of}
 use Rattle.diag_evidence.specs.Kept.{Kept, Gains, HoldsFor}
 use Rattle.diag_evidence.specs.TableRows.{AreTablesOn, AreAddressDrives, AreOpposite, IsTableConfig, IsTableLoad, MarksWrong, WrongIf, is_one_of, is_right_before, is_right_in, output_pin, right_parts}
-use Rattle.machine_shape.specs.Tight.{IsRightTable}
+use Rattle.machine_meaning.specs.Tight.{IsRightTable}
 use Rattle.diag_evidence.specs.Looks.{read_at}
 use Rattle.diag_evidence.proofs.Keeping.{holds_earlier}
 use Rattle.diag_evidence.proofs.KeptLemmas.{GainHoldsFor, more_by_gain}

@@ -2,7 +2,7 @@
 use Rattle.std.proofs.Common.{◌≡◌, ◌≤◌, ◌+◌, ℕ, Bool, true, false, Some, Option, List, All, refl, sym, ◌∙◌}
 use Rattle.std.specs.Prelude.{map}
 use Rattle.std.proofs.lemmas.List.Elements.{All-map}
-use Rattle.machine_shape.specs.Faults.{Faults}
+use Rattle.machine_meaning.specs.Faults.{Faults}
 use Rattle.rig.specs.Rig.{RigState}
 use Rattle.diag_evidence.specs.declared.hangs.Hang.{Hang}
 use Rattle.diag_evidence.specs.declared.hangs.Views.{Views}

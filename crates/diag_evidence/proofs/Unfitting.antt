@@ -11,12 +11,12 @@ use native.Mathlib.Decide.{ℕ_discrete, dec_lt}
 use Rattle.machine_shape.specs.declared.Shape.{Shape}
 use Rattle.machine_shape.specs.Laws.{IsNumbered}
 use Rattle.machine_shape.specs.Shape.{Ends, in_order, turned, ends_of, pin_wire, pins_of}
-use Rattle.machine_shape.specs.Circuit.{Pins, Outputs}
-use Rattle.machine_shape.specs.Faults.{Faults, stuck_cross, stuck_wire}
-use Rattle.machine_shape.specs.Joined.{Net, Linked, Joined, here, then, crossed, bridged, Shorted, net_of}
-use Rattle.machine_shape.specs.Defects.{IsClear}
-use Rattle.machine_shape.specs.Tight.{IsAlone}
-use Rattle.machine_shape.proofs.JoinedLemmas.{Joined-sym, Joined-trans}
+use Rattle.machine_meaning.specs.Circuit.{Pins, Outputs}
+use Rattle.machine_meaning.specs.Faults.{Faults, stuck_cross, stuck_wire}
+use Rattle.machine_meaning.specs.Joined.{Net, Linked, Joined, here, then, crossed, bridged, Shorted, net_of}
+use Rattle.machine_meaning.specs.Defects.{IsClear}
+use Rattle.machine_meaning.specs.Tight.{IsAlone}
+use Rattle.machine_meaning.proofs.JoinedLemmas.{Joined-sym, Joined-trans}
 use Rattle.machine_config.specs.Configuration.{Configuration, is_closed}
 use Rattle.machine_config.specs.Faulty.{circuit_of, IsRun}
 use Rattle.machine_config.specs.Groups.{among, IsWithin, AreGroups}

@@ -3,7 +3,7 @@ use Rattle.std.specs.Prelude.{◌≡◌, ◌≢◌, ◌⊎◌, ℕ, Bool, true, 
 use Rattle.std.specs.List.{AllByRecursion}
 use Rattle.machine_shape.specs.declared.Shape.{Shape}
 use Rattle.machine_shape.specs.Shape.{Ends, ends_of}
-use Rattle.machine_shape.specs.Faults.{Faults, stuck_cross}
+use Rattle.machine_meaning.specs.Faults.{Faults, stuck_cross}
 use Rattle.machine_config.specs.Groups.{among, AreClear, AreUnshorted, IsWithin}
 use Rattle.machine_config.specs.Route.{LeadsTo}
 use Rattle.diag_tests.specs.Routes.{Walk}

@@ -6,10 +6,10 @@ use Rattle.std.specs.Int.{bit_at}
 use Rattle.std.specs.List.{list_any}
 use Rattle.base_bits.specs.Numbers.{has_number}
 use Rattle.machine_shape.specs.declared.Table.{Table}
-use Rattle.machine_shape.specs.Circuit.{Pins}
-use Rattle.machine_shape.specs.Faults.{Faults}
+use Rattle.machine_meaning.specs.Circuit.{Pins}
+use Rattle.machine_meaning.specs.Faults.{Faults}
 use Rattle.machine_shape.specs.Shape.{table_wire, tables_of}
-use Rattle.machine_shape.specs.Tight.{IsRightTable}
+use Rattle.machine_meaning.specs.Tight.{IsRightTable}
 use Rattle.machine_config.specs.declared.Setting.{Setting}
 use Rattle.machine_config.specs.Configuration.{Configuration, is_closed, setting_of, cell_of}
 use Rattle.machine_config.specs.Faulty.{IsRun}

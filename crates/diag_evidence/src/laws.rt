@@ -1,7 +1,7 @@
 //! What later crates rest on, of proofs and tests.
 ghost use Rattle.std.specs.Prelude.{◌≡◌, ℕ, Bool, true, false, [], List, Option, Some};
-ghost use Rattle.machine_shape.specs.Circuit.{Pins};
-ghost use Rattle.machine_shape.specs.Faults.{Faults};
+ghost use Rattle.machine_meaning.specs.Circuit.{Pins};
+ghost use Rattle.machine_meaning.specs.Faults.{Faults};
 ghost use Rattle.machine_shape.specs.declared.Shape.{Shape};
 ghost use Rattle.machine_config.specs.Configuration.{Configuration, with_setting};
 ghost use Rattle.machine_config.specs.Groups.{among};

@@ -5,7 +5,7 @@ use Rattle.std.proofs.lemmas.List.{length-replicate}
 use native.Mathlib.Decide.{ℕ_discrete}
 use Rattle.base_bits.specs.Numbers.{has_number, size_of}
 use Rattle.machine_shape.specs.declared.Shape.{Shape}
-use Rattle.machine_shape.specs.Faults.{Faults}
+use Rattle.machine_meaning.specs.Faults.{Faults}
 use Rattle.machine_shape.specs.Laws.{IsTree, HasMeetings}
 use Rattle.machine_shape.specs.Shape.{pins_of, wires_of, crosses_of, pin_wire}
 use Rattle.diag_evidence.specs.Kept.{Kept, HoldsFor, IsMore}

@@ -7,8 +7,8 @@ use Rattle.base_bits.specs.Numbers.{has_number}
 use Rattle.machine_shape.specs.declared.Shape.{Shape}
 use Rattle.machine_shape.specs.Laws.{IsNumbered}
 use Rattle.machine_shape.specs.Shape.{Ends, ends_of, wires_of, crosses_of}
-use Rattle.machine_shape.specs.Faults.{Faults}
-use Rattle.machine_shape.proofs.JoinedLemmas.{Ends-swap}
+use Rattle.machine_meaning.specs.Faults.{Faults}
+use Rattle.machine_meaning.proofs.JoinedLemmas.{Ends-swap}
 use Rattle.diag_evidence.specs.Kept.{Kept, keeps_cross}
 use Rattle.diag_known.specs.Linked.{Links, AreLinked, list_at}
 use Rattle.diag_known.specs.Known.{KnownWires, IsAt, IsBefore, HasWire, IsKnown}

@@ -10,7 +10,7 @@ use Rattle.diag_growth.specs.Seating.{PutsOutside}
 use Rattle.machine_shape.specs.declared.Shape.{Shape}
 use Rattle.machine_shape.specs.Shape.{Meaning, Pin, Line, Port, TablePin, Means, is_line, is_table_pin, hextant_of, IsLine}
 use Rattle.machine_shape.specs.Laws.{HasMeanings}
-use Rattle.machine_shape.specs.Standing.{IsOutside}
+use Rattle.machine_meaning.specs.Standing.{IsOutside}
 
 -- what a wire of the hextant's lines and of its tables' pins isn't
 abbrev pub IsElsewhere : Shape → ℕ → Meaning → Type 0

@@ -8,10 +8,10 @@ use native.Mathlib.Decide.{ℕ_discrete}
 use Rattle.machine_shape.specs.declared.Shape.{Shape}
 use Rattle.machine_shape.specs.declared.Wire.{Wire}
 use Rattle.machine_shape.specs.Shape.{pin_wire}
-use Rattle.machine_shape.specs.Circuit.{Pins}
-use Rattle.machine_shape.specs.Faults.{Faults}
-use Rattle.machine_shape.specs.Joined.{Shorted}
-use Rattle.machine_shape.specs.Defects.{IsClear}
+use Rattle.machine_meaning.specs.Circuit.{Pins}
+use Rattle.machine_meaning.specs.Faults.{Faults}
+use Rattle.machine_meaning.specs.Joined.{Shorted}
+use Rattle.machine_meaning.specs.Defects.{IsClear}
 use Rattle.machine_config.specs.Configuration.{Configuration, is_closed}
 use Rattle.machine_config.specs.Groups.{among, IsWithin, AreGroups}
 use Rattle.machine_config.specs.Tests.{IsDrivenAlone}

@@ -7,7 +7,7 @@ use Rattle.machine_shape.specs.declared.Shape.{Shape}
 use Rattle.machine_shape.specs.declared.Table.{Table}
 use Rattle.machine_shape.specs.Shape.{Ends, in_order, turned, table_wire, tables_of, hextant_of, ends_of, IsLine, IsPort}
 use Rattle.machine_shape.specs.Laws.{IsNumbered, IsTree}
-use Rattle.machine_shape.specs.Standing.{StandsWithout, IsSeated}
+use Rattle.machine_meaning.specs.Standing.{StandsWithout, IsSeated}
 use Rattle.machine_config.specs.Groups.{among}
 use Rattle.diag_tests.specs.Routes.{Walk, IsRoute, Extends}
 use Rattle.diag_tests.proofs.Longer.{among_both}

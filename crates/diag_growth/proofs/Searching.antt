@@ -7,7 +7,7 @@ use Rattle.machine_shape.specs.declared.Shape.{Shape}
 use Rattle.machine_shape.specs.Shape.{ends_of, crosses_of, nodes_of, lines_of, own_ports_of, line_at, port_at, table_wire, hextant_of, IsLine, IsPort}
 use Rattle.machine_shape.specs.Laws.{HasCrosses}
 use Rattle.machine_shape.specs.Sites.{HasSites}
-use Rattle.machine_shape.specs.Standing.{Meets}
+use Rattle.machine_meaning.specs.Standing.{Meets}
 use Rattle.diag_evidence.specs.Kept.{Kept, keeps_cross}
 use Rattle.diag_known.specs.Known.{HasWire, IsKeptCrossOf}
 use Rattle.diag_growth.specs.Seating.{IsMeeting, JoinsTaps, IsFreeArm, IsArmTo, AreArmsTo, MissesArm, IsFarPort, IsPlaceAt}

@@ -8,9 +8,9 @@ use Rattle.std.proofs.lemmas.Bool.Decides.{nat_tests}
 use Rattle.std.proofs.lemmas.List.Folds.{list_any-append}
 use Rattle.machine_shape.specs.declared.Shape.{Shape}
 use Rattle.machine_shape.specs.Shape.{Ends, in_order, turned, ends_of, table_wire}
-use Rattle.machine_shape.specs.Joined.{Shorted}
-use Rattle.machine_shape.specs.Defects.{IsClear}
-use Rattle.machine_shape.specs.Faults.{Faults, wrong_cell, stuck_cross}
+use Rattle.machine_meaning.specs.Joined.{Shorted}
+use Rattle.machine_meaning.specs.Defects.{IsClear}
+use Rattle.machine_meaning.specs.Faults.{Faults, wrong_cell, stuck_cross}
 use Rattle.machine_config.specs.Groups.{among, both, IsWithin, AreClear, AreUnshorted}
 use Rattle.machine_config.specs.Route.{ends, goes}
 use Rattle.machine_config.specs.Run.{number_of}

@@ -6,7 +6,7 @@ use Rattle.std.proofs.lemmas.Bool.Decides.{nat_tests}
 use Rattle.machine_shape.specs.declared.Cross.{Cross}
 use Rattle.machine_shape.specs.declared.Shape.{Shape}
 use Rattle.machine_shape.specs.Shape.{crosses_of, table_wire, tables_of}
-use Rattle.machine_shape.specs.Faults.{Faults, wrong_cell}
+use Rattle.machine_meaning.specs.Faults.{Faults, wrong_cell}
 use Rattle.machine_config.specs.Groups.{among}
 use Rattle.diag_tests.specs.Routes.{Walk, cross_numbers}
 use Rattle.rig.specs.Rig.{RigState}

@@ -6,10 +6,10 @@ use native.Mathlib.Decide.{ℕ_discrete}
 use Rattle.machine_shape.specs.declared.Shape.{Shape}
 use Rattle.machine_shape.specs.declared.Table.{Table}
 use Rattle.machine_shape.specs.Shape.{crosses_of, tables_of, hextant_of, IsLine, IsPort}
-use Rattle.machine_shape.specs.Faults.{Faults}
-use Rattle.machine_shape.specs.Standing.{StandsBy, IsOutside, StandsWithout, IsSeated}
-use Rattle.machine_shape.specs.Tight.{IsRightTable}
-use Rattle.machine_shape.proofs.Seats.{stands_also, seated_also}
+use Rattle.machine_meaning.specs.Faults.{Faults}
+use Rattle.machine_meaning.specs.Standing.{StandsBy, IsOutside, StandsWithout, IsSeated}
+use Rattle.machine_meaning.specs.Tight.{IsRightTable}
+use Rattle.machine_meaning.proofs.Seats.{stands_also, seated_also}
 use Rattle.rig.specs.Rig.{RigState}
 use Rattle.diag_evidence.specs.Kept.{Kept, IsMore, Advances}
 use Rattle.diag_known.specs.Known.{KnownWires, HasWire, IsKnown, IsKeptCrossOf, InSet}

@@ -1,7 +1,7 @@
 -- What growth has found so far.
 use Rattle.std.specs.Prelude.{◌≡◌, ◌≢◌, ◌⊎◌, ℕ, Bool, true, Option, List, [], ◌∷◌, ◌++◌}
 use Rattle.base_bits.specs.Numbers.{has_number}
-use Rattle.machine_shape.specs.Faults.{Faults}
+use Rattle.machine_meaning.specs.Faults.{Faults}
 use Rattle.diag_evidence.specs.Kept.{Kept}
 use Rattle.diag_known.specs.Known.{KnownWires, IsBefore, HasWire}
 use Rattle.diag_known.specs.Offers.{AreLost}

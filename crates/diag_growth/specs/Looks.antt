@@ -1,7 +1,7 @@
 -- Looks from a known wire over one crosspoint of the field.
 use Rattle.std.specs.Prelude.{◌≡◌, ◌⊎◌, ℕ, ◌<◌, ◌++◌, Bool, true, false, Option, Some, List, length, slice_get}
 use Rattle.base_bits.specs.Numbers.{has_number}
-use Rattle.machine_shape.specs.Faults.{Faults}
+use Rattle.machine_meaning.specs.Faults.{Faults}
 use Rattle.machine_shape.specs.declared.Shape.{Shape}
 use Rattle.machine_shape.specs.Shape.{Ends, ends_of, crosses_of}
 use Rattle.diag_evidence.specs.Kept.{Kept}

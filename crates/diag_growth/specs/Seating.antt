@@ -2,7 +2,7 @@
 use Rattle.std.specs.Prelude.{◌≡◌, ◌≢◌, ◌⊎◌, ℕ, ◌<◌, Bool, Some, List, length, slice_get}
 use Rattle.machine_shape.specs.declared.Shape.{Shape}
 use Rattle.machine_shape.specs.Shape.{ends_of, table_wire, hextant_of, IsLine, IsPort}
-use Rattle.machine_shape.specs.Standing.{IsOutside, Meets, StandsWithout}
+use Rattle.machine_meaning.specs.Standing.{IsOutside, Meets, StandsWithout}
 use Rattle.diag_evidence.specs.Kept.{Kept}
 use Rattle.diag_known.specs.Known.{KnownWires, IsAt, HasWire, IsKeptCrossOf, InSet, IsKnown}
 use Rattle.diag_growth.specs.declared.seats.Place.{Place}

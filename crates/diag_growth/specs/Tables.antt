@@ -2,9 +2,9 @@
 use Rattle.std.specs.Prelude.{◌≡◌, ℕ, ◌+◌, ◌≤◌, ◌==◌, Bool, true, not, ◌&&◌, Option, Some, List, slice_get}
 use Rattle.std.specs.List.{count_by}
 use Rattle.machine_shape.specs.declared.Table.{Table}
-use Rattle.machine_shape.specs.Faults.{Faults}
-use Rattle.machine_shape.specs.Standing.{IsSeated}
-use Rattle.machine_shape.specs.Tight.{IsRightTable}
+use Rattle.machine_meaning.specs.Faults.{Faults}
+use Rattle.machine_meaning.specs.Standing.{IsSeated}
+use Rattle.machine_meaning.specs.Tight.{IsRightTable}
 use Rattle.diag_evidence.specs.Kept.{Kept, HoldsFor, keeps_cell, keeps_register}
 use Rattle.diag_growth.specs.Seats.{KeepsTable}
 use Rattle.diag_known.specs.Field.{how_many}

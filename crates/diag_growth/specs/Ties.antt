@@ -1,7 +1,7 @@
 -- What is closed besides the routes while a table is tested.
 use Rattle.std.specs.Prelude.{◌≡◌, ◌⊎◌, ℕ, suc, zero, ◌<◌, ◌/◌, ◌%◌, ◌==◌, ◌||◌, List, Bool, true, false, Option, Some, None, slice_get}
 use Rattle.machine_shape.specs.declared.Shape.{Shape}
-use Rattle.machine_shape.specs.Faults.{Faults, wrong_cell, stuck_register}
+use Rattle.machine_meaning.specs.Faults.{Faults, wrong_cell, stuck_register}
 use Rattle.machine_config.specs.Configuration.{Configuration}
 use Rattle.machine_config.specs.Groups.{among}
 use Rattle.diag_tests.specs.Configs.{IsCellConfig}

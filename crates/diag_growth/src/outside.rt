@@ -1,7 +1,7 @@
 //! The known wires outside a hextant.
 ghost use Rattle.std.specs.Prelude.{◌≡◌, ◌<◌, ℕ, false, IfOk, IsTrue, length};
 ghost use Rattle.machine_shape.specs.Shape.{wires_of};
-ghost use Rattle.machine_shape.specs.Standing.{IsOutside};
+ghost use Rattle.machine_meaning.specs.Standing.{IsOutside};
 ghost use Rattle.diag_known.specs.Known.{HasWire, InSet};
 ghost use Rattle.diag_growth.specs.Seating.{PutsOutside};
 

@@ -1,7 +1,7 @@
 //! The search of kept crosspoints to two taps, and of ports that a line meets.
 ghost use Rattle.std.specs.Prelude.{◌≡◌, ◌<◌, ℕ, IfSome, IfNone};
 ghost use Rattle.machine_shape.specs.Shape.{nodes_of, wires_of};
-ghost use Rattle.machine_shape.specs.Standing.{Meets};
+ghost use Rattle.machine_meaning.specs.Standing.{Meets};
 ghost use Rattle.diag_known.specs.Known.{IsKeptCrossOf, IsKnown};
 ghost use Rattle.diag_growth.specs.Seating.{IsArmTo, IsFarPort, IsFreeArm, IsMeeting, JoinsTaps};
 

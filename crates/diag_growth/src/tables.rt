@@ -2,7 +2,7 @@
 ghost use Rattle.std.specs.Prelude.{◌≡◌, ◌≤◌, ◌<◌, ◌+◌, ◌*◌, ℕ, All, Some, IfOk, IfSome, IfNone, OnOk, IsErrOf, IsTrue, false};
 ghost use Rattle.base_io.specs.Counts.{Rose};
 ghost use Rattle.machine_shape.specs.Shape.{table_wire, tables_of};
-ghost use Rattle.machine_shape.specs.Standing.{IsSeated};
+ghost use Rattle.machine_meaning.specs.Standing.{IsSeated};
 ghost use Rattle.rig.specs.Rig.{shape_of};
 ghost use Rattle.diag_evidence.specs.Kept.{Advances};
 ghost use Rattle.diag_growth.specs.Seats.{AddsOnlyTableFacts, IsSeat, KeepsTable};

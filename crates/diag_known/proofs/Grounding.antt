@@ -11,7 +11,7 @@ use Rattle.machine_shape.specs.Shape.{Ends, in_order, turned, ends_of, pin_wire,
 use Rattle.diag_evidence.specs.Kept.{Kept, keeps_cross, keeps_pair}
 use Rattle.diag_known.specs.Known.{KnownWires, IsAt, HasWire, IsFoot, Stands, IsKnown, IsKeptCrossOf, InSet, AreApart, IsGood}
 use Rattle.diag_known.specs.Linked.{list_at, HasLink}
-use Rattle.machine_shape.specs.Standing.{StandsBy, pin_stands, on_two}
+use Rattle.machine_meaning.specs.Standing.{StandsBy, pin_stands, on_two}
 use Rattle.diag_known.specs.Grounds.{IsBetween, AreAllLinks, foot_at, IsFootTo, IsGround, IsSettled, Founds, AreSettled}
 use Rattle.diag_known.specs.declared.links.Near.{Near}
 use Rattle.diag_known.specs.declared.step.Foot.{Foot}

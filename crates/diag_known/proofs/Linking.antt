@@ -8,7 +8,7 @@ use native.Mathlib.Decide.{dec_lt, ℕ_discrete}
 use Rattle.base_bits.specs.Numbers.{has_number}
 use Rattle.machine_shape.specs.declared.Shape.{Shape}
 use Rattle.machine_shape.specs.Shape.{Ends, in_order, turned, ends_of, crosses_of}
-use Rattle.machine_shape.proofs.JoinedLemmas.{Ends-swap}
+use Rattle.machine_meaning.proofs.JoinedLemmas.{Ends-swap}
 use Rattle.diag_known.specs.Linked.{IsInField, HasLink, AreLinksUpTo, AreLinks, AddsLink, Links, AreLinked, list_at}
 use Rattle.diag_known.specs.declared.field.Field.{Field}
 use Rattle.diag_known.specs.declared.links.Near.{Near}

@@ -1,7 +1,7 @@
 -- What is lost, tried or kept unless it is stuck stays so, as further wires are known.
 use Rattle.std.proofs.Common.{◌≡◌, ℕ, ◌+◌, Option, List, ◌++◌, subst, inl, inr}
 use Rattle.machine_shape.specs.declared.Shape.{Shape}
-use Rattle.machine_shape.specs.Faults.{Faults}
+use Rattle.machine_meaning.specs.Faults.{Faults}
 use Rattle.diag_evidence.specs.Kept.{Kept, IsMore}
 use Rattle.diag_evidence.proofs.Keeping.{holds_earlier}
 use Rattle.diag_known.specs.Offers.{AreLost}

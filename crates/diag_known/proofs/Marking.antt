@@ -6,9 +6,9 @@ use native.Mathlib.Decide.{dec_lt}
 use Rattle.base_bits.specs.Numbers.{has_number}
 use Rattle.machine_shape.specs.declared.Shape.{Shape}
 use Rattle.machine_shape.specs.Shape.{pin_wire, pins_of, wires_of, crosses_of}
-use Rattle.machine_shape.specs.Faults.{Faults, IsFaultless}
-use Rattle.machine_shape.proofs.Clear.{clear_of_sound}
-use Rattle.machine_shape.proofs.Faultless.{all_sound}
+use Rattle.machine_meaning.specs.Faults.{Faults, IsFaultless}
+use Rattle.machine_meaning.proofs.Clear.{clear_of_sound}
+use Rattle.machine_meaning.proofs.Faultless.{all_sound}
 use Rattle.diag_evidence.specs.Kept.{Kept, HoldsFor, IsMore, keeps_cross}
 use Rattle.diag_known.specs.Field.{how_many}
 use Rattle.diag_known.specs.Known.{HasWire}

@@ -5,7 +5,7 @@ use Rattle.std.proofs.lemmas.Bool.{false≢true}
 use Rattle.std.proofs.lemmas.List.{set-set}
 use Rattle.base_bits.specs.Numbers.{has_number}
 use Rattle.machine_shape.specs.declared.Shape.{Shape}
-use Rattle.machine_shape.specs.Faults.{Faults}
+use Rattle.machine_meaning.specs.Faults.{Faults}
 use Rattle.diag_evidence.specs.Kept.{Kept, HoldsFor, IsMore, keeps_cross}
 use Rattle.diag_known.specs.Marked.{barred_pins, is_spent, AreMarks, IsOfOffer, OffersAtMost, OffersOnly, SpendsOn}
 use Rattle.diag_known.specs.Offers.{IsOffer, IsPlaced}

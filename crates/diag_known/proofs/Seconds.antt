@@ -3,7 +3,7 @@ use Rattle.std.proofs.Common.{◌≡◌, ◌⊎◌, ℕ, ◌+◌, ◌<◌, true,
 use Rattle.std.specs.Prelude.{slice_get}
 use native.Mathlib.Decide.{ℕ_discrete}
 use Rattle.machine_shape.specs.declared.Shape.{Shape}
-use Rattle.machine_shape.specs.Faults.{Faults}
+use Rattle.machine_meaning.specs.Faults.{Faults}
 use Rattle.diag_tests.specs.Routes.{Walk}
 use Rattle.diag_evidence.specs.Kept.{Kept, IsMore, keeps_cross}
 use Rattle.diag_evidence.proofs.Keeping.{holds_earlier}

@@ -2,7 +2,7 @@
 use Rattle.std.proofs.Common.{◌≡◌, ℕ, ◌+◌, ◌*◌, ◌≤◌, Bool, true, false, Some, Option, length, refl, subst, arith}
 use Rattle.std.specs.Prelude.{not, ◌&&◌}
 use Rattle.base_bits.specs.Numbers.{has_number, size_of}
-use Rattle.machine_shape.specs.Faults.{Faults, IsFaultless}
+use Rattle.machine_meaning.specs.Faults.{Faults, IsFaultless}
 use Rattle.diag_evidence.specs.Kept.{Kept, HoldsFor, keeps_cross}
 use Rattle.diag_known.specs.Field.{fresh, pins_in, TakesFew}
 use Rattle.diag_known.specs.declared.field.Field.{Field}

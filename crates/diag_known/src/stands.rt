@@ -2,7 +2,7 @@
 ghost use Rattle.std.specs.Prelude.{◌≡◌, ◌<◌, ◌+◌, ℕ, true, false, IfOk, OnOk, length, replicate, None};
 ghost use Rattle.base_bits.specs.Numbers.{has_number};
 ghost use Rattle.machine_shape.specs.Shape.{pins_of, pin_wire, wires_of};
-ghost use Rattle.machine_shape.specs.Standing.{StandsBy};
+ghost use Rattle.machine_meaning.specs.Standing.{StandsBy};
 ghost use Rattle.diag_evidence.specs.Kept.{keeps_cross};
 ghost use Rattle.diag_known.specs.Known.{IsKeptCrossOf, IsKnown, HasWire, AreApart, InSet};
 ghost use Rattle.diag_known.specs.Grounds.{AreAllLinks, AreSettled, Founds, IsBetween, IsGround, IsSettled};

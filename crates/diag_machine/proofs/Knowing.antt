@@ -4,7 +4,7 @@ use Rattle.std.specs.Prelude.{slice_get}
 use native.Mathlib.Decide.{dec_lt}
 use Rattle.machine_shape.specs.Laws.{IsNumbered}
 use Rattle.machine_shape.specs.Shape.{wires_of}
-use Rattle.machine_shape.proofs.JoinedLemmas.{Ends-swap}
+use Rattle.machine_meaning.proofs.JoinedLemmas.{Ends-swap}
 use Rattle.diag_evidence.specs.Kept.{Kept, keeps_wire, keeps_pair}
 use Rattle.diag_evidence.proofs.Keeping.{pair_turned}
 use Rattle.diag_known.specs.Known.{KnownWires, HasWire, IsKnown, Stands, on_pin, on_feet}

@@ -8,7 +8,7 @@ use Rattle.std.specs.FinSet.{contains-empty}
 use Rattle.std.specs.Ordering.{nat_cmp}
 use Rattle.machine_shape.specs.declared.Shape.{Shape}
 use Rattle.machine_shape.specs.Shape.{ends_of, table_wire, wires_of, crosses_of, tables_of}
-use Rattle.machine_shape.specs.Defects.{IsFreeWire, IsFreeTable}
+use Rattle.machine_meaning.specs.Defects.{IsFreeWire, IsFreeTable}
 use Rattle.machine_defects.specs.Lists.{DefectList, IsDefectList, IsWithWire, no_defects, with_cross, with_table, has_free_ends, has_free_pins, all_below}
 use Rattle.base_bits.proofs.SetsLemmas.{contains_more}
 use Rattle.diag_evidence.specs.Kept.{Kept, keeps_cross, keeps_cell, keeps_register}

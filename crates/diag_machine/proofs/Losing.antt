@@ -1,9 +1,9 @@
 -- Wires that are left out.
 use Rattle.std.proofs.Common.{◌<◌, ℕ, Option, List, ap, subst}
 use Rattle.machine_shape.specs.Shape.{turned, wires_of}
-use Rattle.machine_shape.specs.Faults.{Faults, IsFaultless}
-use Rattle.machine_shape.specs.Tight.{two}
-use Rattle.machine_shape.proofs.Faultless.{all_sound}
+use Rattle.machine_meaning.specs.Faults.{Faults, IsFaultless}
+use Rattle.machine_meaning.specs.Tight.{two}
+use Rattle.machine_meaning.proofs.Faultless.{all_sound}
 use Rattle.diag_evidence.specs.Kept.{Kept, IsMore}
 use Rattle.diag_known.specs.Known.{HasWire}
 use Rattle.diag_known.specs.declared.step.Step.{Step}

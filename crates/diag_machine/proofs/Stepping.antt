@@ -7,9 +7,9 @@ use Rattle.machine_shape.specs.declared.Shape.{Shape}
 use Rattle.machine_shape.specs.declared.Table.{Table}
 use Rattle.machine_shape.specs.Laws.{IsNumbered}
 use Rattle.machine_shape.specs.Shape.{pin_wire, wires_of, crosses_of, tables_of}
-use Rattle.machine_shape.specs.Faults.{Faults}
-use Rattle.machine_shape.specs.Defects.{Defects, Covers, IsFair}
-use Rattle.machine_shape.specs.Tight.{HasFeet, two, IsTight}
+use Rattle.machine_meaning.specs.Faults.{Faults}
+use Rattle.machine_meaning.specs.Defects.{Defects, Covers, IsFair}
+use Rattle.machine_meaning.specs.Tight.{HasFeet, two, IsTight}
 use Rattle.rig.specs.Rig.{RigState}
 use Rattle.diag_evidence.specs.Kept.{Kept, HoldsFor, IsMore, Advances}
 use Rattle.diag_evidence.proofs.Keeping.{holds_earlier}

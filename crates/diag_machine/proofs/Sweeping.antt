@@ -8,8 +8,8 @@ use Rattle.base_bits.specs.Numbers.{has_number}
 use Rattle.machine_shape.specs.declared.Shape.{Shape}
 use Rattle.machine_shape.specs.declared.Table.{Table}
 use Rattle.machine_shape.specs.Shape.{tables_of}
-use Rattle.machine_shape.specs.Faults.{Faults, IsFaultless}
-use Rattle.machine_shape.proofs.Faultless.{all_sound}
+use Rattle.machine_meaning.specs.Faults.{Faults, IsFaultless}
+use Rattle.machine_meaning.proofs.Faultless.{all_sound}
 use Rattle.diag_evidence.specs.Kept.{Kept, HoldsFor, IsMore}
 use Rattle.diag_known.specs.Field.{ClosedIf, IsFieldOf}
 use Rattle.diag_known.specs.Known.{HasWire}

@@ -5,7 +5,7 @@
 ghost use Rattle.std.specs.Prelude.{◌≡◌, ◌<◌, ℕ, true, false, IfOk, IfSome, IsTrue, length};
 ghost use Rattle.base_bits.specs.Numbers.{has_number};
 ghost use Rattle.machine_shape.specs.Shape.{nodes_of, wires_of};
-ghost use Rattle.machine_shape.specs.Sound.{HasTwo};
+ghost use Rattle.machine_meaning.specs.Sound.{HasTwo};
 ghost use Rattle.diag_known.specs.Known.{HasWire};
 ghost use Rattle.diag_machine.specs.Choice.{AreLeftOut, IsKnownFoot, IsLeftOut};
 

@@ -24,7 +24,8 @@ use diag_sweep::{
     without_bad,
 };
 use machine_defects::Defects;
-use machine_shape::{Shape, Table, the_numbering_is_sound, tight_lists_are_fair};
+use machine_meaning::tight_lists_are_fair;
+use machine_shape::{Shape, Table, the_numbering_is_sound};
 use rig::{Rig, RigFail};
 use std::alloc::{AllocError, Global};
 

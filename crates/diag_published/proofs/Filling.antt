@@ -4,11 +4,11 @@ use Rattle.std.specs.Prelude.{IsSome}
 use Rattle.base_bits.specs.Numbers.{has_number, size_of}
 use Rattle.machine_shape.specs.declared.Shape.{Shape}
 use Rattle.machine_shape.specs.Shape.{in_order, turned, ends_of, crosses_of, nodes_of, node_of_cross, taps_of, IsLine, IsTap, itself}
-use Rattle.machine_shape.specs.Faults.{Faults, stuck_cross}
-use Rattle.machine_shape.specs.Sound.{IsSoundWire, IsSoundCross, IsWholeLine, HasTwo, IsServed}
-use Rattle.machine_shape.specs.Defects.{IsOfUse}
-use Rattle.machine_shape.specs.Tight.{HasFeet, two}
-use Rattle.machine_shape.proofs.Clear.{clear_of_sound}
+use Rattle.machine_meaning.specs.Faults.{Faults, stuck_cross}
+use Rattle.machine_meaning.specs.Sound.{IsSoundWire, IsSoundCross, IsWholeLine, HasTwo, IsServed}
+use Rattle.machine_meaning.specs.Defects.{IsOfUse}
+use Rattle.machine_meaning.specs.Tight.{HasFeet, two}
+use Rattle.machine_meaning.proofs.Clear.{clear_of_sound}
 use Rattle.machine_config.specs.Groups.{among}
 use Rattle.machine_config.proofs.Grouped.{LeadsTo-end}
 use Rattle.rig.specs.Rig.{RigState}

@@ -4,7 +4,7 @@ use Rattle.std.specs.Prelude.{IfSome, IfNone, IsSome, slice_get}
 use Rattle.machine_shape.specs.declared.Shape.{Shape}
 use Rattle.machine_shape.specs.declared.Wire.{Wire}
 use Rattle.machine_shape.specs.Shape.{Ends, in_order, turned, ends_of, crosses_of, nodes_of, node_of_cross, IsLine, IsTap, tap_pin, tap_port}
-use Rattle.machine_shape.specs.Sound.{HasTwo}
+use Rattle.machine_meaning.specs.Sound.{HasTwo}
 use Rattle.machine_config.specs.Groups.{among}
 use Rattle.machine_config.proofs.Grouped.{LeadsTo-end}
 use Rattle.diag_tests.specs.Routes.{Walk}

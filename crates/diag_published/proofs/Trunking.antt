@@ -6,11 +6,11 @@ use Rattle.base_bits.specs.Numbers.{has_number, size_of}
 use Rattle.machine_shape.specs.declared.Shape.{Shape}
 use Rattle.machine_shape.specs.declared.Wire.{Wire}
 use Rattle.machine_shape.specs.Shape.{pin_wire, pins_of, parent_of, node_of, port_at, own_ports_of, IsPort, tap_child, itself}
-use Rattle.machine_shape.specs.Faults.{Faults, IsFaultless}
-use Rattle.machine_shape.specs.Sound.{IsSoundWire, HasTwo}
-use Rattle.machine_shape.specs.Defects.{IsClear}
-use Rattle.machine_shape.specs.Tight.{IsAlone}
-use Rattle.machine_shape.proofs.Clear.{clear_of_sound}
+use Rattle.machine_meaning.specs.Faults.{Faults, IsFaultless}
+use Rattle.machine_meaning.specs.Sound.{IsSoundWire, HasTwo}
+use Rattle.machine_meaning.specs.Defects.{IsClear}
+use Rattle.machine_meaning.specs.Tight.{IsAlone}
+use Rattle.machine_meaning.proofs.Clear.{clear_of_sound}
 use Rattle.machine_config.specs.Groups.{among}
 use Rattle.machine_config.proofs.Grouped.{LeadsTo-start}
 use Rattle.diag_tests.specs.Routes.{Walk}

@@ -3,8 +3,8 @@ use Rattle.std.specs.Prelude.{◌≡◌, ◌≢◌, ◌⊎◌, ℕ, ◌+◌, ◌
 use Rattle.base_bits.specs.Numbers.{has_number, size_of}
 use Rattle.machine_shape.specs.declared.Shape.{Shape}
 use Rattle.machine_shape.specs.Shape.{ends_of, pin_wire, crosses_of, node_of_cross, taps_of, lines_of, IsTap, IsLine}
-use Rattle.machine_shape.specs.Faults.{Faults}
-use Rattle.machine_shape.specs.Sound.{IsSoundWire, HasTwo}
+use Rattle.machine_meaning.specs.Faults.{Faults}
+use Rattle.machine_meaning.specs.Sound.{IsSoundWire, HasTwo}
 use Rattle.machine_config.specs.Groups.{among}
 use Rattle.diag_tests.specs.Routes.{Walk}
 use Rattle.diag_evidence.specs.Kept.{Kept, HoldsFor, keeps_cross}

@@ -2,7 +2,8 @@
 use Rattle.machine_shape.specs.declared.Shape.{Shape}
 use Rattle.machine_shape.specs.Laws.{IsNumbered, IsTree, HasParents, HasTaps, HasCrosses, HasMeetings}
 use Rattle.machine_shape.specs.Rows.{HasRows}
-use Rattle.machine_shape.specs.Served.{HasHomes, HasServed}
+use Rattle.machine_shape.specs.Laws.{HasHomes}
+use Rattle.machine_meaning.specs.Served.{HasServed}
 use Rattle.machine_shape.specs.Sites.{HasSites}
 
 pub record AreLaws (m : Shape) : Type 0 where

@@ -1,6 +1,6 @@
 //! What this crate rests on, and what crates above rest on.
 ghost use Rattle.std.specs.Prelude.{ℕ};
-ghost use Rattle.machine_shape.specs.Faults.{Faults};
+ghost use Rattle.machine_meaning.specs.Faults.{Faults};
 ghost use Rattle.machine_shape.specs.declared.Shape.{Shape};
 ghost use Rattle.diag_tests.specs.Routes.{Walk};
 ghost use Rattle.diag_evidence.specs.Kept.{Kept};
@@ -8,10 +8,8 @@ ghost use Rattle.diag_known.specs.Known.{KnownWires};
 ghost use Rattle.diag_published.specs.Held.{Findings, IsHeld, IsHeldTrunk, IsFull, IsLater};
 ghost use Rattle.diag_published.specs.Laws.{AreLaws};
 
-use machine_shape::{
-    crosspoints_stand_in_rows, each_wire_has_a_home, ports_and_lines_ascend,
-    served_nodes_have_sound_parts, the_crosspoints_are_sound, the_numbering_is_sound,
-};
+use machine_meaning::served_nodes_have_sound_parts;
+use machine_shape::{crosspoints_stand_in_rows, each_wire_has_a_home, ports_and_lines_ascend, the_crosspoints_are_sound, the_numbering_is_sound};
 
 /// The laws of the numbering, and of sound parts.
 pub(crate) fn the_laws_hold()

@@ -15,7 +15,8 @@ use diag_evidence::Proof;
 use diag_evidence::laws::tests_add_up;
 use diag_growth::{Known, add_wires, grow};
 use diag_tests::Trunk;
-use machine_shape::{Wire, without_faults_all_is_sound};
+use machine_meaning::without_faults_all_is_sound;
+use machine_shape::Wire;
 use rig::{Rig, RigFail};
 use std::alloc::{AllocError, Global};
 

@@ -4,7 +4,7 @@ use Rattle.std.proofs.lemmas.Bool.{false≢true, and_parts}
 use Rattle.std.specs.Prelude.{slice_set}
 use Rattle.base_bits.specs.Numbers.{has_number, size_of}
 use Rattle.machine_shape.specs.declared.Shape.{Shape}
-use Rattle.machine_shape.specs.Faults.{Faults}
+use Rattle.machine_meaning.specs.Faults.{Faults}
 use Rattle.diag_evidence.specs.Kept.{Kept}
 use Rattle.diag_known.specs.Field.{how_many}
 use Rattle.diag_known.specs.Known.{HasWire, InSet, KnownWires}

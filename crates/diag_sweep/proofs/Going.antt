@@ -2,7 +2,7 @@
 use Rattle.std.proofs.Common.{◌≡◌, ◌⊎◌, ℕ, ◌+◌, ◌≤◌, true, Option, List, [], sym, ap, ◌∙◌, subst, inl, inr, arith}
 use Rattle.base_bits.specs.Numbers.{has_number}
 use Rattle.machine_shape.specs.declared.Table.{Table}
-use Rattle.machine_shape.specs.Faults.{Faults}
+use Rattle.machine_meaning.specs.Faults.{Faults}
 use Rattle.machine_shape.specs.Shape.{crosses_of}
 use Rattle.diag_evidence.specs.Kept.{Kept, IsMore, Advances}
 use Rattle.diag_evidence.proofs.Keeping.{advances_itself, advances_then}

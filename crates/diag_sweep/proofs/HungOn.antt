@@ -7,7 +7,7 @@ use Rattle.std.proofs.lemmas.Bool.Decides.{nat_tests}
 use Rattle.base_bits.specs.Numbers.{has_number}
 use Rattle.machine_shape.specs.declared.Shape.{Shape}
 use Rattle.machine_shape.specs.declared.Table.{Table}
-use Rattle.machine_shape.specs.Faults.{Faults}
+use Rattle.machine_meaning.specs.Faults.{Faults}
 use Rattle.machine_shape.specs.Shape.{crosses_of}
 use Rattle.diag_evidence.specs.Forests.{Trees, KeepsForest, KnowsForest, is_hung}
 use Rattle.diag_evidence.specs.Hangs.{Foot, HasMarked, HasHungOn, HasTried, silent, answered, StayMarked, UnfitIf, UnclearIf, is_unfit_in, is_unclear_in, overs, others, turned}

@@ -8,9 +8,9 @@ use Rattle.base_bits.specs.Numbers.{has_number, size_of}
 use Rattle.machine_shape.specs.declared.Shape.{Shape}
 use Rattle.machine_shape.specs.Laws.{IsNumbered}
 use Rattle.machine_shape.specs.Shape.{crosses_of, pin_wire, pins_of, wires_of}
-use Rattle.machine_shape.specs.Faults.{Faults, stuck_cross}
-use Rattle.machine_shape.specs.Defects.{IsClear}
-use Rattle.machine_shape.specs.Tight.{IsAlone, HasFeet, two}
+use Rattle.machine_meaning.specs.Faults.{Faults, stuck_cross}
+use Rattle.machine_meaning.specs.Defects.{IsClear}
+use Rattle.machine_meaning.specs.Tight.{IsAlone, HasFeet, two}
 use Rattle.machine_shape.specs.declared.Table.{Table}
 use Rattle.diag_evidence.specs.Kept.{Kept, IsMore, keeps_cross}
 use Rattle.diag_known.specs.Field.{ClosedIf, IsClosed, IsFieldOf, fresh, how_many, pins_in}

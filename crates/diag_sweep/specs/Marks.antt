@@ -4,9 +4,9 @@ use Rattle.base_bits.specs.Numbers.{has_number}
 use Rattle.machine_shape.specs.declared.Shape.{Shape}
 use Rattle.machine_shape.specs.declared.Table.{Table}
 use Rattle.machine_shape.specs.Shape.{wires_of, crosses_of, tables_of}
-use Rattle.machine_shape.specs.Faults.{Faults, stuck_cross}
-use Rattle.machine_shape.specs.Defects.{IsClear}
-use Rattle.machine_shape.specs.Tight.{IsAlone, IsRightTable}
+use Rattle.machine_meaning.specs.Faults.{Faults, stuck_cross}
+use Rattle.machine_meaning.specs.Defects.{IsClear}
+use Rattle.machine_meaning.specs.Tight.{IsAlone, IsRightTable}
 use Rattle.diag_evidence.specs.Kept.{Kept, HoldsFor, keeps_cross}
 use Rattle.diag_known.specs.Known.{HasWire}
 use Rattle.diag_known.specs.Field.{how_many, pins_in}

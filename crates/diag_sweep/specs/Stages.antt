@@ -3,7 +3,7 @@ use Rattle.std.specs.Prelude.{◌≡◌, ℕ, ◌+◌, ◌*◌, ◌≤◌, true,
 use Rattle.base_bits.specs.Numbers.{has_number, size_of}
 use Rattle.machine_shape.specs.declared.Table.{Table}
 use Rattle.machine_shape.specs.Shape.{crosses_of}
-use Rattle.machine_shape.specs.Faults.{Faults}
+use Rattle.machine_meaning.specs.Faults.{Faults}
 use Rattle.diag_evidence.specs.Kept.{Kept}
 use Rattle.diag_known.specs.Known.{KnownWires, IsKnown}
 use Rattle.diag_known.specs.Field.{IsFieldOf, GrowsIn}

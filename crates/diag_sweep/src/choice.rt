@@ -2,7 +2,7 @@
 ghost use Rattle.std.specs.Prelude.{◌≡◌, ◌≤◌, ◌+◌, ◌*◌, ℕ, false, Option, Some, IfOk, OnOk, IsErrOf, length};
 ghost use Rattle.base_io.specs.Counts.{Rose};
 ghost use Rattle.base_bits.specs.Numbers.{has_number, size_of};
-ghost use Rattle.machine_shape.specs.Faults.{Faults};
+ghost use Rattle.machine_meaning.specs.Faults.{Faults};
 ghost use Rattle.machine_shape.specs.Shape.{crosses_of, wires_of};
 ghost use Rattle.rig.specs.Rig.{shape_of};
 ghost use Rattle.diag_evidence.specs.Kept.{Advances};

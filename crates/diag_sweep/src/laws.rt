@@ -1,7 +1,7 @@
 //! What a growth after a sweep finds, and what both take.
 ghost use Rattle.std.specs.Prelude.{◌≡◌, ◌≤◌, ◌+◌, ◌*◌, ℕ, List, Option, length};
 ghost use Rattle.base_bits.specs.Numbers.{size_of};
-ghost use Rattle.machine_shape.specs.Faults.{Faults};
+ghost use Rattle.machine_meaning.specs.Faults.{Faults};
 ghost use Rattle.machine_shape.specs.Shape.{crosses_of};
 ghost use Rattle.machine_shape.specs.declared.Table.{Table};
 ghost use Rattle.diag_evidence.specs.Kept.{Kept, IsMore};

@@ -1,6 +1,6 @@
 -- Tested crossbars, by the numbers of their nodes.
 use Rattle.std.specs.Prelude.{◌≡◌, ◌<◌, ℕ, Option, List, length, get_or}
-use Rattle.machine_shape.specs.Faults.{Faults}
+use Rattle.machine_meaning.specs.Faults.{Faults}
 use Rattle.diag_evidence.specs.Kept.{Kept}
 use Rattle.diag_known.specs.Known.{KnownWires, IsKnown}
 use Rattle.diag_published.specs.Held.{Findings, IsHeld, FullIf}

@@ -4,7 +4,7 @@ use Rattle.std.specs.Prelude.{option_map, IsSome}
 use Rattle.std.specs.Option.{option_map_or}
 use Rattle.std.proofs.lemmas.List.{length-map, length-append}
 use Rattle.std.proofs.lemmas.Bool.{false≢true}
-use Rattle.machine_shape.specs.Circuit.{Pins}
+use Rattle.machine_meaning.specs.Circuit.{Pins}
 use Rattle.machine_shape.specs.Shape.{pins_of}
 use Rattle.machine_config.specs.Configuration.{Configuration}
 use Rattle.rig.specs.Rig.{RigState, Session, Exchange, GoesOn, GoesOnBy, config_of, width_of, cycles_of, drives_of, readings_of}

@@ -1,7 +1,7 @@
 -- A rig that turns a bit of one reading.
 use Rattle.std.specs.Prelude.{◌≡◌, ◌⊎◌, ℕ, zero, suc, ◌+◌, ◌-◌, ◌^◌, ◌<◌, min, not, List, [], ◌∷◌, length, slice_index_or, slice_set}
 use Rattle.std.specs.Prelude.{Option, None, Some, IsSome, IfSome, option_map}
-use Rattle.machine_shape.specs.Circuit.{Pins}
+use Rattle.machine_meaning.specs.Circuit.{Pins}
 use Rattle.rig.specs.Rig.{Exchange, Session, RigState, cycles_of}
 use Rattle.example_rigs.specs.declared.turn.Turn.{Turn}
 

@@ -13,14 +13,14 @@ use Rattle.std.proofs.lemmas.Map.Views.{tells_apart}
 use Rattle.machine_shape.specs.declared.Shape.{Shape}
 use Rattle.machine_shape.specs.Laws.{HasMeanings}
 use Rattle.machine_shape.specs.Shape.{in_order, turned, Line, Pin, Port, TablePin, is_pin, is_line, is_port, is_table_pin, ends_of, pin_wire, table_wire, line_at, port_at, pins_of, lines_of, own_ports_of, nodes_of, tables_of}
-use Rattle.machine_shape.specs.Faults.{Faults, pair_cmp, stuck_wire, stuck_cross, wrong_cell, stuck_register, is_bridge}
-use Rattle.machine_shape.specs.Joined.{Linked, crossed, bridged, here, then, net_of, Shorted}
-use Rattle.machine_shape.specs.Sound.{IsSoundWire, IsSoundTable, IsWholeLine}
+use Rattle.machine_meaning.specs.Faults.{Faults, pair_cmp, stuck_wire, stuck_cross, wrong_cell, stuck_register, is_bridge}
+use Rattle.machine_meaning.specs.Joined.{Linked, crossed, bridged, here, then, net_of, Shorted}
+use Rattle.machine_meaning.specs.Sound.{IsSoundWire, IsSoundTable, IsWholeLine}
 use Rattle.machine_shape.proofs.Totals.{ports_within}
 use Rattle.machine_faults.specs.declared.fault.Fault.{Fault}
 use Rattle.machine_faults.specs.declared.fault.Fault.TheVariants.{Stuck, CrossStuck, Cell, Register, Bridge}
 use Rattle.machine_faults.specs.Adding.{no_faults, with_fault, lower_first}
-use Rattle.machine_shape.proofs.Pairs.{pairs_total, pairs_exact}
+use Rattle.machine_meaning.proofs.Pairs.{pairs_total, pairs_exact}
 use Rattle.machine_faults.proofs.Keeping.{all_added}
 use Rattle.machine_bench.specs.Faults.{table_position, MayBeHit, IsAllowed, IsOneMore, added, refused, Takes, allowed, not_allowed, AfterTurns, none, turn}
 use Rattle.machine_bench.specs.Left.{LeavesSound}

@@ -3,14 +3,14 @@ use Rattle.std.proofs.Common.{◌≡◌, ◌≢◌, ◌⊎◌, ℕ, ◌<◌, Boo
 use Rattle.std.proofs.lemmas.Bool.{false≢true}
 use native.Mathlib.Decide.{ℕ_discrete}
 use Rattle.machine_shape.specs.Shape.{pin_wire, table_wire, pins_of}
-use Rattle.machine_shape.specs.Faults.{Faults}
-use Rattle.machine_shape.specs.Joined.{Joined, net_of}
-use Rattle.machine_shape.specs.Circuit.{Circuit, Table, Outputs, Pins}
-use Rattle.machine_shape.specs.Value.{Pulls, by_pin, by_table, IsValue, IsPulled, AreValues}
+use Rattle.machine_meaning.specs.Faults.{Faults}
+use Rattle.machine_meaning.specs.Joined.{Joined, net_of}
+use Rattle.machine_meaning.specs.Circuit.{Circuit, Table, Outputs, Pins}
+use Rattle.machine_meaning.specs.Value.{Pulls, by_pin, by_table, IsValue, IsPulled, AreValues}
 use Rattle.machine_config.specs.Run.{Ticks, unticked, tick, Cycles, none, cycle, at_load, after_tick, tick_output, first_output, number_of, address_at}
 use Rattle.machine_config.specs.Groups.{among, both}
 use Rattle.machine_config.specs.Groups.{IsWithin, AreGroups}
-use Rattle.machine_shape.proofs.Values.{IsValue-unique}
+use Rattle.machine_meaning.proofs.Values.{IsValue-unique}
 use Rattle.machine_config.proofs.Grouped.{groups_turned, left_unstuck, left_apart}
 use Rattle.machine_config.proofs.Parts.{clear_both, clear_one, unshorted_one, unshorted_right}
 use Rattle.machine_config.specs.declared.Setting.{Setting}

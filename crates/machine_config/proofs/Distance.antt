@@ -5,12 +5,12 @@ use Rattle.std.proofs.Math.Path.{fun_ext}
 use Rattle.std.proofs.lemmas.Bool.{false≢true}
 use native.Mathlib.Decide.{ℕ_discrete}
 use Rattle.machine_shape.specs.Shape.{Ends, ends_of, pin_wire, pins_of}
-use Rattle.machine_shape.specs.Circuit.{Circuit, Table, Outputs, Pins}
-use Rattle.machine_shape.specs.Faults.{Faults, stuck_cross, stuck_wire}
-use Rattle.machine_shape.specs.Joined.{Linked, crossed, bridged, Joined, here, then, net_of}
-use Rattle.machine_shape.specs.Value.{Pulls, by_pin, by_table, IsValue, held_0, held_1, pulled, released, IsHeld, IsPulled}
-use Rattle.machine_shape.proofs.JoinedLemmas.{Joined-mono, Ends-swap}
-use Rattle.machine_shape.proofs.Values.{IsValue-unique}
+use Rattle.machine_meaning.specs.Circuit.{Circuit, Table, Outputs, Pins}
+use Rattle.machine_meaning.specs.Faults.{Faults, stuck_cross, stuck_wire}
+use Rattle.machine_meaning.specs.Joined.{Linked, crossed, bridged, Joined, here, then, net_of}
+use Rattle.machine_meaning.specs.Value.{Pulls, by_pin, by_table, IsValue, held_0, held_1, pulled, released, IsHeld, IsPulled}
+use Rattle.machine_meaning.proofs.JoinedLemmas.{Joined-mono, Ends-swap}
+use Rattle.machine_meaning.proofs.Values.{IsValue-unique}
 use Rattle.machine_config.specs.Configuration.{Configuration, is_closed, setting_of}
 use Rattle.machine_config.specs.Faulty.{circuit_of, table_or_off, IsRun}
 use Rattle.machine_config.specs.Run.{Ticks, unticked, tick, Cycle, Cycles, none, cycle, at_load, tick_output}

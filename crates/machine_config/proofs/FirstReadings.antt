@@ -4,11 +4,11 @@ use Rattle.std.specs.Prelude.{if◌then◌else◌, unwrap_or}
 use Rattle.std.proofs.lemmas.Bool.{false≢true}
 use native.Mathlib.Decide.{ℕ_discrete}
 use Rattle.machine_shape.specs.Shape.{pin_wire, table_wire, pins_of}
-use Rattle.machine_shape.specs.Faults.{Faults, stuck_register}
-use Rattle.machine_shape.specs.Joined.{Joined, net_of}
-use Rattle.machine_shape.specs.Circuit.{Circuit, Table, Outputs, Pins}
-use Rattle.machine_shape.specs.Value.{Pulls, by_pin, by_table, IsValue, IsPulled}
-use Rattle.machine_shape.proofs.Values.{IsValue-unique}
+use Rattle.machine_meaning.specs.Faults.{Faults, stuck_register}
+use Rattle.machine_meaning.specs.Joined.{Joined, net_of}
+use Rattle.machine_meaning.specs.Circuit.{Circuit, Table, Outputs, Pins}
+use Rattle.machine_meaning.specs.Value.{Pulls, by_pin, by_table, IsValue, IsPulled}
+use Rattle.machine_meaning.proofs.Values.{IsValue-unique}
 use Rattle.machine_config.specs.declared.Setting.{Setting}
 use Rattle.machine_config.specs.Configuration.{Configuration, is_closed}
 use Rattle.machine_config.specs.Faulty.{held_by, table_of, table_or_off, circuit_of, IsRun}

@@ -5,12 +5,12 @@ use Rattle.std.specs.List.{AllByRecursion}
 use Rattle.std.proofs.lemmas.Bool.Decides.{nat_tests}
 use Rattle.machine_shape.specs.declared.Shape.{Shape}
 use Rattle.machine_shape.specs.Shape.{Ends, in_order, turned, ends_of, crosses_of}
-use Rattle.machine_shape.specs.Faults.{Faults, stuck_cross, stuck_wire}
-use Rattle.machine_shape.specs.Joined.{Net, Linked, crossed, bridged, Joined, here, then, Shorted, net_of}
+use Rattle.machine_meaning.specs.Faults.{Faults, stuck_cross, stuck_wire}
+use Rattle.machine_meaning.specs.Joined.{Net, Linked, crossed, bridged, Joined, here, then, Shorted, net_of}
 use Rattle.machine_config.specs.Groups.{among}
 use Rattle.machine_config.specs.Groups.{IsWithin, AreGroups}
 use Rattle.machine_config.specs.Route.{LeadsTo, ends, goes}
-use Rattle.machine_shape.proofs.JoinedLemmas.{Ends-swap, Joined-sym, Joined-trans}
+use Rattle.machine_meaning.proofs.JoinedLemmas.{Ends-swap, Joined-sym, Joined-trans}
 
 -- the two ends of a crosspoint within a group
 within_near : {m : Shape} {group : ℕ → Bool} {x a b : ℕ} → IsWithin m group x → Ends (ends_of m x) a b → group a ≡ true

@@ -4,13 +4,13 @@ use Rattle.std.specs.Prelude.{unwrap_or}
 use Rattle.std.specs.List.{AllByRecursion}
 use Rattle.std.proofs.lemmas.List.FromFn.{get_or-map-range_with_len}
 use Rattle.machine_shape.specs.Shape.{pin_wire, pins_of}
-use Rattle.machine_shape.specs.Faults.{Faults, stuck_cross}
-use Rattle.machine_shape.specs.Joined.{Net, Joined, here, then, crossed, Shorted, net_of}
-use Rattle.machine_shape.specs.Circuit.{Circuit, Outputs, Pins}
-use Rattle.machine_shape.specs.Value.{IsValue, IsHeld}
-use Rattle.machine_shape.specs.Defects.{IsClear}
-use Rattle.machine_shape.proofs.JoinedLemmas.{Joined-trans, Joined-sym, Joined-Shorted}
-use Rattle.machine_shape.proofs.Values.{swings, apart}
+use Rattle.machine_meaning.specs.Faults.{Faults, stuck_cross}
+use Rattle.machine_meaning.specs.Joined.{Net, Joined, here, then, crossed, Shorted, net_of}
+use Rattle.machine_meaning.specs.Circuit.{Circuit, Outputs, Pins}
+use Rattle.machine_meaning.specs.Value.{IsValue, IsHeld}
+use Rattle.machine_meaning.specs.Defects.{IsClear}
+use Rattle.machine_meaning.proofs.JoinedLemmas.{Joined-trans, Joined-sym, Joined-Shorted}
+use Rattle.machine_meaning.proofs.Values.{swings, apart}
 use Rattle.machine_config.specs.Run.{Cycle, Cycles, none, cycle}
 use Rattle.machine_config.specs.Route.{LeadsTo, ends, goes}
 use Rattle.machine_config.specs.Configuration.{Configuration, is_closed}

@@ -5,8 +5,8 @@ use Rattle.std.proofs.Math.Path.{fun_ext}
 use Rattle.std.specs.Ordering.{nat_cmp}
 use Rattle.std.specs.FinSet as set
 use Rattle.std.specs.FinMap as map
-use Rattle.machine_shape.specs.Faults.{Faults, pair_cmp, stuck_register}
-use Rattle.machine_shape.specs.Circuit.{Circuit, Table, Outputs, Pins}
+use Rattle.machine_meaning.specs.Faults.{Faults, pair_cmp, stuck_register}
+use Rattle.machine_meaning.specs.Circuit.{Circuit, Table, Outputs, Pins}
 use Rattle.machine_config.specs.declared.Setting.{Setting}
 use Rattle.machine_config.specs.Configuration.{Configuration, is_closed, setting_of, cell_of}
 use Rattle.machine_config.specs.Run.{first_output, tick_output, edge_output, at_load, Ticks, unticked, tick, Cycles, none, cycle, Runs}

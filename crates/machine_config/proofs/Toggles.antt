@@ -7,8 +7,8 @@ use native.Mathlib.Decide.{ℕ_discrete, dec_lt}
 use Rattle.std.specs.FinSet.{contains, contains-insert, contains-remove}
 use Rattle.std.specs.Cmp.{nat_cmp_total}
 use Rattle.std.specs.Ordering.{nat_cmp, eq_by_cmp}
-use Rattle.machine_shape.specs.Faults.{Faults, stuck_cross, wrong_cell, stuck_register, stuck_wire, is_bridge}
-use Rattle.machine_shape.specs.Circuit.{Circuit, Table, Pins}
+use Rattle.machine_meaning.specs.Faults.{Faults, stuck_cross, wrong_cell, stuck_register, stuck_wire, is_bridge}
+use Rattle.machine_meaning.specs.Circuit.{Circuit, Table, Pins}
 use Rattle.machine_config.specs.declared.Setting.{Setting}
 use Rattle.machine_config.specs.Configuration.{Configuration, is_closed, setting_of, with_closed, with_open, with_setting, cell_of, with_cell, with_init}
 use Rattle.machine_config.specs.Faulty.{held_by, table_of, table_or_off, circuit_of, IsRun}

@@ -15,7 +15,7 @@ use Rattle.machine_shape.specs.Shape.{wires_of, crosses_of, tables_of}
 use Rattle.machine_defects.specs.declared.entry.Entry.{Entry}
 use Rattle.machine_defects.specs.declared.entry.Entry.TheVariants.{Wire, Cross, Table}
 use Rattle.machine_defects.specs.Lists.{DefectList, IsDefectList, IsWithWire, no_defects, those, touches_cross, touches_table, with_cross, with_table, has_free_ends, has_free_pins}
-use Rattle.machine_shape.specs.Defects.{IsFreeCross, IsFreeTable}
+use Rattle.machine_meaning.specs.Defects.{IsFreeCross, IsFreeTable}
 use Rattle.machine_defects.proofs.Telling.{cross_tells, table_tells}
 use Rattle.machine_defects.specs.Text.{IsEntryOf, IsFreeEntry, kind_of, entry_number, is_before, as_wire, as_cross, as_table, entries_of}
 use Rattle.machine_defects.specs.Steps.{is_listed, is_same, is_behind, IsLast, IsBeyond, IsAdded}

@@ -8,7 +8,7 @@ use Rattle.std.specs.Cmp.{both_ways}
 use Rattle.machine_shape.specs.declared.Shape.{Shape}
 use Rattle.machine_shape.specs.Laws.{HasNames, HasCrosses, IsNumbered}
 use Rattle.machine_shape.specs.Shape.{ends_of, table_wire}
-use Rattle.machine_shape.specs.Defects.{IsFreeWire}
+use Rattle.machine_meaning.specs.Defects.{IsFreeWire}
 use Rattle.base_text.specs.Written.{spaced, written, written_line}
 use Rattle.machine_defects.specs.declared.entry.Entry.{Entry}
 use Rattle.machine_defects.specs.declared.entry.Entry.TheVariants.{Wire, Cross, Table}

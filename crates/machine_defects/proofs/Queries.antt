@@ -6,7 +6,7 @@ use Rattle.std.specs.FinSet as sets
 use Rattle.std.specs.Cmp.{both_ways}
 use Rattle.base_bits.specs.Numbers.{has_number}
 use Rattle.machine_shape.specs.Shape.{wires_of, crosses_of, tables_of, nodes_of, lines_of, pins_of, ends_of, table_wire, line_at}
-use Rattle.machine_shape.specs.Defects.{Defects, IsFreeWire, IsFreeCross, IsFreeTable, IsOpenLine}
+use Rattle.machine_meaning.specs.Defects.{Defects, IsFreeWire, IsFreeCross, IsFreeTable, IsOpenLine}
 use Rattle.machine_defects.specs.declared.kept.Kept.{Kept}
 use Rattle.machine_defects.specs.Kept.{IsKept, list_in, is_clear_line, count_at}
 use Rattle.machine_defects.specs.Lists.{IsDefectList, is_free_wire, is_free_cross, is_free_table, is_open_line, leaves_open, all_below, open_lines_of, free_ports_of, free_tables_of, free_pins_of}

@@ -6,7 +6,7 @@ use Rattle.std.specs.Coded.{Coded, code_by, coded×, coded_ℕ}
 use Rattle.machine_shape.specs.contracts.Shape as shape
 use Rattle.machine_shape.specs.declared.Shape.{Shape}
 use Rattle.machine_shape.specs.Shape.{crosses_of, tables_of, lines_of, own_ports_of, pins_of, ends_of, table_wire, line_at, port_at, pin_wire}
-use Rattle.machine_shape.specs.Defects.{Defects, AreDefectsOf}
+use Rattle.machine_meaning.specs.Defects.{Defects, AreDefectsOf}
 
 -- the defects that are listed of a machine of this shape
 pub record DefectList : Type 0 where

@@ -6,7 +6,7 @@ use Rattle.machine_shape.specs.declared.Counts.{Counts}
 use Rattle.machine_shape.specs.declared.Shape.{Shape}
 use Rattle.machine_shape.specs.Shape.{wires_of, crosses_of, tables_of, ends_of}
 use Rattle.machine_shape.specs.Names.{wire_name, table_name}
-use Rattle.machine_shape.specs.Defects.{IsFreeWire, IsFreeCross, IsFreeTable}
+use Rattle.machine_meaning.specs.Defects.{IsFreeWire, IsFreeCross, IsFreeTable}
 use Rattle.base_text.specs.Written.{written, written_line}
 use Rattle.machine_defects.specs.declared.entry.Entry.{Entry}
 use Rattle.machine_defects.specs.declared.entry.Entry.TheVariants.{Wire, Cross, Table}

@@ -1,7 +1,7 @@
 //! What later crates rest on, of lists of defects.
 ghost use Rattle.std.specs.Prelude.{◌≡◌, ◌↔◌, ℕ, true};
 ghost use Rattle.machine_shape.specs.declared.Shape.{Shape};
-ghost use Rattle.machine_shape.specs.Defects.{Defects, IsFreeWire, IsFreeCross, IsFreeTable, IsOpenLine};
+ghost use Rattle.machine_meaning.specs.Defects.{Defects, IsFreeWire, IsFreeCross, IsFreeTable, IsOpenLine};
 ghost use Rattle.machine_defects.specs.Lists.{is_free_wire, is_free_cross, is_free_table, is_open_line};
 
 /// The tests by which the numbers of free things are counted tell what is free, and which lines are open.

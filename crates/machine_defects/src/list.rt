@@ -3,7 +3,7 @@
 ghost use Rattle.std.specs.Prelude.{◌≡◌, ◌<◌, ◌↔◌, IfOk, IsTrue};
 ghost use Rattle.std.specs.FinSet as set;
 ghost use Rattle.machine_shape.specs.Shape.{wires_of, crosses_of, tables_of, nodes_of};
-ghost use Rattle.machine_shape.specs.Defects.{IsFreeWire, IsFreeCross, IsFreeTable, IsOpenLine};
+ghost use Rattle.machine_meaning.specs.Defects.{IsFreeWire, IsFreeCross, IsFreeTable, IsOpenLine};
 ghost use Rattle.machine_defects.specs.Lists.{IsDefectList, IsWithWire, no_defects, with_cross, with_table, open_lines_of, free_ports_of};
 ghost use Rattle.machine_defects.specs.Lists.{free_tables_of, free_pins_of};
 

@@ -8,12 +8,12 @@ use Rattle.std.specs.Ordering.{nat_cmp}
 use Rattle.std.proofs.lemmas.Map.Lookups.{exact_unsigned}
 use Rattle.machine_shape.specs.declared.Shape.{Shape}
 use Rattle.machine_shape.specs.Shape.{wires_of, crosses_of, tables_of}
-use Rattle.machine_shape.specs.Faults.{Faults, AreFaultsOf, pair_cmp, is_bridge}
+use Rattle.machine_meaning.specs.Faults.{Faults, AreFaultsOf, pair_cmp, is_bridge}
 use Rattle.machine_faults.specs.declared.fault.Fault.{Fault}
 use Rattle.machine_faults.specs.declared.fault.Fault.TheVariants.{Stuck, CrossStuck, Cell, Register, Bridge}
 use Rattle.machine_faults.specs.declared.fault.AddFault.TheVariants.{Same, Limit}
 use Rattle.machine_faults.specs.Adding.{Faulty, IsFaultSet, CanHave, no_faults, with_fault, value_at, value_of, is_loop, lower_first, refusal_at, refusal_of, count_of}
-use Rattle.machine_shape.proofs.Pairs.{pairs_total, pairs_exact}
+use Rattle.machine_meaning.proofs.Pairs.{pairs_total, pairs_exact}
 use Rattle.machine_faults.proofs.Keeping.{all_put, all_added, len_put, len_added}
 
 -- ---- what it is not to be refused

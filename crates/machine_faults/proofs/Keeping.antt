@@ -14,8 +14,8 @@ use Rattle.std.specs.Prelude.{is_some}
 use Rattle.std.proofs.lemmas.Map.Views.{tells_apart}
 use Rattle.std.proofs.lemmas.List.{map-append}
 use Rattle.machine_shape.specs.declared.Wire.{Wire}
-use Rattle.machine_shape.specs.Faults.{pair_cmp}
-use Rattle.machine_shape.proofs.Pairs.{pairs_total, pairs_exact}
+use Rattle.machine_meaning.specs.Faults.{pair_cmp}
+use Rattle.machine_meaning.proofs.Pairs.{pairs_total, pairs_exact}
 use Rattle.machine_faults.specs.Stored.{Lists, pair_of}
 
 module _ {K X : Type 0} {R : K → K → Ordering} (o : IsTotalOrder R) where

@@ -7,7 +7,7 @@ use Rattle.machine_shape.specs.declared.Shape.{Shape}
 use Rattle.machine_shape.specs.declared.Cross.{Cross}
 use Rattle.machine_shape.specs.Shape.{ends_of, wires_of, crosses_of}
 use Rattle.machine_shape.specs.Names.{wire_name}
-use Rattle.machine_shape.specs.Faults.{Faults}
+use Rattle.machine_meaning.specs.Faults.{Faults}
 use Rattle.machine_shape.specs.Laws.{HasNames, IsNumbered}
 use Rattle.machine_shape.specs.Shape.Ends.{in_order, turned}
 use Rattle.base_text.specs.declared.lines.LineFault.{LineFault}

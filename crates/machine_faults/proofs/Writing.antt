@@ -7,7 +7,7 @@ use Rattle.std.specs.Cmp.{nat_cmp_total}
 use Rattle.std.proofs.lemmas.Map.Lookups.{exact_unsigned}
 use Rattle.machine_shape.specs.declared.Shape.{Shape}
 use Rattle.machine_shape.specs.Shape.{wires_of, crosses_of, tables_of}
-use Rattle.machine_shape.specs.Faults.{Faults}
+use Rattle.machine_meaning.specs.Faults.{Faults}
 use Rattle.base_text.specs.Lines.{logical_lines}
 use Rattle.base_text.specs.Written.{is_graphic, written, numbered}
 use Rattle.base_text.specs.Written as text
@@ -19,7 +19,7 @@ use Rattle.base_text.specs.Size.{most_bytes}
 use Rattle.machine_faults.specs.Text.{fault_words, with_all, AreAdded, IsFaultText}
 use Rattle.machine_faults.specs.Written.{Kinds, AreAscending, AreInOrder, grouped, faults_of, stuck_wire_at, stuck_cross_at, wrong_cell_at, stuck_register_at, bridge_of}
 use Rattle.machine_faults.proofs.Adding.{count_more, count_none}
-use Rattle.machine_shape.proofs.Pairs.{pairs_total, pairs_exact}
+use Rattle.machine_meaning.proofs.Pairs.{pairs_total, pairs_exact}
 use Rattle.machine_shape.proofs.PlainNames.{AllPlain}
 use Rattle.machine_faults.proofs.Names.{AreWords, entry_words}
 use Rattle.machine_faults.proofs.Words.{IsTold}

@@ -3,7 +3,7 @@ use Rattle.std.specs.Prelude.{ℕ, ◌≡◌, ◌≢◌, ◌⊎◌, ◌<◌, ◌
 use Rattle.machine_shape.specs.declared.Shape.{Shape}
 use Rattle.machine_shape.specs.Shape.{wires_of, crosses_of}
 use Rattle.machine_shape.specs.Names.{wire_name}
-use Rattle.machine_shape.specs.Faults.{Faults}
+use Rattle.machine_meaning.specs.Faults.{Faults}
 use Rattle.base_text.specs.declared.lines.LineFault.{LineFault}
 use Rattle.base_text.specs.declared.lines.LineFault.TheVariants as line
 use Rattle.base_text.specs.Lines.{LogicalLine, logical_lines, is_bad_line}

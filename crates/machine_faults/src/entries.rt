@@ -4,7 +4,7 @@ ghost use Rattle.std.specs.Prelude.{◌≡◌, false, OnOk, OnErr, None};
 ghost use Rattle.std.specs.FinMap as maps;
 ghost use Rattle.std.specs.FinSet as set;
 ghost use Rattle.std.specs.Ordering.{nat_cmp};
-ghost use Rattle.machine_shape.specs.Faults.{pair_cmp};
+ghost use Rattle.machine_meaning.specs.Faults.{pair_cmp};
 ghost use Rattle.machine_faults.specs.Adding.{no_faults, with_fault, value_at, lower_first, count_of, refusal_of, is_loop, value_of};
 ghost use Rattle.machine_faults.specs.Stored.{faults_in, Lists};
 

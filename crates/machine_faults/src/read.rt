@@ -1,7 +1,7 @@
 //! Reads a fault set.
 
 ghost use Rattle.std.specs.Prelude.{◌≡◌, ◌<◌, ◌≤◌, false, length, IfOk, IfErr};
-ghost use Rattle.machine_shape.specs.Faults.{Faults};
+ghost use Rattle.machine_meaning.specs.Faults.{Faults};
 ghost use Rattle.base_text.specs.Lines.{logical_lines, is_bad_line};
 ghost use Rattle.machine_faults.specs.Text.{IsFaultText};
 ghost use Rattle.base_text.specs.Size.{most_bytes};

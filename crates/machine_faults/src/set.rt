@@ -2,7 +2,7 @@
 
 ghost use Rattle.std.specs.Prelude.{◌≡◌, ◌<◌, length, map, OnOk, OnErr, IfOk, IfErr, None};
 ghost use Rattle.std.specs.FinSet as set;
-ghost use Rattle.machine_shape.specs.Faults.{stuck_wire, stuck_cross, wrong_cell, stuck_register};
+ghost use Rattle.machine_meaning.specs.Faults.{stuck_wire, stuck_cross, wrong_cell, stuck_register};
 ghost use Rattle.machine_shape.specs.Shape.{wires_of, crosses_of, tables_of};
 ghost use Rattle.machine_faults.specs.Adding.{no_faults, with_fault, refusal_of, count_of, CanHave, IsRefusal, IsFaultSet};
 ghost use Rattle.machine_faults.specs.Stored.{pair_of};

@@ -4,7 +4,7 @@ ghost use Rattle.std.specs.Prelude.{◌≡◌, ◌≤◌, length, ◌++◌, ◌�
 ghost use Rattle.std.specs.Map.{keys_of};
 ghost use Rattle.std.specs.Ordering.{nat_cmp};
 ghost use Rattle.std.specs.List.Sorted.{IsStrictlySortedBy};
-ghost use Rattle.machine_shape.specs.Faults.{pair_cmp};
+ghost use Rattle.machine_meaning.specs.Faults.{pair_cmp};
 ghost use Rattle.base_text.specs.Written.{written, written_line};
 ghost use Rattle.machine_faults.specs.Adding.{CanHave};
 ghost use Rattle.machine_faults.specs.Stored.{kinds_in};

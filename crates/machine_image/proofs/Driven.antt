@@ -6,7 +6,7 @@ use Rattle.std.proofs.lemmas.Bool.{false≢true, eqb-true, ne_eqb, eq-eqb, cases
 use Rattle.std.proofs.lemmas.List.{get_or_past}
 use Rattle.std.proofs.lemmas.List.FromFn.{get_or-map-range_with_len, length-map-range_with_len, fill_by_all}
 use Rattle.std.proofs.Math.Nat.{pow-succ'}
-use Rattle.machine_shape.specs.Faults.{Faults, wrong_cell, stuck_register}
+use Rattle.machine_meaning.specs.Faults.{Faults, wrong_cell, stuck_register}
 use Rattle.machine_config.specs.declared.Setting.{Setting}
 use Rattle.machine_config.specs.Configuration.{cell_of}
 use Rattle.machine_config.specs.Faulty.{table_or_off}

@@ -8,7 +8,7 @@ use Rattle.std.proofs.Math.ListN.{get_or-append}
 use Rattle.std.proofs.lemmas.List.Elements.{All-append}
 use Rattle.machine_shape.specs.declared.Shape.{Shape}
 use Rattle.machine_shape.specs.Shape.{pins_of, tables_of, pin_wire}
-use Rattle.machine_shape.specs.Defects.{Defects, IsFreeWire, IsFreeCross, IsFreeTable}
+use Rattle.machine_meaning.specs.Defects.{Defects, IsFreeWire, IsFreeCross, IsFreeTable}
 use Rattle.machine_config.specs.declared.Setting.{Setting}
 use Rattle.machine_config.specs.Configuration.{Configuration, IsConfiguration, is_closed, setting_of}
 use Rattle.machine_image.specs.Images.{ImageValue, IsImage}

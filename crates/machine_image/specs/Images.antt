@@ -7,7 +7,7 @@ use Rattle.std.specs.Coded.{Coded, code_by, coded×, coded_ℕ, coded_list}
 use Rattle.byteorder.specs.Endian.{big_bytes}
 use Rattle.machine_shape.specs.declared.Shape.{Shape}
 use Rattle.machine_shape.specs.Shape.{pins_of, tables_of, crosses_of}
-use Rattle.machine_shape.specs.Circuit.{Pins}
+use Rattle.machine_meaning.specs.Circuit.{Pins}
 use Rattle.machine_config.specs.declared.Setting.{Setting}
 use Rattle.machine_config.specs.Configuration.{Configuration, IsConfiguration, coded_configuration, is_closed, setting_of}
 use Rattle.machine_image.specs.declared.kind.ImageKind.{ImageKind}

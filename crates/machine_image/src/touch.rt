@@ -2,7 +2,7 @@
 
 ghost use Rattle.std.specs.Prelude.{◌≡◌, ◌<◌, ◌↔◌, ℕ, true, is_some, IsTrue, All};
 ghost use Rattle.machine_shape.specs.Shape.{pins_of, crosses_of, tables_of, pin_wire};
-ghost use Rattle.machine_shape.specs.Defects.{IsFreeWire, IsFreeCross, IsFreeTable};
+ghost use Rattle.machine_meaning.specs.Defects.{IsFreeWire, IsFreeCross, IsFreeTable};
 ghost use Rattle.machine_config.specs.Configuration.{is_closed, setting_of};
 ghost use Rattle.machine_image.specs.Parts.{IsFreeImage};
 

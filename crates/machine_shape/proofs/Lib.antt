@@ -2,18 +2,11 @@
 pub mod Crossings
 pub mod Sites
 pub mod Totals
+pub mod Ample
+pub mod Hextants
 pub mod Naming
 pub mod PlainNames
 pub mod Full
-pub mod JoinedLemmas
-pub mod Values
-pub mod ValuesExist
-pub mod Clear
-pub mod Faultless
-pub mod Covered
-pub mod Serving
-pub mod Seats
-pub mod Pairs
 pub mod Halves
 pub mod Decimals
 -- For the proofs of this crate alone.
@@ -23,6 +16,7 @@ mod Taps
 mod Numbering
 mod InRows
 mod Meanings
+mod Homed
 mod Tapped
 mod Parents
 mod Running
@@ -35,12 +29,6 @@ mod Readable
 mod Called
 mod CalledTables
 mod OneName
-mod ByList
-mod Bounded
-mod Faulty
 mod TapsAndLines
-mod Fairness
 mod PartNames
 mod Sums
-mod Standing
-mod Tightness

@@ -19,3 +19,10 @@ AreFull ls = All (λ (l : Level). (0 < l.ports) × (0 < l.lines) × (0 < l.child
 -- each of the twelve counts is at least 1
 abbrev pub IsFull : Counts → Type 0
 IsFull c = AreFull (levels_from c)
+
+-- at each of these levels a node has two ports and two lines at least; the pins are the root's ports here
+abbrev pub AreAmple : Levels → Type 0
+AreAmple ls = All (λ (l : Level). (1 < l.ports) × (1 < l.lines)) ls
+
+abbrev pub IsAmple : Counts → Type 0
+IsAmple c = AreAmple (levels_from c)

@@ -1,5 +1,5 @@
 -- What later crates rest on, of the numbering.
-use Rattle.std.specs.Prelude.{◌≡◌, ◌≢◌, ℕ, suc, ◌<◌, Some, None, [], ◌∷◌, ◌++◌}
+use Rattle.std.specs.Prelude.{◌≡◌, ◌≢◌, ◌⊎◌, ℕ, suc, ◌<◌, Some, None, [], ◌∷◌, ◌++◌}
 use Rattle.machine_shape.specs.declared.Shape.{Shape}
 use Rattle.machine_shape.specs.declared.Counts.{Counts}
 use Rattle.machine_shape.specs.Names.{numbered, node_name, table_name, wire_name}
@@ -73,6 +73,13 @@ pub record HasParents (m : Shape) : Type 0 where
   pub hextant_within : (t : ℕ) → t < tables_of m → hextant_of m t < nodes_of m
   pub table_node : (t k : ℕ) → t < tables_of m → k < 7 → node_of m (table_wire m t k) ≡ hextant_of m t
   pub pin_node : (k : ℕ) → k < pins_of m → node_of m (pin_wire m k) ≡ 0
+
+-- each wire is a tap or a line of its node, and none is both; a crosspoint of a line is of the line's node
+pub record HasHomes (m : Shape) : Type 0 where
+  pub home : (w : ℕ) → w < wires_of m → IsTap m (node_of m w) w ⊎ IsLine m (node_of m w) w
+  pub tap_node : (n w : ℕ) → IsTap m n w → n < nodes_of m
+  pub no_tap_is_line : (n k w : ℕ) → IsTap m n w → IsLine m k w → ⊥
+  pub cross_of_line : (n l x : ℕ) → x < crosses_of m → (ends_of m x).1 ≡ l → IsLine m n l → node_of_cross m x ≡ n
 
 -- What wires are called, by what they are. Names and numbers are one to one.
 pub record HasNames (m : Shape) : Type 0 where

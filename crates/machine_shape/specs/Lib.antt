@@ -9,15 +9,6 @@ pub mod Laws
 pub mod PartNames
 pub mod Rows
 pub mod Sites
-pub mod Faults
-pub mod Joined
-pub mod Circuit
-pub mod Value
-pub mod Sound
-pub mod Defects
-pub mod Served
-pub mod Standing
-pub mod Tight
 pub mod Sums
 -- For the bodies of this crate alone.
 pub mod Kinds

@@ -1,11 +1,13 @@
 //! What later crates rest on, of the numbering.
 ghost use Rattle.std.specs.Prelude.{◌≡◌};
-ghost use Rattle.machine_shape.specs.Laws.{IsNumbered, IsTree, HasMeanings, HasTaps, HasCrosses, HasMeetings, HasParents, HasNames};
+ghost use Rattle.machine_shape.specs.Laws.{IsNumbered, IsTree, HasMeanings, HasTaps, HasCrosses, HasMeetings, HasParents, HasNames, HasHomes};
 ghost use Rattle.machine_shape.specs.Laws.{IsNumberedAsTiny, tiny};
 ghost use Rattle.machine_shape.specs.PartNames.{HasPartNames};
 ghost use Rattle.machine_shape.specs.Rows.{HasRows};
 ghost use Rattle.machine_shape.specs.Sums.{HasSums};
 ghost use Rattle.machine_shape.specs.declared.Shape.{Shape};
+
+use crate::order::ports_and_lines_ascend;
 
 /// Each wire has one meaning, and the nodes are a tree.
 pub fn the_numbering_is_sound()
@@ -46,3 +48,12 @@ pub fn names_follow_the_tree()
 pub fn crossbars_add_up()
     ensures { (m : Shape) → HasSums m }
 {}
+
+/// Each wire is a tap or a line of its node, and none is both.
+pub fn each_wire_has_a_home()
+    ensures { (m : Shape) → HasHomes m }
+{
+    the_numbering_is_sound();
+    the_crosspoints_are_sound();
+    ports_and_lines_ascend();
+}

@@ -1,24 +1,17 @@
 //! The shape of a machine: its wires, nodes, tables and crosspoints, their numbers and their names.
 //!
-//! A machine is a tree: one root, modules below it, chips in each module, hextants in each chip, and tables
-//! in each hextant. Each node has one crossbar, with one crosspoint for each pair of a tap and a line. All
-//! are numbered by one walk over the tree, a node before its children.
+//! A machine is a tree: one root, modules below it, chips in each module, hextants in each chip, and tables in each hextant.
+//! Each node has one crossbar, with one crosspoint for each pair of a tap and a line. All are numbered by one walk over the
+//! tree, a node before its children.
 //!
 //! Each number of a wire has one meaning, and `Shape::meaning` tells it: a pin of the machine, a line or a port of a node, or a
-//! pin of a table. Taps ascend; a crosspoint and its two ends determine each other: its tap and its line are a tap and a line of
-//! its node, and each tap and line of a node have a crosspoint there; the crossbars are a tree; names and numbers are one to one,
-//! and the name of a chip, of a hextant and of a table is that of the node above, a dot, and its letter and position (`laws`). `Shape::new`
-//! refuses exactly the counts that make no shape. Here stand the definitions of faults, joined and shorted wires, wire values,
-//! defect lists that cover, what is sound, which nodes are served, and what is fair; `joining` proves that joined is an
-//! equivalence that grows with what is closed and says the same as a finite list of wires, that each wire has exactly one value,
-//! and that every list covers the empty fault set. `served` proves that the node above a served node is served; that a whole line
-//! of a served node has two sound crosspoints; that a fair list leaves whole lines open, and sound ports, pins and tables free;
-//! and that without faults a machine with two pins, and two ports and two lines at each level, serves every node, so that a fair
-//! list of it is empty. `tight` proves that the sound parts of served nodes stand, that a tight list leaves everything free that
-//! stands and so is fair, that nothing that could stand can be taken off it, and that where it covers the faults exactly one wire
-//! is free of those that are shorted to a clear wire that could stand. All crossbars together have each crosspoint once, and at
-//! most two taps or lines for each wire (`crossbars_add_up`). From `first_cross` on a node's crosspoints stand in rows, one row
-//! for each tap and in it one crosspoint for each line, and the numbers of its lines follow each other, as those of its ports do
+//! pin of a table. Taps ascend; a crosspoint and its two ends determine each other: its tap and its line are a tap and a line
+//! of its node, and each tap and line of a node have a crosspoint there; the crossbars are a tree; names and numbers are one to
+//! one, and the name of a chip, of a hextant and of a table is that of the node above, a dot, and its letter and position
+//! (`laws`). `Shape::new` refuses exactly the counts that make no shape. Each wire is a tap or a line of its node, and none is
+//! both (`each_wire_has_a_home`). All crossbars together have each crosspoint once, and at most two taps or lines for each wire
+//! (`crossbars_add_up`). From `first_cross` on a node's crosspoints stand in rows, one row for each tap and in it one
+//! crosspoint for each line, and the numbers of its lines follow each other, as those of its ports do
 //! (`crosspoints_stand_in_rows`).
 #![tactic(auto)]
 
@@ -28,7 +21,6 @@ ghost use Rattle.machine_shape.specs.Walk.{size, wires_in, nodes_in, crosses_in,
 
 mod bars;
 mod ends;
-mod joining;
 mod laws;
 mod limits;
 mod names;
@@ -37,28 +29,16 @@ mod order;
 mod part;
 mod places;
 mod reads;
-mod served;
-mod tight;
 mod tree;
 mod way;
 mod wires;
 
-pub use joining::{
-    covered_wires_are_as_without_faults, every_list_covers_no_faults, joined_grows,
-    joined_is_a_list, joined_is_an_equivalence, listed_is_what_is_faulty, sound_wires_are_clear,
-    sound_wires_stay_apart, values_are_unique, values_exist, without_faults_all_is_sound,
-};
 pub use laws::{
     a_small_machine_is_numbered_so, crossbars_add_up, crosspoints_stand_in_rows,
-    names_are_one_to_one, names_follow_the_tree, the_crosspoints_are_sound, the_numbering_is_sound,
+    each_wire_has_a_home, names_are_one_to_one, names_follow_the_tree, the_crosspoints_are_sound, the_numbering_is_sound,
 };
 pub use order::ports_and_lines_ascend;
 pub use part::PartName;
-pub use served::{
-    each_wire_has_a_home, fair_lists_leave_sound_parts, fair_lists_of_faultless_machines_are_empty,
-    served_nodes_have_sound_parts, whole_lines_have_two_sound_crosspoints,
-};
-pub use tight::{parts_of_served_nodes_stand, tight_lists_are_fair, tight_lists_are_least};
 
 /// How many of each there are. Ports are per module, chip and hextant, lines per root, module, chip and hextant.
 #[derive(Clone, Copy, Debug, PartialEq, Eq)]

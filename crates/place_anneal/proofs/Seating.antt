@@ -13,7 +13,7 @@ use Rattle.std.proofs.lemmas.Map.Made.{AllPairs-from_IsDistinct, IsDistinct-from
 use Rattle.machine_shape.specs.declared.Shape.{Shape}
 use Rattle.machine_shape.specs.Shape.{tables_of, pins_of, pin_wire}
 use Rattle.machine_shape.specs.declared.Table.{Table}
-use Rattle.machine_shape.specs.Defects.{Defects, IsFreeTable, IsFreeWire}
+use Rattle.machine_meaning.specs.Defects.{Defects, IsFreeTable, IsFreeWire}
 use Rattle.map_network.specs.declared.network.Network.{Network}
 use Rattle.place_plan.specs.declared.plan.Plan.{Plan}
 use Rattle.place_plan.specs.Plans.{IsFreeTableOf, IsPlan, number_of, places}

@@ -1,7 +1,7 @@
 -- Plans that a search finds, laid out.
 use Rattle.std.specs.Prelude.{ℕ, ◌<◌}
 use Rattle.machine_shape.specs.declared.Shape.{Shape}
-use Rattle.machine_shape.specs.Defects.{Defects}
+use Rattle.machine_meaning.specs.Defects.{Defects}
 use Rattle.map_network.specs.declared.network.Network.{Network}
 use Rattle.place_plan.specs.declared.layout.Placed.{Placed}
 use Rattle.place_plan.specs.declared.plan.Plan.{Plan}

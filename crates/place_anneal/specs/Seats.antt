@@ -2,7 +2,7 @@
 use Rattle.std.specs.Prelude.{◌≢◌, ℕ, List}
 use Rattle.std.specs.List.{All, AllPairs}
 use Rattle.machine_shape.specs.declared.Shape.{Shape}
-use Rattle.machine_shape.specs.Defects.{Defects}
+use Rattle.machine_meaning.specs.Defects.{Defects}
 use Rattle.place_plan.specs.Plans.{IsFreeTableOf}
 use Rattle.place_anneal.specs.declared.seats.Seat.{Seat}
 

@@ -1,7 +1,7 @@
 -- A design has room on a list or lacks it, and never both.
 use Rattle.std.proofs.Common.{◌≡◌, ◌⊎◌, ◌∙◌, sym, subst, refl, inl, inr}
 use Rattle.machine_shape.specs.declared.Shape.{Shape}
-use Rattle.machine_shape.specs.Defects.{Defects}
+use Rattle.machine_meaning.specs.Defects.{Defects}
 use Rattle.machine_defects.specs.Lists.{DefectList}
 use Rattle.design_netlist.specs.declared.draft.Draft.{Draft}
 use Rattle.map_network.specs.declared.network.Network.{Network}

@@ -1,7 +1,7 @@
 -- A design is laid on what a list of defects leaves free.
 use Rattle.std.specs.Prelude.{◌≡◌, ◌≤◌, length}
-use Rattle.machine_shape.specs.Defects.{Covers}
-use Rattle.machine_shape.specs.Faults.{Faults}
+use Rattle.machine_meaning.specs.Defects.{Covers}
+use Rattle.machine_meaning.specs.Faults.{Faults}
 use Rattle.machine_defects.specs.Lists.{DefectList}
 use Rattle.design_netlist.specs.declared.draft.Draft.{Draft}
 use Rattle.map_network.specs.declared.network.Network.{Network}

@@ -6,9 +6,9 @@ use Rattle.std.proofs.lemmas.Bool.{cases_lt}
 use Rattle.std.proofs.lemmas.List.{length-map}
 use Rattle.machine_shape.specs.declared.Shape.{Shape}
 use Rattle.machine_shape.specs.Shape.{table_wire}
-use Rattle.machine_shape.specs.Circuit.{Pins}
-use Rattle.machine_shape.specs.Faults.{Faults}
-use Rattle.machine_shape.specs.Defects.{Defects, Covers}
+use Rattle.machine_meaning.specs.Circuit.{Pins}
+use Rattle.machine_meaning.specs.Faults.{Faults}
+use Rattle.machine_meaning.specs.Defects.{Defects, Covers}
 use Rattle.machine_config.specs.declared.Setting.{Setting}
 use Rattle.machine_config.specs.Configuration.{is_closed, setting_of}
 use Rattle.machine_image.specs.Images.{ImageValue, image_row}

@@ -9,8 +9,8 @@ use Rattle.machine_shape.specs.declared.Shape.{Shape}
 use Rattle.machine_shape.specs.declared.Table as hierarchy
 use Rattle.machine_shape.specs.Shape.{nodes_of, tables_of, pins_of, crosses_of, ends_of, pin_wire, table_wire, IsLine, IsPort}
 use Rattle.machine_shape.specs.Laws.{IsNumbered, IsTree}
-use Rattle.machine_shape.specs.Faults.{Faults}
-use Rattle.machine_shape.specs.Defects.{Defects, IsFreeWire, IsFreeCross, IsFreeTable, Covers}
+use Rattle.machine_meaning.specs.Faults.{Faults}
+use Rattle.machine_meaning.specs.Defects.{Defects, IsFreeWire, IsFreeCross, IsFreeTable, Covers}
 use Rattle.machine_config.specs.Configuration.{is_closed, setting_of}
 use Rattle.machine_image.specs.Images.{ImageValue}
 use Rattle.machine_image.specs.Parts.{IsFreeImage, Uses, at_pin, at_tap, at_line, at_table}

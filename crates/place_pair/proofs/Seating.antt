@@ -7,7 +7,7 @@ use Rattle.machine_shape.specs.declared.Table.{Table}
 use Rattle.machine_shape.specs.Shape.{tables_of, wires_of}
 use Rattle.machine_shape.specs.Laws.{IsNumbered, IsTree, HasParents, HasTaps, HasCrosses, HasMeanings}
 use Rattle.machine_shape.specs.Sites.{HasSites}
-use Rattle.machine_shape.specs.Defects.{Defects}
+use Rattle.machine_meaning.specs.Defects.{Defects}
 use Rattle.machine_image.specs.Images.{ImageValue}
 use Rattle.map_network.specs.declared.network.Network.{Network}
 use Rattle.map_network.specs.Networks.{IsNetwork}

@@ -6,8 +6,8 @@ use Rattle.machine_shape.specs.declared.Shape.{Shape}
 use Rattle.machine_shape.specs.declared.Cross.{Cross}
 use Rattle.machine_shape.specs.declared.Table as hierarchy
 use Rattle.machine_shape.specs.Shape.{ends_of}
-use Rattle.machine_shape.specs.Defects.{Defects, Covers}
-use Rattle.machine_shape.specs.Faults.{Faults}
+use Rattle.machine_meaning.specs.Defects.{Defects, Covers}
+use Rattle.machine_meaning.specs.Faults.{Faults}
 use Rattle.machine_config.specs.Configuration.{Configuration, is_closed, setting_of}
 use Rattle.machine_image.specs.Images.{ImageValue}
 use Rattle.machine_image.specs.Parts.{IsFreeImage}

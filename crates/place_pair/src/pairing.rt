@@ -1,7 +1,7 @@
 //! Two networks on one machine.
 ghost use Rattle.std.specs.Prelude.{◌≡◌, ◌<◌, ◌+◌, IfOk, IfErr, length};
-ghost use Rattle.machine_shape.specs.Defects.{Covers};
-ghost use Rattle.machine_shape.specs.Faults.{Faults};
+ghost use Rattle.machine_meaning.specs.Defects.{Covers};
+ghost use Rattle.machine_meaning.specs.Faults.{Faults};
 ghost use Rattle.machine_image.specs.Parts.{IsFreeImage};
 ghost use Rattle.design_netlist.specs.declared.draft.Draft.{Draft};
 ghost use Rattle.map_network.specs.Networks.{IsNetwork};

@@ -7,7 +7,7 @@ use Rattle.std.proofs.lemmas.Bool.{cases_lt}
 use Rattle.place_plan.proofs.Those.{not_in_nil}
 use Rattle.machine_shape.specs.declared.Shape.{Shape}
 use Rattle.machine_shape.specs.Shape.{wires_of, nodes_of, tap_port, IsPort}
-use Rattle.machine_shape.specs.Defects.{Defects}
+use Rattle.machine_meaning.specs.Defects.{Defects}
 use Rattle.machine_shape.specs.Laws.{HasTaps, HasParents}
 use Rattle.machine_defects.specs.Lists.{DefectList}
 use Rattle.place_plan.specs.declared.board.Board.{Board}

@@ -5,7 +5,7 @@ use Rattle.std.proofs.lemmas.List.Elements.{All-contains, All-weaker, Contains-a
 use Rattle.std.proofs.lemmas.Bool.{cases_order, and_parts}
 use Rattle.machine_shape.specs.declared.Shape.{Shape}
 use Rattle.machine_shape.specs.Shape.{wires_of, nodes_of, ends_of, node_of, parent_of, cross_at, IsLine, IsTap, tap_port, tap_child}
-use Rattle.machine_shape.specs.Defects.{Defects, IsFreeWire}
+use Rattle.machine_meaning.specs.Defects.{Defects, IsFreeWire}
 use Rattle.machine_shape.specs.Laws.{IsTree, HasParents, HasTaps, HasCrosses}
 use Rattle.machine_shape.specs.Sites.{HasSites}
 use Rattle.place_plan.specs.declared.short.Port.{Port}

@@ -8,7 +8,7 @@ use Rattle.place_plan.specs.Strands.{IsInside}
 use Rattle.place_plan.specs.Room.{HasTerminal, IsAmong, CrossesIn, CrossesAt, IsFreePort}
 use Rattle.place_plan.specs.Touches.{list_at, Touches, TouchesOf}
 use Rattle.machine_shape.specs.Shape.{wires_of, nodes_of, lines_of, own_ports_of, line_at, port_at, IsLine, IsPort}
-use Rattle.machine_shape.specs.Defects.{Defects, IsFreeWire}
+use Rattle.machine_meaning.specs.Defects.{Defects, IsFreeWire}
 use Rattle.machine_shape.specs.Sites.{HasSites}
 use Rattle.place_plan.specs.Choices.{AreWires}
 use Rattle.place_plan.specs.Taps.{IsFreeLine}

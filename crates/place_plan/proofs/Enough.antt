@@ -7,12 +7,12 @@ use Rattle.std.proofs.lemmas.List.{length-map}
 use Rattle.std.proofs.lemmas.List.Elements.{All-weaker, Contains-get_or}
 use Rattle.machine_shape.specs.declared.Shape.{Shape}
 use Rattle.machine_shape.specs.Shape.{nodes_of, tables_of, pins_of, crosses_of, hextant_of, pin_wire, table_wire, IsLine, IsPort}
-use Rattle.machine_shape.specs.Faults.{Faults, stuck_cross}
-use Rattle.machine_shape.specs.Sound.{IsSoundWire, IsSoundTable, IsWholeLine, IsServed}
-use Rattle.machine_shape.specs.Defects.{Defects, IsFreeWire, IsFreeTable, IsOpenLine}
+use Rattle.machine_meaning.specs.Faults.{Faults, stuck_cross}
+use Rattle.machine_meaning.specs.Sound.{IsSoundWire, IsSoundTable, IsWholeLine, IsServed}
+use Rattle.machine_meaning.specs.Defects.{Defects, IsFreeWire, IsFreeTable, IsOpenLine}
 use Rattle.machine_shape.specs.Laws.{IsNumbered, IsTree, HasParents}
-use Rattle.machine_shape.specs.Tight.{IsTight}
-use Rattle.machine_shape.specs.Standing.{pin_stands, IsSeated, IsSoundCrossOf, IsStanding, HasStandingParts}
+use Rattle.machine_meaning.specs.Tight.{IsTight}
+use Rattle.machine_meaning.specs.Standing.{pin_stands, IsSeated, IsSoundCrossOf, IsStanding, HasStandingParts}
 use Rattle.design_netlist.proofs.ListLemmas.{few_numbers}
 use Rattle.map_network.specs.declared.network.Network.{Network}
 use Rattle.map_network.specs.declared.source.Source.TheVariants as source

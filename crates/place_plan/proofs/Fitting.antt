@@ -5,7 +5,7 @@ use Rattle.std.proofs.lemmas.List.{length-map, get_or-take, drop-take, take-appe
 use Rattle.std.proofs.lemmas.List.Elements.{All-take, All-weaker}
 use Rattle.machine_shape.specs.declared.Shape.{Shape}
 use Rattle.machine_shape.specs.Shape.{nodes_of, tables_of, pins_of, node_of, pin_wire, table_wire, IsTap, tap_pin, tap_table}
-use Rattle.machine_shape.specs.Defects.{Defects, IsFreeWire, IsFreeTable}
+use Rattle.machine_meaning.specs.Defects.{Defects, IsFreeWire, IsFreeTable}
 use Rattle.machine_shape.specs.Laws.{IsNumbered, IsTree, HasParents, HasTaps, HasCrosses}
 use Rattle.machine_shape.specs.Sites.{HasSites}
 use Rattle.machine_shape.proofs.Halves.{All-left, All-right}

@@ -2,7 +2,7 @@
 use Rattle.std.proofs.Common.{◌≡◌, ℕ, ◌<◌, ◌≤◌, List, length, refl, sym, subst, arith}
 use Rattle.machine_shape.specs.declared.Shape.{Shape}
 use Rattle.machine_shape.specs.Shape.{nodes_of}
-use Rattle.machine_shape.specs.Defects.{Defects}
+use Rattle.machine_meaning.specs.Defects.{Defects}
 use Rattle.place_plan.specs.declared.short.Need.{Need}
 use Rattle.place_plan.specs.declared.short.Resource.{Resource}
 use Rattle.place_plan.specs.declared.short.Resource.TheVariants.{Tables, Pins, Ports, Lines}

@@ -7,7 +7,7 @@ use Rattle.std.proofs.lemmas.List.Elements.{All-weaker, All-contains_itself, Con
 use Rattle.std.proofs.lemmas.List.FromFn.{length-range_with_len}
 use Rattle.machine_shape.specs.declared.Shape.{Shape}
 use Rattle.machine_shape.specs.Shape.{wires_of, tables_of, pins_of, pin_wire, table_wire}
-use Rattle.machine_shape.specs.Defects.{Defects}
+use Rattle.machine_meaning.specs.Defects.{Defects}
 use Rattle.machine_shape.specs.Laws.{IsNumbered}
 use Rattle.machine_shape.proofs.Halves.{All-left, All-right}
 use Rattle.map_network.specs.declared.network.Network.{Network}

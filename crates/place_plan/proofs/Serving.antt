@@ -9,7 +9,7 @@ use Rattle.std.proofs.lemmas.List.Folds.{Any-from_list_any, list_any-from_Any}
 use Rattle.std.proofs.lemmas.Bool.{cases_order, false_from_ne_true}
 use Rattle.machine_shape.specs.declared.Shape.{Shape}
 use Rattle.machine_shape.specs.Shape.{nodes_of, crosses_of, ends_of, node_of, parent_of}
-use Rattle.machine_shape.specs.Defects.{Defects, IsFreeCross}
+use Rattle.machine_meaning.specs.Defects.{Defects, IsFreeCross}
 use Rattle.machine_defects.specs.Lists.{DefectList, is_free_cross}
 use Rattle.place_plan.specs.declared.search.Ask.{Ask}
 use Rattle.place_plan.specs.declared.search.Hold.{Hold}

@@ -10,7 +10,7 @@ use Rattle.std.proofs.lemmas.Bool.{and_parts, not-true, not_from_false, false_fr
 use Rattle.std.specs.Cmp.{both_ways}
 use Rattle.machine_shape.specs.declared.Shape.{Shape}
 use Rattle.machine_shape.specs.Shape.{crosses_of, ends_of}
-use Rattle.machine_shape.specs.Defects.{Defects, IsFreeCross}
+use Rattle.machine_meaning.specs.Defects.{Defects, IsFreeCross}
 use Rattle.machine_shape.specs.Laws.{HasCrosses}
 use Rattle.machine_defects.specs.Lists.{DefectList, is_free_cross, is_free_wire, has_free_ends}
 use Rattle.place_plan.specs.Choices.{is_shut, is_shut_cross}

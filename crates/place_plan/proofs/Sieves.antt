@@ -4,7 +4,7 @@ use Rattle.std.specs.List.{AllPairs}
 use Rattle.std.specs.Prelude.{◌↔◌}
 use Rattle.std.proofs.lemmas.List.{length_push, get_or_push, get_or_append_left, get_or_default}
 use Rattle.std.proofs.lemmas.Bool.{cases_eq}
-use Rattle.machine_shape.specs.Defects.{Defects, IsFreeWire}
+use Rattle.machine_meaning.specs.Defects.{Defects, IsFreeWire}
 use Rattle.place_plan.specs.Lists.{AreThose, AreLists, IsAmongFirst, nth_of, same_number}
 use Rattle.place_plan.proofs.Those.{those_same, those_none, those_push}
 

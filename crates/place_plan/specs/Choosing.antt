@@ -3,7 +3,7 @@ use Rattle.std.specs.Prelude.{◌≡◌, ◌≢◌, ℕ, ◌<◌, ◌==◌, ◌&
 use Rattle.std.specs.List.{All, AllPairs, Contains}
 use Rattle.machine_shape.specs.declared.Shape.{Shape}
 use Rattle.machine_shape.specs.Shape.{crosses_of, ends_of, IsLine, IsPort}
-use Rattle.machine_shape.specs.Defects.{Defects, IsFreeWire, IsFreeCross}
+use Rattle.machine_meaning.specs.Defects.{Defects, IsFreeWire, IsFreeCross}
 use Rattle.place_plan.specs.declared.short.Port.{Port}
 use Rattle.place_plan.specs.declared.short.Visit.{Visit}
 use Rattle.place_plan.specs.declared.tree.Strand.{Strand}

@@ -1,7 +1,7 @@
 -- A plan laid out: which net has which terminals, ports and lines.
 use Rattle.machine_shape.specs.declared.Shape.{Shape}
 use Rattle.machine_shape.specs.Shape.{nodes_of}
-use Rattle.machine_shape.specs.Defects.{Defects}
+use Rattle.machine_meaning.specs.Defects.{Defects}
 use Rattle.map_network.specs.declared.network.Network.{Network}
 use Rattle.place_plan.specs.declared.layout.Laid.{Laid}
 use Rattle.place_plan.specs.declared.layout.Laid.TheVariants as laid

@@ -4,7 +4,7 @@ use Rattle.std.specs.List.{All, AllPairs}
 use Rattle.machine_shape.specs.declared.Shape.{Shape}
 use Rattle.machine_shape.specs.declared.Table.{Table}
 use Rattle.machine_shape.specs.Shape.{tables_of, pins_of, pin_wire, table_wire}
-use Rattle.machine_shape.specs.Defects.{Defects, IsFreeWire, IsFreeTable}
+use Rattle.machine_meaning.specs.Defects.{Defects, IsFreeWire, IsFreeTable}
 use Rattle.map_network.specs.declared.network.Network.{Network}
 use Rattle.map_network.specs.declared.source.Source.{Source}
 use Rattle.map_network.specs.declared.source.Source.TheVariants as source

@@ -3,7 +3,7 @@ use Rattle.std.specs.Prelude.{◌≡◌, ◌↔◌, ℕ, ◌<◌, List, Option, 
 use Rattle.std.specs.List.{All, AllPairs, Contains}
 use Rattle.machine_shape.specs.declared.Shape.{Shape}
 use Rattle.machine_shape.specs.Shape.{nodes_of, IsLine}
-use Rattle.machine_shape.specs.Defects.{Defects, IsFreeWire}
+use Rattle.machine_meaning.specs.Defects.{Defects, IsFreeWire}
 use Rattle.place_plan.specs.declared.search.Ask.{Ask}
 use Rattle.place_plan.specs.declared.tree.Strand.{Strand}
 use Rattle.place_plan.specs.declared.tree.Strand.TheVariants.{Own, Child, Outside}

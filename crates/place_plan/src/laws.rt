@@ -1,6 +1,6 @@
 //! What the definitions of room come to.
 ghost use Rattle.std.specs.Prelude.{◌≡◌, ℕ, List, length};
-ghost use Rattle.machine_shape.specs.Defects.{Defects};
+ghost use Rattle.machine_meaning.specs.Defects.{Defects};
 ghost use Rattle.machine_shape.specs.declared.Shape.{Shape};
 ghost use Rattle.place_plan.specs.Plans.{FitsInOrder, IsShortInOrder};
 ghost use Rattle.place_plan.specs.Room.{HasTerminal, IsFirstShort, Suffices};

@@ -3,9 +3,9 @@
 //! Where as many tables and pins are free as a network has, and at each node as many lines are open and ports free as it has
 //! nets, nothing is short for its in-order plan; a fair list leaves sound parts of served nodes so, and a tight list standing
 //! parts, whether nodes are served or not.
-ghost use Rattle.machine_shape.specs.Defects.{Defects, IsFair};
-ghost use Rattle.machine_shape.specs.Faults.{Faults};
-ghost use Rattle.machine_shape.specs.Tight.{IsTight};
+ghost use Rattle.machine_meaning.specs.Defects.{Defects, IsFair};
+ghost use Rattle.machine_meaning.specs.Faults.{Faults};
+ghost use Rattle.machine_meaning.specs.Tight.{IsTight};
 ghost use Rattle.machine_shape.specs.declared.Shape.{Shape};
 ghost use Rattle.map_network.specs.Networks.{IsNetwork};
 ghost use Rattle.map_network.specs.declared.network.Network.{Network};
@@ -29,7 +29,7 @@ pub fn sound_parts_are_room()
         HasSoundParts m f n → ¬ IsShortInOrder m d n s }
 {
     machine_shape::the_numbering_is_sound();
-    machine_shape::fair_lists_leave_sound_parts();
+    machine_meaning::fair_lists_leave_sound_parts();
     enough_free_parts_are_room();
 }
 
@@ -42,7 +42,7 @@ pub fn standing_parts_are_room()
     ensures served { (m : Shape) (f : Faults) (n : Network) → HasSoundParts m f n → HasStandingRoom m f n }
 {
     machine_shape::the_numbering_is_sound();
-    machine_shape::tight_lists_are_fair();
-    machine_shape::parts_of_served_nodes_stand();
+    machine_meaning::tight_lists_are_fair();
+    machine_meaning::parts_of_served_nodes_stand();
     enough_free_parts_are_room();
 }

@@ -6,11 +6,11 @@ use Rattle.std.proofs.lemmas.List.{get_or_append_left, get_or-append-add, get_or
 use Rattle.std.proofs.lemmas.List.FromFn.{get_or-map-range_with_len}
 use Rattle.machine_shape.specs.Shape.{pin_wire, table_wire, pins_of, tables_of}
 use Rattle.machine_shape.specs.Laws.{IsNumbered}
-use Rattle.machine_shape.specs.Faults.{Faults}
-use Rattle.machine_shape.specs.Joined.{Joined, plain_net}
-use Rattle.machine_shape.specs.Circuit.{Outputs, Pins}
-use Rattle.machine_shape.specs.Value.{Pulls, by_pin, by_table, IsValue, AreValues}
-use Rattle.machine_shape.specs.Defects.{Defects, Covers}
+use Rattle.machine_meaning.specs.Faults.{Faults}
+use Rattle.machine_meaning.specs.Joined.{Joined, plain_net}
+use Rattle.machine_meaning.specs.Circuit.{Outputs, Pins}
+use Rattle.machine_meaning.specs.Value.{Pulls, by_pin, by_table, IsValue, AreValues}
+use Rattle.machine_meaning.specs.Defects.{Defects, Covers}
 use Rattle.machine_config.specs.declared.Setting.{Setting}
 use Rattle.machine_config.specs.Configuration.{is_closed, setting_of, cell_of}
 use Rattle.machine_config.specs.Faulty.{circuit_of, table_or_off, IsRun}

@@ -7,7 +7,7 @@ use Rattle.std.proofs.lemmas.Bool.{false≢true}
 use Rattle.std.proofs.lemmas.List.{ext_get_or}
 use Rattle.machine_shape.specs.declared.Shape.{Shape}
 use Rattle.machine_shape.specs.Shape.{ends_of}
-use Rattle.machine_shape.specs.Defects.{Defects, IsFreeWire}
+use Rattle.machine_meaning.specs.Defects.{Defects, IsFreeWire}
 use Rattle.machine_image.specs.Images.{ImageValue}
 use Rattle.place_plan.specs.declared.short.Need.{Need}
 use Rattle.place_plan.specs.declared.short.Resource.{Resource}

@@ -6,8 +6,8 @@ use Rattle.std.proofs.lemmas.List.{get_or-set_same, get_or-set_other, length-set
 use Rattle.std.proofs.lemmas.List.FromFn.{map-range_with_len_more, length-range_with_len, get_or-range_with_len}
 use Rattle.machine_shape.specs.Shape.{in_order, turned, wires_of, crosses_of, ends_of}
 use Rattle.machine_shape.specs.Laws.{IsNumbered}
-use Rattle.machine_shape.specs.Joined.{Net, Joined, here, then, crossed, plain_net}
-use Rattle.machine_shape.proofs.JoinedLemmas.{Joined-trans, Joined-sym}
+use Rattle.machine_meaning.specs.Joined.{Net, Joined, here, then, crossed, plain_net}
+use Rattle.machine_meaning.proofs.JoinedLemmas.{Joined-trans, Joined-sym}
 use Rattle.machine_config.specs.Configuration.{Configuration, is_closed}
 use Rattle.place_repair.specs.Groups.{parent_at, AreLow, HasRoots, AreJoined, IsFound, IsMerged, IsUnited, HasJoined, IsForest, AreRootsTo, AreRootsOf, AreLowest}
 

@@ -3,8 +3,8 @@ use Rattle.std.proofs.Common.{◌≡◌, ◌≢◌, ◌⊎◌, ℕ, ◌<◌, ◌
 use Rattle.std.specs.List.{All, Contains}
 use Rattle.machine_shape.specs.Shape.{Ends, in_order, turned, ends_of, wires_of}
 use Rattle.machine_shape.specs.Laws.{IsNumbered}
-use Rattle.machine_shape.specs.Joined.{here, then, crossed, bridged}
-use Rattle.machine_shape.proofs.JoinedLemmas.{Joined-trans, Joined-sym}
+use Rattle.machine_meaning.specs.Joined.{here, then, crossed, bridged}
+use Rattle.machine_meaning.proofs.JoinedLemmas.{Joined-trans, Joined-sym}
 use Rattle.std.proofs.lemmas.Bool.{false≢true}
 use Rattle.std.proofs.lemmas.List.{get_or_default, get_or_read}
 use Rattle.machine_config.specs.Configuration.{Configuration, IsConfiguration, is_closed}

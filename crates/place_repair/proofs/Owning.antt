@@ -7,9 +7,9 @@ use Rattle.std.proofs.lemmas.Bool.{false≢true, cases_Bool}
 use Rattle.std.proofs.lemmas.List.Elements.{All-contains}
 use Rattle.machine_shape.specs.declared.Shape.{Shape}
 use Rattle.machine_shape.specs.Shape.{Ends, in_order, turned, ends_of, wires_of, nodes_of, tables_of, pins_of, pin_wire, table_wire, node_of, IsLine, IsPort, IsTap, tap_pin, tap_table}
-use Rattle.machine_shape.specs.Joined.{Joined, here, then, crossed, bridged, plain_net}
-use Rattle.machine_shape.proofs.JoinedLemmas.{Joined-trans, Joined-sym}
-use Rattle.machine_shape.specs.Defects.{Defects, IsFreeWire, IsFreeCross}
+use Rattle.machine_meaning.specs.Joined.{Joined, here, then, crossed, bridged, plain_net}
+use Rattle.machine_meaning.proofs.JoinedLemmas.{Joined-trans, Joined-sym}
+use Rattle.machine_meaning.specs.Defects.{Defects, IsFreeWire, IsFreeCross}
 use Rattle.machine_config.specs.Configuration.{Configuration, is_closed, setting_of}
 use Rattle.machine_image.specs.Images.{ImageValue, IsImage}
 use Rattle.machine_image.specs.Parts.{Uses, at_tap, at_line}

@@ -7,10 +7,10 @@ use Rattle.std.proofs.lemmas.List.{get_or-map, get_or_default, length-map, map-a
 use Rattle.std.proofs.lemmas.List.Elements.{All-contains, Contains-get_or, Contains-append_left, Contains-append_right}
 use Rattle.machine_shape.specs.declared.Shape.{Shape}
 use Rattle.machine_shape.specs.Shape.{ends_of, wires_of, nodes_of, tables_of, pins_of, pin_wire, table_wire}
-use Rattle.machine_shape.specs.Joined.{Joined, plain_net}
+use Rattle.machine_meaning.specs.Joined.{Joined, plain_net}
 use Rattle.machine_shape.specs.Laws.{IsNumbered}
-use Rattle.machine_shape.specs.Defects.{Defects, IsFreeWire, IsFreeCross, IsFreeTable, Covers}
-use Rattle.machine_shape.proofs.Faultless.{covers_none}
+use Rattle.machine_meaning.specs.Defects.{Defects, IsFreeWire, IsFreeCross, IsFreeTable, Covers}
+use Rattle.machine_meaning.proofs.Faultless.{covers_none}
 use Rattle.machine_defects.specs.Lists.{DefectList, is_free_table, no_defects}
 use Rattle.machine_config.specs.declared.Setting.{Setting}
 use Rattle.machine_config.specs.Configuration.{Configuration, is_closed, setting_of, cleared, with_ticks}

@@ -8,7 +8,7 @@ use Rattle.std.specs.FinSet.{contains-insert, contains-empty, same_set, nat_cmp-
 use Rattle.std.proofs.lemmas.Bool.{false≢true, cases_eq, or_cases, eq-eqb}
 use Rattle.machine_shape.specs.Shape.{ends_of, wires_of, crosses_of}
 use Rattle.machine_shape.specs.Laws.{IsNumbered}
-use Rattle.machine_shape.specs.Defects.{Defects, AreDefectsOf, IsFreeWire, IsFreeCross}
+use Rattle.machine_meaning.specs.Defects.{Defects, AreDefectsOf, IsFreeWire, IsFreeCross}
 use Rattle.machine_defects.specs.Lists.{DefectList, IsWithWire, no_defects, is_free_wire, has_free_ends, with_cross}
 use Rattle.machine_config.specs.Configuration.{Configuration, IsConfiguration}
 use Rattle.machine_config.proofs.Changes.{same_number}

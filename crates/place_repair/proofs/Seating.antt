@@ -9,7 +9,7 @@ use Rattle.std.proofs.lemmas.List.Elements.{All-filter, filter_passes}
 use Rattle.std.proofs.lemmas.List.Kept.{AllPairs-filter}
 use Rattle.machine_shape.specs.declared.Shape.{Shape}
 use Rattle.machine_shape.specs.Shape.{pin_wire, table_wire, pins_of, tables_of}
-use Rattle.machine_shape.specs.Defects.{Defects, IsFreeTable}
+use Rattle.machine_meaning.specs.Defects.{Defects, IsFreeTable}
 use Rattle.machine_defects.specs.Lists.{is_free_table}
 use Rattle.machine_config.specs.declared.Setting.{Setting}
 use Rattle.machine_config.specs.Configuration.{setting_of}

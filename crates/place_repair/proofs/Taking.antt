@@ -3,7 +3,7 @@ use Rattle.std.proofs.Common.{◌≡◌, ℕ, Bool, true, false, not, refl, sym,
 use Rattle.std.specs.Prelude.{◌↔◌}
 use Rattle.std.specs.FinSet as set
 use Rattle.std.proofs.lemmas.Bool.{false≢true}
-use Rattle.machine_shape.specs.Defects.{Defects, IsFreeWire}
+use Rattle.machine_meaning.specs.Defects.{Defects, IsFreeWire}
 use Rattle.machine_defects.specs.Lists.{is_free_wire}
 
 pub unfree_listed : (d : Defects) (w : ℕ) (free : Bool) → (free ≡ true) ↔ IsFreeWire d w → free ≡ false → set.contains d.wires w ≡ true

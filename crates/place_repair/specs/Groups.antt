@@ -1,7 +1,7 @@
 -- Groups of wires: each wire has a parent that isn't above it, and a group has a root, its lowest wire.
 use Rattle.std.specs.Prelude.{◌≡◌, ℕ, ◌<◌, ◌≤◌, true, List, length, slice_index_or}
 use Rattle.machine_shape.specs.Shape.{wires_of, ends_of}
-use Rattle.machine_shape.specs.Joined.{Net, Joined, plain_net}
+use Rattle.machine_meaning.specs.Joined.{Net, Joined, plain_net}
 use Rattle.machine_config.specs.Configuration.{Configuration, is_closed}
 use Rattle.place_repair.specs.Nets.{HangTogether}
 

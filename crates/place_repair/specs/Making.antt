@@ -6,7 +6,7 @@ use Rattle.machine_shape.specs.declared.Cross.{Cross}
 use Rattle.machine_shape.specs.declared.Shape.{Shape}
 use Rattle.machine_shape.specs.declared.Table.{Table}
 use Rattle.machine_shape.specs.Shape.{ends_of, wires_of, pins_of, pin_wire, table_wire, tables_of}
-use Rattle.machine_shape.specs.Defects.{Defects, IsFreeCross, IsFreeTable, IsFreeWire}
+use Rattle.machine_meaning.specs.Defects.{Defects, IsFreeCross, IsFreeTable, IsFreeWire}
 use Rattle.machine_defects.specs.Lists.{DefectList}
 use Rattle.machine_config.specs.Configuration.{Configuration, is_closed, setting_of, with_ticks}
 use Rattle.machine_image.specs.Images.{ImageValue, IsImage}

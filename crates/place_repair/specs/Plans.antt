@@ -4,7 +4,7 @@ use Rattle.std.specs.List.{Contains, filter}
 use Rattle.std.specs.FinSet as set
 use Rattle.machine_shape.specs.declared.Shape.{Shape}
 use Rattle.machine_shape.specs.Shape.{ends_of, pin_wire, table_wire, pins_of, tables_of}
-use Rattle.machine_shape.specs.Defects.{Defects, IsFreeWire, IsFreeTable}
+use Rattle.machine_meaning.specs.Defects.{Defects, IsFreeWire, IsFreeTable}
 use Rattle.machine_defects.specs.Lists.{is_free_wire}
 use Rattle.machine_config.specs.Configuration.{setting_of}
 use Rattle.machine_image.specs.Images.{ImageValue}

@@ -2,9 +2,9 @@
 use Rattle.std.specs.Prelude.{◌≡◌, ◌⊎◌, ℕ, ◌<◌, true, List, Bool, map, length, IsSome}
 use Rattle.std.specs.List.{Contains}
 use Rattle.machine_shape.specs.Shape.{ends_of, nodes_of, IsPort}
-use Rattle.machine_shape.specs.Faults.{Faults, IsFaultless}
-use Rattle.machine_shape.specs.Circuit.{Pins}
-use Rattle.machine_shape.specs.Defects.{Defects, Covers}
+use Rattle.machine_meaning.specs.Faults.{Faults, IsFaultless}
+use Rattle.machine_meaning.specs.Circuit.{Pins}
+use Rattle.machine_meaning.specs.Defects.{Defects, Covers}
 use Rattle.machine_config.specs.Configuration.{is_closed, setting_of}
 use Rattle.machine_config.specs.Faulty.{IsRun}
 use Rattle.machine_image.specs.Images.{ImageValue, drive_of, image_row}

@@ -1,5 +1,5 @@
 //! What the definition of a repair plan comes to.
-ghost use Rattle.machine_shape.specs.Defects.{Defects};
+ghost use Rattle.machine_meaning.specs.Defects.{Defects};
 ghost use Rattle.machine_image.specs.Images.{ImageValue};
 ghost use Rattle.place_plan.specs.declared.short.Short.{Short};
 ghost use Rattle.place_repair.specs.declared.seats.Seats.{Seats};

@@ -14,7 +14,7 @@ use Rattle.machine_shape.specs.Shape as meaning
 use Rattle.machine_shape.specs.Shape.{wires_of, crosses_of, nodes_of, node_of, parent_of, ends_of, IsLine, IsPort, IsTap, tap_pin, tap_port, tap_child, tap_table}
 use Rattle.machine_shape.specs.Laws.{IsNumbered, IsTree, HasParents, HasTaps, HasCrosses, HasMeanings}
 use Rattle.machine_shape.specs.Sites.{HasSites}
-use Rattle.machine_shape.specs.Defects.{Defects, IsFreeCross}
+use Rattle.machine_meaning.specs.Defects.{Defects, IsFreeCross}
 use Rattle.machine_config.specs.Configuration.{Configuration, is_closed, cleared}
 use Rattle.place_plan.specs.declared.short.Port.{Port}
 use Rattle.place_plan.specs.declared.short.Visit.{Visit}

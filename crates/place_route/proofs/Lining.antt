@@ -7,8 +7,8 @@ use Rattle.std.specs.BTreeMap.{BTreeMap, is_at}
 use Rattle.std.specs.Cmp.{eq_by_cmp_equiv}
 use Rattle.std.proofs.lemmas.List.Elements.{Contains-append_left, Contains-push, Contains-push_cases}
 use Rattle.std.proofs.lemmas.Map.Views.{tells_apart}
-use Rattle.machine_shape.specs.Faults.{pair_cmp}
-use Rattle.machine_shape.proofs.Pairs.{pairs_total, pairs_exact}
+use Rattle.machine_meaning.specs.Faults.{pair_cmp}
+use Rattle.machine_meaning.proofs.Pairs.{pairs_total, pairs_exact}
 use Rattle.place_plan.specs.declared.short.Visit.{Visit}
 use Rattle.place_route.specs.Owners.{line_in, HasLine, AreLines, IsPut}
 

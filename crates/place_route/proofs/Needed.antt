@@ -4,7 +4,7 @@ use Rattle.std.proofs.lemmas.List.Elements.{All-contains}
 use Rattle.machine_shape.specs.declared.Shape.{Shape}
 use Rattle.machine_shape.specs.Shape.{nodes_of, ends_of}
 use Rattle.machine_shape.specs.Laws.{IsNumbered, HasParents}
-use Rattle.machine_shape.specs.Defects.{Defects}
+use Rattle.machine_meaning.specs.Defects.{Defects}
 use Rattle.machine_config.specs.Configuration.{is_closed}
 use Rattle.machine_image.specs.Images.{ImageValue}
 use Rattle.map_network.specs.declared.network.Network.{Network}

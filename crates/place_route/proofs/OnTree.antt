@@ -4,8 +4,8 @@ use native.Mathlib.Decide.{ℕ_discrete}
 use Rattle.machine_shape.specs.declared.Shape.{Shape}
 use Rattle.machine_shape.specs.Shape.{in_order, ends_of, node_of, parent_of}
 use Rattle.machine_shape.specs.Laws.{IsTree}
-use Rattle.machine_shape.specs.Joined.{Joined, here, then, crossed, plain_net}
-use Rattle.machine_shape.proofs.JoinedLemmas.{Joined-trans, Joined-sym}
+use Rattle.machine_meaning.specs.Joined.{Joined, here, then, crossed, plain_net}
+use Rattle.machine_meaning.proofs.JoinedLemmas.{Joined-trans, Joined-sym}
 use Rattle.place_plan.specs.declared.tree.Strand.{Strand}
 use Rattle.place_plan.specs.declared.tree.Strand.TheVariants.{Own, Child, Outside}
 use Rattle.place_plan.specs.Strands.{IsInside, IsAt, at_own, at_child, at_outside, Crosses, IsStrand}

@@ -4,13 +4,13 @@ use Rattle.std.proofs.lemmas.Bool.{false≢true, cases_Bool}
 use Rattle.std.proofs.lemmas.List.{get_or_append_left, get_or-append-add, length-append, length-map}
 use Rattle.machine_shape.specs.Shape.{Ends, in_order, turned, ends_of, pin_wire, table_wire, pins_of, tables_of, crosses_of}
 use Rattle.machine_shape.specs.Laws.{IsNumbered}
-use Rattle.machine_shape.specs.Faults.{Faults}
-use Rattle.machine_shape.specs.Joined.{Joined, here, plain_net}
-use Rattle.machine_shape.specs.Circuit.{Outputs}
-use Rattle.machine_shape.specs.Value.{Pulls, by_pin, by_table, IsHeld, IsPulled, IsValue, held_0, held_1, pulled, released}
-use Rattle.machine_shape.specs.Defects.{Defects, IsFreeWire, IsFreeCross, IsFreeTable, Covers}
-use Rattle.machine_shape.proofs.Values.{IsValue-along}
-use Rattle.machine_shape.proofs.Covered.{none_stuck, joined_plainly}
+use Rattle.machine_meaning.specs.Faults.{Faults}
+use Rattle.machine_meaning.specs.Joined.{Joined, here, plain_net}
+use Rattle.machine_meaning.specs.Circuit.{Outputs}
+use Rattle.machine_meaning.specs.Value.{Pulls, by_pin, by_table, IsHeld, IsPulled, IsValue, held_0, held_1, pulled, released}
+use Rattle.machine_meaning.specs.Defects.{Defects, IsFreeWire, IsFreeCross, IsFreeTable, Covers}
+use Rattle.machine_meaning.proofs.Values.{IsValue-along}
+use Rattle.machine_meaning.proofs.Covered.{none_stuck, joined_plainly}
 use Rattle.machine_config.specs.Configuration.{Configuration, is_closed, setting_of}
 use Rattle.machine_config.specs.Faulty.{circuit_of}
 use Rattle.machine_image.specs.Images.{drive_on}

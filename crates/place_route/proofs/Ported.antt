@@ -7,7 +7,7 @@ use Rattle.machine_shape.specs.declared.Shape.{Shape}
 use Rattle.machine_shape.specs.Shape.{wires_of, crosses_of, nodes_of, ends_of, node_of_cross, tap_position, line_position, tap_at, line_at, cross_at, IsLine, IsPort, IsTap, IsAbove, itself, below}
 use Rattle.machine_shape.specs.Laws.{IsTree, HasParents, HasTaps, HasCrosses}
 use Rattle.machine_shape.specs.Sites.{HasSites}
-use Rattle.machine_shape.specs.Defects.{Defects}
+use Rattle.machine_meaning.specs.Defects.{Defects}
 use Rattle.place_plan.specs.declared.short.Visit.{Visit}
 use Rattle.place_plan.specs.declared.tree.Strand.{Strand}
 use Rattle.place_plan.specs.declared.tree.Strand.TheVariants.{Own, Child, Outside}

@@ -3,8 +3,8 @@ use Rattle.std.proofs.Common.{◌≡◌, ◌⊎◌, ℕ, ◌<◌, ◌≤◌, Boo
 use Rattle.std.proofs.lemmas.Bool.{cases_lt, false≢true, lt-ltb}
 use Rattle.machine_shape.specs.declared.Shape.{Shape}
 use Rattle.machine_shape.specs.Laws.{IsNumbered, IsTree}
-use Rattle.machine_shape.specs.Faults.{Faults}
-use Rattle.machine_shape.specs.Defects.{Defects, Covers}
+use Rattle.machine_meaning.specs.Faults.{Faults}
+use Rattle.machine_meaning.specs.Defects.{Defects, Covers}
 use Rattle.design_netlist.specs.declared.draft.Draft.{Draft}
 use Rattle.machine_config.specs.Configuration.{is_closed}
 use Rattle.machine_image.specs.Images.{ImageValue, image_row}

@@ -3,8 +3,8 @@ use Rattle.std.proofs.Common.{◌≡◌, ℕ, ◌<◌, ◌≤◌, length, refl, 
 use Rattle.std.proofs.lemmas.List.{length-map}
 use Rattle.machine_shape.specs.Shape.{IsLine, IsPort}
 use Rattle.machine_shape.specs.Laws.{IsNumbered, IsTree}
-use Rattle.machine_shape.specs.Faults.{Faults}
-use Rattle.machine_shape.specs.Defects.{Defects, IsFreeTable, Covers}
+use Rattle.machine_meaning.specs.Faults.{Faults}
+use Rattle.machine_meaning.specs.Defects.{Defects, IsFreeTable, Covers}
 use Rattle.machine_config.specs.Configuration.{Configuration, is_closed}
 use Rattle.machine_image.specs.Parts.{IsFreeImage}
 use Rattle.map_network.specs.declared.network.Network.{Network}

@@ -8,11 +8,11 @@ use Rattle.std.proofs.lemmas.List.Elements.{Contains-get_or}
 use Rattle.std.proofs.lemmas.List.FromFn.{get_or-map-range_with_len}
 use Rattle.machine_shape.specs.Shape.{pin_wire, pins_of}
 use Rattle.machine_shape.specs.Laws.{IsNumbered}
-use Rattle.machine_shape.specs.Faults.{Faults, wrong_cell, stuck_register}
-use Rattle.machine_shape.specs.Circuit.{Outputs, Pins}
-use Rattle.machine_shape.specs.Value.{IsValue, AreValues}
+use Rattle.machine_meaning.specs.Faults.{Faults, wrong_cell, stuck_register}
+use Rattle.machine_meaning.specs.Circuit.{Outputs, Pins}
+use Rattle.machine_meaning.specs.Value.{IsValue, AreValues}
 use Rattle.machine_config.specs.Run.{number_of, address_at, pins_read, tick_output, edge_output, after_tick, after_edge, Ticks, unticked, tick, Cycles, none, cycle}
-use Rattle.machine_shape.specs.Defects.{Defects, Covers}
+use Rattle.machine_meaning.specs.Defects.{Defects, Covers}
 use Rattle.machine_config.specs.Configuration.{Configuration, setting_of}
 use Rattle.machine_config.specs.Faulty.{circuit_of, table_or_off}
 use Rattle.machine_image.specs.Images.{drive_on, row_at}

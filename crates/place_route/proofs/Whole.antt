@@ -9,7 +9,7 @@ use Rattle.std.proofs.lemmas.List.{get_or-map, length-map}
 use Rattle.machine_shape.specs.declared.Shape.{Shape}
 use Rattle.machine_shape.specs.declared.Table.{Table}
 use Rattle.machine_shape.specs.Shape.{pins_of, wires_of, crosses_of, tables_of}
-use Rattle.machine_shape.specs.Defects.{Defects, IsFreeCross}
+use Rattle.machine_meaning.specs.Defects.{Defects, IsFreeCross}
 use Rattle.machine_config.specs.declared.Setting.{Setting}
 use Rattle.machine_config.specs.Configuration.{Configuration, is_closed, setting_of, cleared, with_ticks}
 use Rattle.map_network.specs.declared.network.Network.{Network}

@@ -1,8 +1,8 @@
 -- When the nets of a network that sits on a machine are laid on free parts of it.
 use Rattle.std.specs.Prelude.{◌≡◌, ℕ, ◌<◌, ◌≤◌, true, Some, IsSome, length}
 use Rattle.machine_shape.specs.Shape.{ends_of, crosses_of, pin_wire, table_wire}
-use Rattle.machine_shape.specs.Joined.{Joined, plain_net}
-use Rattle.machine_shape.specs.Defects.{Defects, IsFreeCross}
+use Rattle.machine_meaning.specs.Joined.{Joined, plain_net}
+use Rattle.machine_meaning.specs.Defects.{Defects, IsFreeCross}
 use Rattle.machine_config.specs.declared.Setting.{Setting}
 use Rattle.machine_config.specs.Configuration.{Configuration, is_closed, setting_of}
 use Rattle.machine_image.specs.Images.{ImageValue}

@@ -2,7 +2,7 @@
 use Rattle.std.specs.Prelude.{◌≡◌, ℕ, ◌<◌, true, List, Some, IsSome, length}
 use Rattle.machine_shape.specs.declared.Shape.{Shape}
 use Rattle.machine_shape.specs.Shape.{nodes_of, ends_of}
-use Rattle.machine_shape.specs.Defects.{Defects}
+use Rattle.machine_meaning.specs.Defects.{Defects}
 use Rattle.machine_config.specs.Configuration.{is_closed, setting_of}
 use Rattle.machine_image.specs.Images.{ImageValue}
 use Rattle.map_network.specs.declared.network.Network.{Network}

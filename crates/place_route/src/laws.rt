@@ -1,7 +1,7 @@
 //! That nets which are laid on free parts read their network's rows, whatever faults a list covers.
 ghost use Rattle.std.specs.Prelude.{◌≡◌, ℕ, Option, Some};
-ghost use Rattle.machine_shape.specs.Defects.{Defects, Covers};
-ghost use Rattle.machine_shape.specs.Faults.{Faults};
+ghost use Rattle.machine_meaning.specs.Defects.{Defects, Covers};
+ghost use Rattle.machine_meaning.specs.Faults.{Faults};
 ghost use Rattle.machine_config.specs.Configuration.{Configuration, is_closed};
 ghost use Rattle.machine_image.specs.Parts.{IsFreeImage};
 ghost use Rattle.map_network.specs.declared.network.Network.{Network};

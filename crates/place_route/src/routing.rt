@@ -2,8 +2,8 @@
 ghost use Rattle.std.specs.Prelude.{◌≡◌, ◌≢◌, ◌≤◌, ◌<◌, ◌++◌, All, AllPairs, IfOk, length};
 ghost use Rattle.std.specs.FinSet as set;
 ghost use Rattle.machine_shape.specs.Shape.{pins_of, tables_of, wires_of};
-ghost use Rattle.machine_shape.specs.Defects.{Covers};
-ghost use Rattle.machine_shape.specs.Faults.{Faults};
+ghost use Rattle.machine_meaning.specs.Defects.{Covers};
+ghost use Rattle.machine_meaning.specs.Faults.{Faults};
 ghost use Rattle.design_netlist.specs.declared.draft.Draft.{Draft};
 ghost use Rattle.machine_image.specs.Parts.{IsFreeImage};
 ghost use Rattle.map_network.specs.Networks.{IsNetwork};

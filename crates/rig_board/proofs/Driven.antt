@@ -4,8 +4,8 @@ use Rattle.std.specs.Prelude.{IfSome, option_map, Result, Ok, Err, OnOk, is_err,
 use Rattle.std.specs.Option.{ForSome}
 use Rattle.machine_shape.specs.declared.Shape.{Shape}
 use Rattle.machine_shape.specs.Shape.{pins_of}
-use Rattle.machine_shape.specs.Circuit.{Pins}
-use Rattle.machine_shape.specs.Faults.{Faults, AreFaultsOf}
+use Rattle.machine_meaning.specs.Circuit.{Pins}
+use Rattle.machine_meaning.specs.Faults.{Faults, AreFaultsOf}
 use Rattle.machine_config.specs.Configuration.{Configuration}
 use Rattle.machine_config.specs.Faulty.{IsRun}
 use Rattle.rig.specs.Rig.{Exchange, Session, RigState, GoesOnBy, KeepLengths, drives_of, readings_of}

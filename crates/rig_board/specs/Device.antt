@@ -1,7 +1,7 @@
 -- A machine as it stands, where it is told.
 use Rattle.std.specs.Prelude.{◌≡◌, List, ◌++◌, Option, None, Some, IfSome, option_map}
 use Rattle.machine_shape.specs.declared.Shape.{Shape}
-use Rattle.machine_shape.specs.Faults.{Faults}
+use Rattle.machine_meaning.specs.Faults.{Faults}
 use Rattle.machine_config.specs.Configuration.{Configuration}
 use Rattle.machine_config.specs.Faulty.{IsRun}
 use Rattle.rig.specs.Rig.{Exchange, Session, drives_of, readings_of}

@@ -2,7 +2,7 @@
 use Rattle.std.specs.Prelude.{◌≡◌, ◌-◌, min, List, ◌++◌, map, length, vec_len}
 use Rattle.std.specs.Vec.{vec_capacity}
 use Rattle.machine_config.specs.Kept.{set_of}
-use Rattle.machine_shape.specs.Circuit.{Pins}
+use Rattle.machine_meaning.specs.Circuit.{Pins}
 use Rattle.rig.specs.Rig.{Exchange, Session, drives_of, readings_of}
 use Rattle.rig_board.specs.declared.kept.Row.{Row}
 use Rattle.rig_board.specs.declared.kept.Kept.{Kept}

@@ -3,7 +3,7 @@ use Rattle.std.specs.Prelude.{◌≡◌, true, Option, Some}
 use Rattle.std.specs.Option.{ForSome}
 use Rattle.machine_shape.specs.declared.Shape.{Shape}
 use Rattle.machine_shape.specs.Shape.{pins_of}
-use Rattle.machine_shape.specs.Faults.{AreFaultsOf}
+use Rattle.machine_meaning.specs.Faults.{AreFaultsOf}
 use Rattle.rig_board.specs.Boards.{BoardState}
 use Rattle.rig_board.specs.Device.{IsInSession}
 use Rattle.rig_board.specs.declared.kept.Kept.{Kept}

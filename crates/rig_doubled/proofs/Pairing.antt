@@ -4,8 +4,8 @@ use Rattle.std.specs.Prelude.{option_map, IsSome, Result, Ok, Err, OnOk, IsOk}
 use Rattle.std.specs.Option.{option_map_or}
 use Rattle.std.proofs.lemmas.List.{map-append, append_cancel_left}
 use Rattle.std.proofs.lemmas.Bool.{false≢true}
-use Rattle.machine_shape.specs.Circuit.{Pins}
-use Rattle.machine_shape.specs.Faults.{Faults}
+use Rattle.machine_meaning.specs.Circuit.{Pins}
+use Rattle.machine_meaning.specs.Faults.{Faults}
 use Rattle.machine_shape.specs.Shape.{pins_of}
 use Rattle.machine_config.specs.Configuration.{Configuration}
 use Rattle.machine_config.specs.Faulty.{circuit_of, IsRun}

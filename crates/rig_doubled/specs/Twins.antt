@@ -1,6 +1,6 @@
 -- Two rigs side by side.
 use Rattle.std.specs.Prelude.{◌≡◌, ◌⊎◌, ℕ, ◌+◌, ◌≤◌, List, Option, None, Some, IfSome, length, option_map}
-use Rattle.machine_shape.specs.Circuit.{Pins}
+use Rattle.machine_meaning.specs.Circuit.{Pins}
 use Rattle.rig.specs.Rig.{Asked, Session, Refused, RigState, shape_of, config_of, width_of, cycles_of, spare_of, GoesOn, GoesOnBy}
 use Rattle.rig.specs.Rig.{Attaches, AttachFails, IsDetached}
 use Rattle.rig.specs.declared.rig.AttachFail.{AttachFail}

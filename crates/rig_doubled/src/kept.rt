@@ -1,7 +1,7 @@
 //! A session that can be asked again.
 ghost use Rattle.std.specs.Prelude.{◌≡◌, ◌^◌, ◌-◌, ◌+◌, ◌<◌, ◌≤◌, ◌++◌, [], ◌∷◌, List, None, Some, true, min, length, IfSome, IsSome, IfOk};
 ghost use Rattle.std.specs.Prelude.{IfErr, OnOk};
-ghost use Rattle.machine_shape.specs.Circuit.{Pins};
+ghost use Rattle.machine_meaning.specs.Circuit.{Pins};
 ghost use Rattle.machine_shape.specs.Shape.{pins_of};
 ghost use Rattle.machine_config.specs.Faulty.{IsRun};
 ghost use Rattle.base_io.specs.Counts.{next_count};

@@ -1,7 +1,7 @@
 //! The calls of two rigs side by side.
 ghost use Rattle.std.specs.Prelude.{◌≡◌, ◌⊎◌, ◌-◌, ◌<◌, ◌≤◌, None, Some, false, true, length, take, IfOk, IfErr, IfSome, IsSome, IsErrOf};
 ghost use Rattle.std.specs.Prelude.{OnOk, OnErr};
-ghost use Rattle.machine_shape.specs.Faults.{Faults, AreFaultsOf};
+ghost use Rattle.machine_meaning.specs.Faults.{Faults, AreFaultsOf};
 ghost use Rattle.machine_shape.specs.Shape.{pins_of};
 ghost use Rattle.base_io.specs.Counts.{Rose};
 ghost use Rattle.rig.specs.Rig.{shape_of, width_of, spare_of, AreRows, Begins, CyclesFail, GoesOn, GoesOnBy, HasFaultsOf, KeepLengths};

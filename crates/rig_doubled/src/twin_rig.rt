@@ -1,6 +1,6 @@
 //! Two machines side by side.
 ghost use Rattle.std.specs.Prelude.{◌≡◌, ◌⊎◌, ◌^◌, ◌<◌, ◌≤◌, [], None, Some, length, string_bytes, IsSome, IfSome, IfErr, OnOk, OnErr, IsErrOf};
-ghost use Rattle.machine_shape.specs.Faults.{Faults};
+ghost use Rattle.machine_meaning.specs.Faults.{Faults};
 ghost use Rattle.base_io.specs.Counts.{Rose, next_count};
 ghost use Rattle.rig.specs.Rig.{shape_of, width_of, IsDetached, Attaches, AttachFails, HasFaultsOf, Begins, LoadFails, GoesOn, CycleFails};
 ghost use Rattle.rig.specs.Rig.{GoesOnBy, CyclesFail, AreRows, KeepLengths};

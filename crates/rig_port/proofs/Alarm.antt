@@ -5,7 +5,7 @@ use Rattle.std.specs.Prelude.{IfSome, IsSome, is_some, option_map}
 use Rattle.std.specs.Option.{option_map_or}
 use Rattle.machine_shape.specs.declared.Shape.{Shape}
 use Rattle.machine_shape.specs.Shape.{pins_of}
-use Rattle.machine_shape.specs.Circuit.{Pins}
+use Rattle.machine_meaning.specs.Circuit.{Pins}
 use Rattle.machine_config.specs.Configuration.{Configuration}
 use Rattle.base_io.specs.Counts.{Rose}
 use Rattle.rig.specs.Rig.{Exchange, Session, KeepLengths, drives_of, readings_of}

@@ -6,8 +6,8 @@ use Rattle.std.specs.Prelude.{IfSome, IsSome, option_map, if◌then◌else◌}
 use Rattle.std.specs.Option.{option_map_or}
 use Rattle.machine_shape.specs.declared.Shape.{Shape}
 use Rattle.machine_shape.specs.Shape.{pins_of}
-use Rattle.machine_shape.specs.Circuit.{Pins}
-use Rattle.machine_shape.specs.Faults.{Faults}
+use Rattle.machine_meaning.specs.Circuit.{Pins}
+use Rattle.machine_meaning.specs.Faults.{Faults}
 use Rattle.machine_config.specs.Configuration.{Configuration, cleared}
 use Rattle.machine_config.specs.Faulty.{IsRun}
 use Rattle.rig.specs.Rig.{RigState, Exchange, Session, Asked, GoesOnBy, shape_of, config_of, cycles_of, drives_of, readings_of, IsTold, KeepLengths}

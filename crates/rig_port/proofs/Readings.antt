@@ -6,7 +6,7 @@ use Rattle.std.specs.Prelude.{flat_map, Ok, sum, ◌==◌}
 use Rattle.std.specs.Int.{div_ceil}
 use Rattle.hex.specs.Hex.{encode_lower, decode_of, lower_digits, IsBytes}
 use Rattle.hex.proofs.HexLemmas.{decode_of-encode_lower, length-encode_with}
-use Rattle.machine_shape.specs.Circuit.{Pins}
+use Rattle.machine_meaning.specs.Circuit.{Pins}
 use Rattle.rig_port.specs.Lines.{pin_bit, bit_of, octet_at, octets_below, pin_text, reading_body, reading_line}
 use Rattle.rig_port.proofs.Spelled.{led}
 

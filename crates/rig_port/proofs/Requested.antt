@@ -10,7 +10,7 @@ use Rattle.hex.specs.Hex.{encode_lower, decode_of, lower_digits, IsBytes}
 use Rattle.hex.proofs.HexLemmas.{decode_of-encode_lower, length-encode_with}
 use Rattle.machine_shape.specs.declared.Shape.{Shape}
 use Rattle.machine_shape.specs.Shape.{crosses_of, tables_of, pins_of, levels_of}
-use Rattle.machine_shape.specs.Circuit.{Pins}
+use Rattle.machine_meaning.specs.Circuit.{Pins}
 use Rattle.machine_config.specs.declared.Setting.{Setting}
 use Rattle.rig_port.specs.Lines.{line_of, pin_bit, pin_text}
 use Rattle.rig_port.specs.Requests.{Edit, Close, Open, On, Off, Tick, IsEditOf, flag_digit, edit_text, edits_text, drives_text, AreDrivesOf, start_text, attach_line, load_line, drives_line}

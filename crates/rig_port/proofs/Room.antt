@@ -8,7 +8,7 @@ use Rattle.std.specs.Prelude.{flat_map, sum}
 use Rattle.std.specs.Int.{div_ceil}
 use Rattle.std.specs.List.{sum_by}
 use Rattle.hex.specs.Hex.{encode_lower, encode_with}
-use Rattle.machine_shape.specs.Circuit.{Pins}
+use Rattle.machine_meaning.specs.Circuit.{Pins}
 use Rattle.rig_port.specs.Lines.{word_room, turn_room, pin_text, reading_body, reading_line}
 use Rattle.rig_port.proofs.Spelled.{led}
 use Rattle.rig_port.proofs.Readings.{AreOf, sealed, at_end, length_text}

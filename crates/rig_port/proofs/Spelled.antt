@@ -8,7 +8,7 @@ use Rattle.std.proofs.Math.Nat.{add-mod}
 use Rattle.std.specs.Prelude.{flat_map, sum}
 use Rattle.std.specs.List.{join_by}
 use Rattle.hex.specs.Hex.{encode_lower, encode_with}
-use Rattle.machine_shape.specs.Circuit.{Pins}
+use Rattle.machine_meaning.specs.Circuit.{Pins}
 use Rattle.rig_port.specs.Lines.{gap, octet_at, octets_below}
 
 pub octets_step : (text : List ℕ) (byte : ℕ) (bytes : List ℕ) → text ++ encode_lower (byte ∷ []) ++ encode_lower bytes ≡ text ++ encode_lower (byte ∷ bytes)

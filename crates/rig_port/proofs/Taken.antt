@@ -9,7 +9,7 @@ use Rattle.std.specs.Int.{div_ceil}
 use Rattle.hex.specs.Hex.{encode_lower, encode_with, decode_sized, IsBytes}
 use Rattle.hex.specs.declared.error.FromHexError.{FromHexError}
 use Rattle.hex.proofs.HexLemmas.{decode_sized-encode_lower}
-use Rattle.machine_shape.specs.Circuit.{Pins}
+use Rattle.machine_meaning.specs.Circuit.{Pins}
 use Rattle.rig.specs.Rig.{KeepLengths}
 use Rattle.rig_port.specs.Lines.{pin_bit, bit_of, octet_at, octets_below, pin_text, reading_body, reading_line}
 use Rattle.rig_port.proofs.Spelled.{led}

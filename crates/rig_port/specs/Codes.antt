@@ -3,7 +3,7 @@ use Rattle.std.specs.Prelude.{ℕ, Bool, List, Option, refl}
 use Rattle.std.specs.Coded.{Coded, code_by, coded×, coded_ℕ, coded_bool, coded_list, coded_option}
 use Rattle.machine_shape.specs.contracts.Shape as shape
 use Rattle.machine_shape.specs.declared.Shape.{Shape}
-use Rattle.machine_shape.specs.Faults.{Faults}
+use Rattle.machine_meaning.specs.Faults.{Faults}
 use Rattle.machine_config.specs.Configuration.{Configuration, coded_configuration}
 use Rattle.machine_faults.specs.Adding.{coded_faults}
 use Rattle.rig.specs.Rig.{Exchange, Session}

@@ -1,7 +1,7 @@
 -- What a board over a port keeps beside the machine at the other end.
 use Rattle.std.specs.Prelude.{◌≡◌, ℕ, Bool, true, false, List, [], ◌++◌, Option, Some, IfSome, IsSome, All, option_map}
 use Rattle.machine_shape.specs.declared.Shape.{Shape}
-use Rattle.machine_shape.specs.Circuit.{Pins}
+use Rattle.machine_meaning.specs.Circuit.{Pins}
 use Rattle.machine_config.specs.Configuration.{Configuration}
 use Rattle.rig.specs.Rig.{Exchange, drives_of, readings_of}
 use Rattle.rig_board.specs.Boards.{BoardState}

@@ -1,7 +1,7 @@
 -- A port: a request is sent, and a line comes back.
 use Rattle.std.specs.Prelude.{◌≡◌, ℕ, Bool, true, Option, IfSome, option_map}
 use Rattle.machine_shape.specs.declared.Shape.{Shape}
-use Rattle.machine_shape.specs.Faults.{Faults, AreFaultsOf}
+use Rattle.machine_meaning.specs.Faults.{Faults, AreFaultsOf}
 use Rattle.base_io.specs.Counts.{Rose}
 use Rattle.rig_board.specs.Device.{Device}
 use Rattle.rig_port.specs.Lines.{AreCounts}

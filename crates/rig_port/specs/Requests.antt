@@ -6,7 +6,7 @@ use Rattle.std.specs.List.{join_by}
 use Rattle.hex.specs.Hex.{encode_lower}
 use Rattle.machine_shape.specs.declared.Shape.{Shape}
 use Rattle.machine_shape.specs.Shape.{crosses_of, tables_of, pins_of}
-use Rattle.machine_shape.specs.Circuit.{Pins}
+use Rattle.machine_meaning.specs.Circuit.{Pins}
 use Rattle.machine_config.specs.declared.Setting.{Setting}
 use Rattle.machine_config.specs.Configuration.{Configuration, with_closed, with_open, with_setting, with_ticks}
 use Rattle.rig_port.specs.Lines.{line_of, pin_bit, pin_text}

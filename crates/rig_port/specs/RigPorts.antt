@@ -3,7 +3,7 @@ use Rattle.std.specs.Prelude.{◌≡◌, ℕ, ◌-◌, ◌^◌, ◌<◌, min, Bo
 use Rattle.std.specs.Option.{option_map_or}
 use Rattle.machine_shape.specs.declared.Shape.{Shape}
 use Rattle.machine_shape.specs.Shape.{pins_of}
-use Rattle.machine_shape.specs.Circuit.{Pins}
+use Rattle.machine_meaning.specs.Circuit.{Pins}
 use Rattle.machine_config.specs.Configuration.{Configuration, cleared}
 use Rattle.rig.specs.Rig.{RigState, Exchange, shape_of, config_of, cycles_of, drives_of, readings_of, IsTold, KeepLengths}
 use Rattle.rig_board.specs.Device.{Device, WhereTold}

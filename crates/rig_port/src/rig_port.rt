@@ -3,7 +3,7 @@ ghost use Rattle.std.specs.Prelude.{◌≡◌, ◌+◌, ◌^◌, ◌<◌, ◌≤
 ghost use Rattle.std.specs.Prelude.{vec_len, option_map, IfOk, IfErr, IfSome, IsSome, IsTrue, OnOk, OnErr, IsErrOf};
 ghost use Rattle.std.specs.List.{sum_by};
 ghost use Rattle.machine_shape.specs.Shape.{pins_of, crosses_of, tables_of};
-ghost use Rattle.machine_shape.specs.Circuit.{Pins};
+ghost use Rattle.machine_meaning.specs.Circuit.{Pins};
 ghost use Rattle.machine_config.specs.Configuration.{Configuration, cleared};
 ghost use Rattle.base_io.specs.Counts.{Rose};
 ghost use Rattle.rig.specs.Rig.{Attaches, shape_of, config_of, cycles_of};

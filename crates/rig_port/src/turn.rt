@@ -6,7 +6,7 @@ ghost use Rattle.std.specs.List.{sum_by};
 ghost use Rattle.std.specs.Vec.{vec_capacity};
 ghost use Rattle.hex.specs.Hex.{encode_lower};
 ghost use Rattle.machine_shape.specs.Shape.{pins_of};
-ghost use Rattle.machine_shape.specs.Circuit.{Pins};
+ghost use Rattle.machine_meaning.specs.Circuit.{Pins};
 ghost use Rattle.base_io.specs.Counts.{Rose};
 ghost use Rattle.rig.specs.Rig.{KeepLengths};
 ghost use Rattle.rig_port.specs.Lines.{line_of, pin_text, reading_line, word_room, turn_room};

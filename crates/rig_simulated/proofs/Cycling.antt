@@ -1,8 +1,8 @@
 -- A whole cycle.
 use Rattle.std.proofs.Common.{◌≡◌, ⊎_elim, ℕ, Bool, List, length, sym, ◌∙◌, subst}
 use Rattle.std.proofs.lemmas.Bool.{false≢true}
-use Rattle.machine_shape.specs.Circuit.{Outputs, Pins}
-use Rattle.machine_shape.specs.Faults.{Faults}
+use Rattle.machine_meaning.specs.Circuit.{Outputs, Pins}
+use Rattle.machine_meaning.specs.Faults.{Faults}
 use Rattle.machine_config.specs.Configuration.{Configuration}
 use Rattle.rig_simulated.specs.declared.classes.Knot.{Knot}
 use Rattle.rig_simulated.specs.declared.gates.Gate.{Gate}

@@ -4,7 +4,7 @@ use Rattle.std.specs.Prelude.{option_map}
 use Rattle.std.proofs.Math.Nat.{mul-le-mul_left}
 use Rattle.std.proofs.lemmas.List.FromFn.{length-map-range_with_len}
 use Rattle.machine_shape.specs.Shape.{tables_of, pins_of}
-use Rattle.machine_shape.specs.Circuit.{Outputs, Pins}
+use Rattle.machine_meaning.specs.Circuit.{Outputs, Pins}
 use Rattle.machine_config.specs.Configuration.{Configuration}
 use Rattle.machine_faults.specs.Adding.{Faulty}
 use Rattle.rig.specs.Rig.{Session}

@@ -7,9 +7,9 @@ use Rattle.std.proofs.lemmas.List.{get_or-map, length-map}
 use Rattle.std.proofs.lemmas.List.Elements.{All-map, All-weaker}
 use Rattle.std.proofs.lemmas.List.FromFn.{get_or-map-range_with_len, fill_by_all}
 use Rattle.machine_shape.specs.Shape.{pin_wire, table_wire, pins_of}
-use Rattle.machine_shape.specs.Circuit.{Outputs, Pins}
-use Rattle.machine_shape.specs.Value.{Pulls, by_pin, by_table, IsHeld, IsPulled, IsValue, held_0, held_1, pulled, released, AreValues}
-use Rattle.machine_shape.specs.Faults.{Faults, stuck_wire}
+use Rattle.machine_meaning.specs.Circuit.{Outputs, Pins}
+use Rattle.machine_meaning.specs.Value.{Pulls, by_pin, by_table, IsHeld, IsPulled, IsValue, held_0, held_1, pulled, released, AreValues}
+use Rattle.machine_meaning.specs.Faults.{Faults, stuck_wire}
 use Rattle.machine_config.specs.declared.Setting.{Setting}
 use Rattle.machine_config.specs.Configuration.{Configuration, setting_of}
 use Rattle.machine_config.specs.Faulty.{circuit_of, table_or_off, table_of}

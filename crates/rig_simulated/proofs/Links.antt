@@ -14,10 +14,10 @@ use Rattle.machine_shape.specs.declared.Shape.{Shape}
 use Rattle.machine_shape.specs.declared.Cross.{Cross}
 use Rattle.machine_shape.specs.declared.Wire.{Wire}
 use Rattle.machine_shape.specs.Shape.{Ends, in_order, ends_of, crosses_of}
-use Rattle.machine_shape.specs.Faults.{Faults, AreFaultsOf, stuck_cross, is_bridge, pair_cmp}
-use Rattle.machine_shape.specs.Joined.{Net, Linked, crossed, bridged}
+use Rattle.machine_meaning.specs.Faults.{Faults, AreFaultsOf, stuck_cross, is_bridge, pair_cmp}
+use Rattle.machine_meaning.specs.Joined.{Net, Linked, crossed, bridged}
 use Rattle.machine_faults.specs.Stored.{pair_of}
-use Rattle.machine_shape.proofs.Pairs.{pairs_total, pairs_exact}
+use Rattle.machine_meaning.proofs.Pairs.{pairs_total, pairs_exact}
 use Rattle.rig_simulated.specs.Classes.{HasLink, HaveSameLinks}
 use Rattle.rig_simulated.specs.Building.{bridged_net, stuck_net, closed_net, is_among}
 

@@ -5,8 +5,8 @@ use Rattle.std.specs.Prelude.{slice_index}
 use Rattle.machine_shape.specs.declared.Shape.{Shape}
 use Rattle.machine_shape.specs.declared.Cross.{Cross}
 use Rattle.machine_shape.specs.Shape.{pins_of, pin_wire}
-use Rattle.machine_shape.specs.Faults.{Faults, stuck_wire}
-use Rattle.machine_shape.specs.Joined.{net_of}
+use Rattle.machine_meaning.specs.Faults.{Faults, stuck_wire}
+use Rattle.machine_meaning.specs.Joined.{net_of}
 use Rattle.machine_config.specs.Configuration.{Configuration, is_closed}
 use Rattle.machine_config.specs.Faulty.{circuit_of}
 use Rattle.rig_simulated.specs.declared.classes.Knot.{Knot}

@@ -2,7 +2,7 @@
 use Rattle.std.proofs.Common.{◌≡◌, ◌≢◌, ◌⊎◌, inl, inr, ⊎_elim, ℕ, ◌+◌, ◌<◌, ◌≤◌, Bool, true, false, List, length, get_or, set, refl, sym, ap, ◌∙◌, arith}
 use Rattle.std.proofs.lemmas.Bool.{false≢true, cases_eq, cases_lt, false_from_ne_true}
 use Rattle.std.proofs.lemmas.List.{get_or-set_other, get_or-set_same, length-set, get_or_default}
-use Rattle.machine_shape.specs.Circuit.{Pins}
+use Rattle.machine_meaning.specs.Circuit.{Pins}
 use Rattle.rig_simulated.specs.declared.gates.Gate.{Gate}
 use Rattle.rig_simulated.specs.Gates.{is_low, IsClear, IsPulledBy, IsOutputOf, IsDrivenBy, IsPinOf, AreMarkedToo}
 

@@ -11,8 +11,8 @@ use Rattle.std.specs.Cmp.{nat_cmp_total}
 use Rattle.machine_shape.specs.declared.Shape.{Shape}
 use Rattle.machine_shape.specs.declared.Cross.{Cross}
 use Rattle.machine_shape.specs.Shape.{tables_of}
-use Rattle.machine_shape.specs.Faults.{Faults}
-use Rattle.machine_shape.specs.Circuit.{Pins}
+use Rattle.machine_meaning.specs.Faults.{Faults}
+use Rattle.machine_meaning.specs.Circuit.{Pins}
 use Rattle.machine_config.specs.declared.Setting.{Setting}
 use Rattle.machine_config.specs.Configuration.{Configuration, is_closed, setting_of}
 use Rattle.machine_config.specs.Kept.{set_of}

@@ -1,7 +1,7 @@
 -- What ticks have left so far.
 use Rattle.std.proofs.Common.{◌≡◌, ◌∙◌, ℕ, ◌+◌, Bool, List, length, refl}
 use Rattle.std.specs.List.{All}
-use Rattle.machine_shape.specs.Faults.{Faults}
+use Rattle.machine_meaning.specs.Faults.{Faults}
 use Rattle.rig_simulated.specs.declared.classes.Knot.{Knot}
 use Rattle.rig_simulated.specs.declared.gates.Gate.{Gate}
 use Rattle.rig_simulated.specs.declared.events.Events.{Events}

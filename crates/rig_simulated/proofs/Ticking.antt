@@ -5,7 +5,7 @@ use Rattle.std.proofs.lemmas.Bool.{false≢true}
 use Rattle.std.proofs.lemmas.List.{get_or-map, length-map}
 use Rattle.std.proofs.lemmas.List.Elements.{All-map, All-weaker}
 use Rattle.rig_simulated.specs.declared.gates.Gate.{Gate}
-use Rattle.machine_shape.specs.Faults.{Faults}
+use Rattle.machine_meaning.specs.Faults.{Faults}
 use Rattle.rig_simulated.specs.Gates.{is_low, IsClear, Fits, ticked, clocked, IsPulledBy, IsOutputOf, AreMarkedToo}
 
 pub outs_fit : (t n : ℕ) (gates : List Gate) → All (Fits t n) gates → All (λ x. x.out < n) gates

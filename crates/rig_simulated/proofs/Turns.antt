@@ -5,8 +5,8 @@ use Rattle.std.proofs.lemmas.List.{map-append, length-append}
 use Rattle.std.proofs.Math.ListN.{get_or-map}
 use Rattle.std.proofs.lemmas.List.Elements.{All-get_or}
 use Rattle.machine_shape.specs.Shape.{pins_of}
-use Rattle.machine_shape.specs.Circuit.{Pins}
-use Rattle.machine_shape.specs.Faults.{Faults}
+use Rattle.machine_meaning.specs.Circuit.{Pins}
+use Rattle.machine_meaning.specs.Faults.{Faults}
 use Rattle.machine_config.specs.Faulty.{IsRun}
 use Rattle.rig.specs.Rig.{Exchange, Session, Machine, GoesOnBy, drives_of, readings_of}
 use Rattle.rig_simulated.specs.States.{GoesOnFrom, HasRoomFrom, GoesOnByFrom}

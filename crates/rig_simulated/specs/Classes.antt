@@ -1,7 +1,7 @@
 -- Wires in classes: each class has a root, to which the parents of its wires lead.
 use Rattle.std.specs.Prelude.{◌≡◌, ◌≢◌, ◌⊎◌, ℕ, ◌+◌, ◌^◌, ◌<◌, ◌≤◌, Bool, true, false, Option, Some, None, List, length, slice_index_or}
 use Rattle.machine_shape.specs.Shape.{Ends}
-use Rattle.machine_shape.specs.Joined.{Net, Linked, Joined}
+use Rattle.machine_meaning.specs.Joined.{Net, Linked, Joined}
 use Rattle.rig_simulated.specs.declared.classes.Knot.{Knot}
 
 -- the knot of a wire; beyond the list each wire is alone

@@ -1,8 +1,8 @@
 -- A loaded machine, and a cycle of it.
 use Rattle.std.specs.Prelude.{◌≡◌, ℕ, zero, suc, ◌<◌, Bool, true, List, length, map, slice_index}
 use Rattle.machine_shape.specs.Shape.{pin_wire, pins_of}
-use Rattle.machine_shape.specs.Circuit.{Outputs, Pins}
-use Rattle.machine_shape.specs.Faults.{Faults, stuck_wire}
+use Rattle.machine_meaning.specs.Circuit.{Outputs, Pins}
+use Rattle.machine_meaning.specs.Faults.{Faults, stuck_wire}
 use Rattle.machine_config.specs.Configuration.{Configuration}
 use Rattle.machine_config.specs.Faulty.{circuit_of}
 use Rattle.machine_config.specs.Run.{Ticks, Cycle}

@@ -1,6 +1,6 @@
 -- Ticks that evaluate the tables whose inputs changed, and no others.
 use Rattle.std.specs.Prelude.{◌≡◌, ◌⊎◌, ℕ, ◌<◌, Bool, false, List, length, slice_index, slice_index_or, All}
-use Rattle.machine_shape.specs.Faults.{Faults}
+use Rattle.machine_meaning.specs.Faults.{Faults}
 use Rattle.rig_simulated.specs.declared.gates.Gate.{Gate}
 use Rattle.rig_simulated.specs.declared.queue.Queue.{Queue}
 use Rattle.rig_simulated.specs.declared.readers.Readers.{Readers}

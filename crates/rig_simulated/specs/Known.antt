@@ -2,7 +2,7 @@
 use Rattle.std.specs.Prelude.{◌≡◌, ℕ, ◌<◌, Option, Some, None, IsSome, List, length, slice_index_or}
 use Rattle.machine_shape.specs.declared.Shape.{Shape}
 use Rattle.machine_shape.specs.Shape.{wires_of, crosses_of, ends_of}
-use Rattle.machine_shape.specs.Faults.{Faults, stuck_cross}
+use Rattle.machine_meaning.specs.Faults.{Faults, stuck_cross}
 use Rattle.rig_simulated.specs.declared.known.Closing.{Closing}
 use Rattle.rig_simulated.specs.declared.known.Closing.TheVariants.{Joins, Nothing}
 

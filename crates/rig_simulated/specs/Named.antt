@@ -3,7 +3,7 @@ use Rattle.std.specs.Prelude.{◌≡◌, ◌⊎◌, ℕ, ◌≤◌, ◌&&◌, na
 use Rattle.std.specs.Prelude.{slice_index, drop, bytes_eq}
 use Rattle.std.specs.Fmt.{decimal}
 use Rattle.machine_shape.specs.declared.Shape.{Shape}
-use Rattle.machine_shape.specs.Faults.{Faults}
+use Rattle.machine_meaning.specs.Faults.{Faults}
 use Rattle.base_text.specs.Number.{read_on}
 use Rattle.base_io.specs.Counts.{Rose}
 use Rattle.base_io.specs.Told.{Told, bytes_of, IfTold}

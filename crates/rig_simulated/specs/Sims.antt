@@ -1,7 +1,7 @@
 -- A simulated machine and its session.
 use Rattle.std.specs.Prelude.{◌≡◌, ◌*◌, ◌-◌, ◌≤◌, true, if◌then◌else◌, Option, Some, None, List, length}
 use Rattle.machine_shape.specs.Shape.{pins_of}
-use Rattle.machine_shape.specs.Faults.{Faults, AreFaultsOf}
+use Rattle.machine_meaning.specs.Faults.{Faults, AreFaultsOf}
 use Rattle.machine_config.specs.Configuration.{Configuration}
 use Rattle.rig.specs.Rig.{Exchange, Session, drives_of, readings_of}
 use Rattle.rig_simulated.specs.declared.board.Board.{Board}

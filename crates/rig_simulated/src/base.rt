@@ -1,7 +1,7 @@
 //! The classes of what the faults alone join.
 
 ghost use Rattle.std.specs.Prelude.{◌≡◌, ◌<◌, [], length, IfOk};
-ghost use Rattle.machine_shape.specs.Faults.{stuck_wire};
+ghost use Rattle.machine_meaning.specs.Faults.{stuck_wire};
 ghost use Rattle.machine_shape.specs.Shape.{wires_of};
 ghost use Rattle.rig_simulated.specs.Classes.{AreTied};
 ghost use Rattle.rig_simulated.specs.Building.{bridged_net, stuck_net, AreBase, AreKept};

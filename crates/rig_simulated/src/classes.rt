@@ -1,7 +1,7 @@
 //! Wires in classes: those that are joined have one root.
 
 ghost use Rattle.std.specs.Prelude.{◌≡◌, ◌≢◌, ◌⊎◌, ℕ, ◌+◌, ◌-◌, ◌^◌, ◌<◌, ◌≤◌, Bool, false, Option, length};
-ghost use Rattle.machine_shape.specs.Joined.{Net};
+ghost use Rattle.machine_meaning.specs.Joined.{Net};
 ghost use Rattle.rig_simulated.specs.Classes.{knot_at, HasRoots, AreRooted, AreTied, HasLink, IsHung, stronger};
 
 /// What is kept of a wire.

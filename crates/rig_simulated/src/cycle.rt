@@ -1,7 +1,7 @@
 //! A cycle of a loaded machine.
 
 ghost use Rattle.std.specs.Prelude.{◌≡◌, ◌<◌, true, false, length, All};
-ghost use Rattle.machine_shape.specs.Circuit.{Outputs};
+ghost use Rattle.machine_meaning.specs.Circuit.{Outputs};
 ghost use Rattle.machine_shape.specs.Shape.{tables_of};
 ghost use Rattle.machine_config.specs.Configuration.{Configuration};
 ghost use Rattle.rig_simulated.specs.Gates.{Fits, IsClear, AreOutputs};

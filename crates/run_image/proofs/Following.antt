@@ -5,8 +5,8 @@ use Rattle.std.specs.List.{All}
 use Rattle.base_io.specs.Store.{StoreState}
 use Rattle.base_io.specs.Sink.{SinkState}
 use Rattle.machine_shape.specs.declared.Shape.{Shape}
-use Rattle.machine_shape.specs.Defects.{Covers}
-use Rattle.machine_shape.specs.Faults.{Faults}
+use Rattle.machine_meaning.specs.Defects.{Covers}
+use Rattle.machine_meaning.specs.Faults.{Faults}
 use Rattle.machine_defects.specs.Lists.{DefectList}
 use Rattle.machine_image.specs.Images.{ImageValue}
 use Rattle.place_route.specs.RightImages.{ReadsRows}

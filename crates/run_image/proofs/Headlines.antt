@@ -5,8 +5,8 @@ use Rattle.base_io.specs.Counts.{next_count}
 use Rattle.base_io.specs.Told.{IfTold}
 use Rattle.base_io.specs.Sink.{Wrote}
 use Rattle.machine_shape.specs.declared.Shape.{Shape}
-use Rattle.machine_shape.specs.Faults.{Faults}
-use Rattle.machine_shape.specs.Defects.{Covers}
+use Rattle.machine_meaning.specs.Faults.{Faults}
+use Rattle.machine_meaning.specs.Defects.{Covers}
 use Rattle.machine_defects.specs.Text.{text_of}
 use Rattle.machine_image.specs.Images.{ImageValue}
 use Rattle.place_route.specs.RightImages.{ReadsRows}

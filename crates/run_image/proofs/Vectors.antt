@@ -5,7 +5,7 @@ use Rattle.std.specs.Prelude.{All, AllPairs, ◌==◌, if◌then◌else◌, slic
 use Rattle.std.proofs.lemmas.Bool.{cases_eq, eq-eqb, ne_eqb}
 use Rattle.std.proofs.lemmas.List.{get_or-replicate, get_or-set_same, get_or-set_other, length-set, length-replicate}
 use Rattle.std.proofs.lemmas.List.FromFn.{fill_by_all}
-use Rattle.machine_shape.specs.Circuit.{Pins}
+use Rattle.machine_meaning.specs.Circuit.{Pins}
 use Rattle.machine_image.specs.Images.{bit_for, drive_on}
 use Rattle.run_image.specs.Driven.{driven}
 

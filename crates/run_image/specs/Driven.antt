@@ -1,6 +1,6 @@
 -- A vector on some pins.
 use Rattle.std.specs.Prelude.{ℕ, Bool, List, [], ◌∷◌, slice_set}
-use Rattle.machine_shape.specs.Circuit.{Pins}
+use Rattle.machine_meaning.specs.Circuit.{Pins}
 
 -- the drive, with this vector on these pins
 abbrev pub driven : List ℕ → List Bool → Pins → Pins

@@ -4,8 +4,8 @@ use Rattle.std.specs.List.{All}
 use Rattle.base_io.specs.Told.{Told}
 use Rattle.base_io.specs.Counts.{next_count, Rose}
 use Rattle.base_io.specs.Store.{StorePlace, StoreState}
-use Rattle.machine_shape.specs.Circuit.{Pins}
-use Rattle.machine_shape.specs.Faults.{Faults}
+use Rattle.machine_meaning.specs.Circuit.{Pins}
+use Rattle.machine_meaning.specs.Faults.{Faults}
 use Rattle.machine_config.specs.Faulty.{IsRun}
 use Rattle.machine_image.specs.Images.{ImageValue, drive_of, image_row}
 use Rattle.rig.specs.Rig.{RigState, config_of, cycles_of, drives_of, readings_of, spare_of}

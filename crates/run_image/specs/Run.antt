@@ -1,6 +1,6 @@
 -- A row of a run.
 use Rattle.std.specs.Prelude.{◌≡◌, ◌⊎◌, Bool, List, None}
-use Rattle.machine_shape.specs.Circuit.{Pins}
+use Rattle.machine_meaning.specs.Circuit.{Pins}
 use Rattle.machine_image.specs.Images.{drive_on, row_at}
 use Rattle.rig.specs.Rig.{RigState, GoesOn}
 use Rattle.run_image.specs.Pins.{Rows}

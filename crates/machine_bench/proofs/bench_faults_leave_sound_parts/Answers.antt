@@ -1,7 +1,7 @@
 use Rattle.std.proofs.Common.{zero, suc, arith}
 use Rattle.machine_shape.specs.Counts.{levels_from}
-use Rattle.machine_shape.specs.Served.{IsAmple}
-use Rattle.machine_shape.proofs.Serving.{served_by_first}
+use Rattle.machine_shape.specs.Counts.{IsAmple}
+use Rattle.machine_meaning.proofs.Serving.{served_by_first}
 use Rattle.machine_bench.specs.Work.{bench_counts}
 use Rattle.machine_bench.proofs.Left.{left_sound}
 use Rattle.machine_bench.proofs.bench_faults_leave_sound_parts.Goals as goal

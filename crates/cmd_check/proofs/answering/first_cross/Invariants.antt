@@ -1,5 +1,5 @@
 use Rattle.std.proofs.Common.{◌≡◌, ◌<◌, ℕ, true}
-use Rattle.machine_shape.specs.Defects.{IsFreeCross}
+use Rattle.machine_meaning.specs.Defects.{IsFreeCross}
 use Rattle.machine_config.specs.Configuration.{is_closed}
 use Rattle.cmd_check.proofs.answering.first_cross.Given as goal
 

@@ -1,5 +1,5 @@
 use Rattle.std.proofs.Common.{◌<◌, ℕ, IsSome}
-use Rattle.machine_shape.specs.Defects.{IsFreeTable}
+use Rattle.machine_meaning.specs.Defects.{IsFreeTable}
 use Rattle.machine_config.specs.Configuration.{setting_of}
 use Rattle.cmd_check.proofs.answering.first_table.Given as goal
 

@@ -1,6 +1,6 @@
 use Rattle.std.proofs.Common.{◌≡◌, List, Option, Some, ap, subst}
 use Rattle.std.specs.Prelude.{IfOk, OnOk, IfNone, slice_get}
-use Rattle.machine_shape.specs.Faults.{Faults}
+use Rattle.machine_meaning.specs.Faults.{Faults}
 use Rattle.diag_known.specs.Marked.{AreMarks}
 use Rattle.diag_known.specs.Offers.{HasNoSecond}
 use Rattle.diag_known.specs.declared.step.Foot.{Foot}

@@ -4,7 +4,7 @@ use Rattle.std.proofs.lemmas.Result.{on_ok_weaker}
 use Rattle.base_bits.specs.Numbers.{has_number}
 use Rattle.machine_shape.specs.declared.Shape.{Shape}
 use Rattle.machine_shape.specs.Shape.{wires_of}
-use Rattle.machine_shape.specs.Faults.{Faults}
+use Rattle.machine_meaning.specs.Faults.{Faults}
 use Rattle.diag_known.specs.Marked.{AreMarks, barred, lost}
 use Rattle.diag_known.specs.Trials.{IsTried}
 use Rattle.diag_known.proofs.Later.{known_later}

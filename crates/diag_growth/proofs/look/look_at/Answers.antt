@@ -1,6 +1,6 @@
 use Rattle.std.proofs.Common.{◌∙◌, Option, refl, sym, ap, subst, arith}
 use Rattle.machine_shape.specs.declared.Shape.{Shape}
-use Rattle.machine_shape.specs.Faults.{Faults}
+use Rattle.machine_meaning.specs.Faults.{Faults}
 use Rattle.diag_evidence.proofs.Keeping.{advances_itself, advances_then}
 use Rattle.diag_evidence.proofs.KeptLemmas.{more_itself}
 use Rattle.diag_known.specs.Linked.{AreLinked}

@@ -1,6 +1,6 @@
 use Rattle.std.proofs.Common.{◌∙◌, Option, ap, subst}
 use Rattle.std.proofs.lemmas.Result.{IfOk-weaker}
-use Rattle.machine_shape.specs.Faults.{Faults}
+use Rattle.machine_meaning.specs.Faults.{Faults}
 use Rattle.diag_known.specs.Trials.{IsBad}
 use Rattle.diag_known.proofs.Later.{known_later, ways_later}
 use Rattle.diag_growth.proofs.Parting.{apart_later, good}

@@ -2,7 +2,7 @@ use Rattle.std.proofs.Common.{◌<◌, ℕ, Option, sym, ap, subst}
 use Rattle.std.proofs.lemmas.Result.{IfOk-weaker}
 use Rattle.machine_shape.specs.declared.Shape.{Shape}
 use Rattle.machine_shape.specs.Shape.{pins_of}
-use Rattle.machine_shape.specs.Faults.{Faults}
+use Rattle.machine_meaning.specs.Faults.{Faults}
 use Rattle.diag_known.specs.Ways.{AreWays}
 use Rattle.diag_known.specs.Trials.{IsBad}
 use Rattle.diag_known.proofs.Later.{known_later, ways_later}

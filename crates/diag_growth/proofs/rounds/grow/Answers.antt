@@ -1,6 +1,6 @@
 use Rattle.std.proofs.Common.{◌≡◌, ◌∙◌, Option, length, refl, sym, ap, subst, arith}
 use Rattle.machine_shape.specs.declared.Shape.{Shape}
-use Rattle.machine_shape.specs.Faults.{Faults}
+use Rattle.machine_meaning.specs.Faults.{Faults}
 use Rattle.machine_shape.specs.Shape.{pins_of}
 use Rattle.diag_evidence.proofs.Keeping.{advances_then}
 use Rattle.diag_known.specs.Field.{IsFieldOf}

@@ -1,6 +1,6 @@
 use Rattle.std.proofs.Common.{Option, sym, ap, subst}
 use Rattle.std.proofs.lemmas.Result.{IfOk-weaker, on_ok_weaker}
-use Rattle.machine_shape.specs.Faults.{Faults}
+use Rattle.machine_meaning.specs.Faults.{Faults}
 use Rattle.diag_known.specs.Marked.{AreMarks}
 use Rattle.diag_known.specs.Offers.{HasNoneBeside}
 use Rattle.diag_known.proofs.Later.{known_later, ways_later}

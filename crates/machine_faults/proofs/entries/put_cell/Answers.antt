@@ -1,4 +1,4 @@
-use Rattle.machine_shape.proofs.Pairs.{pairs_total, pairs_exact}
+use Rattle.machine_meaning.proofs.Pairs.{pairs_total, pairs_exact}
 use Rattle.machine_faults.proofs.Keeping.{one_put}
 use Rattle.machine_faults.proofs.entries.put_cell.Goals as goal
 

@@ -1,6 +1,6 @@
 use Rattle.std.proofs.Common.{◌<◌, ℕ, get_or}
 use Rattle.machine_shape.specs.declared.Table.{Table}
-use Rattle.machine_shape.specs.Defects.{IsFreeTable}
+use Rattle.machine_meaning.specs.Defects.{IsFreeTable}
 use Rattle.machine_image.proofs.touch.free_tables.Given as goal
 
 abbrev pub invariant-tables : goal.invariant-tables

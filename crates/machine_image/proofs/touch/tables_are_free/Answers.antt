@@ -2,7 +2,7 @@ use Rattle.std.proofs.Common.{◌<◌, subst, sym, ap, ◌∙◌}
 use Rattle.std.specs.Prelude.{is_some}
 use Rattle.machine_shape.specs.declared.Table.{Table}
 use Rattle.machine_shape.specs.Shape.{tables_of}
-use Rattle.machine_shape.specs.Defects.{IsFreeTable}
+use Rattle.machine_meaning.specs.Defects.{IsFreeTable}
 use Rattle.machine_config.specs.Configuration.{setting_of}
 use Rattle.machine_image.proofs.Keyed.{of_set, to_set}
 use Rattle.machine_image.proofs.Touching.{on_below}

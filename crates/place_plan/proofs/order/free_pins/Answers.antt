@@ -1,7 +1,7 @@
 use Rattle.std.proofs.Common.{◌≡◌, ℕ, true, refl, ap, ◌∙◌, subst, arith}
 use Rattle.std.specs.Prelude.{◌↔◌}
 use Rattle.machine_shape.specs.declared.Shape.{Shape}
-use Rattle.machine_shape.specs.Defects.{IsFreeWire}
+use Rattle.machine_meaning.specs.Defects.{IsFreeWire}
 use Rattle.machine_shape.specs.Shape.{pins_of, pin_wire}
 use Rattle.place_plan.specs.Lists.{same_number}
 use Rattle.place_plan.specs.Plans.{IsFreePin}

@@ -1,5 +1,5 @@
 use Rattle.std.proofs.Common.{ℕ, refl, ap, ◌∙◌, arith}
-use Rattle.machine_shape.specs.Defects.{IsFreeTable}
+use Rattle.machine_meaning.specs.Defects.{IsFreeTable}
 use Rattle.machine_shape.specs.Shape.{tables_of}
 use Rattle.place_plan.specs.Lists.{same_number}
 use Rattle.place_plan.proofs.Sieves.{tested_step, sieve_end}

@@ -1,4 +1,4 @@
-use Rattle.machine_shape.specs.Defects.{IsFreeTable}
+use Rattle.machine_meaning.specs.Defects.{IsFreeTable}
 use Rattle.place_plan.specs.Lists.{AreThose, IsAmongFirst, same_number}
 use Rattle.place_plan.proofs.order.free_tables.Given as goal
 

@@ -1,7 +1,7 @@
 use Rattle.std.proofs.Common.{◌≡◌, ℕ, sym, ap, ◌∙◌, subst}
 use Rattle.machine_shape.specs.declared.Shape.{Shape}
 use Rattle.machine_shape.specs.Shape.{ends_of}
-use Rattle.machine_shape.specs.Defects.{IsFreeCross}
+use Rattle.machine_meaning.specs.Defects.{IsFreeCross}
 use Rattle.place_repair.specs.Making.{IsUnfreeCrossOf}
 use Rattle.place_repair.specs.Nets.{HasWire}
 use Rattle.place_repair.proofs.Marking.{marked_none, marked_same}

@@ -1,6 +1,6 @@
 use Rattle.std.proofs.Common.{sym, subst}
 use Rattle.machine_shape.specs.declared.Shape.{Shape}
-use Rattle.machine_shape.specs.Defects.{IsFreeTable}
+use Rattle.machine_meaning.specs.Defects.{IsFreeTable}
 use Rattle.place_repair.specs.Making.{IsBrokenBy, IsBrokenHere}
 use Rattle.place_repair.proofs.Marking.{marked_none, marked_same}
 use Rattle.place_repair.proofs.Using.{not_true_and}

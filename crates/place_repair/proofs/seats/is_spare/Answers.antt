@@ -2,7 +2,7 @@ use Rattle.std.proofs.Common.{◌≡◌, ℕ, sym, ap, ◌∙◌, subst}
 use Rattle.std.proofs.lemmas.Bool.{false≢true}
 use Rattle.machine_shape.specs.declared.Shape.{Shape}
 use Rattle.machine_shape.specs.Shape.{table_wire}
-use Rattle.machine_shape.specs.Defects.{IsFreeTable}
+use Rattle.machine_meaning.specs.Defects.{IsFreeTable}
 use Rattle.machine_config.specs.Configuration.{Configuration, setting_of}
 use Rattle.place_repair.specs.Making.{IsUnusedTo}
 use Rattle.place_repair.proofs.Sparing.{off_is, is_off, unused_of, of_unused}

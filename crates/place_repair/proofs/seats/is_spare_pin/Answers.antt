@@ -2,7 +2,7 @@ use Rattle.std.proofs.Common.{◌≡◌, false, get_or, sym, ap, ◌∙◌, subs
 use Rattle.std.proofs.lemmas.Bool.{false≢true, not-true, not_from_false}
 use Rattle.machine_shape.specs.declared.Shape.{Shape}
 use Rattle.machine_shape.specs.Shape.{pin_wire}
-use Rattle.machine_shape.specs.Defects.{IsFreeWire}
+use Rattle.machine_meaning.specs.Defects.{IsFreeWire}
 use Rattle.place_repair.proofs.Sparing.{unused_of, of_unused}
 use Rattle.place_repair.proofs.Using.{not_true_and}
 use Rattle.place_repair.proofs.seats.is_spare_pin.Goals as goal

@@ -1,6 +1,6 @@
 use Rattle.std.proofs.Common.{rules, ◌≡◌, ◌∙◌, ◌++◌, List, refl, sym, ap, subst, length, take, drop, arith}
 use Rattle.std.proofs.lemmas.Bool.{false≢true}
-use Rattle.machine_shape.specs.Circuit.{Pins}
+use Rattle.machine_meaning.specs.Circuit.{Pins}
 use Rattle.rig.specs.Rig.{GoesOnBy, Machine}
 use Rattle.rig_doubled.specs.Repeats.{HaveWidth}
 use Rattle.rig_doubled.proofs.Keeping.{many_still, wide_still, refill}

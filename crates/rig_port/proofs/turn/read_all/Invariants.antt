@@ -1,5 +1,5 @@
 use Rattle.std.proofs.Common.{◌≡◌, List}
-use Rattle.machine_shape.specs.Circuit.{Pins}
+use Rattle.machine_meaning.specs.Circuit.{Pins}
 use Rattle.rig.specs.Rig.{KeepLengths}
 use Rattle.rig_port.specs.Lines.{reading_line}
 use Rattle.rig_port.proofs.Taken.{AreRead}

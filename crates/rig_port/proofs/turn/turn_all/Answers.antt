@@ -1,7 +1,7 @@
 use Rattle.std.proofs.Common.{ℕ, ◌+◌, ◌*◌, ◌≡◌, ◌∙◌, ◌-◌, ◌≤◌, All, take, drop, length, refl, sym, ap, subst, arith}
 use Rattle.std.proofs.lemmas.List.Elements.{All-take, All-drop}
 use Rattle.machine_shape.specs.Shape.{pins_of}
-use Rattle.machine_shape.specs.Circuit.{Pins}
+use Rattle.machine_meaning.specs.Circuit.{Pins}
 use Rattle.rig_board.proofs.OneByOne.{lengths_kept}
 use Rattle.rig_port.proofs.Held.{put_lengths, not_turned, turned_next}
 use Rattle.std.specs.Int.{div_ceil}

@@ -1,5 +1,5 @@
 use Rattle.std.proofs.Common.{◌≡◌, ℕ, ◌<◌, vec_len}
-use Rattle.machine_shape.specs.Faults.{stuck_wire}
+use Rattle.machine_meaning.specs.Faults.{stuck_wire}
 use Rattle.rig_simulated.specs.Classes.{knot_at}
 use Rattle.rig_simulated.proofs.base.alone.Given as goal
 

@@ -1,6 +1,6 @@
 use Rattle.std.proofs.Common.{◌≡◌, ◌≤◌, take, subst, ◌∙◌, arith}
 use Rattle.std.proofs.lemmas.List.{take_all}
-use Rattle.machine_shape.specs.Faults.{stuck_wire}
+use Rattle.machine_meaning.specs.Faults.{stuck_wire}
 use Rattle.rig_simulated.specs.Classes.{AreTied}
 use Rattle.rig_simulated.specs.Building.{bridged_net}
 use Rattle.rig_simulated.proofs.Joining.{tied_alike}

@@ -1,5 +1,5 @@
 use Rattle.std.proofs.Common.{◌≡◌, ◌+◌, length}
-use Rattle.machine_shape.specs.Faults.{stuck_wire}
+use Rattle.machine_meaning.specs.Faults.{stuck_wire}
 use Rattle.rig_simulated.specs.Classes.{AreTied}
 use Rattle.rig_simulated.specs.Building.{stuck_net}
 use Rattle.rig_simulated.proofs.base.close_stuck.Given as goal

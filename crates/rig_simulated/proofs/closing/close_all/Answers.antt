@@ -1,6 +1,6 @@
 use Rattle.std.proofs.Common.{◌≡◌, ◌+◌, ◌∙◌, ℕ, Bool, Option, None, Some, IsSome, take, get_or, subst, ap, sym, refl, arith}
 use Rattle.machine_shape.specs.declared.Cross.{Cross}
-use Rattle.machine_shape.specs.Faults.{stuck_wire, stuck_cross}
+use Rattle.machine_meaning.specs.Faults.{stuck_wire, stuck_cross}
 use Rattle.rig_simulated.specs.Classes.{AreTied, HasLink}
 use Rattle.rig_simulated.specs.Building.{AreTouched, closed_net, base_most}
 use Rattle.rig_simulated.proofs.Joining.{tied_alike}

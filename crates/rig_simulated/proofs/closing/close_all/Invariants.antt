@@ -1,5 +1,5 @@
 use Rattle.std.proofs.Common.{◌≡◌, ◌+◌, take}
-use Rattle.machine_shape.specs.Faults.{stuck_wire}
+use Rattle.machine_meaning.specs.Faults.{stuck_wire}
 use Rattle.rig_simulated.specs.Classes.{AreTied}
 use Rattle.rig_simulated.specs.Building.{closed_net, base_most, AreKept}
 use Rattle.rig_simulated.specs.Known.{AreKnown}

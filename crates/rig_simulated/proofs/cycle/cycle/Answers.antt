@@ -3,7 +3,7 @@ use Rattle.std.specs.Vec.{with_items}
 use Rattle.std.proofs.lemmas.List.{with_items_is}
 use Rattle.machine_shape.specs.declared.Shape.{Shape}
 use Rattle.machine_shape.specs.Shape.{wires_of, tables_of}
-use Rattle.machine_shape.specs.Circuit.{Outputs}
+use Rattle.machine_meaning.specs.Circuit.{Outputs}
 use Rattle.machine_config.specs.Configuration.{Configuration}
 use Rattle.rig_simulated.specs.declared.gates.Gate.{Gate}
 use Rattle.rig_simulated.specs.Gates.{Fits, level_at, clocked, AreOutputs, IsDrivenBy, AreMarkedToo}

@@ -1,6 +1,6 @@
 use Rattle.std.proofs.Common.{◌≤◌, Err, length, subst}
 use Rattle.base_io.specs.Whole.{IsWithin}
-use Rattle.machine_shape.specs.Faults.{Faults}
+use Rattle.machine_meaning.specs.Faults.{Faults}
 use Rattle.machine_faults.specs.Text.{IsFaultText}
 use Rattle.base_text.specs.Size.{most_bytes}
 use Rattle.machine_faults.specs.Refusals.{IsRefusedAs, GivesOrLacks}

@@ -1,7 +1,7 @@
 use Rattle.std.proofs.Common.{◌≡◌, ◌<◌, ◌+◌, ◌∙◌, All, List, ℕ, length, take, drop, subst, sym, ap, arith}
 use Rattle.std.specs.Prelude.{map}
 use Rattle.machine_shape.specs.Shape.{pins_of}
-use Rattle.machine_shape.specs.Circuit.{Pins}
+use Rattle.machine_meaning.specs.Circuit.{Pins}
 use Rattle.diag_evidence.specs.Looks.{Sights, AreSights, ReadsEach, look_drives}
 use Rattle.diag_evidence.proofs.Rows.{whole_again, as_many, as_wide, drives_count, drives_wide}
 use Rattle.diag_evidence.proofs.looks.Looks.take.Goals as goal

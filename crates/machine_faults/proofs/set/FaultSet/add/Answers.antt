@@ -1,5 +1,5 @@
 use Rattle.std.proofs.Common.{◌≡◌, ◌+◌, None, subst, sym, ap, ◌∙◌}
-use Rattle.machine_shape.specs.Faults.{Faults}
+use Rattle.machine_meaning.specs.Faults.{Faults}
 use Rattle.machine_faults.specs.Adding.{Faulty, IsFaultSet, CanHave, refusal_of, count_of}
 use Rattle.machine_faults.specs.Stored.{faults_in}
 use Rattle.machine_faults.proofs.Adding.{set_kept, count_more, free_from}

@@ -1,5 +1,5 @@
 use Rattle.std.proofs.Common.{◌≡◌, List, ◌++◌, take}
-use Rattle.machine_shape.specs.Circuit.{Pins}
+use Rattle.machine_meaning.specs.Circuit.{Pins}
 use Rattle.rig_doubled.specs.Repeats.{IsRoomy, IsKept}
 use Rattle.rig_doubled.proofs.kept.Kept.add_all.Given as goal
 

@@ -1,0 +1,13 @@
+-- A sound wire is shorted to no stuck wire, and to no other wire.
+use Rattle.std.proofs.Common.{◌≡◌, ◌≢◌, ℕ, None, sym, subst}
+use Rattle.machine_shape.specs.declared.Shape.{Shape}
+use Rattle.machine_meaning.specs.Faults.{Faults, stuck_wire}
+use Rattle.machine_meaning.specs.Joined.{Shorted}
+use Rattle.machine_meaning.specs.Defects.{IsClear}
+use Rattle.machine_meaning.specs.Sound.{IsSoundWire}
+
+pub clear_of_sound : {m : Shape} {f : Faults} {w : ℕ} → IsSoundWire m f w → IsClear m f w
+clear_of_sound {f = f} s u j = subst (λ v. stuck_wire f v ≡ None) (sym (s.alone u j)) s.not_stuck
+
+pub unshorted_of_sound : {m : Shape} {f : Faults} {w u : ℕ} → IsSoundWire m f w → u ≢ w → ¬ Shorted m f w u
+unshorted_of_sound {u = u} s n j = n (s.alone u j)

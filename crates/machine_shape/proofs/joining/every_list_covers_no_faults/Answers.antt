@@ -1,5 +1,0 @@
-use Rattle.machine_shape.proofs.Faultless.{covers_none}
-use Rattle.machine_shape.proofs.joining.every_list_covers_no_faults.Goals as goal
-
-pub returns : goal.returns
-returns c = λ m d f none. covers_none none

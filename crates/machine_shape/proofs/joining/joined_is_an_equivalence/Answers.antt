@@ -1,6 +1,0 @@
-use Rattle.machine_shape.specs.Joined.{here}
-use Rattle.machine_shape.proofs.JoinedLemmas.{Joined-sym, Joined-trans}
-use Rattle.machine_shape.proofs.joining.joined_is_an_equivalence.Goals as goal
-
-pub returns : goal.returns
-returns c = record { itself = λ net a. here; turned = λ net a b j. Joined-sym j; onward = λ net a b c p q. Joined-trans p q }
