@@ -8,7 +8,7 @@ use std::alloc::{AllocError, Global};
 use std::marker::Model;
 
 /// How many bits a word has.
-const WORD_BITS: u64 = 64;
+pub const WORD_BITS: u64 = 64;
 
 /// A list of bits. Contracts see it as such.
 #[derive(Debug, Drop)]
@@ -28,8 +28,8 @@ impl Model for Bits {
     ghost invariant = { λ b. b.len ≤ 64 * length b.words.items };
 }
 
-/// A word with one bit set or cleared.
-fn word_with(word: u64, place: u64, bit: bool) -> u64
+/// A word with one bit set or cleared, and the others as they were.
+pub fn word_with(word: u64, place: u64, bit: bool) -> u64
     requires { place < 64 }
     ensures this { is_bit result place ≡ bit }
     ensures others { (k : ℕ) → k < 64 → k ≢ place → is_bit result k ≡ is_bit word k }

@@ -8,4 +8,5 @@ mod bits;
 mod pair_set;
 
 pub use bit_set::{BitSet, sets_hold_what_was_put_in};
+pub use bits::{WORD_BITS, word_with};
 pub use pair_set::{PairSet, pairs_have_no_order};

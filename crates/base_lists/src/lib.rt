@@ -1,24 +1,12 @@
-//! What the crates of designs and those of the machine share: a vector that contracts see as the list of its elements,
-//! and the sizes of a table.
+//! A vector that contracts see as the list of its elements.
 //!
 //! Public types of the other crates that a definition speaks of keep their lists as [`Items`].
-//!
-//! A vector that contracts see as a list.
 #![tactic(auto)]
 
 ghost use Rattle.std.specs.Prelude.{◌≡◌, ◌++◌, ◌∷◌, [], OnOk, IfErr};
 
 use std::alloc::{AllocFailed, Global};
 use std::marker::Model;
-
-/// How many inputs a table has.
-pub const TABLE_INPUTS: usize = 6;
-
-/// How many pins a table has: its inputs, and its output behind them.
-pub const TABLE_PINS: u32 = 7;
-
-/// How many cells a table has, one at each address that its inputs can spell.
-pub const TABLE_CELLS: u32 = 64;
 
 /// A vector that contracts see as the list of its elements.
 #[derive(Debug, Drop)]

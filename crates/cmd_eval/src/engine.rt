@@ -4,13 +4,10 @@ ghost use Rattle.cmd_eval.specs.Runs.{IsFirstOf, IsNetworkOf, RowsLeft};
 
 use design_eval::Eval;
 use design_netlist::Netlist;
-use map_eval::NetworkEval;
+use map_eval::{MOST_TABLES, NetworkEval};
 use map_network::{merged, plain_size};
 use std::alloc::{AllocError, Global};
 use std::marker::Model;
-
-/// The most tables of a plain network for which a design is run by its merged one.
-const MOST_TABLES: u64 = 65_000;
 
 /// What evaluates a design.
 #[derive(Drop)]
@@ -45,7 +42,7 @@ fn network_for(alloc: Global, netlist: &Netlist) -> Result<Option<NetworkEval>, 
     if netlist.parts().latches.as_slice().is_empty() {
         return Ok(None);
     }
-    if plain_size(alloc, netlist)? > MOST_TABLES {
+    if plain_size(alloc, netlist)? > MOST_TABLES as u64 {
         return Ok(None);
     }
     let network = merged(alloc, netlist)?;

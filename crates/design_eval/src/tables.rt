@@ -5,7 +5,7 @@ ghost use Rattle.design_netlist.specs.Valuations.{bit_at};
 ghost use Rattle.design_eval.specs.Bits.{AreBelow};
 ghost use Rattle.design_eval.specs.Tables.{address, six_bits, AreCells, AreWires, IsTableOf};
 
-use base_lists::TABLE_INPUTS;
+use base_table::TABLE_INPUTS;
 use design_netlist::{Cover, truth_of};
 
 /// The places of the bits of an address.

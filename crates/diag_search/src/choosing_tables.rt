@@ -3,11 +3,9 @@
 use crate::choosing::{Chooser, Lack, set_wire, wire_of};
 use crate::flags::{flag_at, in_set, set_flag};
 use base_bits::BitSet;
+use base_table::TABLE_PINS;
 use machine_shape::{Meaning, Shape, Table, Wire};
 use std::alloc::AllocError;
-
-/// How many pins a table has.
-const PINS: u32 = 7;
 
 /// How many wires at most are marked again for each table that a further choice may free.
 const WIRES_A_TABLE: usize = 400;
@@ -47,7 +45,7 @@ impl Chooser {
     // The pins of a table that aren't known.
     fn lack_of(&self, table: Table) -> Result<Lack, AllocError> {
         let mut pins = Vec::new(self.alloc);
-        'pins: for k in 0..PINS {
+        'pins: for k in 0..TABLE_PINS {
             if table.0 < self.shape.tables() {
                 let pin = self.shape.pin_of(table, k);
                 if !self.knows(pin) {
@@ -297,7 +295,7 @@ impl Chooser {
     // Of tables with few pins to gain first, all that these are shorted to gives way.
     fn give_all(&mut self, shape: &Shape) -> Result<(), AllocError> {
         let lacks = std::mem::replace(&mut self.lacks, Vec::new(self.alloc));
-        'counts: for count in 1..=PINS {
+        'counts: for count in 1..=TABLE_PINS {
             self.give_for(shape, &lacks, count as usize)?;
         }
         Ok(())

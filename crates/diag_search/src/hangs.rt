@@ -23,7 +23,7 @@ const MOST_MISSES: u32 = 16;
 pub(crate) const PINS_A_HANG: usize = 1_000;
 
 /// How high the pins of tables are.
-const TABLE_PINS: usize = 8;
+const PIN_HEIGHT: usize = 8;
 
 impl Search {
     // How often a wire was hung.
@@ -55,7 +55,7 @@ impl Search {
                 self.offers.push(link)?;
             }
         }
-        if height != TABLE_PINS || self.tries_of(w) > 0 {
+        if height != PIN_HEIGHT || self.tries_of(w) > 0 {
             self.draws.shuffle(&mut self.offers);
         }
         Ok(())

@@ -7,7 +7,7 @@ ghost use Rattle.machine_bench.specs.Faults.{fault_of_turn, state_of_turn, IsOne
 
 use crate::draws::Draws;
 use crate::hits::is_allowed;
-use base_lists::TABLE_CELLS;
+use base_table::TABLE_CELLS;
 use machine_faults::{AddFault, Fault, FaultSet};
 use machine_shape::{Cross, Shape, Table, Wire};
 use std::alloc::{AllocError, Global};

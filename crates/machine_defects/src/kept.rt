@@ -10,7 +10,7 @@ ghost use Rattle.machine_defects.specs.Lists.{IsWithWire, no_defects, with_cross
 use crate::counts::{count_nodes, free_pins, recount_both};
 use crate::sweep::bar_all;
 use base_bits::BitSet;
-use base_lists::TABLE_PINS;
+use base_table::TABLE_PINS;
 use machine_shape::{Cross, Node, Shape, Table, Wire};
 use std::alloc::{AllocError, Global};
 

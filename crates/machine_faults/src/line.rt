@@ -12,7 +12,7 @@ ghost use Rattle.machine_faults.specs.declared.head.Head.TheVariants as heads;
 use crate::fault::Fault;
 use crate::head::{self, Head};
 use crate::kind::FaultsKind;
-use base_lists::TABLE_CELLS;
+use base_table::TABLE_CELLS;
 use base_text::read_number;
 use machine_shape::{Cross, Shape, Wire};
 

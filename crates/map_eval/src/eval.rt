@@ -14,7 +14,7 @@ use std::alloc::{AllocError, Global};
 use std::marker::Model;
 
 /// The most tables of a network that is run.
-const MOST_TABLES: usize = 65_000;
+pub const MOST_TABLES: usize = 65_000;
 
 /// A network that is run, vector by vector. Contracts see a network with the same rows, and what its latched tables give next.
 #[derive(Drop)]

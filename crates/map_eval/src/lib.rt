@@ -25,4 +25,4 @@ mod state;
 mod wires;
 mod words;
 
-pub use eval::NetworkEval;
+pub use eval::{MOST_TABLES, NetworkEval};

@@ -8,11 +8,9 @@ ghost use Rattle.map_eval.specs.Wires.{bits_at, one_of, wire_at, ArePushed, AreW
 
 use crate::pins::signal_of;
 use crate::words::cell;
+use base_table::TABLE_INPUTS;
 use map_network::{Network, Source};
 use std::alloc::{AllocError, Global};
-
-/// How many pins a table has.
-const PINS: usize = 6;
 
 // The signal of a pin. One without an input reads the signal that is always 1.
 fn wire_of(tables: usize, one: usize, ins: &[Source], pin: usize) -> usize
@@ -36,7 +34,7 @@ fn push_wires(
     requires { tables ≤ 65536 }
     ensures { OnOk result (ArePushed tables one ins.now 6 wires.old.items wires.new.items) }
 {
-    'pins: for pin in 0..PINS {
+    'pins: for pin in 0..TABLE_INPUTS {
         wires.push(wire_of(tables, one, ins, pin))?;
     }
     Ok(())
@@ -49,7 +47,7 @@ pub fn wires_of(alloc: Global, network: &Network) -> Result<Vec<usize>, AllocErr
 {
     let tables = network.tables.as_slice();
     let one = tables.len() + network.inputs as usize;
-    let mut wires = Vec::with_capacity(alloc, PINS * tables.len())?;
+    let mut wires = Vec::with_capacity(alloc, TABLE_INPUTS * tables.len())?;
     'tables: for j in 0..tables.len() {
         push_wires(&mut wires, tables.len(), one, tables[j].ins.as_slice())?;
     }
@@ -70,7 +68,7 @@ fn address_by(wires: &[usize], table: usize, bits: &[bool]) -> u8
     ensures low { result < 64 }
     ensures address { result ≡ number_of (bits_at wires.now table bits.now) }
 {
-    let from = PINS * table;
+    let from = TABLE_INPUTS * table;
     let high = one_if(bits[wires[from + 4]]) + 2 * one_if(bits[wires[from + 5]]);
     let middle = one_if(bits[wires[from + 2]]) + 2 * (one_if(bits[wires[from + 3]]) + 2 * high);
     one_if(bits[wires[from]]) + 2 * (one_if(bits[wires[from + 1]]) + 2 * middle)

@@ -10,7 +10,7 @@ ghost use Rattle.map_network.specs.Joining.{in_tables, IsJoined, MayPut};
 use crate::composing::joined_cells;
 use crate::network::NetTable;
 use crate::source::{Source, Sources};
-use base_lists::TABLE_INPUTS;
+use base_table::TABLE_INPUTS;
 use std::alloc::Global;
 
 /// A number for each source.

@@ -6,7 +6,7 @@ ghost use Rattle.map_network.specs.Plain.{distinct, cover_size};
 ghost use Rattle.map_network.specs.Cells.{is_among};
 ghost use Rattle.map_network.specs.Sizes.{is_wanted, wants_in, tree_size, rows_size};
 
-use base_lists::TABLE_INPUTS;
+use base_table::TABLE_INPUTS;
 use design_netlist::{Cover, Cube, Lit};
 use std::alloc::{AllocError, Global};
 

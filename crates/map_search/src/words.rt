@@ -1,21 +1,16 @@
 //! Functions of at most six inputs as words of 64 cells: bit a is what the function gives at address a.
 
-use base_lists::TABLE_INPUTS;
-use design_netlist::{Cover, Lit};
+use base_table::TABLE_INPUTS;
+use design_netlist::{Cover, Lit, lane_word};
 use std::alloc::{AllocError, Global};
 
-const PINS: [u64; 6] = [
-    0xaaaa_aaaa_aaaa_aaaa,
-    0xcccc_cccc_cccc_cccc,
-    0xf0f0_f0f0_f0f0_f0f0,
-    0xff00_ff00_ff00_ff00,
-    0xffff_0000_ffff_0000,
-    0xffff_ffff_0000_0000,
-];
-
-/// The cells at whose addresses a pin is 1.
+/// The cells at whose addresses a pin is 1: all for one that no table has.
 pub fn pin(k: usize) -> u64 {
-    if k < 6 { PINS[k] } else { u64::MAX }
+    if k < TABLE_INPUTS {
+        lane_word(k)
+    } else {
+        u64::MAX
+    }
 }
 
 // How far the addresses lie apart that differ in this pin.

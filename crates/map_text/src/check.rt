@@ -7,7 +7,8 @@ ghost use Rattle.map_text.specs.Remapped.{HaveSameRows, HaveSamePorts, HasNarrow
 
 use crate::names::have_same_names;
 use crate::text::{Remapped, read_again};
-use base_lists::{Items, TABLE_INPUTS};
+use base_lists::Items;
+use base_table::TABLE_INPUTS;
 use design_equal::laws::labelled_alike;
 use design_equal::{Graph, agree};
 use design_netlist::{Cover, Draft, Netlist};

@@ -4,7 +4,7 @@ use crate::links::{Links, Net};
 use crate::seats::Seat;
 
 /// Nets with more tables are in most nodes whatever is exchanged, and dear to look at.
-const MOST_TABLES: usize = 128;
+const MOST_OF_A_NET: usize = 128;
 
 /// How many crossings a change adds, and how many it spares.
 #[derive(Clone, Copy)]
@@ -81,7 +81,7 @@ struct Move {
 // The change for a net where one of its tables moves and another table comes from there. A net that has both stays as it
 // is.
 fn with_net(change: Change, net: &Net, seats: &[Seat], moved: Move) -> Change {
-    if net.tables.as_slice().len() > MOST_TABLES {
+    if net.tables.as_slice().len() > MOST_OF_A_NET {
         return change;
     }
     let mut hextants = NOBODY;

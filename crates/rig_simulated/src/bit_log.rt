@@ -4,11 +4,9 @@ ghost use Rattle.std.specs.Prelude.{◌≡◌, ◌≢◌, ℕ, false, ◌+◌, �
 ghost use Rattle.base_bits.specs.Words.{is_bit, is_bit_in};
 ghost use Rattle.rig_simulated.specs.BitLogs.{bits_in, AreWords};
 
+use base_bits::{WORD_BITS, word_with};
 use std::alloc::{AllocError, Global};
 use std::marker::Model;
-
-/// How many bits a word has.
-const WORD_BITS: u64 = 64;
 
 /// The most bits that there may be room for.
 const MOST_BITS: u64 = 1 << 61;
@@ -31,19 +29,6 @@ impl Model for BitLog {
     ghost view = { λ a. record { bits = bits_in a.words.items a.len; room = 64 * length a.words.items } };
 
     ghost invariant = { λ a. AreWords a.words.items a.len };
-}
-
-/// A word with one bit set or cleared.
-fn word_with(word: u64, place: u64, bit: bool) -> u64
-    requires { place < 64 }
-    ensures this { is_bit result place ≡ bit }
-    ensures others { (k : ℕ) → k < 64 → k ≢ place → is_bit result k ≡ is_bit word k }
-{
-    if bit {
-        word | (1 << place)
-    } else {
-        word & !(1 << place)
-    }
 }
 
 /// A word whose bits from a place on are so many of a list, from one of them on. Those before stay; what those behind are doesn't matter.

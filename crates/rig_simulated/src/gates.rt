@@ -5,7 +5,7 @@ ghost use Rattle.machine_shape.specs.Shape.{tables_of};
 ghost use Rattle.rig_simulated.specs.Gates.{level_at, address_by, cell_by, ticked, clocked, Fits};
 
 use crate::classes::Knot;
-use base_lists::TABLE_INPUTS;
+use base_table::TABLE_INPUTS;
 use machine_config::Setting;
 use machine_faults::FaultSet;
 use machine_shape::Table;

@@ -4,7 +4,7 @@ ghost use Rattle.std.specs.Prelude.{◌≡◌, ◌<◌, true, length, slice_inde
 ghost use Rattle.rig_simulated.specs.Settling.{IsWithin, IsRankedOrLatched, Settles};
 
 use crate::gates::Gate;
-use base_lists::TABLE_INPUTS;
+use base_table::TABLE_INPUTS;
 use std::alloc::AllocError;
 
 /// With fewer ticks neither an order of the tables nor a list of readers saves anything.

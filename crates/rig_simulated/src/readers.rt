@@ -8,7 +8,7 @@ ghost use Rattle.rig_simulated.specs.Readers.{AreListed, AreStarts, AreReaders, 
 
 use crate::gates::Gate;
 use crate::queue::{Queue, add};
-use base_lists::TABLE_INPUTS;
+use base_table::TABLE_INPUTS;
 use std::alloc::AllocError;
 
 /// A table that reads a class.
