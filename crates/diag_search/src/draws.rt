@@ -1,28 +1,25 @@
-//! Chance, the same in each run.
+//! What the search draws by chance.
 
 /// The state that the draws begin with.
 const BEGIN: u64 = 0x9E37_79B9_7F4A_7C15;
 
-const FACTOR: u64 = 6_364_136_223_846_793_005;
-
-const STEP: u64 = 1_442_695_040_888_963_407;
-
-/// A generator of numbers.
+/// What is drawn.
 #[derive(Drop)]
 pub struct Draws {
-    state: u64,
+    numbers: base_random::Draws,
 }
 
 impl Draws {
     /// The generator.
     pub(crate) fn new() -> Draws {
-        Draws { state: BEGIN }
+        Draws {
+            numbers: base_random::Draws::new(BEGIN),
+        }
     }
 
-    // The next number.
+    // The next number, of 31 bits.
     fn next(&mut self) -> u64 {
-        self.state = self.state.wrapping_mul(FACTOR).wrapping_add(STEP);
-        self.state >> 33
+        self.numbers.step() >> 33
     }
 
     /// A number of 16 bits.
@@ -32,10 +29,7 @@ impl Draws {
 
     /// A number below the count, or 0 where that is 0.
     pub(crate) fn below(&mut self, count: usize) -> usize {
-        if count == 0 {
-            return 0;
-        }
-        self.next() as usize % count
+        self.numbers.below(count)
     }
 
     /// A number below the count, or 0 where that is 0.
@@ -43,7 +37,7 @@ impl Draws {
         if count == 0 {
             return 0;
         }
-        u32::try_from(self.next() % u64::from(count)).unwrap_or(0)
+        self.numbers.draw(count)
     }
 
     /// One of two, each as often.

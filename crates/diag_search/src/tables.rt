@@ -3,11 +3,12 @@
 use crate::board::Mark;
 use crate::feet::Foot;
 use crate::search::{Search, Tap};
+use base_table::TABLE_PINS;
 use machine_shape::{Table, Wire};
 use std::alloc::AllocError;
 
-/// How many inputs a table has.
-const INPUTS: u32 = 6;
+/// How many inputs a table has, and which of its pins is the output.
+const INPUTS: u32 = TABLE_PINS - 1;
 
 /// From how many lines the climb for an input is tried.
 const MOST_LINES: usize = 8;

@@ -7,7 +7,7 @@ use Rattle.machine_faults.specs.declared.fault.Fault.{Fault}
 use Rattle.machine_faults.specs.declared.fault.Fault.TheVariants.{Stuck, CrossStuck, Cell, Register, Bridge}
 use Rattle.machine_faults.specs.declared.fault.AddFault.{AddFault}
 use Rattle.machine_faults.specs.Adding.{no_faults, with_fault, refusal_of}
-use Rattle.machine_bench.specs.Draws.{state_after, nth_draw}
+use Rattle.base_random.specs.Draws.{state_after, nth_draw}
 
 -- the position of a table in its hextant: hextants have as many tables each, and are numbered one after the other
 abbrev pub table_position : Shape → ℕ → ℕ

@@ -1,5 +1,4 @@
 -- Work that is made from a number.
-pub mod Draws
 pub mod Faults
 pub mod Left
 pub mod Work

@@ -2,11 +2,11 @@
 ghost use Rattle.std.specs.Prelude.{◌≡◌, ◌<◌, OnOk, IfOk};
 ghost use Rattle.machine_shape.specs.Shape.{wires_of, crosses_of, tables_of};
 ghost use Rattle.machine_faults.specs.Adding.{CanHave};
-ghost use Rattle.machine_bench.specs.Draws.{next_state, answer};
+ghost use Rattle.base_random.specs.Draws.{next_state, answer};
 ghost use Rattle.machine_bench.specs.Faults.{fault_of_turn, state_of_turn, IsOneMore, Takes, AreBenchFaults};
 
-use crate::draws::Draws;
 use crate::hits::is_allowed;
+use base_random::Draws;
 use base_table::TABLE_CELLS;
 use machine_faults::{AddFault, Fault, FaultSet};
 use machine_shape::{Cross, Shape, Table, Wire};
@@ -113,7 +113,7 @@ pub fn bench_faults(alloc: Global, n: u32, shape: &Shape) -> Result<FaultSet, Al
     ensures faults { IfOk result (λ s. AreBenchFaults shape.now n s.faults) }
 {
     let mut set = FaultSet::none(alloc, *shape)?;
-    let mut draws = Draws::new(n);
+    let mut draws = Draws::new(u64::from(n));
     'turns: for turn in 0..TURNS {
         take_turn(&mut draws, shape, &mut set)?;
     }

@@ -15,12 +15,10 @@ ghost use Rattle.machine_bench.specs.Faults.{AreBenchFaults};
 ghost use Rattle.machine_bench.specs.Left.{LeavesSound};
 ghost use Rattle.machine_bench.specs.Work.{bench_counts};
 
-mod draws;
 mod faults;
 mod hits;
 mod work;
 
-pub use draws::Draws;
 pub use faults::bench_faults;
 pub use work::{bench_counts, bench_design, bench_vector};
 

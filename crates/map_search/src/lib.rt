@@ -11,7 +11,6 @@ mod cells;
 mod cone;
 mod covers;
 mod cuts;
-mod draws;
 mod factor;
 mod graph;
 mod hints;

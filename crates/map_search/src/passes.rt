@@ -2,9 +2,9 @@
 
 use crate::areas::{Areas, areas_of};
 use crate::cuts::{Cut, NO_CUT, cut_of, union};
-use crate::draws::Draws;
 use crate::hints::Hint;
 use crate::reach::{Nodes, Reach};
+use base_random::Draws;
 use design_equal::And;
 use std::alloc::{AllocError, Global};
 
@@ -148,7 +148,11 @@ fn price(passes: &mut Passes, areas: &mut Areas<'_>, exact: bool) -> Result<(), 
         } else {
             areas.flow(&cut)
         };
-        let noise = if passes.noisy { passes.draws.byte() } else { 0 };
+        let noise = if passes.noisy {
+            passes.draws.step() >> 56
+        } else {
+            0
+        };
         let cost = with_noise(cost, noise, exact);
         if k < passes.chosen.len() {
             passes.chosen[k].cost = cost;
@@ -293,6 +297,8 @@ pub fn choose_cuts(
     most: usize,
     chance: u64,
 ) -> Result<Chosen, AllocError> {
+    let mut draws = Draws::new(chance);
+    draws.step();
     let mut passes = Passes {
         cuts: Vec::new(alloc),
         kept: vec![in alloc; Kept { from: 0, to: 0 }; nodes.count()]?,
@@ -300,7 +306,7 @@ pub fn choose_cuts(
         chosen: Vec::new(alloc),
         hint: 0,
         most,
-        draws: Draws::new(chance),
+        draws,
         noisy: chance > 0,
     };
     let mut areas = areas_of(alloc, nodes, reach)?;

@@ -13,10 +13,10 @@
 
 mod better;
 mod count;
-mod draws;
 mod gain;
 mod growth;
 mod links;
+mod luck;
 mod queue;
 mod search;
 mod seats;

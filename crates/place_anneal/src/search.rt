@@ -2,12 +2,13 @@
 ghost use Rattle.std.specs.Prelude.{IfOk};
 ghost use Rattle.std.specs.List.Sorted.{IsPermutation};
 
-use crate::draws::Draws;
 use crate::gain::exchange;
 use crate::growth::grow;
 use crate::links::{Links, links_of};
+use crate::luck::borne;
 use crate::seats::Seat;
 use crate::trial::{Trial, holders_of, take};
+use base_random::Draws;
 use machine_shape::Shape;
 use map_network::Network;
 use std::alloc::{AllocError, Global};
@@ -62,7 +63,7 @@ fn chosen(trial: &Trial, draws: &mut Draws, heat: u32) -> Option<(usize, usize)>
     let table = draws.below(trial.links.nets_of.len());
     let place = aim(trial, draws, table)?;
     let change = exchange(&trial.links, &trial.seats, table, place);
-    if change.added <= change.spared.saturating_add(draws.luck(heat)) {
+    if change.added <= change.spared.saturating_add(borne(draws, heat)) {
         return Some((table, place));
     }
     None
@@ -128,6 +129,6 @@ pub fn search(
         spans: spans_of(shape),
     };
     begin(alloc, &mut trial, anew)?;
-    rounds(&mut trial, &mut Draws::new());
+    rounds(&mut trial, &mut Draws::new(1));
     Ok(trial.seats)
 }

@@ -1,12 +1,12 @@
 //! The best order of several searches.
 
 use crate::grow::grown;
-use crate::luck::Luck;
 use crate::need::{Need, Worth, is_better, need_of, worth_of};
 use crate::nets::Nets;
 use crate::prices::prices_of;
 use crate::search::{HOT, PRESSED, Trial, WARM, trial_of};
 use crate::tree::{Tree, over, small};
+use base_random::Draws;
 use std::alloc::{AllocError, Global};
 
 /// How often prices are set anew.
@@ -67,7 +67,7 @@ fn tighten(
     alloc: Global,
     best: &mut Best,
     trial: &mut Trial<'_>,
-    luck: &mut Luck,
+    luck: &mut Draws,
     steps: usize,
 ) -> Result<(), AllocError> {
     let mut need = keep(alloc, best, trial)?;
@@ -110,7 +110,7 @@ fn search_room(
         } else {
             plain_seats(alloc, nets, room)?
         };
-        let mut luck = Luck::new();
+        let mut luck = Draws::new(1);
         let prices = prices_of(&needs(alloc, nets, tree, &seats)?, tree, nets.pins);
         let mut trial = trial_of(alloc, nets, tree, seats, room, &prices)?;
         trial.anneal(&mut luck, if anew { WARM } else { HOT }, steps);

@@ -1,10 +1,11 @@
 //! The search for seats by exchanges.
 
 use crate::levels::{Crosses, Level, Move, level_of};
-use crate::luck::Luck;
+use crate::luck::bold;
 use crate::nets::{NOTHING, Nets, is_pinned, nets_at, tables_at};
 use crate::prices::Prices;
 use crate::tree::{Tree, over, small};
+use base_random::Draws;
 use std::alloc::{AllocError, Global};
 
 /// In how many rounds the heat falls.
@@ -243,8 +244,8 @@ impl<'a> Trial<'a> {
     }
 
     // One of these numbers.
-    fn one_of(luck: &mut Luck, numbers: &[u32]) -> usize {
-        let place = luck.below(numbers.len());
+    fn one_of(luck: &mut Draws, numbers: &[u32]) -> usize {
+        let place = luck.portion(numbers.len());
         if place < numbers.len() {
             numbers[place] as usize
         } else {
@@ -253,11 +254,11 @@ impl<'a> Trial<'a> {
     }
 
     // How many tables the node has that is aimed at: a hextant, chip or module, one in eight times the machine.
-    fn span(&self, luck: &mut Luck) -> usize {
-        if luck.below(8) == 0 {
+    fn span(&self, luck: &mut Draws) -> usize {
+        if luck.portion(8) == 0 {
             return self.tree.tables;
         }
-        match luck.below(3) {
+        match luck.portion(3) {
             0 => self.levels.hextants.span,
             1 => self.levels.chips.span,
             _ => self.levels.modules.span,
@@ -271,7 +272,7 @@ impl<'a> Trial<'a> {
     }
 
     // A seat in a node that has a table of a net of this table.
-    fn aim(&self, luck: &mut Luck, table: usize) -> Option<usize> {
+    fn aim(&self, luck: &mut Draws, table: usize) -> Option<usize> {
         let net = Self::one_of(luck, nets_at(self.nets, table));
         let near = Self::one_of(luck, tables_at(self.nets, net));
         let place = self.place(self.seat(near));
@@ -280,7 +281,7 @@ impl<'a> Trial<'a> {
             return None;
         }
         let first = place.saturating_sub(place % span);
-        let target = first.saturating_add(luck.below(span));
+        let target = first.saturating_add(luck.portion(span));
         let seat = *self.seat_at.get(target)? as usize;
         let from = self.seat(table);
         if !self.may_have(table, seat) || self.is_near(self.place(from), target) {
@@ -294,8 +295,8 @@ impl<'a> Trial<'a> {
     }
 
     // Tries one exchange at this heat.
-    fn step(&mut self, luck: &mut Luck, heat: f64) {
-        let table = luck.below(self.seats.len());
+    fn step(&mut self, luck: &mut Draws, heat: f64) {
+        let table = luck.portion(self.seats.len());
         let Some(seat) = self.aim(luck, table) else {
             return;
         };
@@ -309,14 +310,14 @@ impl<'a> Trial<'a> {
     }
 
     // Tries so many.
-    fn round(&mut self, luck: &mut Luck, steps: usize, heat: f64) {
+    fn round(&mut self, luck: &mut Draws, steps: usize, heat: f64) {
         'steps: for _ in 0..steps {
             self.step(luck, heat);
         }
     }
 
     /// Tries so many exchanges while the heat falls.
-    pub fn anneal(&mut self, luck: &mut Luck, heat: Heat, steps: usize) {
+    pub fn anneal(&mut self, luck: &mut Draws, heat: Heat, steps: usize) {
         let mut now = heat.first * self.unit;
         'rounds: for _ in 0..ROUNDS {
             self.round(luck, over(steps, ROUNDS), now);
@@ -326,7 +327,7 @@ impl<'a> Trial<'a> {
 }
 
 // Whether so much more is borne at this heat.
-fn is_borne(more: i64, heat: f64, luck: &mut Luck) -> bool {
-    let most = luck.bold() * heat;
+fn is_borne(more: i64, heat: f64, luck: &mut Draws) -> bool {
+    let most = bold(luck) * heat;
     std::num::saturating_f64_to_i64(most) >= more
 }

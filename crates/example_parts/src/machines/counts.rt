@@ -1,7 +1,7 @@
 //! Small machines, as numbers make them.
 ghost use Rattle.std.specs.Prelude.{◌≢◌};
 
-use machine_bench::Draws;
+use base_random::Draws;
 use machine_shape::Counts;
 
 /// How large machines are.

@@ -2,7 +2,7 @@
 ghost use Rattle.std.specs.Prelude.{◌≡◌, IsTrue, IfOk};
 ghost use Rattle.machine_faults.specs.Adding.{CanHave};
 
-use machine_bench::Draws;
+use base_random::Draws;
 use machine_faults::{AddFault, Fault, FaultSet};
 use machine_shape::{Cross, Shape, Table, Wire};
 use std::alloc::{AllocError, Global};

@@ -6,8 +6,8 @@ ghost use Rattle.diag_known.specs.Field.{IsFieldOf};
 use crate::machines::flags::{Flags, Parts};
 use crate::machines::picture::Marks;
 use base_bits::BitSet;
+use base_random::Draws;
 use diag_known::Field;
-use machine_bench::Draws;
 use machine_shape::{Shape, Table};
 use std::alloc::{AllocError, Global};
 

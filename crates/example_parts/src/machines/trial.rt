@@ -7,8 +7,8 @@ use crate::machines::faults::{Kind, draw_faults};
 use crate::machines::looks::{covers, is_tight};
 use crate::machines::sight::{free_by_list, sight_of};
 use base_io::{File, MemoryStore};
+use base_random::Draws;
 use diag_machine::diagnose;
-use machine_bench::Draws;
 use machine_defects::Defects;
 use machine_faults::{FaultSet, faults_text};
 use machine_shape::Shape;
@@ -97,7 +97,7 @@ fn try_machine(
 ///
 /// What is wrong with its list, its facts or its marks.
 pub fn try_number(alloc: Global, group: &Group, number: u32) -> Result<(), &'static str> {
-    let mut draws = Draws::new(number);
+    let mut draws = Draws::new(u64::from(number));
     let shape = Shape::new(draw_counts(&mut draws, group.size))
         .ok()
         .ok_or("no shape")?;

@@ -1,7 +1,8 @@
 //! Values of the generator that were made elsewhere.
 
+use base_random::Draws;
 use design_blif::read_blif;
-use machine_bench::{Draws, bench_counts, bench_design, bench_vector};
+use machine_bench::{bench_counts, bench_design, bench_vector};
 use machine_shape::Shape;
 use std::alloc::Global;
 

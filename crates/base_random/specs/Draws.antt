@@ -9,6 +9,10 @@ next_state s = (s * 6364136223846793005 + 1442695040888963407) % 2 ^ 64
 abbrev pub answer : ℕ → ℕ → ℕ
 answer m s = (s / 2 ^ 33) % m
 
+-- what a draw of a part of m answers by the state after it: the state's upper half, as so many of 2 ^ 32, of m
+abbrev pub portion_of : ℕ → ℕ → ℕ
+portion_of m s = s / 2 ^ 32 * m % 2 ^ 64 / 2 ^ 32
+
 -- the state after n draws
 abbrev pub state_after : ℕ → ℕ → ℕ
 state_after zero s = s

@@ -1,0 +1,2 @@
+-- Chance.
+pub mod Draws
