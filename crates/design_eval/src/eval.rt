@@ -10,8 +10,8 @@ ghost use Rattle.design_eval.specs.Plans.{IsPlan, IsMarked, AllHold};
 
 use crate::bits::{put_bits, read_bits};
 use crate::block::{Block, give_ahead, no_vectors};
-use crate::latches::{put_changed, take_changed};
-use crate::marks::{put_marked, settle_marked};
+use crate::latches::{Giving, Taking, put_changed, take_changed};
+use crate::marks::{TurnPlan, put_marked, settle_marked};
 use crate::plan::{Plan, plan_of};
 use crate::readers::MOST;
 use crate::turns::settle;
@@ -235,30 +235,36 @@ fn run_marked(
         values,
     );
     put_changed(
-        &plan.readers,
-        &plan.wiring.drives,
-        state,
+        &Giving {
+            drives: &plan.wiring.drives,
+            state: &*state,
+            readers: &plan.readers,
+        },
         last,
         marks,
         hints,
         values,
     );
     let count = settle_marked(
-        &plan.turns,
-        &plan.quicks,
-        draft.covers.as_slice(),
-        &plan.readers,
+        &TurnPlan {
+            turns: &plan.turns,
+            quicks: &plan.quicks,
+            covers: draft.covers.as_slice(),
+            readers: &plan.readers,
+        },
         marks,
         hints,
         values,
     );
     read_bits(values, &plan.wiring.outputs, out);
     take_changed(
-        &plan.wiring.reads,
-        plan.turns.len(),
+        &Taking {
+            reads: &plan.wiring.reads,
+            first: plan.turns.len(),
+            values: &*values,
+        },
         marks,
         hints,
-        values,
         state,
     );
     count > plan.turns.len() / 4

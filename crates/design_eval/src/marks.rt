@@ -90,72 +90,78 @@ pub fn put_marked(
     }
 }
 
+/// The covers in the order in which they are evaluated, and who reads what they give.
+#[derive(Clone, Copy)]
+pub struct TurnPlan<'a> {
+    /// By their numbers.
+    pub covers: &'a [Cover],
+    /// In order.
+    pub turns: &'a [Turn],
+    /// By turns: what gives a small cover's truth quickly.
+    pub quicks: &'a [Quick],
+    pub readers: &'a Readers,
+}
+
 // Takes the mark of a turn away and gives its cover its truth.
 fn settle_turn(
-    turns: &[Turn],
-    quicks: &[Quick],
-    covers: &[Cover],
-    readers: &Readers,
+    plan: &TurnPlan<'_>,
     k: usize,
     marks: &mut [bool],
     hints: &mut [u64],
     values: &mut [bool],
 )
-    requires within { k < length turns.now }
-    requires turns { AreTurns covers.now turns.now }
-    requires quicks { AreQuick covers.now turns.now quicks.now }
-    requires made { (i : ℕ) → i < length covers.now → IsCoverOver (cover_at covers.now i) (length values.old) }
-    requires readers { AreReaders covers.now (places turns.now) (length values.old) readers.now }
+    requires within { k < length plan.now.turns.now }
+    requires turns { AreTurns plan.now.covers.now plan.now.turns.now }
+    requires quicks { AreQuick plan.now.covers.now plan.now.turns.now plan.now.quicks.now }
+    requires made { (i : ℕ) → i < length plan.now.covers.now → IsCoverOver (cover_at plan.now.covers.now i) (length values.old) }
+    requires readers { AreReaders plan.now.covers.now (places plan.now.turns.now) (length values.old) plan.now.readers.now }
     requires size { length marks.old ≡ 65536 }
     requires hints { length hints.old ≡ 1024 }
-    requires few { length turns.now ≤ 65535 }
-    requires kept { AreKept covers.now (places turns.now) 0 marks.old values.old }
+    requires few { length plan.now.turns.now ≤ 65535 }
+    requires kept { AreKept plan.now.covers.now (places plan.now.turns.now) 0 marks.old values.old }
     ensures size { length marks.new ≡ 65536 }
-    ensures kept { AreKept covers.now (places turns.now) 0 marks.new values.new }
-    ensures others { AreOthersSame covers.now values.old values.new }
-    ensures taken { StillTaken (length turns.now) readers.now marks.old values.old marks.new values.new }
+    ensures kept { AreKept plan.now.covers.now (places plan.now.turns.now) 0 marks.new values.new }
+    ensures others { AreOthersSame plan.now.covers.now values.old values.new }
+    ensures taken { StillTaken (length plan.now.turns.now) plan.now.readers.now marks.old values.old marks.new values.new }
 {
     marks[k] = false;
-    let quick = &quicks[k];
-    let bit = quick_value(quick, &turns[k], covers, values);
-    give(readers, quick.out, bit, marks, hints, values);
+    let quick = &plan.quicks[k];
+    let bit = quick_value(quick, &plan.turns[k], plan.covers, values);
+    give(plan.readers, quick.out, bit, marks, hints, values);
 }
 
 // Settles the turns that a word of hints names, until it names none, and says how many they were. Turns come in
 // order, so a turn is named again only where two covers read each other.
 fn settle_word(
-    turns: &[Turn],
-    quicks: &[Quick],
-    covers: &[Cover],
-    readers: &Readers,
+    plan: &TurnPlan<'_>,
     place: usize,
     marks: &mut [bool],
     hints: &mut [u64],
     values: &mut [bool],
 ) -> usize
     requires place { place < 1024 }
-    requires turns { AreTurns covers.now turns.now }
-    requires quicks { AreQuick covers.now turns.now quicks.now }
-    requires made { (i : ℕ) → i < length covers.now → IsCoverOver (cover_at covers.now i) (length values.old) }
-    requires readers { AreReaders covers.now (places turns.now) (length values.old) readers.now }
+    requires turns { AreTurns plan.now.covers.now plan.now.turns.now }
+    requires quicks { AreQuick plan.now.covers.now plan.now.turns.now plan.now.quicks.now }
+    requires made { (i : ℕ) → i < length plan.now.covers.now → IsCoverOver (cover_at plan.now.covers.now i) (length values.old) }
+    requires readers { AreReaders plan.now.covers.now (places plan.now.turns.now) (length values.old) plan.now.readers.now }
     requires size { length marks.old ≡ 65536 }
     requires hints { length hints.old ≡ 1024 }
-    requires few { length turns.now ≤ 65535 }
-    requires kept { AreKept covers.now (places turns.now) 0 marks.old values.old }
+    requires few { length plan.now.turns.now ≤ 65535 }
+    requires kept { AreKept plan.now.covers.now (places plan.now.turns.now) 0 marks.old values.old }
     ensures few { result ≤ 64 }
     ensures size { length marks.new ≡ 65536 }
-    ensures kept { AreKept covers.now (places turns.now) 0 marks.new values.new }
-    ensures others { AreOthersSame covers.now values.old values.new }
-    ensures taken { StillTaken (length turns.now) readers.now marks.old values.old marks.new values.new }
+    ensures kept { AreKept plan.now.covers.now (places plan.now.turns.now) 0 marks.new values.new }
+    ensures others { AreOthersSame plan.now.covers.now values.old values.new }
+    ensures taken { StillTaken (length plan.now.turns.now) plan.now.readers.now marks.old values.old marks.new values.new }
 {
     'bits: for count in 0..WORD as usize {
         let word = hints[place];
         let k = place * WORD as usize + word.trailing_zeros() as usize;
-        if word == 0 || k >= turns.len() {
+        if word == 0 || k >= plan.turns.len() {
             return count;
         }
         hints[place] = word & (word - 1);
-        settle_turn(turns, quicks, covers, readers, k, marks, hints, values);
+        settle_turn(plan, k, marks, hints, values);
     }
     WORD as usize
 }
@@ -187,32 +193,29 @@ pub fn is_one_marked(marks: &[bool], from: usize, to: usize) -> bool
 ///
 /// The marks are looked for where hints are. These may be wrong: if a mark is left, all covers are evaluated.
 pub fn settle_marked(
-    turns: &[Turn],
-    quicks: &[Quick],
-    covers: &[Cover],
-    readers: &Readers,
+    plan: &TurnPlan<'_>,
     marks: &mut [bool],
     hints: &mut [u64],
     values: &mut [bool],
 ) -> usize
-    requires turns { AreTurns covers.now turns.now }
-    requires quicks { AreQuick covers.now turns.now quicks.now }
-    requires made { (i : ℕ) → i < length covers.now → IsCoverOver (cover_at covers.now i) (length values.old) }
-    requires readers { AreReaders covers.now (places turns.now) (length values.old) readers.now }
+    requires turns { AreTurns plan.now.covers.now plan.now.turns.now }
+    requires quicks { AreQuick plan.now.covers.now plan.now.turns.now plan.now.quicks.now }
+    requires made { (i : ℕ) → i < length plan.now.covers.now → IsCoverOver (cover_at plan.now.covers.now i) (length values.old) }
+    requires readers { AreReaders plan.now.covers.now (places plan.now.turns.now) (length values.old) plan.now.readers.now }
     requires size { length marks.old ≡ 65536 }
     requires hints { length hints.old ≡ 1024 }
-    requires few { length turns.now ≤ 65535 }
-    requires kept { AreKept covers.now (places turns.now) 0 marks.old values.old }
-    ensures settled { IsSettled covers.now (bit_at values.old) (bit_at values.new) }
+    requires few { length plan.now.turns.now ≤ 65535 }
+    requires kept { AreKept plan.now.covers.now (places plan.now.turns.now) 0 marks.old values.old }
+    ensures settled { IsSettled plan.now.covers.now (bit_at values.old) (bit_at values.new) }
     ensures size { length marks.new ≡ 65536 }
-    ensures taken { StillTaken (length turns.now) readers.now marks.old values.old marks.new values.new }
+    ensures taken { StillTaken (length plan.now.turns.now) plan.now.readers.now marks.old values.old marks.new values.new }
 {
     let mut count = 0;
-    'words: for place in 0..turns.len() / WORD as usize + 1 {
-        count += settle_word(turns, quicks, covers, readers, place, marks, hints, values);
+    'words: for place in 0..plan.turns.len() / WORD as usize + 1 {
+        count += settle_word(plan, place, marks, hints, values);
     }
-    if is_one_marked(marks, 0, turns.len()) {
-        settle(turns, covers, values);
+    if is_one_marked(marks, 0, plan.turns.len()) {
+        settle(plan.turns, plan.covers, values);
         mark_all(marks);
     }
     count

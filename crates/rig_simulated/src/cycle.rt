@@ -14,7 +14,7 @@ ghost use Rattle.rig_simulated.specs.Events.{AreEvents};
 
 use crate::board::Board;
 use crate::classes::Knot;
-use crate::events::{Events, give_up, settle_listed};
+use crate::events::{Events, Frame, give_up, settle_listed};
 use crate::gates::{Gate, clock_all, read_pins, tick_all};
 use crate::marks::{clear_pins, clear_tables, mark_pins, mark_tables};
 use crate::past::{Past, forget, look_back};
@@ -24,49 +24,36 @@ use machine_faults::FaultSet;
 use rig::PinBits;
 
 /// Makes one tick. Whether a table gives something else now.
-fn tick(
-    faults: &FaultSet,
-    knots: &[Knot],
-    low_pins: &[bool],
-    low_tables: &mut [bool],
-    gates: &mut [Gate],
-) -> bool
-    requires fits { All (Fits (tables_of faults.now.shape) (length knots.now)) gates.old }
-    requires pins { length low_pins.now ≡ length knots.now }
-    requires tables { length low_tables.old ≡ length knots.now }
+fn tick(frame: &Frame<'_>, low_tables: &mut [bool], gates: &mut [Gate]) -> bool
+    requires fits { All (Fits (tables_of frame.now.faults.now.shape) (length frame.now.knots.now)) gates.old }
+    requires pins { length frame.now.low_pins.now ≡ length frame.now.knots.now }
+    requires tables { length low_tables.old ≡ length frame.now.knots.now }
     requires clear { IsClear low_tables.old }
-    ensures fits { All (Fits (tables_of faults.now.shape) (length knots.now)) gates.new }
-    ensures tables { length low_tables.new ≡ length knots.now }
+    ensures fits { All (Fits (tables_of frame.now.faults.now.shape) (length frame.now.knots.now)) gates.new }
+    ensures tables { length low_tables.new ≡ length frame.now.knots.now }
     ensures clear { IsClear low_tables.new }
-    ensures tick { IsTick faults.now.faults knots.now low_pins.now gates.old gates.new }
+    ensures tick { IsTick frame.now.faults.now.faults frame.now.knots.now frame.now.low_pins.now gates.old gates.new }
     ensures same { result ≡ false → gates.new ≡ gates.old }
 {
     mark_tables(gates, low_tables);
-    let changed = tick_all(faults, knots, low_pins, low_tables, gates);
+    let changed = tick_all(frame.faults, frame.knots, frame.low_pins, low_tables, gates);
     clear_tables(gates, low_tables);
     changed
 }
 
 /// Makes so many ticks. After one that changes nothing all further ones are the same, and are left out.
-fn tick_on(
-    faults: &FaultSet,
-    knots: &[Knot],
-    low_pins: &[bool],
-    low_tables: &mut [bool],
-    gates: &mut [Gate],
-    ticks: u16,
-)
-    requires fits { All (Fits (tables_of faults.now.shape) (length knots.now)) gates.old }
-    requires pins { length low_pins.now ≡ length knots.now }
-    requires tables { length low_tables.old ≡ length knots.now }
+fn tick_on(frame: &Frame<'_>, low_tables: &mut [bool], gates: &mut [Gate], ticks: u16)
+    requires fits { All (Fits (tables_of frame.now.faults.now.shape) (length frame.now.knots.now)) gates.old }
+    requires pins { length frame.now.low_pins.now ≡ length frame.now.knots.now }
+    requires tables { length low_tables.old ≡ length frame.now.knots.now }
     requires clear { IsClear low_tables.old }
-    ensures fits { All (Fits (tables_of faults.now.shape) (length knots.now)) gates.new }
-    ensures tables { length low_tables.new ≡ length knots.now }
+    ensures fits { All (Fits (tables_of frame.now.faults.now.shape) (length frame.now.knots.now)) gates.new }
+    ensures tables { length low_tables.new ≡ length frame.now.knots.now }
     ensures clear { IsClear low_tables.new }
-    ensures ticked { HaveTicked faults.now.faults knots.now low_pins.now gates.old ticks gates.new }
+    ensures ticked { HaveTicked frame.now.faults.now.faults frame.now.knots.now frame.now.low_pins.now gates.old ticks gates.new }
 {
     'ticks: for _n in 0..ticks {
-        if !tick(faults, knots, low_pins, low_tables, gates) {
+        if !tick(frame, low_tables, gates) {
             return;
         }
     }
@@ -75,105 +62,114 @@ fn tick_on(
 /// Makes so many ticks, or fewer that lead to the same: after one that changes nothing, and after those that lead back to
 /// what the tables gave before, which would do so over and over.
 fn tick_times(
-    faults: &FaultSet,
-    knots: &[Knot],
-    low_pins: &[bool],
+    frame: &Frame<'_>,
     low_tables: &mut [bool],
     gates: &mut [Gate],
     past: &mut Past,
     ticks: u16,
 )
-    requires fits { All (Fits (tables_of faults.now.shape) (length knots.now)) gates.old }
-    requires pins { length low_pins.now ≡ length knots.now }
-    requires tables { length low_tables.old ≡ length knots.now }
+    requires fits { All (Fits (tables_of frame.now.faults.now.shape) (length frame.now.knots.now)) gates.old }
+    requires pins { length frame.now.low_pins.now ≡ length frame.now.knots.now }
+    requires tables { length low_tables.old ≡ length frame.now.knots.now }
     requires clear { IsClear low_tables.old }
-    ensures fits { All (Fits (tables_of faults.now.shape) (length knots.now)) gates.new }
-    ensures tables { length low_tables.new ≡ length knots.now }
+    ensures fits { All (Fits (tables_of frame.now.faults.now.shape) (length frame.now.knots.now)) gates.new }
+    ensures tables { length low_tables.new ≡ length frame.now.knots.now }
     ensures clear { IsClear low_tables.new }
-    ensures ticked { HaveTicked faults.now.faults knots.now low_pins.now gates.old ticks gates.new }
+    ensures ticked { HaveTicked frame.now.faults.now.faults frame.now.knots.now frame.now.low_pins.now gates.old ticks gates.new }
 {
     forget(past);
     'ticks: for n in 0..ticks {
-        if !tick(faults, knots, low_pins, low_tables, gates) {
+        if !tick(frame, low_tables, gates) {
             return;
         }
         if let Some(left) = look_back(past, gates, n + 1, ticks) {
-            tick_on(faults, knots, low_pins, low_tables, gates, left);
+            tick_on(frame, low_tables, gates, left);
             return;
         }
     }
+}
+
+/// How a machine comes to rest.
+#[derive(Clone, Copy)]
+pub struct Manner<'a> {
+    /// The tables in the order in which they are evaluated, where that is known.
+    pub turns: &'a [Turn],
+    /// Whether what the combinational tables gave before doesn't matter after the ticks.
+    pub ranked: bool,
+    pub ticks: u16,
 }
 
 /// Makes so many ticks. Where the readers are listed, each tick costs what changed, unless nearly everything does. Where
 /// what the combinational tables gave before doesn't matter after the ticks, all that is left to do is to come to rest,
 /// for which the tables are evaluated in their order first.
 fn settle(
-    faults: &FaultSet,
-    knots: &[Knot],
-    low_pins: &[bool],
+    frame: &Frame<'_>,
+    manner: &Manner<'_>,
     low_tables: &mut [bool],
     gates: &mut [Gate],
-    turns: &[Turn],
-    ranked: bool,
     events: &mut Events,
     past: &mut Past,
-    ticks: u16,
 )
-    requires fits { All (Fits (tables_of faults.now.shape) (length knots.now)) gates.old }
-    requires pins { length low_pins.now ≡ length knots.now }
-    requires tables { length low_tables.old ≡ length knots.now }
+    requires fits { All (Fits (tables_of frame.now.faults.now.shape) (length frame.now.knots.now)) gates.old }
+    requires pins { length frame.now.low_pins.now ≡ length frame.now.knots.now }
+    requires tables { length low_tables.old ≡ length frame.now.knots.now }
     requires clear { IsClear low_tables.old }
-    requires pulls { length events.old.pulls.items ≡ length knots.now }
+    requires pulls { length events.old.pulls.items ≡ length frame.now.knots.now }
     requires zero { AreZero events.old.pulls.items }
     requires events { events.old.listed ≡ true → AreEvents gates.old events.old }
-    ensures fits { All (Fits (tables_of faults.now.shape) (length knots.now)) gates.new }
-    ensures tables { length low_tables.new ≡ length knots.now }
+    ensures fits { All (Fits (tables_of frame.now.faults.now.shape) (length frame.now.knots.now)) gates.new }
+    ensures tables { length low_tables.new ≡ length frame.now.knots.now }
     ensures clear { IsClear low_tables.new }
-    ensures pulls { length events.new.pulls.items ≡ length knots.now }
+    ensures pulls { length events.new.pulls.items ≡ length frame.now.knots.now }
     ensures zero { AreZero events.new.pulls.items }
     ensures events { events.new.listed ≡ true → AreEvents gates.new events.new }
-    ensures ticked { (ranked ≡ true → Settles gates.old ticks) →
-        HaveTicked faults.now.faults knots.now low_pins.now gates.old ticks gates.new }
+    ensures ticked { (manner.now.ranked ≡ true → Settles gates.old manner.now.ticks) →
+        HaveTicked frame.now.faults.now.faults frame.now.knots.now frame.now.low_pins.now gates.old manner.now.ticks gates.new }
 {
     if events.listed {
-        let busy = settle_listed(
-            events, faults, knots, low_pins, low_tables, gates, past, ticks,
-        );
+        let busy = settle_listed(events, frame, low_tables, gates, past, manner.ticks);
         give_up(events, busy);
         return;
     }
+    let ranked = manner.ranked;
     if !ranked {
-        tick_times(faults, knots, low_pins, low_tables, gates, past, ticks);
+        tick_times(frame, low_tables, gates, past, manner.ticks);
         return;
     }
-    sweep(faults, knots, low_pins, low_tables, gates, turns);
-    tick_times(faults, knots, low_pins, low_tables, gates, past, ticks);
+    sweep(
+        frame.faults,
+        frame.knots,
+        frame.low_pins,
+        low_tables,
+        gates,
+        manner.turns,
+    );
+    tick_times(frame, low_tables, gates, past, manner.ticks);
 }
 
 /// Reads the pins, and makes the clock edge.
 fn clock(
-    faults: &FaultSet,
-    knots: &[Knot],
-    low_pins: &[bool],
+    frame: &Frame<'_>,
     low_tables: &mut [bool],
     gates: &mut [Gate],
     pins: &[u32],
     read: &mut PinBits,
 )
-    requires fits { All (Fits (tables_of faults.now.shape) (length knots.now)) gates.old }
-    requires pins { length low_pins.now ≡ length knots.now }
-    requires tables { length low_tables.old ≡ length knots.now }
+    requires fits { All (Fits (tables_of frame.now.faults.now.shape) (length frame.now.knots.now)) gates.old }
+    requires pins { length frame.now.low_pins.now ≡ length frame.now.knots.now }
+    requires tables { length low_tables.old ≡ length frame.now.knots.now }
     requires clear { IsClear low_tables.old }
-    requires within { All (λ r. r < length knots.now) pins.now }
+    requires within { All (λ r. r < length frame.now.knots.now) pins.now }
     requires read { length read.old ≡ length pins.now }
-    ensures fits { All (Fits (tables_of faults.now.shape) (length knots.now)) gates.new }
-    ensures tables { length low_tables.new ≡ length knots.now }
+    ensures fits { All (Fits (tables_of frame.now.faults.now.shape) (length frame.now.knots.now)) gates.new }
+    ensures tables { length low_tables.new ≡ length frame.now.knots.now }
     ensures clear { IsClear low_tables.new }
-    ensures edge { IsEdge faults.now.faults knots.now low_pins.now low_tables.old pins.now read.new gates.old gates.new }
+    ensures edge { IsEdge frame.now.faults.now.faults frame.now.knots.now frame.now.low_pins.now low_tables.old pins.now read.new gates.old
+        gates.new }
 {
     mark_tables(gates, low_tables);
-    read_pins(knots, low_pins, low_tables, pins, read);
-    clock_all(faults, knots, low_pins, low_tables, gates);
+    read_pins(frame.knots, frame.low_pins, low_tables, pins, read);
+    clock_all(frame.faults, frame.knots, frame.low_pins, low_tables, gates);
     clear_tables(gates, low_tables);
 }
 
@@ -196,21 +192,27 @@ pub fn cycle(board: &mut Board, faults: &FaultSet, ticks: u16, drive: &PinBits, 
     let _shape = faults.shape();
     mark_pins(&board.pins, drive, &mut board.low_pins);
     settle(
-        faults,
-        &board.classes.knots,
-        &board.low_pins,
+        &Frame {
+            faults,
+            knots: &board.classes.knots,
+            low_pins: &board.low_pins,
+        },
+        &Manner {
+            turns: &board.turns,
+            ranked: board.ranked,
+            ticks,
+        },
         &mut board.low_tables,
         &mut board.gates,
-        &board.turns,
-        board.ranked,
         &mut board.events,
         &mut board.past,
-        ticks,
     );
     clock(
-        faults,
-        &board.classes.knots,
-        &board.low_pins,
+        &Frame {
+            faults,
+            knots: &board.classes.knots,
+            low_pins: &board.low_pins,
+        },
         &mut board.low_tables,
         &mut board.gates,
         &board.pins,

@@ -92,32 +92,48 @@ pub fn list_tables(events: &mut Events, gates: &[Gate], is_worth: bool) -> Resul
     Ok(())
 }
 
+/// What stays the same while a machine ticks.
+#[derive(Clone, Copy)]
+pub struct Frame<'a> {
+    pub faults: &'a FaultSet,
+    /// By classes.
+    pub knots: &'a [Knot],
+    /// By classes: whether a pin of the machine that is driven 0 pulls it.
+    pub low_pins: &'a [bool],
+}
+
 /// Evaluates the tables that are listed, and notes those that give something else. How many these are.
 fn evaluate(
-    faults: &FaultSet,
-    knots: &[Knot],
-    low_pins: &[bool],
+    frame: &Frame<'_>,
     low_tables: &[bool],
     gates: &[Gate],
     queue: &Queue,
     flips: &mut Vec<Flip>,
 ) -> usize
-    requires fits { All (Fits (tables_of faults.now.shape) (length knots.now)) gates.now }
-    requires pins { length low_pins.now ≡ length knots.now }
-    requires tables { length low_tables.now ≡ length knots.now }
+    requires fits { All (Fits (tables_of frame.now.faults.now.shape) (length frame.now.knots.now)) gates.now }
+    requires pins { length frame.now.low_pins.now ≡ length frame.now.knots.now }
+    requires tables { length low_tables.now ≡ length frame.now.knots.now }
     requires queue { IsQueue queue.now }
     requires marks { length queue.now.marks.items ≡ length gates.now }
     requires room { length flips.old.items ≡ length gates.now }
     ensures len { length flips.new.items ≡ length flips.old.items }
     ensures room { result ≤ length flips.new.items }
-    ensures flips { AreFlips faults.now.faults (level_at knots.now low_pins.now low_tables.now) gates.now flips.new.items result }
-    ensures due { HaveFlips faults.now.faults (level_at knots.now low_pins.now low_tables.now) gates.now queue.now.due.items
+    ensures flips { AreFlips frame.now.faults.now.faults (level_at frame.now.knots.now frame.now.low_pins.now low_tables.now)
+        gates.now flips.new.items result }
+    ensures due { HaveFlips frame.now.faults.now.faults (level_at frame.now.knots.now frame.now.low_pins.now low_tables.now)
+        gates.now queue.now.due.items
         queue.now.count flips.new.items result }
 {
     let mut count = 0;
     'due: for i in 0..queue.count {
         let place = place_at(queue, i);
-        let gate = ticked(faults, knots, low_pins, low_tables, gates[place]);
+        let gate = ticked(
+            frame.faults,
+            frame.knots,
+            frame.low_pins,
+            low_tables,
+            gates[place],
+        );
         if gate.output == gates[place].output {
             continue;
         }
@@ -133,8 +149,7 @@ fn evaluate(
 /// Lets a table give something else, and lists the tables that read its class if its level changes so.
 fn flip_one(
     flip: Flip,
-    knots: &[Knot],
-    low_pins: &[bool],
+    frame: &Frame<'_>,
     readers: &Readers,
     queue: &mut Queue,
     pulls: &mut Vec<usize>,
@@ -142,20 +157,20 @@ fn flip_one(
     gates: &mut [Gate],
 )
     requires place { flip.place < length gates.old }
-    requires pins { length low_pins.now ≡ length knots.now }
-    requires tables { length low_tables.old ≡ length knots.now }
+    requires pins { length frame.now.low_pins.now ≡ length frame.now.knots.now }
+    requires tables { length low_tables.old ≡ length frame.now.knots.now }
     requires sound { IsSound gates.old readers.now queue.old pulls.old.items low_tables.old }
     ensures len { length low_tables.new ≡ length low_tables.old }
     ensures sound { IsSound gates.new readers.now queue.new pulls.new.items low_tables.new }
     ensures gates { HasGiven flip.place flip.output gates.old gates.new }
     ensures kept { KeepsMarks queue.old.marks.items queue.new.marks.items }
-    ensures inputs { InputsKept gates.old queue.new.marks.items (level_at knots.now low_pins.now low_tables.old)
-        (level_at knots.now low_pins.now low_tables.new) }
+    ensures inputs { InputsKept gates.old queue.new.marks.items (level_at frame.now.knots.now frame.now.low_pins.now low_tables.old)
+        (level_at frame.now.knots.now frame.now.low_pins.now low_tables.new) }
 {
     let class = gates[flip.place].out;
-    let before = level_at(knots, low_pins, low_tables, class);
+    let before = level_at(frame.knots, frame.low_pins, low_tables, class);
     give(gates, pulls, low_tables, flip.place, flip.output);
-    if level_at(knots, low_pins, low_tables, class) == before {
+    if level_at(frame.knots, frame.low_pins, low_tables, class) == before {
         return;
     }
     add_readers(readers, flip.place, class, queue);
@@ -165,8 +180,7 @@ fn flip_one(
 fn flip_all(
     flips: &Vec<Flip>,
     count: usize,
-    knots: &[Knot],
-    low_pins: &[bool],
+    frame: &Frame<'_>,
     readers: &Readers,
     queue: &mut Queue,
     pulls: &mut Vec<usize>,
@@ -175,61 +189,50 @@ fn flip_all(
 )
     requires room { count ≤ length flips.now.items }
     requires within { (j : ℕ) (d : Flip) → j < count → (slice_index_or flips.now.items j d).place < length gates.old }
-    requires pins { length low_pins.now ≡ length knots.now }
-    requires tables { length low_tables.old ≡ length knots.now }
+    requires pins { length frame.now.low_pins.now ≡ length frame.now.knots.now }
+    requires tables { length low_tables.old ≡ length frame.now.knots.now }
     requires sound { IsSound gates.old readers.now queue.old pulls.old.items low_tables.old }
     ensures len { length low_tables.new ≡ length low_tables.old }
     ensures sound { IsSound gates.new readers.now queue.new pulls.new.items low_tables.new }
     ensures alike { AreAlike gates.old gates.new }
     ensures put { PutFlips gates.old flips.now.items count count gates.new }
-    ensures inputs { InputsKept gates.old queue.new.marks.items (level_at knots.now low_pins.now low_tables.old)
-        (level_at knots.now low_pins.now low_tables.new) }
+    ensures inputs { InputsKept gates.old queue.new.marks.items (level_at frame.now.knots.now frame.now.low_pins.now low_tables.old)
+        (level_at frame.now.knots.now frame.now.low_pins.now low_tables.new) }
 {
     'flips: for j in 0..count {
-        flip_one(
-            flips[j], knots, low_pins, readers, queue, pulls, low_tables, gates,
-        );
+        flip_one(flips[j], frame, readers, queue, pulls, low_tables, gates);
     }
 }
 
 /// Makes one tick. How many tables give something else after it.
 fn tick_listed(
     events: &mut Events,
-    faults: &FaultSet,
-    knots: &[Knot],
-    low_pins: &[bool],
+    frame: &Frame<'_>,
     low_tables: &mut [bool],
     gates: &mut [Gate],
 ) -> usize
-    requires fits { All (Fits (tables_of faults.now.shape) (length knots.now)) gates.old }
-    requires pins { length low_pins.now ≡ length knots.now }
-    requires tables { length low_tables.old ≡ length knots.now }
+    requires fits { All (Fits (tables_of frame.now.faults.now.shape) (length frame.now.knots.now)) gates.old }
+    requires pins { length frame.now.low_pins.now ≡ length frame.now.knots.now }
+    requires tables { length low_tables.old ≡ length frame.now.knots.now }
     requires flips { length events.old.flips.items ≡ length gates.old }
     requires sound { IsSound gates.old events.old.readers events.old.queue events.old.pulls.items low_tables.old }
-    requires still { AreStill faults.now.faults (level_at knots.now low_pins.now low_tables.old) gates.old events.old.queue.marks.items }
-    ensures fits { All (Fits (tables_of faults.now.shape) (length knots.now)) gates.new }
-    ensures tables { length low_tables.new ≡ length knots.now }
+    requires still { AreStill frame.now.faults.now.faults (level_at frame.now.knots.now frame.now.low_pins.now low_tables.old)
+        gates.old events.old.queue.marks.items }
+    ensures fits { All (Fits (tables_of frame.now.faults.now.shape) (length frame.now.knots.now)) gates.new }
+    ensures tables { length low_tables.new ≡ length frame.now.knots.now }
     ensures flips { length events.new.flips.items ≡ length gates.new }
     ensures sound { IsSound gates.new events.new.readers events.new.queue events.new.pulls.items low_tables.new }
-    ensures still { AreStill faults.now.faults (level_at knots.now low_pins.now low_tables.new) gates.new events.new.queue.marks.items }
-    ensures tick { IsTick faults.now.faults knots.now low_pins.now gates.old gates.new }
+    ensures still { AreStill frame.now.faults.now.faults (level_at frame.now.knots.now frame.now.low_pins.now low_tables.new)
+        gates.new events.new.queue.marks.items }
+    ensures tick { IsTick frame.now.faults.now.faults frame.now.knots.now frame.now.low_pins.now gates.old gates.new }
     ensures listed { events.new.listed ≡ events.old.listed }
 {
-    let count = evaluate(
-        faults,
-        knots,
-        low_pins,
-        low_tables,
-        gates,
-        &events.queue,
-        &mut events.flips,
-    );
+    let count = evaluate(frame, low_tables, gates, &events.queue, &mut events.flips);
     empty(&mut events.queue);
     flip_all(
         &events.flips,
         count,
-        knots,
-        low_pins,
+        frame,
         &events.readers,
         &mut events.queue,
         &mut events.pulls,
@@ -242,31 +245,30 @@ fn tick_listed(
 /// Makes so many ticks. Once no table is to be evaluated all further ones change nothing, and are left out.
 fn tick_listed_on(
     events: &mut Events,
-    faults: &FaultSet,
-    knots: &[Knot],
-    low_pins: &[bool],
+    frame: &Frame<'_>,
     low_tables: &mut [bool],
     gates: &mut [Gate],
     ticks: u16,
 )
-    requires fits { All (Fits (tables_of faults.now.shape) (length knots.now)) gates.old }
-    requires pins { length low_pins.now ≡ length knots.now }
-    requires tables { length low_tables.old ≡ length knots.now }
+    requires fits { All (Fits (tables_of frame.now.faults.now.shape) (length frame.now.knots.now)) gates.old }
+    requires pins { length frame.now.low_pins.now ≡ length frame.now.knots.now }
+    requires tables { length low_tables.old ≡ length frame.now.knots.now }
     requires flips { length events.old.flips.items ≡ length gates.old }
     requires sound { IsSound gates.old events.old.readers events.old.queue events.old.pulls.items low_tables.old }
-    requires still { AreStill faults.now.faults (level_at knots.now low_pins.now low_tables.old) gates.old events.old.queue.marks.items }
-    ensures fits { All (Fits (tables_of faults.now.shape) (length knots.now)) gates.new }
-    ensures tables { length low_tables.new ≡ length knots.now }
+    requires still { AreStill frame.now.faults.now.faults (level_at frame.now.knots.now frame.now.low_pins.now low_tables.old)
+        gates.old events.old.queue.marks.items }
+    ensures fits { All (Fits (tables_of frame.now.faults.now.shape) (length frame.now.knots.now)) gates.new }
+    ensures tables { length low_tables.new ≡ length frame.now.knots.now }
     ensures flips { length events.new.flips.items ≡ length gates.new }
     ensures sound { IsSound gates.new events.new.readers events.new.queue events.new.pulls.items low_tables.new }
-    ensures ticked { HaveTicked faults.now.faults knots.now low_pins.now gates.old ticks gates.new }
+    ensures ticked { HaveTicked frame.now.faults.now.faults frame.now.knots.now frame.now.low_pins.now gates.old ticks gates.new }
     ensures listed { events.new.listed ≡ events.old.listed }
 {
     'ticks: for _n in 0..ticks {
         if events.queue.count == 0 {
             return;
         }
-        tick_listed(events, faults, knots, low_pins, low_tables, gates);
+        tick_listed(events, frame, low_tables, gates);
     }
 }
 
@@ -275,25 +277,24 @@ fn tick_listed_on(
 /// the tables.
 fn tick_listed_times(
     events: &mut Events,
-    faults: &FaultSet,
-    knots: &[Knot],
-    low_pins: &[bool],
+    frame: &Frame<'_>,
     low_tables: &mut [bool],
     gates: &mut [Gate],
     past: &mut Past,
     ticks: u16,
 ) -> bool
-    requires fits { All (Fits (tables_of faults.now.shape) (length knots.now)) gates.old }
-    requires pins { length low_pins.now ≡ length knots.now }
-    requires tables { length low_tables.old ≡ length knots.now }
+    requires fits { All (Fits (tables_of frame.now.faults.now.shape) (length frame.now.knots.now)) gates.old }
+    requires pins { length frame.now.low_pins.now ≡ length frame.now.knots.now }
+    requires tables { length low_tables.old ≡ length frame.now.knots.now }
     requires flips { length events.old.flips.items ≡ length gates.old }
     requires sound { IsSound gates.old events.old.readers events.old.queue events.old.pulls.items low_tables.old }
-    requires still { AreStill faults.now.faults (level_at knots.now low_pins.now low_tables.old) gates.old events.old.queue.marks.items }
-    ensures fits { All (Fits (tables_of faults.now.shape) (length knots.now)) gates.new }
-    ensures tables { length low_tables.new ≡ length knots.now }
+    requires still { AreStill frame.now.faults.now.faults (level_at frame.now.knots.now frame.now.low_pins.now low_tables.old)
+        gates.old events.old.queue.marks.items }
+    ensures fits { All (Fits (tables_of frame.now.faults.now.shape) (length frame.now.knots.now)) gates.new }
+    ensures tables { length low_tables.new ≡ length frame.now.knots.now }
     ensures flips { length events.new.flips.items ≡ length gates.new }
     ensures sound { IsSound gates.new events.new.readers events.new.queue events.new.pulls.items low_tables.new }
-    ensures ticked { HaveTicked faults.now.faults knots.now low_pins.now gates.old ticks gates.new }
+    ensures ticked { HaveTicked frame.now.faults.now.faults frame.now.knots.now frame.now.low_pins.now gates.old ticks gates.new }
     ensures listed { events.new.listed ≡ events.old.listed }
 {
     let few = gates.len() / 4;
@@ -303,10 +304,10 @@ fn tick_listed_times(
         if events.queue.count == 0 {
             return busy > ticks / 2;
         }
-        let count = tick_listed(events, faults, knots, low_pins, low_tables, gates);
+        let count = tick_listed(events, frame, low_tables, gates);
         busy = busy.saturating_add(u16::from(count > few));
         if let Some(left) = look_back(past, gates, n + 1, ticks) {
-            tick_listed_on(events, faults, knots, low_pins, low_tables, gates, left);
+            tick_listed_on(events, frame, low_tables, gates, left);
             return busy > n / 2;
         }
     }
@@ -317,35 +318,31 @@ fn tick_listed_times(
 /// Whether more than half of them changed more than a quarter of the tables.
 pub fn settle_listed(
     events: &mut Events,
-    faults: &FaultSet,
-    knots: &[Knot],
-    low_pins: &[bool],
+    frame: &Frame<'_>,
     low_tables: &mut [bool],
     gates: &mut [Gate],
     past: &mut Past,
     ticks: u16,
 ) -> bool
-    requires fits { All (Fits (tables_of faults.now.shape) (length knots.now)) gates.old }
-    requires pins { length low_pins.now ≡ length knots.now }
-    requires tables { length low_tables.old ≡ length knots.now }
+    requires fits { All (Fits (tables_of frame.now.faults.now.shape) (length frame.now.knots.now)) gates.old }
+    requires pins { length frame.now.low_pins.now ≡ length frame.now.knots.now }
+    requires tables { length low_tables.old ≡ length frame.now.knots.now }
     requires clear { IsClear low_tables.old }
-    requires pulls { length events.old.pulls.items ≡ length knots.now }
+    requires pulls { length events.old.pulls.items ≡ length frame.now.knots.now }
     requires zero { AreZero events.old.pulls.items }
     requires events { AreEvents gates.old events.old }
-    ensures fits { All (Fits (tables_of faults.now.shape) (length knots.now)) gates.new }
-    ensures tables { length low_tables.new ≡ length knots.now }
+    ensures fits { All (Fits (tables_of frame.now.faults.now.shape) (length frame.now.knots.now)) gates.new }
+    ensures tables { length low_tables.new ≡ length frame.now.knots.now }
     ensures clear { IsClear low_tables.new }
-    ensures pulls { length events.new.pulls.items ≡ length knots.now }
+    ensures pulls { length events.new.pulls.items ≡ length frame.now.knots.now }
     ensures zero { AreZero events.new.pulls.items }
     ensures events { AreEvents gates.new events.new }
-    ensures ticked { HaveTicked faults.now.faults knots.now low_pins.now gates.old ticks gates.new }
+    ensures ticked { HaveTicked frame.now.faults.now.faults frame.now.knots.now frame.now.low_pins.now gates.old ticks gates.new }
     ensures listed { events.new.listed ≡ events.old.listed }
 {
     count_pulls(gates, &mut events.pulls, low_tables);
     add_all(&mut events.queue);
-    let busy = tick_listed_times(
-        events, faults, knots, low_pins, low_tables, gates, past, ticks,
-    );
+    let busy = tick_listed_times(events, frame, low_tables, gates, past, ticks);
     clear_pulls(gates, &mut events.pulls);
     clear_tables(gates, low_tables);
     busy

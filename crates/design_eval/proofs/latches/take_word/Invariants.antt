@@ -3,4 +3,4 @@ use Rattle.design_eval.specs.Marks.{AreTaken}
 use Rattle.design_eval.proofs.latches.take_word.Given as goal
 
 abbrev pub invariant-bits : goal.invariant-bits
-invariant-bits l = (length l.marks ≡ 65536) × (length l.hints ≡ 1024) × (length l.state ≡ length l.reads) × AreTaken l.first l.reads l.state l.marks l.values
+invariant-bits l = (length l.marks ≡ 65536) × (length l.hints ≡ 1024) × (length l.state ≡ length l.taking.reads.now) × AreTaken l.taking.first l.taking.reads.now l.state l.marks l.taking.values.now

@@ -9,7 +9,7 @@ bits-preserved c = (
   c.settle_turn.ensures.size,
   c.settle_turn.auto.hints ∙ length-set c.bits.hints c.args.place _ ∙ c.bits.invariant.2,
   c.settle_turn.ensures.kept,
-  others-more c.args.covers.now c.args.values.now c.bits.values c.settle_turn.new.values c.bits.invariant.4 c.settle_turn.ensures.others,
-  taken-both (length c.args.turns.now) c.args.readers.now c.args.marks.now c.args.values.now c.bits.marks c.bits.values c.settle_turn.new.marks c.settle_turn.new.values c.bits.invariant.5
+  others-more c.args.plan.now.covers.now c.args.values.now c.bits.values c.settle_turn.new.values c.bits.invariant.4 c.settle_turn.ensures.others,
+  taken-both (length c.args.plan.now.turns.now) c.args.plan.now.readers.now c.args.marks.now c.args.values.now c.bits.marks c.bits.values c.settle_turn.new.marks c.settle_turn.new.values c.bits.invariant.5
       c.settle_turn.ensures.taken,
 )

@@ -6,10 +6,10 @@ use Rattle.rig_simulated.proofs.cycle.clock.Goals as goal
 
 pub clear_tables-requires-clause-fits : goal.clear_tables-requires-clause-fits
 clear_tables-requires-clause-fits c =
-    stepped_within (clocked c.args.faults.now.faults (level_at c.args.knots.now c.args.low_pins.now c.mark_tables.new.low)) (λ x. refl) c.args.gates.now (tables_of c.args.faults.now.shape) (length c.args.knots.now) (clocked_fits c.args.faults.now.faults (level_at c.args.knots.now c.args.low_pins.now c.mark_tables.new.low) _ _) c.requires.fits c.clock_all.ensures (sym (c.mark_tables.ensures.len ∙ c.requires.tables))
+    stepped_within (clocked c.args.frame.now.faults.now.faults (level_at c.args.frame.now.knots.now c.args.frame.now.low_pins.now c.mark_tables.new.low)) (λ x. refl) c.args.gates.now (tables_of c.args.frame.now.faults.now.shape) (length c.args.frame.now.knots.now) (clocked_fits c.args.frame.now.faults.now.faults (level_at c.args.frame.now.knots.now c.args.frame.now.low_pins.now c.mark_tables.new.low) _ _) c.requires.fits c.clock_all.ensures (sym (c.mark_tables.ensures.len ∙ c.requires.tables))
 
 pub clear_tables-requires-clause-only : goal.clear_tables-requires-clause-only
-clear_tables-requires-clause-only c = stepped_outputs (clocked c.args.faults.now.faults (level_at c.args.knots.now c.args.low_pins.now c.mark_tables.new.low)) (λ x. refl) c.args.gates.now c.requires.clear c.mark_tables.ensures c.clock_all.ensures
+clear_tables-requires-clause-only c = stepped_outputs (clocked c.args.frame.now.faults.now.faults (level_at c.args.frame.now.knots.now c.args.frame.now.low_pins.now c.mark_tables.new.low)) (λ x. refl) c.args.gates.now c.requires.clear c.mark_tables.ensures c.clock_all.ensures
 
 pub returns-clause-fits : goal.returns-clause-fits
-returns-clause-fits c = stepped_fit (clocked c.args.faults.now.faults (level_at c.args.knots.now c.args.low_pins.now c.mark_tables.new.low)) (λ x. refl) c.args.gates.now (tables_of c.args.faults.now.shape) (length c.args.knots.now) (clocked_fits c.args.faults.now.faults (level_at c.args.knots.now c.args.low_pins.now c.mark_tables.new.low) _ _) c.requires.fits c.clock_all.ensures
+returns-clause-fits c = stepped_fit (clocked c.args.frame.now.faults.now.faults (level_at c.args.frame.now.knots.now c.args.frame.now.low_pins.now c.mark_tables.new.low)) (λ x. refl) c.args.gates.now (tables_of c.args.frame.now.faults.now.shape) (length c.args.frame.now.knots.now) (clocked_fits c.args.frame.now.faults.now.faults (level_at c.args.frame.now.knots.now c.args.frame.now.low_pins.now c.mark_tables.new.low) _ _) c.requires.fits c.clock_all.ensures

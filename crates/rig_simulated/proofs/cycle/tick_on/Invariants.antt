@@ -3,4 +3,4 @@ use Rattle.rig_simulated.proofs.SoFar.{AreTicked}
 use Rattle.rig_simulated.proofs.cycle.tick_on.Given as goal
 
 abbrev pub invariant-ticks : goal.invariant-ticks
-invariant-ticks l = AreTicked (tables_of l.faults.shape) l.faults.faults l.knots l.low_pins l.low_tables l.fn.gates l.gates l._n
+invariant-ticks l = AreTicked (tables_of l.frame.faults.now.shape) l.frame.faults.now.faults l.frame.knots.now l.frame.low_pins.now l.low_tables l.fn.gates l.gates l._n

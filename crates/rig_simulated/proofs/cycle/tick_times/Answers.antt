@@ -5,7 +5,7 @@ use Rattle.rig_simulated.proofs.SoFar.{ticks_begin, ticks_more}
 use Rattle.rig_simulated.proofs.cycle.tick_times.Goals as goal
 
 pub ticks-init : goal.ticks-init
-ticks-init c = (ticks_begin c.requires.fits c.requires.tables c.requires.clear, past_none c.args.faults.now.faults c.args.knots.now c.args.low_pins.now c.args.gates.now c.forget.new.past 0 c.args.gates.now c.forget.ensures)
+ticks-init c = (ticks_begin c.requires.fits c.requires.tables c.requires.clear, past_none c.args.frame.now.faults.now.faults c.args.frame.now.knots.now c.args.frame.now.low_pins.now c.args.gates.now c.forget.new.past 0 c.args.gates.now c.forget.ensures)
 
 pub ticks-preserved : goal.ticks-preserved
 ticks-preserved c = let old = c.ticks.invariant in (ticks_more c.tick.ensures.fits c.tick.ensures.tables old.0 c.tick.ensures.clear c.tick.ensures.tick, past_kept old.0.ticked c.tick.ensures.tick c.ticks.past old.1 c.look_back.new.past (c.in_default.ensures.kept refl))

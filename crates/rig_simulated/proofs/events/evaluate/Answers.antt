@@ -11,8 +11,8 @@ use Rattle.rig_simulated.proofs.events.evaluate.Goals as goal
 
 pub due-preserved-then-gate-gates : goal.due-preserved-then-gate-gates
 due-preserved-then-gate-gates c =
-    let f = c.args.faults.now.faults in
-    let level = level_at c.args.knots.now c.args.low_pins.now c.args.low_tables.now in
+    let f = c.args.frame.now.faults.now.faults in
+    let level = level_at c.args.frame.now.knots.now c.args.frame.now.low_pins.now c.args.low_tables.now in
     let gates = c.args.gates.now in
     let place = c.place_at-place.result in
     let x : Gate = get_or gates place plain in
@@ -28,8 +28,8 @@ due-preserved-then-gate-gates c =
 
 pub due-preserved : goal.due-preserved
 due-preserved c =
-    let f = c.args.faults.now.faults in
-    let level = level_at c.args.knots.now c.args.low_pins.now c.args.low_tables.now in
+    let f = c.args.frame.now.faults.now.faults in
+    let level = level_at c.args.frame.now.knots.now c.args.frame.now.low_pins.now c.args.low_tables.now in
     let gates = c.args.gates.now in
     let place = c.place_at-place.result in
     let within : place < length gates = (let w = c.place_at-place.ensures.within in omega (arith, w, c.requires.marks)) in

@@ -7,6 +7,6 @@ abbrev pub invariant-due : goal.invariant-due
 invariant-due l = record {
   len : length l.flips.items ≡ length l.fn.flips.items;
   few : l.count ≤ l.i;
-  flips : AreFlips l.faults.faults (level_at l.knots l.low_pins l.low_tables) l.gates l.flips.items l.count;
-  due : HaveFlips l.faults.faults (level_at l.knots l.low_pins l.low_tables) l.gates l.queue.due.items l.i l.flips.items l.count;
+  flips : AreFlips l.frame.faults.now.faults (level_at l.frame.knots.now l.frame.low_pins.now l.low_tables) l.gates l.flips.items l.count;
+  due : HaveFlips l.frame.faults.now.faults (level_at l.frame.knots.now l.frame.low_pins.now l.low_tables) l.gates l.queue.due.items l.i l.flips.items l.count;
 }

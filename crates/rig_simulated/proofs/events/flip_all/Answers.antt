@@ -15,5 +15,5 @@ flips-preserved c =
       alike = alike_on c.args.gates.now c.flips.gates c.flip_one.new.gates inv.alike (alike_given c.index.result.now.place c.index.result.now.output c.flips.gates c.flip_one.new.gates within c.flip_one.ensures.gates);
       put = λ f level are.
           put_next f level c.args.gates.now c.args.flips.now.items c.args.count c.flips.j c.flips.gates c.flip_one.new.gates c.index.result.now c.index.ensures c.flips-test.true room inv.alike.len are (inv.put f level are) c.flip_one.ensures.gates;
-      inputs = inputs_on c.args.gates.now c.flips.gates c.flips.queue.marks.items c.flip_one.new.queue.marks.items (level_at c.args.knots.now c.args.low_pins.now c.args.low_tables.now) (level_at c.args.knots.now c.args.low_pins.now c.flips.low_tables) (level_at c.args.knots.now c.args.low_pins.now c.flip_one.new.low_tables) inv.alike c.flip_one.ensures.kept inv.inputs c.flip_one.ensures.inputs;
+      inputs = inputs_on c.args.gates.now c.flips.gates c.flips.queue.marks.items c.flip_one.new.queue.marks.items (level_at c.args.frame.now.knots.now c.args.frame.now.low_pins.now c.args.low_tables.now) (level_at c.args.frame.now.knots.now c.args.frame.now.low_pins.now c.flips.low_tables) (level_at c.args.frame.now.knots.now c.args.frame.now.low_pins.now c.flip_one.new.low_tables) inv.alike c.flip_one.ensures.kept inv.inputs c.flip_one.ensures.inputs;
     }

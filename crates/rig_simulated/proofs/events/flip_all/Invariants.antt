@@ -9,5 +9,5 @@ invariant-flips l = record {
   sound : IsSound l.gates l.readers l.queue l.pulls.items l.low_tables;
   alike : AreAlike l.fn.gates l.gates;
   put : PutFlips l.fn.gates l.flips.items l.count l.j l.gates;
-  inputs : InputsKept l.fn.gates l.queue.marks.items (level_at l.knots l.low_pins l.fn.low_tables) (level_at l.knots l.low_pins l.low_tables);
+  inputs : InputsKept l.fn.gates l.queue.marks.items (level_at l.frame.knots.now l.frame.low_pins.now l.fn.low_tables) (level_at l.frame.knots.now l.frame.low_pins.now l.low_tables);
 }

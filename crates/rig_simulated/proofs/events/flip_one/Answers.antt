@@ -15,5 +15,5 @@ returns-clause-sound c =
 
 pub returns-clause-inputs : goal.returns-clause-inputs
 returns-clause-inputs c =
-    inputs_listed c.args.gates.now c.args.flip.place _ plain c.add_readers.new.queue.marks.items c.args.knots.now c.args.low_pins.now c.args.low_tables.now c.give.new.low refl c.give.ensures.others
+    inputs_listed c.args.gates.now c.args.flip.place _ plain c.add_readers.new.queue.marks.items c.args.frame.now.knots.now c.args.frame.now.low_pins.now c.args.low_tables.now c.give.new.low refl c.give.ensures.others
     c.args.readers.now c.requires.sound.readers c.add_readers.ensures.marked

@@ -13,4 +13,4 @@ ticks-preserved c = let new = c.tick_listed.ensures in listed_more new.fits new.
 pub returns-then-events-eq0-clause-ticked : goal.returns-then-events-eq0-clause-ticked
 returns-then-events-eq0-clause-ticked c =
     let old = c.ticks.invariant in
-    ticked_at_rest old.ticked c.ticks-test.true (tick_at_rest c.args.faults.now.faults c.args.knots.now c.args.low_pins.now c.ticks.low_tables c.ticks.gates old.sound old.still (omega (arith, c.if-events-eq0.true)))
+    ticked_at_rest old.ticked c.ticks-test.true (tick_at_rest c.args.frame.now.faults.now.faults c.args.frame.now.knots.now c.args.frame.now.low_pins.now c.ticks.low_tables c.ticks.gates old.sound old.still (omega (arith, c.if-events-eq0.true)))

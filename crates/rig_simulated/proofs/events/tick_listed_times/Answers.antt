@@ -6,7 +6,7 @@ use Rattle.rig_simulated.proofs.SoFar.{listed_begin, listed_more}
 use Rattle.rig_simulated.proofs.events.tick_listed_times.Goals as goal
 
 pub ticks-init : goal.ticks-init
-ticks-init c = (listed_begin c.requires.fits c.requires.tables c.requires.flips c.requires.sound c.requires.still, past_none c.args.faults.now.faults c.args.knots.now c.args.low_pins.now c.args.gates.now c.forget.new.past 0 c.args.gates.now c.forget.ensures)
+ticks-init c = (listed_begin c.requires.fits c.requires.tables c.requires.flips c.requires.sound c.requires.still, past_none c.args.frame.now.faults.now.faults c.args.frame.now.knots.now c.args.frame.now.low_pins.now c.args.gates.now c.forget.new.past 0 c.args.gates.now c.forget.ensures)
 
 pub ticks-preserved : goal.ticks-preserved
 ticks-preserved c = let old = c.ticks.invariant in let new = c.tick_listed-count.ensures in (listed_more new.fits new.tables new.flips new.sound new.still old.0 new.tick new.listed, past_kept old.0.ticked new.tick c.ticks.past old.1 c.look_back.new.past (c.in_default.ensures.kept refl))
@@ -19,4 +19,4 @@ returns-in-Some-clause-ticked c =
 pub returns-then-events-eq0-clause-ticked : goal.returns-then-events-eq0-clause-ticked
 returns-then-events-eq0-clause-ticked c =
     let old = c.ticks.invariant.0 in
-    ticked_at_rest old.ticked c.ticks-test.true (tick_at_rest c.args.faults.now.faults c.args.knots.now c.args.low_pins.now c.ticks.low_tables c.ticks.gates old.sound old.still (omega (arith, c.if-events-eq0.true)))
+    ticked_at_rest old.ticked c.ticks-test.true (tick_at_rest c.args.frame.now.faults.now.faults c.args.frame.now.knots.now c.args.frame.now.low_pins.now c.ticks.low_tables c.ticks.gates old.sound old.still (omega (arith, c.if-events-eq0.true)))
