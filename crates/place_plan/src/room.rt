@@ -10,7 +10,7 @@ use crate::assign::assign;
 use crate::board::{Board, board_of};
 use crate::search::{Ask, Assigned, Hold};
 use crate::short::{Need, Port, Resource, Room, Short, Visit, short_of};
-use crate::taps::{asks_at, free_lines};
+use crate::taps::{Crossed, asks_at, free_lines};
 use base_lists::Items;
 use machine_defects::Defects;
 use machine_shape::Node;
@@ -70,11 +70,13 @@ fn choose_lines(
     let touched = board.touched[node as usize].as_slice();
     let asks = asks_at(
         alloc,
-        &board.tree,
+        &Crossed {
+            tree: &board.tree,
+            crossing: &board.crossing,
+            ports: &board.ports,
+        },
         nets,
         touched,
-        &board.crossing,
-        &board.ports,
         node,
     )?;
     let lines = free_lines(alloc, defects, node)?;

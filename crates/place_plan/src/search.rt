@@ -18,6 +18,14 @@ pub struct Ask {
     pub taps: Items<u32>,
 }
 
+/// Those who ask for a line at a node, and the lines that they may get.
+#[derive(Clone, Copy)]
+pub struct Site<'a> {
+    pub defects: &'a Defects,
+    pub asks: &'a [Ask],
+    pub lines: &'a [u32],
+}
+
 /// The line that one who asks gets.
 #[derive(Clone, Copy, Debug)]
 pub struct Hold {
@@ -90,44 +98,42 @@ pub fn serves_ask(defects: &Defects, asks: &[Ask], ask: usize, line: u32) -> boo
 }
 
 // Whether the line at a place serves one who asks.
-fn serves_at(defects: &Defects, asks: &[Ask], lines: &[u32], ask: usize, j: usize) -> bool
-    requires site { IsSite defects.now.shape asks.now lines.now }
-    requires ask { ask < length asks.now }
-    requires line { j < length lines.now }
-    ensures { result ≡ serves_by defects.now asks.now ask (line_at lines.now j) }
+fn serves_at(site: &Site<'_>, ask: usize, j: usize) -> bool
+    requires site { IsSite site.now.defects.now.shape site.now.asks.now site.now.lines.now }
+    requires ask { ask < length site.now.asks.now }
+    requires line { j < length site.now.lines.now }
+    ensures { result ≡ serves_by site.now.defects.now site.now.asks.now ask (line_at site.now.lines.now j) }
 {
-    serves_ask(defects, asks, ask, lines[j])
+    serves_ask(site.defects, site.asks, ask, site.lines[j])
 }
 
 // Goes on to those whose lines serve the one of step h, up to a line that nobody has.
 fn scan(
-    defects: &Defects,
-    asks: &[Ask],
-    lines: &[u32],
+    site: &Site<'_>,
     owners: &[Option<usize>],
     steps: &mut Vec<Step>,
     seen: &mut [bool],
     h: usize,
 ) -> Result<Option<usize>, AllocError>
-    requires site { IsSite defects.now.shape asks.now lines.now }
-    requires sized { length owners.now ≡ length lines.now }
-    requires trail { IsTrail (serves_by defects.now asks.now) lines.now owners.now steps.old.items }
-    requires marks { AreSeen lines.now steps.old.items seen.old }
-    requires scanned { AreScanned (serves_by defects.now asks.now) lines.now steps.old.items seen.old h }
+    requires site { IsSite site.now.defects.now.shape site.now.asks.now site.now.lines.now }
+    requires sized { length owners.now ≡ length site.now.lines.now }
+    requires trail { IsTrail (serves_by site.now.defects.now site.now.asks.now) site.now.lines.now owners.now steps.old.items }
+    requires marks { AreSeen site.now.lines.now steps.old.items seen.old }
+    requires scanned { AreScanned (serves_by site.now.defects.now site.now.asks.now) site.now.lines.now steps.old.items seen.old h }
     requires step { h < length steps.old.items }
-    requires asks { AskWithin (length asks.now) steps.old.items }
-    requires own { OwnWithin (length asks.now) owners.now }
-    ensures asks { OnOk result (AskWithin (length asks.now) steps.new.items) }
-    ensures trail { OnOk result (IsTrail (serves_by defects.now asks.now) lines.now owners.now steps.new.items) }
-    ensures marks { OnOk result (AreSeen lines.now steps.new.items seen.new) }
+    requires asks { AskWithin (length site.now.asks.now) steps.old.items }
+    requires own { OwnWithin (length site.now.asks.now) owners.now }
+    ensures asks { OnOk result (AskWithin (length site.now.asks.now) steps.new.items) }
+    ensures trail { OnOk result (IsTrail (serves_by site.now.defects.now site.now.asks.now) site.now.lines.now owners.now steps.new.items) }
+    ensures marks { OnOk result (AreSeen site.now.lines.now steps.new.items seen.new) }
     ensures on { OnOk result (GoesOn steps.old.items steps.new.items) }
     ensures found { IfOk result (λ r. MatchOption r
-        (AreScanned (serves_by defects.now asks.now) lines.now steps.new.items seen.new (h + 1))
-        (λ j. IsFree (serves_by defects.now asks.now) lines.now owners.now steps.new.items h j)) }
+        (AreScanned (serves_by site.now.defects.now site.now.asks.now) site.now.lines.now steps.new.items seen.new (h + 1))
+        (λ j. IsFree (serves_by site.now.defects.now site.now.asks.now) site.now.lines.now owners.now steps.new.items h j)) }
 {
     let ask = steps[h].ask;
-    for j in 0..lines.len() {
-        if !seen[j] && serves_at(defects, asks, lines, ask, j) {
+    for j in 0..site.lines.len() {
+        if !seen[j] && serves_at(site, ask, j) {
             match owners[j] {
                 None => return Ok(Some(j)),
                 Some(owner) => {
@@ -164,22 +170,20 @@ fn shift(owners: &mut [Option<usize>], steps: &[Step], from: usize, line: usize)
 // Looks for a line that nobody has, from one without a line.
 fn search(
     alloc: Global,
-    defects: &Defects,
-    asks: &[Ask],
-    lines: &[u32],
+    site: &Site<'_>,
     owners: &[Option<usize>],
     ask: usize,
 ) -> Result<Found, AllocError>
-    requires site { IsSite defects.now.shape asks.now lines.now }
-    requires sized { length owners.now ≡ length lines.now }
-    requires ask { ask < length asks.now }
-    requires own { OwnWithin (length asks.now) owners.now }
-    ensures trail { IfOk result (λ f. IsTrail (serves_by defects.now asks.now) lines.now owners.now f.steps.items) }
+    requires site { IsSite site.now.defects.now.shape site.now.asks.now site.now.lines.now }
+    requires sized { length owners.now ≡ length site.now.lines.now }
+    requires ask { ask < length site.now.asks.now }
+    requires own { OwnWithin (length site.now.asks.now) owners.now }
+    ensures trail { IfOk result (λ f. IsTrail (serves_by site.now.defects.now site.now.asks.now) site.now.lines.now owners.now f.steps.items) }
     ensures first { IfOk result (λ f. (step_at f.steps.items 0).ask ≡ ask) }
-    ensures found { IfOk result (λ f. MatchOption f.line (IsStuck (serves_by defects.now asks.now) lines.now f.steps.items)
-        (λ j. IsFree (serves_by defects.now asks.now) lines.now owners.now f.steps.items f.from j)) }
+    ensures found { IfOk result (λ f. MatchOption f.line (IsStuck (serves_by site.now.defects.now site.now.asks.now) site.now.lines.now f.steps.items)
+        (λ j. IsFree (serves_by site.now.defects.now site.now.asks.now) site.now.lines.now owners.now f.steps.items f.from j)) }
 {
-    let mut seen = vec![in alloc; false; lines.len()]?;
+    let mut seen = vec![in alloc; false; site.lines.len()]?;
     let mut steps = Vec::new(alloc);
     steps.push(Step {
         ask,
@@ -188,7 +192,7 @@ fn search(
     })?;
     let mut h = 0;
     while h < steps.len() {
-        let line = scan(defects, asks, lines, owners, &mut steps, &mut seen, h)?;
+        let line = scan(site, owners, &mut steps, &mut seen, h)?;
         if line.is_some() {
             return Ok(Found {
                 steps,
@@ -225,11 +229,16 @@ pub fn give(
         IsPartial (serves_by defects.now asks.now) lines.now (done ++ ask ∷ []) owners.new)) }
     ensures none { IfOk result (λ r. IfSome r (λ steps. IsDeadEnd (serves_by defects.now asks.now) lines.now owners.old ask steps.items)) }
 {
-    if ask < lines.len() && owners[ask].is_none() && serves_at(defects, asks, lines, ask, ask) {
+    let site = Site {
+        defects,
+        asks,
+        lines,
+    };
+    if ask < lines.len() && owners[ask].is_none() && serves_at(&site, ask, ask) {
         owners[ask] = Some(ask);
         return Ok(None);
     }
-    let found = search(alloc, defects, asks, lines, owners, ask)?;
+    let found = search(alloc, &site, owners, ask)?;
     match found.line {
         None => Ok(Some(found.steps)),
         Some(line) => {

@@ -16,6 +16,16 @@ use machine_defects::Defects;
 use machine_shape::Node;
 use std::alloc::{AllocError, Global};
 
+/// Which nets cross each node, and which ports are free there.
+#[derive(Clone, Copy)]
+pub struct Crossed<'a> {
+    pub tree: &'a Tree,
+    /// By nodes: the nets that cross it, ascending.
+    pub crossing: &'a [Items<u32>],
+    /// By nodes: its free ports.
+    pub ports: &'a [Items<u32>],
+}
+
 // The port that a net has at a node, if there are so many.
 fn held(crossing: &[Items<u32>], ports: &[Items<u32>], node: u32, net: u32) -> Option<u32>
     requires crossing { node < length crossing.now }
@@ -31,26 +41,19 @@ fn held(crossing: &[Items<u32>], ports: &[Items<u32>], node: u32, net: u32) -> O
 }
 
 // The tap by which a net comes to a node for one of its terminals, if the net has the port.
-fn tap_at(
-    tree: &Tree,
-    crossing: &[Items<u32>],
-    ports: &[Items<u32>],
-    node: u32,
-    net: u32,
-    wire: u32,
-) -> Option<u32>
-    requires node { node < nodes_of tree.now.shape }
-    requires wire { wire < wires_of tree.now.shape }
-    requires crossing { length crossing.now ≡ nodes_of tree.now.shape }
-    requires ports { length ports.now ≡ nodes_of tree.now.shape }
-    requires ascending { AreAscending (nodes_of tree.now.shape) crossing.now }
-    ensures { IsFound (IsTapFor tree.now.shape crossing.now ports.now node net wire) result }
+fn tap_at(crossed: &Crossed<'_>, node: u32, net: u32, wire: u32) -> Option<u32>
+    requires node { node < nodes_of crossed.now.tree.now.shape }
+    requires wire { wire < wires_of crossed.now.tree.now.shape }
+    requires crossing { length crossed.now.crossing.now ≡ nodes_of crossed.now.tree.now.shape }
+    requires ports { length crossed.now.ports.now ≡ nodes_of crossed.now.tree.now.shape }
+    requires ascending { AreAscending (nodes_of crossed.now.tree.now.shape) crossed.now.crossing.now }
+    ensures { IsFound (IsTapFor crossed.now.tree.now.shape crossed.now.crossing.now crossed.now.ports.now node net wire) result }
 {
     machine_shape::the_numbering_is_sound();
-    match strand_at(tree, node, wire) {
+    match strand_at(crossed.tree, node, wire) {
         Strand::Own(tap) => Some(tap),
-        Strand::Child(child) => held(crossing, ports, child, net),
-        Strand::Outside => held(crossing, ports, node, net),
+        Strand::Child(child) => held(crossed.crossing, crossed.ports, child, net),
+        Strand::Outside => held(crossed.crossing, crossed.ports, node, net),
     }
 }
 
@@ -67,23 +70,21 @@ fn push_tap(taps: &mut Items<u32>, tap: Option<u32>) -> Result<(), AllocError>
 // The taps by which a net with these terminals comes to a node. Neighbours differ.
 fn taps_of(
     alloc: Global,
-    tree: &Tree,
-    crossing: &[Items<u32>],
-    ports: &[Items<u32>],
+    crossed: &Crossed<'_>,
     node: u32,
     net: u32,
     wires: &[u32],
 ) -> Result<Items<u32>, AllocError>
-    requires node { node < nodes_of tree.now.shape }
-    requires wires { AreWires tree.now.shape wires.now }
-    requires crossing { length crossing.now ≡ nodes_of tree.now.shape }
-    requires ports { length ports.now ≡ nodes_of tree.now.shape }
-    requires ascending { AreAscending (nodes_of tree.now.shape) crossing.now }
-    ensures { IfOk result (AreTaps tree.now.shape crossing.now ports.now node net wires.now) }
+    requires node { node < nodes_of crossed.now.tree.now.shape }
+    requires wires { AreWires crossed.now.tree.now.shape wires.now }
+    requires crossing { length crossed.now.crossing.now ≡ nodes_of crossed.now.tree.now.shape }
+    requires ports { length crossed.now.ports.now ≡ nodes_of crossed.now.tree.now.shape }
+    requires ascending { AreAscending (nodes_of crossed.now.tree.now.shape) crossed.now.crossing.now }
+    ensures { IfOk result (AreTaps crossed.now.tree.now.shape crossed.now.crossing.now crossed.now.ports.now node net wires.now) }
 {
     let mut taps = Items::empty(alloc);
     for wire in wires {
-        push_tap(&mut taps, tap_at(tree, crossing, ports, node, net, *wire))?;
+        push_tap(&mut taps, tap_at(crossed, node, net, *wire))?;
     }
     Ok(taps)
 }
@@ -91,26 +92,24 @@ fn taps_of(
 /// The nets that visit a node, of those that have a terminal inside, with their taps there.
 pub fn asks_at(
     alloc: Global,
-    tree: &Tree,
+    crossed: &Crossed<'_>,
     nets: &[Items<u32>],
     touched: &[u32],
-    crossing: &[Items<u32>],
-    ports: &[Items<u32>],
     node: u32,
 ) -> Result<Vec<Ask>, AllocError>
-    requires node { node < nodes_of tree.now.shape }
-    requires within { All (AreWires tree.now.shape) nets.now }
-    requires touched { AreThose (TouchesOf tree.now.shape nets.now (length nets.now) node) touched.now }
-    requires crossing { length crossing.now ≡ nodes_of tree.now.shape }
-    requires ports { length ports.now ≡ nodes_of tree.now.shape }
-    requires ascending { AreAscending (nodes_of tree.now.shape) crossing.now }
-    ensures { IfOk result (λ asks. AreAsks tree.now.shape nets.now crossing.now ports.now node asks.items) }
+    requires node { node < nodes_of crossed.now.tree.now.shape }
+    requires within { All (AreWires crossed.now.tree.now.shape) nets.now }
+    requires touched { AreThose (TouchesOf crossed.now.tree.now.shape nets.now (length nets.now) node) touched.now }
+    requires crossing { length crossed.now.crossing.now ≡ nodes_of crossed.now.tree.now.shape }
+    requires ports { length crossed.now.ports.now ≡ nodes_of crossed.now.tree.now.shape }
+    requires ascending { AreAscending (nodes_of crossed.now.tree.now.shape) crossed.now.crossing.now }
+    ensures { IfOk result (λ asks. AreAsks crossed.now.tree.now.shape nets.now crossed.now.crossing.now crossed.now.ports.now node asks.items) }
 {
     let mut asks = Vec::new(alloc);
     for k in touched {
         let wires = nets[*k as usize].as_slice();
-        if visits(tree, wires, node) {
-            let taps = taps_of(alloc, tree, crossing, ports, node, *k, wires)?;
+        if visits(crossed.tree, wires, node) {
+            let taps = taps_of(alloc, crossed, node, *k, wires)?;
             asks.push(Ask { net: *k, taps })?;
         }
     }

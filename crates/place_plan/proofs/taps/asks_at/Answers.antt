@@ -11,10 +11,10 @@ use Rattle.place_plan.proofs.taps.asks_at.Goals.{then-visits+in_ok-taps+in_ok-pu
 
 pub loop-k-preserved : goal.loop-k-preserved
 loop-k-preserved c =
-    let m = c.args.tree.now.shape in
+    let m = c.args.crossed.now.tree.now.shape in
     let nets : List (List ℕ) = c.args.nets.now in
-    let x : List (List ℕ) = c.args.crossing.now in
-    let p : List (List ℕ) = c.args.ports.now in
+    let x : List (List ℕ) = c.args.crossed.now.crossing.now in
+    let p : List (List ℕ) = c.args.crossed.now.ports.now in
     let n : ℕ = c.args.node in
     let touched : List ℕ = c.args.touched.now in
     let i : ℕ = c.loop-k.k-index in
@@ -34,4 +34,4 @@ loop-k-preserved c =
     ]
 
 pub returns : goal.returns
-returns c = asks_end c.args.tree.now.shape c.args.nets.now c.args.crossing.now c.args.ports.now c.args.node c.args.touched.now c.loop-k.asks.items c.loop-k.k-index (omega arith) (omega arith) c.requires.touched c.loop-k.invariant
+returns c = asks_end c.args.crossed.now.tree.now.shape c.args.nets.now c.args.crossed.now.crossing.now c.args.crossed.now.ports.now c.args.node c.args.touched.now c.loop-k.asks.items c.loop-k.k-index (omega arith) (omega arith) c.requires.touched c.loop-k.invariant

@@ -6,9 +6,9 @@ use Rattle.place_plan.proofs.taps.taps_of.Goals as goal
 
 pub loop-wire-preserved : goal.loop-wire-preserved
 loop-wire-preserved c =
-    let m = c.args.tree.now.shape in
-    let x = c.args.crossing.now in
-    let p = c.args.ports.now in
+    let m = c.args.crossed.now.tree.now.shape in
+    let x = c.args.crossed.now.crossing.now in
+    let p = c.args.crossed.now.ports.now in
     let ws = c.args.wires.now in
     let i : ℕ = c.loop-wire.wire-index in
     let e : c.push_tap.new.taps ≡ with_option c.loop-wire.taps c.tap_at.result = c.in_ok-push_tap.ensures in
@@ -18,4 +18,4 @@ loop-wire-preserved c =
 
 pub returns : goal.returns
 returns c =
-    subst (λ z. AreTaps c.args.tree.now.shape c.args.crossing.now c.args.ports.now c.args.node c.args.net z c.loop-wire.taps) (take_all c.loop-wire.wire-index c.args.wires.now (omega arith)) c.loop-wire.invariant
+    subst (λ z. AreTaps c.args.crossed.now.tree.now.shape c.args.crossed.now.crossing.now c.args.crossed.now.ports.now c.args.node c.args.net z c.loop-wire.taps) (take_all c.loop-wire.wire-index c.args.wires.now (omega arith)) c.loop-wire.invariant
