@@ -22,7 +22,9 @@ use diag_growth::{Field, Known, grow, test_tables};
 use diag_sweep::{Bad, growth_after_a_sweep_is_paid, sweep};
 use machine_image::Image;
 use machine_meaning::{parts_of_served_nodes_stand, without_faults_all_is_sound};
-use machine_shape::{Shape, each_wire_has_a_home, the_crosspoints_are_sound, the_numbering_is_sound};
+use machine_shape::{
+    Shape, each_wire_has_a_home, the_crosspoints_are_sound, the_numbering_is_sound,
+};
 use rig::{Rig, RigFail};
 use std::alloc::Global;
 

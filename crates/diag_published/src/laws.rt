@@ -9,7 +9,10 @@ ghost use Rattle.diag_published.specs.Held.{Findings, IsHeld, IsHeldTrunk, IsFul
 ghost use Rattle.diag_published.specs.Laws.{AreLaws};
 
 use machine_meaning::served_nodes_have_sound_parts;
-use machine_shape::{crosspoints_stand_in_rows, each_wire_has_a_home, ports_and_lines_ascend, the_crosspoints_are_sound, the_numbering_is_sound};
+use machine_shape::{
+    crosspoints_stand_in_rows, each_wire_has_a_home, ports_and_lines_ascend,
+    the_crosspoints_are_sound, the_numbering_is_sound,
+};
 
 /// The laws of the numbering, and of sound parts.
 pub(crate) fn the_laws_hold()

@@ -16,6 +16,13 @@ mod joining;
 mod served;
 mod tight;
 
-pub use joining::{covered_wires_are_as_without_faults, every_list_covers_no_faults, joined_grows, joined_is_a_list, joined_is_an_equivalence, listed_is_what_is_faulty, sound_wires_are_clear, sound_wires_stay_apart, values_are_unique, values_exist, without_faults_all_is_sound};
-pub use served::{fair_lists_leave_sound_parts, fair_lists_of_faultless_machines_are_empty, served_nodes_have_sound_parts, whole_lines_have_two_sound_crosspoints};
+pub use joining::{
+    covered_wires_are_as_without_faults, every_list_covers_no_faults, joined_grows,
+    joined_is_a_list, joined_is_an_equivalence, listed_is_what_is_faulty, sound_wires_are_clear,
+    sound_wires_stay_apart, values_are_unique, values_exist, without_faults_all_is_sound,
+};
+pub use served::{
+    fair_lists_leave_sound_parts, fair_lists_of_faultless_machines_are_empty,
+    served_nodes_have_sound_parts, whole_lines_have_two_sound_crosspoints,
+};
 pub use tight::{parts_of_served_nodes_stand, tight_lists_are_fair, tight_lists_are_least};

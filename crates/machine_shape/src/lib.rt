@@ -35,7 +35,8 @@ mod wires;
 
 pub use laws::{
     a_small_machine_is_numbered_so, crossbars_add_up, crosspoints_stand_in_rows,
-    each_wire_has_a_home, names_are_one_to_one, names_follow_the_tree, the_crosspoints_are_sound, the_numbering_is_sound,
+    each_wire_has_a_home, names_are_one_to_one, names_follow_the_tree, the_crosspoints_are_sound,
+    the_numbering_is_sound,
 };
 pub use order::ports_and_lines_ascend;
 pub use part::PartName;
